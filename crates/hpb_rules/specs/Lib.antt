@@ -1,0 +1,9 @@
+pub mod Tree
+pub mod Choices
+pub mod Prices
+pub mod History
+pub mod Answer
+pub mod Rows
+pub mod Laws
+pub mod Seen
+pub mod Refusals
