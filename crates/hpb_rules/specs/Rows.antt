@@ -5,7 +5,8 @@ use Rattle.std.specs.List.{range_with_len}
 use Rattle.hpb_rules.specs.declared.command.Command.{Command}
 use Rattle.hpb_rules.specs.declared.command.Command.TheVariants.{Bid, Close, Stage}
 use Rattle.hpb_rules.specs.declared.reply.Reply.TheVariants as replies
-use Rattle.hpb_rules.specs.Tree.{Rules, Node, Terms, Bidder, at_or_under, opening}
+use Rattle.hpb_rules.specs.declared.licence.Terms.{Terms}
+use Rattle.hpb_rules.specs.Tree.{Rules, Node, Bidder, at_or_under, opening}
 use Rattle.hpb_rules.specs.Choices.{revenue}
 use Rattle.hpb_rules.specs.Prices.{price, minimum}
 use Rattle.hpb_rules.specs.History

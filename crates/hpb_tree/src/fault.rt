@@ -1,0 +1,78 @@
+ghost use Rattle.std.specs.Prelude.{◌≡◌};
+ghost use Rattle.hpb_tree.specs.declared.fault.DefinitionFault.TheVariants.{Memory};
+ghost use Rattle.hpb_tree.specs.Fault.{code_of};
+
+use hpb_rules::refusal;
+use std::alloc::{AllocError, AllocFailed};
+use thiserror::Error;
+
+/// Why a draft gave no definition. The words are those of an `ERR` line.
+#[derive(Clone, Copy, Debug, PartialEq, Eq, Error)]
+pub enum DefinitionFault {
+    /// 90: memory was refused.
+    #[error("memory")]
+    Memory,
+    /// 62: the step, the percent, a stage percentage or a bidder's units are out of range.
+    #[error("number")]
+    Number,
+    /// 50: there is no node, no bidder or no stage.
+    #[error("empty")]
+    Empty,
+    /// 51: a name isn't 1 to 16 bytes of `a-z0-9_`.
+    #[error("name")]
+    Name,
+    /// 52: two nodes or two bidders have one name.
+    #[error("duplicate")]
+    Duplicate,
+    /// 53: a parent doesn't stand before its node.
+    #[error("parent")]
+    Parent,
+    /// 54: a package has fewer than two children.
+    #[error("children")]
+    Children,
+    /// 55: a licence has a child.
+    #[error("leaf")]
+    Leaf,
+    /// 56: there are more nodes, licences, bidders, stages or levels than may be.
+    #[error("limits")]
+    Limits,
+    /// 57: a licence's units or opening are out of range.
+    #[error("terms")]
+    Terms,
+}
+
+impl DefinitionFault {
+    /// Its number in the table of refusals.
+    pub fn code(self) -> u8
+        ensures { result ≡ code_of self }
+    {
+        match self {
+            DefinitionFault::Memory => refusal::MEMORY,
+            DefinitionFault::Number => refusal::NUMBER,
+            DefinitionFault::Empty => refusal::EMPTY,
+            DefinitionFault::Name => refusal::NAME,
+            DefinitionFault::Duplicate => refusal::DUPLICATE,
+            DefinitionFault::Parent => refusal::PARENT,
+            DefinitionFault::Children => refusal::CHILDREN,
+            DefinitionFault::Leaf => refusal::LEAF,
+            DefinitionFault::Limits => refusal::LIMITS,
+            DefinitionFault::Terms => refusal::TERMS,
+        }
+    }
+}
+
+impl From<AllocError> for DefinitionFault {
+    ghost from_gives = { λ _ e. e ≡ Memory };
+
+    fn from(_error: AllocError) -> DefinitionFault {
+        DefinitionFault::Memory
+    }
+}
+
+impl<T: Drop> From<AllocFailed<T>> for DefinitionFault {
+    ghost from_gives = { λ _ e. e ≡ Memory };
+
+    fn from(_error: AllocFailed<T>) -> DefinitionFault {
+        DefinitionFault::Memory
+    }
+}

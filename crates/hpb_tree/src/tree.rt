@@ -1,0 +1,156 @@
+ghost use Rattle.std.specs.Prelude.{◌≡◌, ℕ, ◌<◌, ◌≤◌, ◌*◌, length, IfSome, Some};
+ghost use Rattle.hpb_rules.specs.Tree.{IsTree, parent_of, terms_of, places};
+ghost use Rattle.hpb_rules.specs.Prices.{children_among};
+ghost use Rattle.hpb_tree.specs.View.{name_of};
+
+use hpb_rules::{MOST_NODES, NodeId, Terms};
+use std::marker::Model;
+
+/// The greatest step, in whole dollars.
+pub const MOST_STEP: u32 = 1_000_000;
+/// The greatest percent.
+pub const MOST_PERCENT: u8 = 50;
+/// How many nodes are licences at most.
+pub const MOST_LICENCES: usize = 64;
+/// The greatest bidding units of a licence.
+pub const MOST_LICENCE_UNITS: u32 = 1_000_000;
+/// The greatest opening of a licence, in whole dollars.
+pub const MOST_LICENCE_OPENING: u64 = 10_000_000_000;
+
+/// A node with what is known of it once the whole tree is read.
+#[derive(Debug, Drop)]
+pub(crate) struct TreeNode {
+    pub(crate) name: String,
+    pub(crate) parent: Option<NodeId>,
+    pub(crate) terms: Option<Terms>,
+    /// The sums over its licences.
+    pub(crate) units: u32,
+    pub(crate) opening: u64,
+    /// A bit for each of its licences.
+    pub(crate) licences: u64,
+    pub(crate) children: u8,
+    /// Its place among its parent's children, from 0.
+    pub(crate) rank: u8,
+}
+
+/// The tree of packages and licences, with the step and the percent that bids on it go by. A parent
+/// stands before its children; a licence is a leaf and a package has children.
+#[derive(Debug, Drop)]
+pub struct Tree {
+    pub(crate) step: u32,
+    pub(crate) percent: u8,
+    pub(crate) nodes: Vec<TreeNode>,
+}
+
+impl Model for Tree {
+    ghost use Rattle.hpb_rules.specs.Tree.{TreeRules};
+
+    ghost Value = { TreeRules };
+
+    ghost use Rattle.hpb_tree.specs.View.{tree_view, IsChecked};
+
+    ghost view = { tree_view };
+
+    ghost invariant = { IsChecked };
+}
+
+impl Tree {
+    /// The step: each bid is a multiple of it. In whole dollars, 1 to 1,000,000.
+    pub fn step(&self) -> u32
+        ensures value { result ≡ self.now.step }
+        ensures some { 0 < result }
+        ensures most { result ≤ MOST_STEP }
+    {
+        self.step
+    }
+
+    /// The percent by which a minimum is above a price, 1 to 50.
+    pub fn percent(&self) -> u8
+        ensures value { result ≡ self.now.percent }
+        ensures most { result ≤ MOST_PERCENT }
+    {
+        self.percent
+    }
+
+    /// How many nodes there are, 1 to 127.
+    pub fn node_count(&self) -> usize
+        ensures value { result ≡ length self.now.nodes }
+        ensures some { 0 < result }
+        ensures most { result ≤ MOST_NODES }
+        ensures tree { IsTree self.now.nodes }
+    {
+        self.nodes.len()
+    }
+
+    /// A node's name, 1 to 16 bytes of `a-z0-9_`.
+    pub fn name(&self, node: NodeId) -> &str
+        requires { node < length self.now.nodes }
+        ensures { result.now ≡ name_of self.now.nodes node }
+    {
+        let index = node.place();
+        self.nodes[index].name.as_str()
+    }
+
+    /// A node's parent, which stands before it. A top node has none.
+    pub fn parent(&self, node: NodeId) -> Option<NodeId>
+        requires { node < length self.now.nodes }
+        ensures value { result ≡ parent_of self.now.nodes node }
+        ensures before { IfSome result (λ p. p < node) }
+    {
+        let index = node.place();
+        self.nodes[index].parent
+    }
+
+    /// A licence's terms. A package has none.
+    pub fn terms(&self, node: NodeId) -> Option<Terms>
+        requires { node < length self.now.nodes }
+        ensures { result ≡ terms_of self.now.nodes node }
+    {
+        let index = node.place();
+        self.nodes[index].terms
+    }
+
+    /// The bidding units of a node: of a package the sum over its licences.
+    pub fn units(&self, node: NodeId) -> u32
+        requires { node < length self.now.nodes }
+        ensures most { result ≤ MOST_LICENCES * MOST_LICENCE_UNITS }
+    {
+        let index = node.place();
+        self.nodes[index].units
+    }
+
+    /// The opening of a node, in whole dollars: of a package the sum over its licences.
+    pub fn opening(&self, node: NodeId) -> u64
+        requires { node < length self.now.nodes }
+        ensures most { result ≤ MOST_LICENCES * MOST_LICENCE_OPENING }
+    {
+        let index = node.place();
+        self.nodes[index].opening
+    }
+
+    /// The licences of a node: bit i is for the i-th licence of the definition, from 0.
+    pub fn licences(&self, node: NodeId) -> u64
+        requires { node < length self.now.nodes }
+    {
+        let index = node.place();
+        self.nodes[index].licences
+    }
+
+    /// How many children a node has. A licence has none.
+    pub fn children(&self, node: NodeId) -> u64
+        requires { node < length self.now.nodes }
+        ensures { result ≡ children_among self.now.nodes node (places self.now.nodes) }
+    {
+        let index = node.place();
+        u64::from(self.nodes[index].children)
+    }
+
+    /// A node's place among its parent's children, from 0.
+    pub fn rank(&self, node: NodeId) -> u64
+        requires { node < length self.now.nodes }
+        ensures below { (p : ℕ) → parent_of self.now.nodes node ≡ Some p → result < children_among self.now.nodes p (places self.now.nodes) }
+    {
+        let index = node.place();
+        u64::from(self.nodes[index].rank)
+    }
+}
