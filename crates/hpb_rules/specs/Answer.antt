@@ -1,4 +1,5 @@
--- What a command is answered after a past.
+-- What a command is answered after the commands before it, and which lists of commands are histories.
+-- Source: the order of the tests, tickets and numbers are this project's own; what a bid must meet is after FCC Auction 73 and the minimum.
 use Rattle.std.specs.Prelude.{◌≡◌, ℕ, suc, ◌%◌, Bool, false, not, ◌||◌, ◌==◌, nat_lt, nat_le, List, [], ◌∷◌, reverse, Option, Some, None, length, if◌then◌else◌}
 use Rattle.hpb_rules.specs.declared.command.Command.{Command}
 use Rattle.hpb_rules.specs.declared.command.Command.TheVariants.{Bid, Close, Stage}
@@ -10,20 +11,22 @@ use Rattle.hpb_rules.specs.Tree.{Rules}
 use Rattle.hpb_rules.specs.Prices.{minimum}
 use Rattle.hpb_rules.specs.History
 
+-- Accepted under a number, where nothing is wrong.
 abbrev pub ok_or_fault : ℕ → Option ℕ → Reply
-ok_or_fault n None = replies.Ok n
-ok_or_fault n (Some code) = replies.Refused code
+ok_or_fault number None = replies.Ok number
+ok_or_fault number (Some code) = replies.Refused code
 
--- the command is its sender's last
+-- Under its sender's last ticket a command gets that command's number again where it is the same, and is refused where it is another.
 abbrev pub repeated : Command → Option (Command × ℕ) → Reply
-repeated c None = replies.Refused OLD
-repeated c (Some last) = if History.same_command c last.0 then replies.Ok last.1 else replies.Refused TICKET
+repeated command None = replies.Refused OLD
+repeated command (Some last) = if History.same_command command last.0 then replies.Ok last.1 else replies.Refused TICKET
 
+-- Whether a reply accepts a command as the next after so many.
 abbrev pub is_reply_new : ℕ → Reply → Bool
-is_reply_new n (replies.Ok m) = m == suc n
-is_reply_new n (replies.Refused code) = false
+is_reply_new count (replies.Ok number) = number == suc count
+is_reply_new count (replies.Refused code) = false
 
--- The reply to a command, by what holds of it: the first that applies.
+-- The reply by what holds of a command: the first of these that applies.
 abbrev pub reply_by : (unknown : Option ℕ) (ticket last : ℕ) (repeat : Reply) (count : ℕ) (over : Bool) (fault : Option ℕ) → Reply
 reply_by (Some code) ticket last repeat count over fault = replies.Refused code
 reply_by None ticket last repeat count over fault =
@@ -34,50 +37,56 @@ reply_by None ticket last repeat count over fault =
     (if over then replies.Refused CLOSED else
     ok_or_fault (suc count) fault))))
 
-module _ (d : Rules) where
-  -- a sender or a node that the definition has not
+module _ (rules : Rules) where
+  -- A sender or a node that the definition has not.
   abbrev pub unknown : Command → Option ℕ
-  unknown (Bid b t n a) = if nat_le (length d.bidders) b then Some BIDDER else (if nat_le (length d.nodes) n then Some NODE else None)
-  unknown (Close t) = None
-  unknown (Stage t) = None
+  unknown (Bid from ticket node amount) =
+      if nat_le (length rules.bidders) from then Some BIDDER else
+      (if nat_le (length rules.nodes) node then Some NODE else None)
+  unknown (Close ticket) = None
+  unknown (Stage ticket) = None
 
-  -- what is wrong with a new command, the auction not being over
+  -- What is wrong with a new command while the auction is not over.
   abbrev pub fault : List Command → Command → Option ℕ
-  fault past (Bid b t n a) =
-      if not (a % d.step == 0) then Some STEP else
-      (if nat_lt a (minimum d (History.high_bid past) n) then Some LOW else
-      (if nat_lt MOST_AMOUNT a then Some HIGH else
-      (if History.bid_on past b n then Some AGAIN else
-      (if nat_lt (History.eligibility d past b) (History.activity d (Bid b t n a ∷ past) b) then Some ELIGIBILITY else None))))
-  fault past (Close t) = None
-  fault past (Stage t) = if nat_le (length d.stages) (History.stage past) then Some STAGE else None
+  fault past (Bid from ticket node amount) =
+      if not (amount % rules.step == 0) then Some STEP else
+      (if nat_lt amount (minimum rules (History.high_bid past) node) then Some LOW else
+      (if nat_lt MOST_AMOUNT amount then Some HIGH else
+      (if History.bid_on past from node then Some AGAIN else
+      (if nat_lt (History.eligibility rules past from) (History.activity rules (Bid from ticket node amount ∷ past) from) then Some ELIGIBILITY else None))))
+  fault past (Close ticket) = None
+  fault past (Stage ticket) = if nat_le (length rules.stages) (History.stage past) then Some STAGE else None
 
+  -- What a command is answered after a past.
   abbrev pub answer_after : List Command → Command → Reply
-  answer_after past c =
-      let s = History.sender_of c in
-      reply_by (unknown c) (History.ticket_of c) (History.last_ticket past s) (repeated c (History.last_of past s)) (length past) (History.is_over past) (fault past c)
+  answer_after past command =
+      let sender = History.sender_of command in
+      reply_by (unknown command) (History.ticket_of command) (History.last_ticket past sender)
+      (repeated command (History.last_of past sender)) (length past) (History.is_over past) (fault past command)
 
-  -- what command c is answered after the commands h
+  -- What a command is answered after commands in the order in which they came.
   abbrev pub answer : List Command → Command → Reply
-  answer h c = answer_after (reverse h) c
+  answer history command = answer_after (reverse history) command
 
-  -- each command of the past was newly accepted
+  -- In a past each command was newly accepted after the older ones.
   abbrev pub IsPast : List Command → Type 0
   IsPast [] = Unit {0}
-  IsPast (c ∷ past) = (answer_after past c ≡ replies.Ok (suc (length past))) × IsPast past
+  IsPast (command ∷ past) = (answer_after past command ≡ replies.Ok (suc (length past))) × IsPast past
 
+  -- In a history each command was newly accepted after those before it.
   abbrev pub IsHistory : List Command → Type 0
-  IsHistory h = IsPast (reverse h)
+  IsHistory history = IsPast (reverse history)
 
-  -- the past with the command, where it was newly accepted
+  -- The past with a command where it is newly accepted, and else as it was.
   abbrev pub after : List Command → Command → List Command
-  after past c = if is_reply_new (length past) (answer_after past c) then c ∷ past else past
+  after past command = if is_reply_new (length past) (answer_after past command) then command ∷ past else past
 
-  -- the replies to commands, one after another, and what has been accepted in the end
+  -- The replies to commands one after another.
   abbrev pub replies_from : List Command → List Command → List Reply
   replies_from past [] = []
-  replies_from past (c ∷ cs) = answer_after past c ∷ replies_from (after past c) cs
+  replies_from past (command ∷ commands) = answer_after past command ∷ replies_from (after past command) commands
 
+  -- The past after commands one after another.
   abbrev pub past_from : List Command → List Command → List Command
   past_from past [] = past
-  past_from past (c ∷ cs) = past_from (after past c) cs
+  past_from past (command ∷ commands) = past_from (after past command) commands

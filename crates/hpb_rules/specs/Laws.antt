@@ -1,59 +1,69 @@
--- The laws: what is defined by a property is one thing, and the plain program gives it.
-use Rattle.std.specs.Prelude.{◌≡◌, ℕ, ◌<◌, ◌≤◌, List, Bool, length}
-use Rattle.std.specs.Prelude.{◌∷◌, Some, MatchOption, slice_get, ◌*◌}
+-- The laws of trees, winners and prices: what is defined by a property is one thing, and the computation gives it.
+use Rattle.std.specs.Prelude.{◌≡◌, ℕ, ◌+◌, ◌<◌, ◌≤◌, ◌↔◌, max, List, Bool, length, None, All}
 use Rattle.std.specs.Bool.{Decides}
-use Rattle.hpb_rules.specs.declared.command.Offer.{Offer}
-use Rattle.hpb_rules.specs.declared.command.Command.{Command}
-use Rattle.hpb_rules.specs.declared.command.Command.TheVariants.{Bid, Close}
-use Rattle.hpb_rules.specs.History
-use Rattle.hpb_rules.specs.Tree.{Node, Rules, IsTree, IsAtOrUnder, at_or_under}
-use Rattle.hpb_rules.specs.Choices.{IsChoice, IsWinners, IsBest, revenue, winners, best}
-use Rattle.hpb_rules.specs.Prices.{IsShares, shares, IsMinimum, minimum_of, Covers, price_of_all, licence_price}
+use Rattle.hpb_rules.specs.Drafts.{draft_refusal}
+use Rattle.hpb_rules.specs.Tree.{Node, Rules, IsTree, IsAtOrUnder, Disjoint, at_or_under}
+use Rattle.hpb_rules.specs.Choices.{IsChoice, IsWinners, IsBest, revenue, winners, best, top_revenue}
+use Rattle.hpb_rules.specs.Prices.{IsShares, shares, IsMinimum, minimum_of, Covers, price_of_all, licence_price, price, carried}
 
+-- A property holds of one thing alone where it holds of it, and what else it holds of is equal to it.
+abbrev pub HoldsAlone : {A : Type 0} → (A → Type 0) → A → Type 0
+HoldsAlone {A = A} property value = property value × ((other : A) → property other → other ≡ value)
+
+-- Among one or more there is exactly one list of shares, and it is the computed one.
 abbrev pub SharesAreOne : Type 0
-SharesAreOne = (d k : ℕ) → 0 < k → IsShares d k (shares d k) × ((xs : List ℕ) → IsShares d k xs → xs ≡ shares d k)
+SharesAreOne = (dollars count : ℕ) → 0 < count → HoldsAlone (IsShares dollars count) (shares dollars count)
 
+-- There is exactly one minimum, and it is the computed one.
 abbrev pub MinimumIsOne : Type 0
-MinimumIsOne = (step percent from p : ℕ) → 0 < step → IsMinimum step percent from p (minimum_of step percent from p) × ((m : ℕ) → IsMinimum step percent from p m → m ≡ minimum_of step percent from p)
+MinimumIsOne = (step percent opening price : ℕ) → 0 < step → HoldsAlone (IsMinimum step percent opening price) (minimum_of step percent opening price)
 
--- There is exactly one set of winners, and it is the one that the plain program gives.
+-- There is exactly one set of winners, and it is the computed one.
 abbrev pub WinnersAreOne : Type 0
-WinnersAreOne = (nodes : List Node) (bid : ℕ → ℕ) → IsTree nodes → IsWinners nodes bid (winners nodes bid) × ((w : List Bool) → IsWinners nodes bid w → w ≡ winners nodes bid)
+WinnersAreOne = (nodes : List Node) (bid : ℕ → ℕ) → IsTree nodes → HoldsAlone (IsWinners nodes bid) (winners nodes bid)
 
+-- The best inside a node is one number, the computed one.
 abbrev pub BestIsOne : Type 0
-BestIsOne = (nodes : List Node) (bid : ℕ → ℕ) (n : ℕ) → IsTree nodes → n < length nodes → IsBest nodes bid n (best nodes bid n) × ((v : ℕ) → IsBest nodes bid n v → v ≡ best nodes bid n)
+BestIsOne = (nodes : List Node) (bid : ℕ → ℕ) (node : ℕ) → IsTree nodes → node < length nodes → HoldsAlone (IsBest nodes bid node) (best nodes bid node)
 
--- Where the prices cover every high bid and sum to the revenue of a choice, no choice has more.
+-- The computed revenue is that of the winners, and no choice has more.
+abbrev pub RevenueIsGreatest : Type 0
+RevenueIsGreatest = (nodes : List Node) (bid : ℕ → ℕ) → IsTree nodes
+    → (top_revenue nodes bid ≡ revenue bid (winners nodes bid))
+    × ((choice : List Bool) → IsChoice nodes bid choice → revenue bid choice ≤ top_revenue nodes bid)
+
+-- Where prices cover every high bid and sum to the revenue of a choice, no choice has more.
 abbrev pub CoverProves : Type 0
-CoverProves = (nodes : List Node) (bid price : ℕ → ℕ) (c x : List Bool) → Covers nodes bid price → IsChoice nodes bid c → price_of_all nodes price ≡ revenue bid c → IsChoice nodes bid x → revenue bid x ≤ revenue bid c
+CoverProves = (nodes : List Node) (bid price : ℕ → ℕ) (choice other : List Bool)
+    → Covers nodes bid price → IsChoice nodes bid choice → price_of_all nodes price ≡ revenue bid choice
+    → IsChoice nodes bid other → revenue bid other ≤ revenue bid choice
 
 -- The licences' prices cover every high bid and sum to the revenue of the winners.
 abbrev pub PricesProve : Type 0
-PricesProve = (nodes : List Node) (bid : ℕ → ℕ) → IsTree nodes → Covers nodes bid (licence_price nodes bid) × (price_of_all nodes (licence_price nodes bid) ≡ revenue bid (winners nodes bid))
+PricesProve = (nodes : List Node) (bid : ℕ → ℕ) → IsTree nodes
+    → Covers nodes bid (licence_price nodes bid)
+    × (price_of_all nodes (licence_price nodes bid) ≡ revenue bid (winners nodes bid))
 
--- The i-th of a past, the newest being 0, is a bid of this offer on n.
-abbrev pub IsBidAt : List Command → ℕ → ℕ → Offer → Type 0
-IsBidAt past n i o = (t : ℕ) × (slice_get past i ≡ Some (Bid o.bidder t n o.amount))
+-- A node's price is its value, which is the greater of its bid and the best inside, and what is carried down to it.
+abbrev pub PriceIsValue : Type 0
+PriceIsValue = (nodes : List Node) (bid : ℕ → ℕ) (node : ℕ) → IsTree nodes → node < length nodes
+    → price nodes bid node ≡ max (bid node) (best nodes bid node) + carried nodes bid node
 
--- o is the greatest bid on n, and each older one is less
-pub record IsGreatest (past : List Command) (n : ℕ) (o : Offer) : Type 0 where
-  pub place : ℕ
-  pub stands : IsBidAt past n place o
-  pub greatest : (i : ℕ) (x : Offer) → IsBidAt past n i x → x.amount ≤ o.amount
-  pub first : (i : ℕ) (x : Offer) → IsBidAt past n i x → place < i → x.amount < o.amount
-
--- of bids that are more than 0
-abbrev pub GreatestIsFirst : Type 0
-GreatestIsFirst = (past : List Command) (n : ℕ) → ((i : ℕ) (x : Offer) → IsBidAt past n i x → 0 < x.amount)
-    → MatchOption (History.greatest_bid past n) ((i : ℕ) (x : Offer) → IsBidAt past n i x → ⊥) (λ o. IsGreatest past n o)
-
--- the greatest e that is at most the old one and has e * percentage ≤ 100 * activity
-abbrev pub EligibilityIsGreatest : Type 0
-EligibilityIsGreatest = (d : Rules) (past : List Command) (t b : ℕ) → 0 < History.percentage d past →
-    let e = History.eligibility d (Close t ∷ past) b in
-    (e ≤ History.eligibility d past b) × (e * History.percentage d past ≤ History.activity d past b * 100)
-    × ((x : ℕ) → x ≤ History.eligibility d past b → x * History.percentage d past ≤ History.activity d past b * 100 → x ≤ e)
-
--- the test says whether m is at or under n
+-- The test says whether a node is at or under another.
 abbrev pub TestDecides : Type 0
-TestDecides = (nodes : List Node) (n m : ℕ) → IsTree nodes → Decides (at_or_under nodes n m) (IsAtOrUnder nodes n m)
+TestDecides = (nodes : List Node) (top node : ℕ) → IsTree nodes → Decides (at_or_under nodes top node) (IsAtOrUnder nodes top node)
+
+-- Two nodes share no licence exactly where neither is at or under the other.
+abbrev pub DisjointIsApart : Type 0
+DisjointIsApart = (nodes : List Node) (one other : ℕ) → IsTree nodes → one < length nodes → other < length nodes
+    → Disjoint nodes one other ↔ ((IsAtOrUnder nodes one other → ⊥) × (IsAtOrUnder nodes other one → ⊥))
+
+-- What a definition keeps that is not refused: it has a tree, a step of its own and percentages from 50 to 100.
+pub record IsDefinition (rules : Rules) : Type 0 where
+  pub tree : IsTree rules.nodes
+  pub step : 0 < rules.step
+  pub percentages : All (λ percentage. (50 ≤ percentage) × (percentage ≤ 100)) rules.stages
+
+-- What is not refused is a definition that the other laws speak of.
+abbrev pub AcceptedIsDefinition : Type 0
+AcceptedIsDefinition = (rules : Rules) → draft_refusal rules ≡ None → IsDefinition rules

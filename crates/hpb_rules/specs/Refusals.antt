@@ -1,8 +1,9 @@
 -- The word of each refusal.
+-- Source: this project's own.
 use Rattle.std.specs.Prelude.{ℕ, List, [], ◌∷◌, ◌==◌, codes, if◌then◌else◌}
 use Rattle.hpb_rules.specs.declared.refusal.TheConstants.{LINE, BIDDER, NODE, OLD, TICKET, GAP, CLOSED, STEP, LOW, HIGH, AGAIN, ELIGIBILITY, LIMIT, STAGE, EMPTY, NAME, DUPLICATE, PARENT, CHILDREN, LEAF, LIMITS, TERMS, JSON, FIELD, NUMBER, MEMORY, STREAM}
 
--- the numbers with their words
+-- The numbers of the refusals with their words.
 abbrev pub words : List (ℕ × List ℕ)
 words =
     (LINE, codes "line")
@@ -33,10 +34,11 @@ words =
     ∷ (MEMORY, codes "memory")
     ∷ (STREAM, codes "stream") ∷ []
 
+-- The word beside a number in a table, and `unknown` where it is not there.
 abbrev pub word_in : List (ℕ × List ℕ) → ℕ → List ℕ
 word_in [] code = codes "unknown"
 word_in (row ∷ rows) code = if row.0 == code then row.1 else word_in rows code
 
--- the word that stands behind a number in an `ERR` line
+-- The word that stands behind a number in an `ERR` line.
 abbrev pub word_of : ℕ → List ℕ
 word_of code = word_in words code

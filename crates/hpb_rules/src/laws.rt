@@ -1,4 +1,5 @@
-ghost use Rattle.hpb_rules.specs.Laws.{SharesAreOne, MinimumIsOne, WinnersAreOne, BestIsOne, CoverProves, PricesProve, GreatestIsFirst, EligibilityIsGreatest, TestDecides};
+ghost use Rattle.hpb_rules.specs.CertificateRow.{Certificates};
+ghost use Rattle.hpb_rules.specs.Laws.{SharesAreOne, MinimumIsOne, WinnersAreOne, BestIsOne, CoverProves, PricesProve, TestDecides, RevenueIsGreatest, PriceIsValue, DisjointIsApart, AcceptedIsDefinition};
 
 /// The shares are the one list that never rises, whose first is at most one more than its last, with that sum.
 pub fn shares_are_one()
@@ -30,17 +31,32 @@ pub fn prices_prove()
     ensures { PricesProve }
 {}
 
-/// The high bid is the greatest, and of equal ones the earliest.
-pub fn greatest_is_first()
-    ensures { GreatestIsFirst }
-{}
-
-/// After a close a bidder keeps the greatest number that its activity allows.
-pub fn eligibility_is_greatest()
-    ensures { EligibilityIsGreatest }
-{}
-
 /// Going up from a node meets exactly the nodes that it is at or under.
 pub fn test_decides()
     ensures { TestDecides }
+{}
+
+/// The computed revenue is that of the winners, and no choice has more.
+pub fn revenue_is_greatest()
+    ensures { RevenueIsGreatest }
+{}
+
+/// A node's price is the greater of its bid and the best inside it, and what is carried down to it.
+pub fn price_is_value()
+    ensures { PriceIsValue }
+{}
+
+/// Two nodes share no licence exactly where neither is at or under the other.
+pub fn disjoint_is_apart()
+    ensures { DisjointIsApart }
+{}
+
+/// Which prices and winners of a worked auction certify each other, and which do not.
+pub fn certificates()
+    ensures { Certificates }
+{}
+
+/// A draft that is not refused has a tree, a step and stage percentages, as the other laws ask.
+pub fn accepted_is_definition()
+    ensures { AcceptedIsDefinition }
 {}

@@ -1,19 +1,34 @@
 //! The rules of the auction: what the contracts of all other crates speak of. Types, definitions and
 //! their laws; no state, no bytes.
+//!
+//! The definitions stand in `specs/`, one module a subject. A law is a function with an empty body: its
+//! contract is the law.
 #![tactic(auto)]
 
 mod command;
 mod id;
 mod laws;
+mod laws_of_history;
+mod laws_of_machine;
+mod laws_of_rounds;
+mod laws_of_text;
 mod licence;
 pub mod refusal;
 mod reply;
 
 pub use command::{Command, Offer};
 pub use id::{BidderId, MOST_BIDDERS, MOST_NODES, NodeId};
-pub use licence::Terms;
 pub use laws::{
-    best_is_one, cover_proves, eligibility_is_greatest, greatest_is_first, minimum_is_one,
-    prices_prove, shares_are_one, test_decides, winners_are_one,
+    accepted_is_definition, best_is_one, certificates, cover_proves, disjoint_is_apart,
+    minimum_is_one, price_is_value, prices_prove, revenue_is_greatest, shares_are_one,
+    test_decides, winners_are_one,
 };
+pub use laws_of_history::{
+    accepted_is_new, answer_is_shown, front_is_history, history_grows, percentage_is_known,
+    repeat_changes_nothing, shown_is_one,
+};
+pub use laws_of_machine::machine_keeps;
+pub use laws_of_rounds::{close_takes_greater, eligibility_is_greatest, greatest_is_first};
+pub use laws_of_text::{lines_text_grows, script_text_grows, spelling_is_one};
+pub use licence::Terms;
 pub use reply::{MOST_AMOUNT, MOST_COMMANDS, Reply};

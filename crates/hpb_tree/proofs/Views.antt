@@ -1,8 +1,10 @@
 -- The nodes of the code, as definitions see them.
-use Rattle.std.proofs.Common.{◌≡◌, ℕ, zero, suc, ◌<◌, List, [], ◌∷◌, length, get_or, Option, Some, None, refl, sym, ap, ◌∙◌, arith}
-use Rattle.std.specs.Prelude.{IfSome, string_bytes}
+use Rattle.std.proofs.Common.{◌≡◌, ℕ, zero, suc, ◌+◌, ◌<◌, List, [], ◌∷◌, ◌++◌, take, length, get_or, inl, inr, ◌⊎◌, ⊎_elim, Option, Some, None, refl, sym, ap, ◌∙◌, subst, arith}
+use Rattle.std.specs.Prelude.{IfSome, string_bytes, slice_get}
+use Rattle.std.proofs.lemmas.Option.{slice_get_read, get_or_from_slice_get}
+use Rattle.std.proofs.lemmas.List.{map_push, take_more, length-take-le}
 use Rattle.hpb_rules.specs.Tree.{Node, IsTree, parent_of, terms_of}
-use Rattle.hpb_tree.specs.View.{nodes_view, name_of}
+use Rattle.hpb_tree.specs.View.{node_view, nodes_view, name_of, IsSummed}
 use Rattle.hpb_tree.specs.declared.tree.TreeNode.{TreeNode}
 
 pub length-nodes_view : (ns : List TreeNode) → length (nodes_view ns) ≡ length ns
@@ -38,7 +40,29 @@ module _ (ns : List TreeNode) (nodes : List Node) (i k : ℕ) (n : TreeNode) (se
   pub terms_at : n.terms ≡ terms_of nodes k
   terms_at = ap (λ (m : TreeNode). m.terms) found ∙ sym (terms_of-nodes_view ns i n inside) ∙ ap (λ xs. terms_of xs i) seen ∙ ap (terms_of nodes) same
 
+  -- what is kept of it
+  pub summed_at : ((j : ℕ) (m : TreeNode) → slice_get ns j ≡ Some m → IsSummed (nodes_view ns) j m) → IsSummed nodes k n
+  summed_at sums =
+      let here : IsSummed (nodes_view ns) i n = sums i n (slice_get_read ns (length ns) i n refl inside found) in
+      subst (λ xs. IsSummed xs k n) seen (subst (λ j. IsSummed (nodes_view ns) j n) same here)
+
 -- a parent stands before its node
 pub parent_before : (nodes : List Node) → IsTree nodes → (m : ℕ) (parent : Option ℕ) → parent ≡ parent_of nodes m → IfSome parent (λ p. p < m)
 parent_before nodes tree m None e = tt
 parent_before nodes tree m (Some p) e = tree.parents m p (sym e)
+
+push_get : {X : Type 0} (xs : List X) (y : X) (i : ℕ) (x : X) → slice_get (xs ++ y ∷ []) i ≡ Some x → (slice_get xs i ≡ Some x) ⊎ ((i ≡ length xs) × (x ≡ y))
+push_get [] y zero x e = inr (refl, cc)
+push_get [] y (suc i) x e = cc
+push_get (z ∷ xs) y zero x e = inl e
+push_get (z ∷ xs) y (suc i) x e = ⊎_elim (λ old. inl old) (λ last. inr (ap suc last.0, last.1)) (push_get xs y i x e)
+
+-- one node more of those that are built
+pub built_more : (nodes : List Node) (ns : List TreeNode) (i : ℕ) (n : TreeNode) → i < length nodes
+    → (nodes_view ns ≡ take i nodes) × ((j : ℕ) (m : TreeNode) → slice_get ns j ≡ Some m → IsSummed nodes j m)
+    → slice_get nodes i ≡ Some (node_view n) → IsSummed nodes i n
+    → (nodes_view (ns ++ n ∷ []) ≡ take (i + 1) nodes) × ((j : ℕ) (m : TreeNode) → slice_get (ns ++ n ∷ []) j ≡ Some m → IsSummed nodes j m)
+built_more nodes ns i n h (seen, sums) here kept = (
+  map_push node_view ns n ∙ ap (λ xs. xs ++ node_view n ∷ []) seen ∙ ap (λ x. take i nodes ++ x ∷ []) (sym (get_or_from_slice_get nodes i (node_view n) (node_view n) here)) ∙ sym (take_more nodes i (node_view n) h),
+  λ j m e. ⊎_elim (sums j m) (λ last. let same : i ≡ j = omega (arith, last.0, length-nodes_view ns, ap length seen, length-take-le i nodes) in subst (λ x. IsSummed nodes j x) (sym last.1) (subst (λ k. IsSummed nodes k n) same kept)) (push_get ns n j m e),
+)

@@ -1,2 +1,7 @@
+pub mod Licences
 pub mod View
+pub mod Names
+pub mod Definition
+pub mod Draft
+pub mod Refusal
 pub mod Fault

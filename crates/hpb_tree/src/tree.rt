@@ -1,9 +1,14 @@
-ghost use Rattle.std.specs.Prelude.{◌≡◌, ℕ, ◌<◌, ◌≤◌, ◌*◌, length, IfSome, Some};
-ghost use Rattle.hpb_rules.specs.Tree.{IsTree, parent_of, terms_of, places};
+ghost use Rattle.std.specs.Prelude.{◌≡◌, ℕ, ◌<◌, ◌≤◌, ◌*◌, length, IfSome, Some, position, string_bytes, IfOk};
+ghost use Rattle.std.specs.List.{range_with_len};
+ghost use Rattle.std.specs.Str.{bytes_eq};
+ghost use Rattle.hpb_rules.specs.Tree.{IsTree, parent_of, terms_of, places, units, opening};
 ghost use Rattle.hpb_rules.specs.Prices.{children_among};
-ghost use Rattle.hpb_tree.specs.View.{name_of};
+ghost use Rattle.hpb_tree.specs.View.{name_of, AreCopies};
+ghost use Rattle.hpb_tree.specs.Licences.{IsMask, licence_count};
+ghost use Rattle.hpb_tree.specs.Names.{node_named};
 
 use hpb_rules::{MOST_NODES, NodeId, Terms};
+use std::alloc::{AllocError, Global};
 use std::marker::Model;
 
 /// The greatest step, in whole dollars.
@@ -72,12 +77,25 @@ impl Tree {
         self.percent
     }
 
+    /// The same tree once more. Only want of memory refuses it.
+    pub fn copy(&self, alloc: Global) -> Result<Tree, AllocError>
+        ensures { IfOk result (λ t. t ≡ self.now) }
+    {
+        let nodes = copy_nodes(alloc, self.nodes.as_slice())?;
+        Ok(Tree {
+            step: self.step,
+            percent: self.percent,
+            nodes,
+        })
+    }
+
     /// How many nodes there are, 1 to 127.
     pub fn node_count(&self) -> usize
         ensures value { result ≡ length self.now.nodes }
         ensures some { 0 < result }
         ensures most { result ≤ MOST_NODES }
         ensures tree { IsTree self.now.nodes }
+        ensures licences { licence_count self.now.nodes ≤ MOST_LICENCES }
     {
         self.nodes.len()
     }
@@ -89,6 +107,17 @@ impl Tree {
     {
         let index = node.place();
         self.nodes[index].name.as_str()
+    }
+
+    /// The node with a name, if one has it.
+    pub fn find(&self, name: &[u8]) -> Option<NodeId>
+        ensures value { result ≡ node_named self.now.nodes name.now }
+        ensures within { IfSome result (λ n. n < length self.now.nodes) }
+    {
+        match place_named(self.nodes.as_slice(), name) {
+            Some(place) => Some(NodeId::new(place)),
+            None => None,
+        }
     }
 
     /// A node's parent, which stands before it. A top node has none.
@@ -113,6 +142,7 @@ impl Tree {
     /// The bidding units of a node: of a package the sum over its licences.
     pub fn units(&self, node: NodeId) -> u32
         requires { node < length self.now.nodes }
+        ensures value { result ≡ units self.now.nodes node }
         ensures most { result ≤ MOST_LICENCES * MOST_LICENCE_UNITS }
     {
         let index = node.place();
@@ -122,6 +152,7 @@ impl Tree {
     /// The opening of a node, in whole dollars: of a package the sum over its licences.
     pub fn opening(&self, node: NodeId) -> u64
         requires { node < length self.now.nodes }
+        ensures value { result ≡ opening self.now.nodes node }
         ensures most { result ≤ MOST_LICENCES * MOST_LICENCE_OPENING }
     {
         let index = node.place();
@@ -131,6 +162,7 @@ impl Tree {
     /// The licences of a node: bit i is for the i-th licence of the definition, from 0.
     pub fn licences(&self, node: NodeId) -> u64
         requires { node < length self.now.nodes }
+        ensures { IsMask self.now.nodes node result }
     {
         let index = node.place();
         self.nodes[index].licences
@@ -148,9 +180,46 @@ impl Tree {
     /// A node's place among its parent's children, from 0.
     pub fn rank(&self, node: NodeId) -> u64
         requires { node < length self.now.nodes }
+        ensures value { (p : ℕ) → parent_of self.now.nodes node ≡ Some p → result ≡ children_among self.now.nodes p (range_with_len 0 node) }
         ensures below { (p : ℕ) → parent_of self.now.nodes node ≡ Some p → result < children_among self.now.nodes p (places self.now.nodes) }
     {
         let index = node.place();
         u64::from(self.nodes[index].rank)
     }
+}
+
+impl TreeNode {
+    fn copy(&self, alloc: Global) -> Result<TreeNode, AllocError>
+        ensures name { IfOk result (λ n. string_bytes n.name ≡ string_bytes self.now.name) }
+        ensures rest { IfOk result (λ n. n ≡ record self.now { name = n.name }) }
+    {
+        let name = String::from_str(alloc, self.name.as_str())?;
+        Ok(TreeNode {
+            name,
+            parent: self.parent,
+            terms: self.terms,
+            units: self.units,
+            opening: self.opening,
+            licences: self.licences,
+            children: self.children,
+            rank: self.rank,
+        })
+    }
+}
+
+fn copy_nodes(alloc: Global, nodes: &[TreeNode]) -> Result<Vec<TreeNode>, AllocError>
+    ensures { IfOk result (λ v. AreCopies nodes.now v.items) }
+{
+    let mut copied = Vec::with_capacity(alloc, nodes.len())?;
+    for node in nodes {
+        copied.push(node.copy(alloc)?)?;
+    }
+    Ok(copied)
+}
+
+fn place_named(nodes: &[TreeNode], name: &[u8]) -> Option<usize>
+    ensures value { result ≡ position (λ n. bytes_eq (string_bytes n.name) name.now) nodes.now }
+    ensures within { IfSome result (λ i. i < length nodes.now) }
+{
+    nodes.iter().position(|node| node.name.as_bytes() == name)
 }

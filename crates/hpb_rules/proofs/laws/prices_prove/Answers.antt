@@ -1,5 +1,5 @@
-use Rattle.hpb_rules.proofs.Carried
+use Rattle.hpb_rules.proofs.NodePrices
 use Rattle.hpb_rules.proofs.laws.prices_prove.Goals as goal
 
 pub returns : goal.returns
-returns c = Carried.prices_prove
+returns c = NodePrices.prices_prove

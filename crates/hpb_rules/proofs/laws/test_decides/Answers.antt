@@ -1,5 +1,5 @@
-use Rattle.hpb_rules.proofs.Histories
+use Rattle.hpb_rules.proofs.GoingUp
 use Rattle.hpb_rules.proofs.laws.test_decides.Goals as goal
 
 pub returns : goal.returns
-returns c = Histories.test_decides
+returns c = GoingUp.test_decides

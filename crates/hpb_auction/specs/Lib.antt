@@ -1,0 +1,3 @@
+pub mod Verdicts
+pub mod View
+pub mod Machine

@@ -1,0 +1,163 @@
+ghost use Rattle.std.specs.Prelude.{◌≡◌, ◌+◌, ◌<◌, ◌≤◌, length, IfOk};
+ghost use Rattle.hpb_rules.specs.declared.reply.TheConstants.{MOST_COMMANDS};
+
+use crate::sender::{Accepted, BidderRow, bidder_rows, last_ticket};
+use crate::views::{BidderView, NodeView};
+use hpb_bids::Books;
+use hpb_prices::Prices;
+use hpb_rules::{BidderId, NodeId};
+use hpb_tree::Definition;
+use hpb_units::activity;
+use hpb_winners::Outcome;
+use std::alloc::{AllocError, Global};
+use std::marker::Model;
+
+/// An auction after the commands that it accepted. Its tables have the size of its definition; what a
+/// command costs does not grow with the number of commands before it.
+#[derive(Drop)]
+pub struct Auction {
+    pub(crate) definition: Definition,
+    pub(crate) books: Books,
+    pub(crate) outcome: Outcome,
+    pub(crate) prices: Prices,
+    pub(crate) bidders: Vec<BidderRow>,
+    pub(crate) auctioneer: Option<Accepted>,
+    pub(crate) count: u32,
+    pub(crate) round: u32,
+    pub(crate) stage: u8,
+    pub(crate) closed: bool,
+}
+
+impl Model for Auction {
+    ghost use Rattle.hpb_rules.specs.Seen.{Quantities};
+
+    ghost Value = { Quantities };
+
+    ghost use Rattle.hpb_auction.specs.View.{quantities_of, IsKept};
+
+    ghost view = { quantities_of };
+
+    ghost invariant = { IsKept };
+}
+
+impl Auction {
+    ghost use Rattle.hpb_auction.specs.View.{node_at, bidder_at, bidder_sender_at};
+
+    /// The auction before its first command. Fails only where memory is refused.
+    pub fn new(alloc: Global, definition: &Definition) -> Result<Self, AllocError>
+        ensures rules { IfOk result (λ a. a.rules ≡ definition.now) }
+    {
+        let definition = definition.copy(alloc)?;
+        let books = Books::new(alloc, definition.tree())?;
+        let outcome = Outcome::new(alloc, definition.tree())?;
+        let prices = Prices::new(alloc, definition.tree())?;
+        let bidders = bidder_rows(alloc, &definition)?;
+        Ok(Auction {
+            definition,
+            books,
+            outcome,
+            prices,
+            bidders,
+            auctioneer: None,
+            count: 0,
+            round: 1,
+            stage: 1,
+            closed: false,
+        })
+    }
+
+    /// A copy that equals this auction. Fails only where memory is refused.
+    pub fn copy(&self, alloc: Global) -> Result<Self, AllocError>
+        ensures { IfOk result (λ a. a ≡ self.now) }
+    {
+        Ok(Auction {
+            definition: self.definition.copy(alloc)?,
+            books: self.books.copy(alloc)?,
+            outcome: self.outcome.copy(alloc)?,
+            prices: self.prices.copy(alloc)?,
+            bidders: Vec::from_slice(alloc, self.bidders.as_slice())?,
+            auctioneer: self.auctioneer,
+            count: self.count,
+            round: self.round,
+            stage: self.stage,
+            closed: self.closed,
+        })
+    }
+
+    /// What the auction is of.
+    pub fn definition(&self) -> &Definition
+        ensures { result.now ≡ self.now.rules }
+    {
+        &self.definition
+    }
+
+    /// The round that is open, from 1; of a closed auction the last one.
+    pub fn round(&self) -> u32
+        ensures { result ≡ self.now.round }
+    {
+        self.round
+    }
+
+    /// The stage in force, from 1.
+    pub fn stage(&self) -> u8
+        ensures value { result ≡ self.now.stage }
+        ensures some { 0 < result }
+        ensures most { result ≤ length self.now.rules.stages }
+    {
+        self.stage
+    }
+
+    /// Whether the auction is over.
+    pub fn closed(&self) -> bool
+        ensures { result ≡ self.now.over }
+    {
+        self.closed
+    }
+
+    /// The sum of the winning bids, in whole dollars.
+    pub fn revenue(&self) -> u64
+        ensures { result ≡ self.now.revenue }
+    {
+        self.outcome.revenue()
+    }
+
+    /// How many commands have been accepted, at most 1,000,000.
+    pub fn count(&self) -> u32
+        ensures value { result ≡ self.now.count }
+        ensures most { result ≤ MOST_COMMANDS }
+    {
+        self.count
+    }
+
+    /// What is shown of a node.
+    pub fn node_view(&self, node: NodeId) -> NodeView
+        requires { node < length self.now.rules.nodes }
+        ensures high { result.high ≡ (node_at self.now node).high }
+        ensures incoming { result.incoming ≡ (node_at self.now node).incoming }
+        ensures price { result.price ≡ (node_at self.now node).price }
+        ensures minimum { result.minimum ≡ (node_at self.now node).minimum }
+        ensures wins { result.wins ≡ (node_at self.now node).wins }
+    {
+        NodeView {
+            high: self.books.standing(node),
+            incoming: self.books.incoming(node),
+            price: self.prices.price(node),
+            minimum: self.prices.minimum(node),
+            wins: self.outcome.wins(node),
+        }
+    }
+
+    /// What is shown of a bidder.
+    pub fn bidder_view(&self, bidder: BidderId) -> BidderView
+        requires { bidder < length self.now.rules.bidders }
+        ensures eligibility { result.eligibility ≡ (bidder_at self.now bidder).eligibility }
+        ensures ticket { result.ticket ≡ (bidder_sender_at self.now bidder).ticket }
+    {
+        let row = &self.bidders[bidder.place()];
+        BidderView {
+            eligibility: row.eligibility,
+            activity: activity(self.definition.tree(), &self.books, &self.outcome, bidder),
+            ticket: last_ticket(row.last.as_ref()),
+        }
+    }
+}

@@ -1,0 +1,112 @@
+ghost use Rattle.std.specs.Prelude.{◌≡◌, ◌+◌, ◌<◌, ◌≤◌, length, IsNone, Ok, None, IfOk};
+ghost use Rattle.hpb_rules.specs.declared.reply.TheConstants.{MOST_AMOUNT, MOST_COMMANDS};
+ghost use Rattle.hpb_tree.specs.declared.definition.TheConstants.{MOST_STAGES};
+
+use crate::auction::Auction;
+use crate::sender::Accepted;
+use crate::verdict::{Verdict, by_state, by_ticket};
+use hpb_rules::{BidderId, Command, MOST_AMOUNT, NodeId, Reply, refusal};
+use hpb_units::fits;
+
+impl Auction {
+    ghost use Rattle.hpb_auction.specs.Verdicts.{reply_of, IfNew};
+    ghost use Rattle.hpb_auction.specs.Machine.{CanTake, IsKnown};
+
+    /// What the command would be answered. Nothing changes.
+    ///
+    /// Refusals, the first that holds: 11 `bidder`, 12 `node`, 13 `old`, 14 `ticket`, 15 `gap`, 26 `limit`,
+    /// 20 `closed`; of a bid 21 `step`, 22 `low`, 23 `high`, 24 `again`, 25 `eligibility`; of a stage 27 `stage`.
+    pub fn judge(&self, command: &Command) -> Reply {
+        self.verdict(command).reply()
+    }
+
+    /// What becomes of a command.
+    pub(crate) fn verdict(&self, command: &Command) -> Verdict
+        ensures new { IfNew result (λ number. (number ≡ self.now.count + 1) × (number ≤ MOST_COMMANDS) × CanTake self.now command.now) }
+    {
+        let last = match self.last_of(command) {
+            Ok(last) => last,
+            Err(code) => return Verdict::Refused(code),
+        };
+        match by_ticket(command, last) {
+            Some(verdict) => verdict,
+            None => by_state(self.count, self.closed, self.fault(command)),
+        }
+    }
+
+    /// The last command of a command's sender, or the refusal of a bidder or a node that the definition hasn't.
+    fn last_of(&self, command: &Command) -> Result<Option<&Accepted>, u8>
+        ensures { IfOk result (λ _. IsKnown self.now command.now) }
+    {
+        match command {
+            Command::Bid { bidder, node, .. } => self.last_bid_of(*bidder, *node),
+            Command::Close { .. } | Command::Stage { .. } => Ok(self.auctioneer.as_ref()),
+        }
+    }
+
+    fn last_bid_of(&self, bidder: BidderId, node: NodeId) -> Result<Option<&Accepted>, u8>
+        ensures known { IfOk result (λ _. (bidder < length self.now.rules.bidders) × (node < length self.now.rules.nodes)) }
+    {
+        let row = bidder.place();
+        if row >= self.bidders.len() {
+            return Err(refusal::BIDDER);
+        }
+        if node.place() >= self.definition.node_count() {
+            return Err(refusal::NODE);
+        }
+        Ok(self.bidders[row].last.as_ref())
+    }
+
+    /// What is wrong with a command of the definition's bidders and nodes, whatever its ticket is.
+    fn fault(&self, command: &Command) -> Option<u8>
+        requires { IsKnown self.now command.now }
+        ensures { result ≡ None → CanTake self.now command.now }
+    {
+        match *command {
+            Command::Bid {
+                bidder,
+                node,
+                amount,
+                ..
+            } => self.bid_fault(bidder, node, amount),
+            Command::Close { .. } => None,
+            Command::Stage { .. } => self.stage_fault(),
+        }
+    }
+
+    fn bid_fault(&self, bidder: BidderId, node: NodeId, amount: u64) -> Option<u8>
+        requires bidder { bidder < length self.now.rules.bidders }
+        requires node { node < length self.now.rules.nodes }
+        ensures { result ≡ None → amount ≤ MOST_AMOUNT }
+    {
+        if amount % u64::from(self.definition.step()) != 0 {
+            return Some(refusal::STEP);
+        }
+        if amount < self.prices.minimum(node) {
+            return Some(refusal::LOW);
+        }
+        if amount > MOST_AMOUNT {
+            return Some(refusal::HIGH);
+        }
+        if self.books.has_bid_on(bidder, node) {
+            return Some(refusal::AGAIN);
+        }
+        let eligibility = self.bidders[bidder.place()].eligibility;
+        let tree = self.definition.tree();
+        if !fits(tree, &self.books, &self.outcome, bidder, node, eligibility) {
+            return Some(refusal::ELIGIBILITY);
+        }
+        None
+    }
+
+    fn stage_fault(&self) -> Option<u8>
+        ensures further { result ≡ None → self.now.stage < length self.now.rules.stages }
+        ensures within { result ≡ None → self.now.stage < MOST_STAGES }
+    {
+        if usize::from(self.stage) < self.definition.stage_count() {
+            None
+        } else {
+            Some(refusal::STAGE)
+        }
+    }
+}

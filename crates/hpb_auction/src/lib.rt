@@ -1,0 +1,13 @@
+//! The auction: a machine over commands. It keeps tables of fixed size, which its answers are given by.
+#![tactic(auto)]
+
+mod applying;
+mod auction;
+mod judging;
+mod sender;
+mod verdict;
+mod views;
+
+pub use auction::Auction;
+pub use hpb_rules::{BidderId, Command, MOST_AMOUNT, MOST_COMMANDS, NodeId, Offer, Reply};
+pub use views::{BidderView, NodeView};

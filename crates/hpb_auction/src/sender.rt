@@ -1,0 +1,86 @@
+ghost use Rattle.std.specs.Prelude.{◌≡◌, ◌≤◌, length, IfOk};
+ghost use Rattle.hpb_rules.specs.History.{ticket_of};
+ghost use Rattle.hpb_rules.specs.declared.id.TheConstants.{MOST_BIDDERS};
+ghost use Rattle.hpb_winners.specs.Outcome.{IsSized};
+ghost use Rattle.hpb_auction.specs.Verdicts.{last_ticket};
+
+use hpb_bids::Books;
+use hpb_rules::{BidderId, Command};
+use hpb_tree::{Definition, Tree};
+use hpb_units::{activity, next_eligibility};
+use hpb_winners::Outcome;
+use std::alloc::{AllocError, Global};
+
+/// A command that was accepted, with its number among all accepted commands, from 1.
+#[derive(Clone, Copy, Debug)]
+pub(crate) struct Accepted {
+    pub(crate) command: Command,
+    pub(crate) number: u32,
+}
+
+/// The ticket that a command carries.
+pub(crate) fn ticket(command: &Command) -> u32
+    ensures { result ≡ ticket_of command.now }
+{
+    match command {
+        Command::Bid { ticket, .. } | Command::Close { ticket } | Command::Stage { ticket } =>
+            *ticket,
+    }
+}
+
+/// The ticket of a sender's last command, 0 where it has none.
+pub(crate) fn last_ticket(last: Option<&Accepted>) -> u32
+    ensures { result ≡ last_ticket last.entry }
+{
+    match last {
+        Some(accepted) => ticket(&accepted.command),
+        None => 0,
+    }
+}
+
+/// What is kept of a bidder beside its bids: the units that it may still be active with, and its last
+/// accepted command.
+#[derive(Clone, Copy, Debug)]
+pub(crate) struct BidderRow {
+    pub(crate) eligibility: u32,
+    pub(crate) last: Option<Accepted>,
+}
+
+/// The rows of a definition's bidders before the first command.
+pub(crate) fn bidder_rows(
+    alloc: Global,
+    definition: &Definition,
+) -> Result<Vec<BidderRow>, AllocError>
+    ensures rows { IfOk result (λ rows. length rows.items ≡ length definition.now.bidders) }
+    ensures most { IfOk result (λ rows. length rows.items ≤ MOST_BIDDERS) }
+{
+    let mut rows = Vec::new(alloc);
+    for place in 0..definition.bidder_count() {
+        let eligibility = definition.bidder_units(BidderId::new(place));
+        rows.push(BidderRow {
+            eligibility,
+            last: None,
+        })?;
+    }
+    Ok(rows)
+}
+
+/// At a close each bidder's eligibility becomes what its activity allows under the percentage in force.
+pub(crate) fn renew_eligibility(
+    rows: &mut [BidderRow],
+    percentage: u8,
+    tree: &Tree,
+    books: &Books,
+    outcome: &Outcome,
+)
+    requires rows { length rows.old ≤ MOST_BIDDERS }
+    requires some { 50 ≤ percentage }
+    requires most { percentage ≤ 100 }
+    requires outcome { IsSized tree.now.nodes outcome.now }
+{
+    for place in 0..rows.len() {
+        let used = activity(tree, books, outcome, BidderId::new(place));
+        let row = &mut rows[place];
+        row.eligibility = next_eligibility(used, percentage, row.eligibility);
+    }
+}

@@ -1,0 +1,107 @@
+-- The tables of the code, as definitions see them.
+use Rattle.std.proofs.Common.{◌≡◌, ℕ, zero, suc, ◌<◌, ◌≤◌, ◌*◌, ◌%◌, ◌^◌, ◌++◌, Bool, true, false, List, [], ◌∷◌, map, take, drop, length, get_or, set, replicate, Option, Some, None, refl, sym, ap, ◌∙◌, arith, subst}
+use Rattle.std.specs.Prelude.{nat_lt, if◌then◌else◌, IfSome, IsTrue, All, bit_or, ◌↔◌}
+use Rattle.std.proofs.lemmas.List.{map-set, get_or-map, length-map, take_all, drop_all, append-nil}
+use Rattle.std.proofs.lemmas.List.Elements.{All-map}
+use Rattle.std.proofs.lemmas.Nat.{one_shl}
+use Rattle.std.proofs.Math.Seq.{map-set_same, take-append_seam}
+use Rattle.hpb_rules.specs.declared.command.Offer.{Offer}
+use Rattle.hpb_rules.specs.declared.id.TheConstants.{MOST_BIDDERS, MOST_NODES}
+use Rattle.hpb_rules.specs.declared.reply.TheConstants.{MOST_AMOUNT}
+use Rattle.hpb_rules.specs.History.{amount_of}
+use Rattle.hpb_bids.specs.View.{BooksView, IsBooks, greater, merged, placed, folded, IsQuiet}
+use Rattle.hpb_bids.specs.Inside.{tables_view, received, closed, IsSmall}
+use Rattle.hpb_bids.specs.declared.books.NodeBids.{NodeBids}
+
+-- a table of rows without a bid has no bid
+pub none_at : {A X : Type 0} (f : A → Option X) (a : A) → f a ≡ None → (k n : ℕ) → get_or (map f (replicate k a)) n None ≡ None
+none_at f a e zero n = refl
+none_at f a e (suc k) zero = e
+none_at f a e (suc k) (suc n) = none_at f a e k n
+
+pub zero_at : (k n : ℕ) → get_or {A = ℕ} (replicate k 0) n 0 ≡ 0
+zero_at zero n = refl
+zero_at (suc k) zero = refl
+zero_at (suc k) (suc n) = zero_at k n
+
+small_at : (most : ℕ) (o : Option Offer) → IfSome o (λ x. x.amount ≤ most) → amount_of o ≤ most
+small_at most None h = omega arith
+small_at most (Some o) h = h
+
+amounts_view : (nodes : List NodeBids) (n : ℕ) → All IsSmall nodes → amount_of (get_or (map (λ (m : NodeBids). m.standing) nodes) n None) ≤ MOST_AMOUNT
+amounts_view [] n h = omega arith
+amounts_view (m ∷ ms) zero h = small_at _ m.standing (h 0 m (omega arith)).standing
+amounts_view (m ∷ ms) (suc n) h = amounts_view ms n (λ i d within. h (suc i) d (omega arith))
+
+-- what the tables keep
+pub kept_view : (nodes : List NodeBids) (masks : List ℕ) (books : BooksView) → tables_view nodes masks ≡ books → length nodes ≡ MOST_NODES → length masks ≡ MOST_BIDDERS → All IsSmall nodes → IsBooks books
+kept_view nodes masks books seen rows size small = subst IsBooks seen (record {
+  standing = length-map nodes _ ∙ rows;
+  incoming = length-map nodes _ ∙ rows;
+  bids = size;
+  amounts = λ n. amounts_view nodes n small;
+})
+
+same_books : {s t i j : List (Option Offer)} {b d : List ℕ} → s ≡ t → i ≡ j → b ≡ d → ◌≡◌ {A = BooksView} (record { standing = s; incoming = i; bids = b }) (record { standing = t; incoming = j; bids = d })
+same_books e f g = cc
+
+-- a bid in the tables
+pub placed_view : (nodes : List NodeBids) (masks : List ℕ) (books : BooksView) (i j n b a mask : ℕ) (old new : NodeBids)
+    → tables_view nodes masks ≡ books → i ≡ n → j ≡ b → i < length nodes → i < 128 → old ≡ get_or nodes i old → new ≡ received old (record { amount = a; bidder = b }) → mask ≡ get_or masks j 0
+    → tables_view (set nodes i new) (set masks j (bit_or mask (1 * 2 ^ i % 2 ^ 128))) ≡ placed books b n a
+placed_view nodes masks books i j n b a mask old new seen e f within small found made read =
+    ap (λ r. tables_view (set nodes i r) (set masks j (bit_or mask (1 * 2 ^ i % 2 ^ 128)))) made
+    ∙ same_books
+    (map-set_same (λ (m : NodeBids). m.standing) nodes i _ old (ap (λ (m : NodeBids). m.standing) found))
+    (map-set (λ (m : NodeBids). m.incoming) nodes i _ ∙ ap (λ o. set (map (λ (m : NodeBids). m.incoming) nodes) i (greater o (Some (record { amount = a; bidder = b })))) (ap (λ (m : NodeBids). m.incoming) found ∙ sym (get_or-map (λ (m : NodeBids). m.incoming) nodes i old None within)))
+    (ap (λ x. set masks j (bit_or mask x)) (one_shl i 128 small) ∙ ap (λ x. set masks j (bit_or x (2 ^ i))) read ∙ ap (λ k. set masks k (bit_or (get_or masks k 0) (2 ^ i))) f)
+    ∙ (ap (λ k. placed (tables_view nodes masks) b k a) e ∙ ap (λ x. placed x b n a) seen)
+
+-- ---- the end of a round
+
+merged_view : (nodes : List NodeBids) → map (λ (m : NodeBids). m.standing) (map closed nodes) ≡ merged (map (λ (m : NodeBids). m.standing) nodes) (map (λ (m : NodeBids). m.incoming) nodes)
+merged_view [] = refl
+merged_view (n ∷ ns) = ap (λ xs. greater n.standing n.incoming ∷ xs) (merged_view ns)
+
+cleared_view : (nodes : List NodeBids) → map (λ (m : NodeBids). m.incoming) (map closed nodes) ≡ map (λ (o : Option Offer). None) (map (λ (m : NodeBids). m.incoming) nodes)
+cleared_view [] = refl
+cleared_view (n ∷ ns) = ap (λ xs. None ∷ xs) (cleared_view ns)
+
+zeros : (masks : List ℕ) → replicate {A = ℕ} (length masks) 0 ≡ map (λ (x : ℕ). 0) masks
+zeros [] = refl
+zeros (x ∷ xs) = ap (λ ys. 0 ∷ ys) (zeros xs)
+
+pub folded_view : (nodes : List NodeBids) (masks : List ℕ) (books : BooksView) → tables_view nodes masks ≡ books → tables_view (map closed nodes) (replicate {A = ℕ} (length masks) 0) ≡ folded books
+folded_view nodes masks books seen = same_books (merged_view nodes) (cleared_view nodes) (zeros masks) ∙ ap folded seen
+
+-- what a loop over the whole table leaves in it
+pub whole : (nodes rows : List NodeBids) (i n : ℕ) → length nodes ≤ i → rows ≡ map closed (take i nodes) ++ drop i nodes → n ≡ length nodes → take n (rows ++ drop (length rows) nodes) ≡ map closed nodes
+whole nodes rows i n h e size =
+    let all : rows ≡ map closed nodes = e ∙ ap (λ xs. map closed xs ++ drop i nodes) (take_all i nodes h) ∙ ap (λ xs. map closed nodes ++ xs) (drop_all i nodes h) ∙ append-nil (map closed nodes) in
+    let same : length rows ≡ n = ap length all ∙ length-map nodes closed ∙ sym size in
+    ap (λ k. take k (rows ++ drop (length rows) nodes)) (sym same) ∙ take-append_seam rows (drop (length rows) nodes) ∙ all
+
+small_greater : (most : ℕ) (o n : Option Offer) → IfSome o (λ x. x.amount ≤ most) → IfSome n (λ x. x.amount ≤ most) → IfSome (greater o n) (λ x. x.amount ≤ most)
+small_greater most None None h k = tt
+small_greater most None (Some n) h k = elim (nat_lt 0 n.amount) as (λ b. IfSome (if b then Some n else None) (λ x. x.amount ≤ most)) [ true ↦ k | false ↦ tt ]
+small_greater most (Some o) None h k = elim (nat_lt o.amount 0) as (λ b. IfSome (if b then None else Some o) (λ x. x.amount ≤ most)) [ true ↦ tt | false ↦ h ]
+small_greater most (Some o) (Some n) h k = elim (nat_lt o.amount n.amount) as (λ b. IfSome (if b then Some n else Some o) (λ x. x.amount ≤ most)) [ true ↦ k | false ↦ h ]
+
+small_closed : (n : NodeBids) → IsSmall n → IsSmall (closed n)
+small_closed n h = record { standing = small_greater _ n.standing n.incoming h.standing h.incoming; incoming = tt }
+
+pub small_all_closed : (nodes : List NodeBids) → All IsSmall nodes → All IsSmall (map closed nodes)
+small_all_closed nodes h = All-map IsSmall closed nodes (λ i d within. small_closed _ (h i d within))
+
+-- ---- a round without a bid
+
+each_quiet : (nodes : List NodeBids) → All (λ m. m.incoming ≡ None) nodes → (n : ℕ) → get_or (map (λ (m : NodeBids). m.incoming) nodes) n None ≡ None
+each_quiet [] h n = refl
+each_quiet (m ∷ ms) h zero = h 0 m (omega arith)
+each_quiet (m ∷ ms) h (suc n) = each_quiet ms (λ i d within. h (suc i) d (omega arith)) n
+
+all_quiet : (nodes : List NodeBids) → ((n : ℕ) → get_or (map (λ (m : NodeBids). m.incoming) nodes) n None ≡ None) → All (λ m. m.incoming ≡ None) nodes
+all_quiet nodes h i d within = sym (get_or-map (λ (m : NodeBids). m.incoming) nodes i d None within) ∙ h i
+
+pub quiet_view : (nodes : List NodeBids) (masks : List ℕ) (books : BooksView) (b : Bool) → tables_view nodes masks ≡ books → IsTrue b ↔ All (λ m. m.incoming ≡ None) nodes → IsTrue b ↔ IsQuiet books
+quiet_view nodes masks books b seen e = subst (λ v. IsTrue b ↔ IsQuiet v) seen (λ t. each_quiet nodes (e.0 t), λ q. e.1 (all_quiet nodes q))

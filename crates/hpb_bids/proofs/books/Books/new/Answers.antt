@@ -1,0 +1,19 @@
+use Rattle.std.proofs.Common.{refl, None}
+use Rattle.hpb_bids.specs.declared.books.NodeBids.{NodeBids}
+use Rattle.hpb_bids.proofs.History.{empty_holds}
+use Rattle.hpb_bids.proofs.Tables.{none_at, zero_at}
+use Rattle.hpb_bids.proofs.books.Books.new.Goals as goal
+
+no_bids : NodeBids
+no_bids = record { standing = None; incoming = None }
+
+pub returns-clause-empty : goal.returns-clause-empty
+unfolding no_bids
+returns-clause-empty c = record {
+  standing = λ n. rw (c.in_ok-vec.ensures.items_if_clones_equal (λ y h. h)) (none_at (λ (m : NodeBids). m.standing) no_bids refl 127 n);
+  incoming = λ n. rw (c.in_ok-vec.ensures.items_if_clones_equal (λ y h. h)) (none_at (λ (m : NodeBids). m.incoming) no_bids refl 127 n);
+  bids = λ n. rw (c.in_ok-vec-2.ensures.items_if_clones_equal (λ y h. h)) (zero_at 64 n);
+}
+
+pub returns-clause-history : goal.returns-clause-history
+returns-clause-history c = empty_holds _ (returns-clause-empty c)

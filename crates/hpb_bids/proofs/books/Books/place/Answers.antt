@@ -1,0 +1,20 @@
+use Rattle.std.proofs.Common.{◌<◌, length, ◌∙◌, arith}
+use Rattle.std.proofs.lemmas.Grind.{get_or_default_zero}
+use Rattle.hpb_bids.proofs.Tables.{kept_view, placed_view}
+use Rattle.hpb_bids.proofs.History.{placed_holds}
+use Rattle.hpb_bids.proofs.books.Books.place.Goals as goal
+
+pub returns-clause-value : goal.returns-clause-value
+returns-clause-value c =
+    let nodes = c.self.inside.nodes.items in
+    let masks = c.self.inside.bids.items in
+    let has_row : c.place-index.result < length nodes = omega (arith, c.self.invariant.nodes) in
+    let has_mask : c.place.result < length masks = omega (arith, c.self.invariant.bids) in
+    placed_view nodes masks c.args.self.now c.place-index.result c.place.result c.args.node c.args.bidder c.args.amount c.index_mut-2.result.now c.index_mut.result.now c.receive.new.self
+    c.self.view_is c.place-index.ensures.value c.place.ensures.value has_row (omega arith) c.index_mut.ensures.value c.receive.ensures
+    (c.index_mut-2.ensures.value ∙ get_or_default_zero masks c.place.result c.index_mut-2.result.now has_mask)
+
+pub returns-clause-history : goal.returns-clause-history
+returns-clause-history c =
+    let sized = kept_view c.self.inside.nodes.items c.self.inside.bids.items c.args.self.now c.self.view_is c.self.invariant.nodes c.self.invariant.bids c.self.invariant.amounts in
+    placed_holds c.args.self.now _ c.args.bidder c.args.node c.args.amount sized (omega (arith, c.place.ensures.value)) (omega (arith, c.place-index.ensures.value)) (returns-clause-value c)

@@ -1,0 +1,176 @@
+ghost use Rattle.std.specs.List.{list_any};
+ghost use Rattle.std.specs.Prelude.{All, not, ℕ, List, [], ◌∷◌, ◌≡◌, ◌≤◌, ◌↔◌, IsTrue, IfOk, IfSome, slice_index, slice_set};
+ghost use Rattle.hpb_rules.specs.declared.command.Command.{Command};
+ghost use Rattle.hpb_rules.specs.declared.command.Command.TheVariants.{Bid, Close};
+ghost use Rattle.hpb_rules.specs.History.{amount_of, is_bid, open_round};
+ghost use Rattle.hpb_bids.specs.View.{offer_at, has_bid, placed, folded, IsBooks, IsQuiet, IsEmpty};
+ghost use Rattle.hpb_bids.specs.Holds.{Holds, IsCounted};
+
+use hpb_rules::{BidderId, MOST_AMOUNT, MOST_BIDDERS, MOST_NODES, NodeId, Offer};
+use hpb_tree::Tree;
+use std::alloc::{AllocError, Global};
+use std::marker::Model;
+
+/// The bids on one node.
+#[derive(Clone, Copy, Debug)]
+pub(crate) struct NodeBids {
+    pub(crate) standing: Option<Offer>,
+    pub(crate) incoming: Option<Offer>,
+}
+
+/// The bids of an auction. Amounts are whole dollars, at most `MOST_AMOUNT`.
+#[derive(Debug, Drop)]
+pub struct Books {
+    pub(crate) nodes: Vec<NodeBids>,
+    /// A mask for each bidder: bit n is for node n.
+    pub(crate) bids: Vec<u128>,
+}
+
+impl NodeBids {
+    ghost use Rattle.hpb_bids.specs.Inside.{received, closed};
+
+    /// Takes a bid in the open round: it becomes the best where it is more than that.
+    fn receive(&mut self, offer: Offer)
+        ensures { self.new ≡ received self.old offer }
+    {
+        if amount_or_zero(&self.incoming) < offer.amount {
+            self.incoming = Some(offer);
+        }
+    }
+
+    /// Closes the round: its best bid stands where it is more than what stood.
+    fn close(&mut self)
+        ensures { self.new ≡ closed self.old }
+    {
+        let incoming = self.incoming.take();
+        if amount_or_zero(&self.standing) < amount_or_zero(&incoming) {
+            self.standing = incoming;
+        }
+    }
+}
+
+impl Model for Books {
+    ghost use Rattle.hpb_bids.specs.View.{BooksView};
+
+    ghost Value = { BooksView };
+
+    ghost use Rattle.hpb_bids.specs.Inside.{books_view, IsKept};
+
+    ghost view = { books_view };
+
+    ghost invariant = { IsKept };
+}
+
+impl Books {
+    /// Books without a bid, for any auction on the tree. Fails only where memory is refused.
+    pub fn new(alloc: Global, _tree: &Tree) -> Result<Books, AllocError>
+        ensures empty { IfOk result IsEmpty }
+        ensures history { IfOk result (λ books. Holds books []) }
+    {
+        let none = NodeBids {
+            standing: None,
+            incoming: None,
+        };
+        Ok(Books {
+            nodes: vec![in alloc; none; MOST_NODES]?,
+            bids: vec![in alloc; 0; MOST_BIDDERS]?,
+        })
+    }
+
+    /// The same books once more. Fails only where memory is refused.
+    pub fn copy(&self, alloc: Global) -> Result<Books, AllocError>
+        ensures { IfOk result (λ books. books ≡ self.now) }
+    {
+        Ok(Books {
+            nodes: self.nodes.as_slice().to_vec(alloc)?,
+            bids: self.bids.as_slice().to_vec(alloc)?,
+        })
+    }
+
+    /// The high bid of a node, by closed rounds.
+    pub fn standing(&self, node: NodeId) -> Option<Offer>
+        ensures value { result ≡ offer_at self.now.standing node }
+        ensures amount { IfSome result (λ o. o.amount ≤ MOST_AMOUNT) }
+        ensures books { IsBooks self.now }
+    {
+        self.nodes[node.place()].standing
+    }
+
+    /// The greatest bid on a node in the open round, of equal ones the first.
+    pub fn incoming(&self, node: NodeId) -> Option<Offer>
+        ensures value { result ≡ offer_at self.now.incoming node }
+        ensures amount { IfSome result (λ o. o.amount ≤ MOST_AMOUNT) }
+    {
+        self.nodes[node.place()].incoming
+    }
+
+    /// The nodes on which a bidder bid in the open round: bit n is for node n.
+    pub fn bid_on(&self, bidder: BidderId) -> u128
+        ensures { result ≡ slice_index self.now.bids bidder }
+    {
+        self.bids[bidder.place()]
+    }
+
+    /// Whether a bidder bid on a node in the open round.
+    pub fn has_bid_on(&self, bidder: BidderId, node: NodeId) -> bool
+        ensures { result ≡ has_bid self.now bidder node }
+    {
+        (self.bid_on(bidder) >> node.place()) & 1 == 1
+    }
+
+    /// Whether the open round has no bid.
+    pub fn is_quiet(&self) -> bool
+        ensures value { IsTrue result ↔ IsQuiet self.now }
+        ensures history { (past : List Command) → All IsCounted past → Holds self.now past → result ≡ not (list_any is_bid (open_round past)) }
+    {
+        self.nodes.iter().all(|bids| bids.incoming.is_none())
+    }
+
+    /// Takes a bid in the open round. It becomes the node's best where it is more than that.
+    pub fn place(&mut self, bidder: BidderId, node: NodeId, amount: u64)
+        requires { amount ≤ MOST_AMOUNT }
+        ensures value { self.new ≡ placed self.old bidder node amount }
+        ensures history { (past : List Command) (t : ℕ) → Holds self.old past → Holds self.new (Bid bidder t node amount ∷ past) }
+    {
+        let index = node.place();
+        self.nodes[index].receive(Offer { amount, bidder });
+        self.bids[bidder.place()] |= 1 << index;
+    }
+
+    /// Closes the round: what was bid in it counts from now on, and the next round has no bid.
+    pub fn fold_round(&mut self)
+        ensures value { self.new ≡ folded self.old }
+        ensures history { (past : List Command) (t : ℕ) → Holds self.old past → Holds self.new (Close t ∷ past) }
+    {
+        for bids in self.nodes.iter_mut() {
+            bids.close();
+        }
+        self.bids.fill(0);
+    }
+
+    /// Sets the bids on a node, and nothing else.
+    pub fn set_node(&mut self, node: NodeId, standing: Option<Offer>, incoming: Option<Offer>)
+        requires standing { IfSome standing (λ o. o.amount ≤ MOST_AMOUNT) }
+        requires incoming { IfSome incoming (λ o. o.amount ≤ MOST_AMOUNT) }
+        ensures { self.new ≡ record { standing = slice_set self.old.standing node standing; incoming = slice_set self.old.incoming node incoming; bids = self.old.bids } }
+    {
+        self.nodes[node.place()] = NodeBids { standing, incoming };
+    }
+
+    /// Sets the nodes on which a bidder bid in the open round, and nothing else.
+    pub fn set_bids(&mut self, bidder: BidderId, mask: u128)
+        ensures { self.new ≡ record self.old { bids = slice_set self.old.bids bidder mask } }
+    {
+        self.bids[bidder.place()] = mask;
+    }
+}
+
+/// An offer's amount. None counts as 0.
+fn amount_or_zero(offer: &Option<Offer>) -> u64
+    ensures { result ≡ amount_of offer.now }
+{
+    match offer {
+        Some(offer) => offer.amount,
+        None => 0,
+    }
+}

@@ -1,0 +1,61 @@
+//! Whole dollars: percentages, steps and shares.
+#![tactic(auto)]
+
+ghost use Rattle.std.specs.Prelude.{◌≡◌, ℕ, ◌+◌, ◌*◌, ◌^◌, ◌<◌, ◌≤◌, List, slice_index};
+ghost use Rattle.hpb_rules.specs.Prices.{IsShares, share};
+
+/// An amount in whole dollars.
+pub type Dollars = u64;
+
+/// The greatest amount that an auction deals in.
+pub const MOST_DOLLARS: Dollars = 1_000_000_000_000_000;
+
+/// A percentage, 0 to 100, of an amount, rounded up to whole dollars.
+pub fn ceil_percent(amount: Dollars, percent: u64) -> Dollars
+    requires { percent ≤ 100 }
+    ensures enough { amount * percent ≤ 100 * result }
+    ensures least { (x : ℕ) → amount * percent ≤ 100 * x → result ≤ x }
+    ensures most { result ≤ amount }
+{
+    // In two parts, so that no product is too large.
+    amount / 100 * percent + (amount % 100 * percent).div_ceil(100)
+}
+
+/// An amount rounded up to a multiple of the step.
+pub fn round_up(amount: Dollars, step: u64) -> Dollars
+    requires step { 0 < step }
+    requires fits { amount + step < 2 ^ 64 }
+    ensures multiple { (q : ℕ) × (result ≡ q * step) }
+    ensures enough { amount ≤ result }
+    ensures least { (q : ℕ) → amount ≤ q * step → result ≤ q * step }
+    ensures most { result < amount + step }
+{
+    amount.next_multiple_of(step)
+}
+
+/// What falls to one of `count` when dollars are shared out as evenly as whole dollars allow: the first
+/// `dollars % count` get one more than the others. Places count from 0.
+pub fn share(dollars: Dollars, count: u64, place: u64) -> Dollars
+    requires { place < count }
+    ensures value { result ≡ share dollars count place }
+    ensures law { (xs : List ℕ) → IsShares dollars count xs → result ≡ slice_index xs place }
+    ensures most { result ≤ dollars }
+{
+    if place < dollars % count {
+        dollars / count + 1
+    } else {
+        dollars / count
+    }
+}
+
+#[cfg(test)]
+mod tests {
+    use super::*;
+
+    #[test]
+    fn shares_of_two_in_three(rt: HostRuntime) {
+        assert_eq!(rt; share(2, 3, 0), 1);
+        assert_eq!(rt; share(2, 3, 1), 1);
+        assert_eq!(rt; share(2, 3, 2), 0);
+    }
+}

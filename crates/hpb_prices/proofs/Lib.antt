@@ -1,0 +1,4 @@
+pub mod LeastBid
+pub mod Carrying
+pub mod NoPrice
+pub mod MaskedSums

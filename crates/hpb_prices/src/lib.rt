@@ -1,0 +1,12 @@
+//! Prices of the nodes and the least bids on them, and certificates: prices that prove a choice of high
+//! bids to be the best one.
+#![tactic(auto)]
+
+mod certificate;
+mod minimum;
+mod passing;
+mod prices;
+
+pub use certificate::check_certificate;
+pub use passing::downward;
+pub use prices::Prices;

@@ -1,0 +1,92 @@
+ghost use Rattle.std.specs.Prelude.{◌≡◌, ℕ, ◌-◌, ◌+◌, ◌<◌, ◌≤◌, ◌*◌, length, slice_index};
+ghost use Rattle.hpb_rules.specs.Tree.{IsTree};
+ghost use Rattle.hpb_rules.specs.Prices.{carried as carried_of, price};
+ghost use Rattle.hpb_bids.specs.View.{IsBooks, bid_of};
+ghost use Rattle.hpb_winners.specs.Outcome.{IsOutcome};
+ghost use Rattle.hpb_prices.specs.View.{HasMinima, HasPrices, IsCarried, IsSized};
+
+use crate::minimum::set_minima;
+use crate::prices::Prices;
+use hpb_bids::Books;
+use hpb_money::{Dollars, share};
+use hpb_rules::{MOST_NODES, NodeId};
+use hpb_tree::Tree;
+use hpb_winners::{MOST_VALUE, Outcome};
+
+/// Sets the prices and the least bids, from the top down: what a package's high bid is more than the best
+/// inside it is shared among its children.
+pub fn downward(tree: &Tree, books: &Books, outcome: &Outcome, prices: &mut Prices)
+    requires outcome { IsOutcome tree.now.nodes (bid_of books.now) outcome.now }
+    requires prices { IsSized tree.now.nodes prices.old }
+    ensures sized { IsSized tree.now.nodes prices.new }
+    ensures prices { HasPrices tree.now.nodes (bid_of books.now) prices.new }
+    ensures minima { HasMinima tree.now (bid_of books.now) prices.new }
+{
+    pass_down(
+        tree,
+        books,
+        outcome,
+        &mut prices.carried,
+        &mut prices.prices,
+    );
+    set_minima(tree, &prices.prices, &mut prices.minima);
+}
+
+/// Finds from the first node to the last what is carried down to each node, and its price: its value and
+/// what is carried down to it.
+fn pass_down(
+    tree: &Tree,
+    books: &Books,
+    outcome: &Outcome,
+    carried: &mut [Dollars],
+    prices: &mut [Dollars],
+)
+    requires outcome { IsOutcome tree.now.nodes (bid_of books.now) outcome.now }
+    requires carried { length carried.old ≡ length tree.now.nodes }
+    requires prices { length prices.old ≡ length tree.now.nodes }
+    ensures prices { (n : ℕ) → n < length tree.now.nodes → slice_index prices.new n ≡ price tree.now.nodes (bid_of books.now) n }
+    ensures most { (n : ℕ) → slice_index prices.new n ≤ 2 * MOST_VALUE }
+{
+    for place in 0..tree.node_count() {
+        let node = NodeId::new(place);
+        let from_above = carried_to(tree, books, outcome, carried, node);
+        carried[place] = from_above;
+        prices[place] = outcome.value(node) + from_above;
+    }
+}
+
+/// What is carried down to a node: its share of what was carried to its parent and of its parent's
+/// surplus, and nothing at the top.
+fn carried_to(
+    tree: &Tree,
+    books: &Books,
+    outcome: &Outcome,
+    carried: &[Dollars],
+    node: NodeId,
+) -> Dollars
+    requires tree { IsTree tree.now.nodes }
+    requires nodes { length tree.now.nodes ≤ MOST_NODES }
+    requires outcome { IsOutcome tree.now.nodes (bid_of books.now) outcome.now }
+    requires carried { IsCarried tree.now.nodes (bid_of books.now) node carried.now }
+    requires node { node < length tree.now.nodes }
+    ensures value { result ≡ carried_of tree.now.nodes (bid_of books.now) node }
+    ensures most { result ≤ MOST_VALUE }
+{
+    match tree.parent(node) {
+        Some(parent) => {
+            let passed = carried[parent.place()] + surplus(books, outcome, parent);
+            share(passed, tree.children(parent), tree.rank(node))
+        }
+        None => 0,
+    }
+}
+
+/// What a package's high bid is more than the best inside it.
+fn surplus(books: &Books, outcome: &Outcome, node: NodeId) -> Dollars
+    requires { node < length outcome.now.inside }
+    ensures value { result ≡ bid_of books.now node - slice_index outcome.now.inside node }
+    ensures books { IsBooks books.now }
+{
+    let high = books.standing(node).map_or(0, |offer| offer.amount);
+    high.saturating_sub(outcome.inside(node))
+}

@@ -1,0 +1,79 @@
+ghost use Rattle.std.specs.Prelude.{◌≡◌, ◌<◌, length, IfOk, slice_index};
+ghost use Rattle.hpb_winners.specs.Outcome.{no_bid};
+ghost use Rattle.hpb_prices.specs.View.{HasMinima, HasPrices, IsSized};
+
+use crate::minimum::set_minima;
+use hpb_money::Dollars;
+use hpb_rules::NodeId;
+use hpb_tree::Tree;
+use std::alloc::{AllocError, Global};
+use std::marker::Model;
+
+/// The price of each node, and the least bid on it. All in whole dollars.
+#[derive(Debug, Drop)]
+pub struct Prices {
+    pub(crate) prices: Vec<Dollars>,
+    pub(crate) minima: Vec<Dollars>,
+    /// What was carried down to each node, in a pass.
+    pub(crate) carried: Vec<Dollars>,
+}
+
+impl Model for Prices {
+    ghost use Rattle.hpb_prices.specs.View.{PricesView};
+
+    ghost Value = { PricesView };
+
+    ghost use Rattle.hpb_prices.specs.Inside.{prices_view, IsKept};
+
+    ghost view = { prices_view };
+
+    ghost invariant = { IsKept };
+}
+
+impl Prices {
+    /// The prices of a tree without a bid: 0, so the least bids are the openings.
+    pub fn new(alloc: Global, tree: &Tree) -> Result<Prices, AllocError>
+        ensures sized { IfOk result (IsSized tree.now.nodes) }
+        ensures prices { IfOk result (HasPrices tree.now.nodes no_bid) }
+        ensures minima { IfOk result (HasMinima tree.now no_bid) }
+    {
+        let count = tree.node_count();
+        let prices = vec![in alloc; 0; count]?;
+        let mut minima = vec![in alloc; 0; count]?;
+        set_minima(tree, &prices, &mut minima);
+        Ok(Prices {
+            prices,
+            minima,
+            carried: vec![in alloc; 0; count]?,
+        })
+    }
+
+    /// The price of a node: of a package the sum over its licences.
+    pub fn price(&self, node: NodeId) -> Dollars
+        requires { node < length self.now.prices }
+        ensures { result ≡ slice_index self.now.prices node }
+    {
+        let index = node.place();
+        self.prices[index]
+    }
+
+    /// The least bid on a node, a multiple of the step.
+    pub fn minimum(&self, node: NodeId) -> Dollars
+        requires { node < length self.now.minima }
+        ensures { result ≡ slice_index self.now.minima node }
+    {
+        let index = node.place();
+        self.minima[index]
+    }
+
+    /// Prices that say the same.
+    pub fn copy(&self, alloc: Global) -> Result<Prices, AllocError>
+        ensures { IfOk result (λ prices. prices ≡ self.now) }
+    {
+        Ok(Prices {
+            prices: self.prices.to_vec(alloc)?,
+            minima: self.minima.to_vec(alloc)?,
+            carried: self.carried.to_vec(alloc)?,
+        })
+    }
+}

@@ -1,0 +1,35 @@
+-- Lists and their fronts.
+use Rattle.std.proofs.Common.{◌≡◌, ℕ, zero, suc, List, [], ◌∷◌, ◌++◌, take, Some, length, refl, ap, ◌∙◌, arith, append_assoc}
+use Rattle.std.specs.Prelude.{slice_get, All}
+use Rattle.std.proofs.lemmas.List.{take-append-le}
+use Rattle.hpb_rules.specs.Fronts.{IsFront}
+
+pub all_cons : {A : Type 0} (P : A → Type 0) (x : A) (xs : List A) → P x → All P xs → All P (x ∷ xs)
+all_cons P x xs p all zero d h = p
+all_cons P x xs p all (suc k) d h = all k d (omega arith)
+
+pub append_nil : {A : Type 0} (xs : List A) → xs ≡ xs ++ []
+append_nil [] = refl
+append_nil (x ∷ xs) = ap (λ ys. x ∷ ys) (append_nil xs)
+
+pub take_seam : {A : Type 0} (xs ys : List A) → take (length xs) (xs ++ ys) ≡ xs
+take_seam xs ys = take-append-le (length xs) xs ys (omega arith) ∙ whole xs
+  where
+    whole : {A : Type 0} (xs : List A) → take (length xs) xs ≡ xs
+    whole [] = refl
+    whole (x ∷ xs) = ap (λ ys. x ∷ ys) (whole xs)
+
+pub get_seam : {A : Type 0} (xs ys : List A) (y : A) → slice_get (xs ++ y ∷ ys) (length xs) ≡ Some y
+get_seam [] ys y = refl
+get_seam (x ∷ xs) ys y = get_seam xs ys y
+
+pub get_front : {A : Type 0} (xs ys : List A) (i : ℕ) (x : A) → slice_get xs i ≡ Some x → slice_get (xs ++ ys) i ≡ Some x
+get_front [] ys i x e = absurd (cc)
+get_front (z ∷ xs) ys zero x e = e
+get_front (z ∷ xs) ys (suc i) x e = get_front xs ys i x e
+
+pub front_self : {A : Type 0} (xs : List A) → IsFront xs xs
+front_self xs = ([], append_nil xs)
+
+pub front_trans : {A : Type 0} (xs ys zs : List A) → IsFront xs ys → IsFront ys zs → IsFront xs zs
+front_trans xs ys zs a b = (a.0 ++ b.0, b.1 ∙ ap (λ l. l ++ b.0) a.1 ∙ append_assoc xs a.0 b.0)

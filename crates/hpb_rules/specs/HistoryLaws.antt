@@ -1,0 +1,54 @@
+-- The laws of answers, of histories and of what a value shows.
+use Rattle.std.specs.Prelude.{◌≡◌, ℕ, suc, ◌<◌, ◌≤◌, ◌↔◌, false, List, [], ◌∷◌, ◌++◌, reverse, Some, None, length}
+use Rattle.hpb_rules.specs.declared.command.Command.{Command}
+use Rattle.hpb_rules.specs.declared.reply.Reply.TheVariants as replies
+use Rattle.hpb_rules.specs.declared.reply.TheConstants.{MOST_COMMANDS}
+use Rattle.hpb_rules.specs.Tree.{Rules}
+use Rattle.hpb_rules.specs.Drafts.{draft_refusal}
+use Rattle.hpb_rules.specs.History
+use Rattle.hpb_rules.specs.Answer.{unknown, fault, answer, after, IsHistory}
+use Rattle.hpb_rules.specs.Seen.{Quantities, quantities, Shows}
+
+-- A command is new after a past where its names are known, it bears its sender's next ticket, there is room for it, the auction is not over,
+-- and nothing is wrong with it.
+pub record IsNew (rules : Rules) (past : List Command) (command : Command) : Type 0 where
+  pub known : unknown rules command ≡ None
+  pub next : History.ticket_of command ≡ suc (History.last_ticket past (History.sender_of command))
+  pub room : length past < MOST_COMMANDS
+  pub goes_on : History.is_over past ≡ false
+  pub faultless : fault rules past command ≡ None
+
+-- A command is accepted under the next number exactly where it is new.
+abbrev pub AcceptedIsNew : Type 0
+AcceptedIsNew = (rules : Rules) (history : List Command) (command : Command)
+    → (answer rules history command ≡ replies.Ok (suc (length history))) ↔ IsNew rules (reverse history) command
+
+-- In a history of a definition that is not refused the stage in force has a percentage from 50 to 100.
+abbrev pub PercentageIsKnown : Type 0
+PercentageIsKnown = (rules : Rules) (history : List Command) → draft_refusal rules ≡ None → IsHistory rules history
+    → (50 ≤ History.percentage rules (reverse history)) × (History.percentage rules (reverse history) ≤ 100)
+
+-- A history with a newly accepted command at its end is a history.
+abbrev pub HistoryGrows : Type 0
+HistoryGrows = (rules : Rules) (history : List Command) (command : Command)
+    → IsHistory rules history → answer rules history command ≡ replies.Ok (suc (length history)) → IsHistory rules (history ++ command ∷ [])
+
+-- Each front of a history is a history.
+abbrev pub FrontIsHistory : Type 0
+FrontIsHistory = (rules : Rules) (front rest : List Command) → IsHistory rules (front ++ rest) → IsHistory rules front
+
+-- A sender's last command, sent again, gets its number again and changes nothing.
+abbrev pub RepeatChangesNothing : Type 0
+RepeatChangesNothing = (rules : Rules) (history : List Command) (command : Command) (number : ℕ) → IsHistory rules history
+    → History.last_of (reverse history) (History.sender_of command) ≡ Some (command, number)
+    → (answer rules history command ≡ replies.Ok number) × (after rules (reverse history) command ≡ reverse history)
+
+-- An answer depends on nothing but what a history says: where two say the same, each command is answered alike.
+abbrev pub AnswerIsShown : Type 0
+AnswerIsShown = (rules : Rules) (one other : List Command) (command : Command)
+    → quantities rules (reverse one) ≡ quantities rules (reverse other) → answer rules one command ≡ answer rules other command
+
+-- Two values of one definition that show one history are equal.
+abbrev pub ShownIsOne : Type 0
+ShownIsOne = (one other : Quantities) (history : List Command)
+    → one.rules ≡ other.rules → Shows one history → Shows other history → one ≡ other

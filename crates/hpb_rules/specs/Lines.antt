@@ -1,0 +1,133 @@
+-- What a line asks for. A line is its bytes without the line feed at its end.
+-- Source: this project's own.
+use Rattle.std.specs.Prelude.{ℕ, ◌-◌, ◌^◌, Bool, ◌&&◌, ◌||◌, not, ◌==◌, nat_le, nat_lt, List, [], ◌∷◌, length, slice_index, codes, decimal, Option, Some, None, Result, Ok, Err, if◌then◌else◌}
+use Rattle.std.specs.List.{slice_split, join_with_byte, list_any, position}
+use Rattle.std.specs.Option.{option_and_then}
+use Rattle.std.specs.Str.{bytes_eq, all_ascii_digits}
+use Rattle.std.specs.Str.Parse.{digits_value}
+use Rattle.hpb_rules.specs.declared.command.Command.{Command}
+use Rattle.hpb_rules.specs.declared.command.Command.TheVariants.{Bid, Close, Stage}
+use Rattle.hpb_rules.specs.declared.refusal.TheConstants.{LINE, BIDDER, NODE}
+use Rattle.hpb_rules.specs.Tree.{Rules}
+
+-- A request is a command, or asks to see the auction, a node or a bidder.
+pub data Request : Type 0 where
+  command : Command → Request
+  show : Request
+  node : ℕ → Request
+  who : ℕ → Request
+
+-- What a line spells, before its names are looked up.
+pub data Spelled : Type 0 where
+  bid_line : (from : List ℕ) (ticket : ℕ) (on : List ℕ) (amount : ℕ) → Spelled
+  close_line : (ticket : ℕ) → Spelled
+  stage_line : (ticket : ℕ) → Spelled
+  show_line : Spelled
+  node_line : (name : List ℕ) → Spelled
+  who_line : (name : List ℕ) → Spelled
+
+-- How many bytes a line has at most.
+abbrev pub most_bytes : ℕ
+most_bytes = 128
+
+-- The byte at the end of a line.
+abbrev pub is_line_feed : ℕ → Bool
+is_line_feed byte = byte == 10
+
+-- The byte between words.
+abbrev pub is_space : ℕ → Bool
+is_space byte = byte == 32
+
+-- The words of a line are what stands between its spaces.
+abbrev pub words : List ℕ → List (List ℕ)
+words line = slice_split is_space line
+
+-- Whether a word is a number in decimal, without a sign, and without a zero before another digit.
+abbrev pub is_number : List ℕ → Bool
+is_number word = all_ascii_digits word && nat_lt 0 (length word) && not (nat_lt 1 (length word) && (slice_index word 0 == 48))
+
+-- The number that a word spells, up to a greatest.
+abbrev pub number_up_to : ℕ → List ℕ → Option ℕ
+number_up_to most word = if is_number word && nat_le (digits_value 10 word) most then Some (digits_value 10 word) else None
+
+-- A ticket is a number of 32 bits.
+abbrev pub ticket_in : List ℕ → Option ℕ
+ticket_in word = number_up_to (2 ^ 32 - 1) word
+
+-- An amount is a number of 64 bits.
+abbrev pub amount_in : List ℕ → Option ℕ
+amount_in word = number_up_to (2 ^ 64 - 1) word
+
+-- A name is a word of one or more bytes.
+abbrev pub name_in : List ℕ → Option (List ℕ)
+name_in word = if length word == 0 then None else Some word
+
+-- A line of one word.
+abbrev pub spelled_alone : List ℕ → Option Spelled
+spelled_alone keyword = if bytes_eq keyword (codes "SHOW") then Some show_line else None
+
+-- A line of two words.
+abbrev pub spelled_with : List ℕ → List ℕ → Option Spelled
+spelled_with keyword word =
+    if bytes_eq keyword (codes "CLOSE") then option_and_then (λ ticket. Some (close_line ticket)) (ticket_in word) else
+    (if bytes_eq keyword (codes "STAGE") then option_and_then (λ ticket. Some (stage_line ticket)) (ticket_in word) else
+    (if bytes_eq keyword (codes "NODE") then option_and_then (λ name. Some (node_line name)) (name_in word) else
+    (if bytes_eq keyword (codes "WHO") then option_and_then (λ name. Some (who_line name)) (name_in word) else None)))
+
+-- A bid's line: the bidder, the ticket, the node and the amount.
+abbrev pub spelled_bid : List ℕ → List ℕ → List ℕ → List ℕ → Option Spelled
+spelled_bid from ticket on amount =
+    option_and_then (λ from. option_and_then (λ ticket. option_and_then (λ on. option_and_then (λ amount.
+    Some (bid_line from ticket on amount)) (amount_in amount)) (name_in on)) (ticket_in ticket)) (name_in from)
+
+-- What words spell.
+abbrev pub spelled_by : List (List ℕ) → Option Spelled
+spelled_by (keyword ∷ []) = spelled_alone keyword
+spelled_by (keyword ∷ word ∷ []) = spelled_with keyword word
+spelled_by (keyword ∷ from ∷ ticket ∷ on ∷ amount ∷ []) = if bytes_eq keyword (codes "BID") then spelled_bid from ticket on amount else None
+spelled_by _ = None
+
+-- What a line spells.
+abbrev pub spelled : List ℕ → Option Spelled
+spelled line = if nat_lt most_bytes (length line) || list_any is_line_feed line then None else spelled_by (words line)
+
+-- The place of the bidder who bears a name.
+abbrev pub bidder_named : Rules → List ℕ → Option ℕ
+bidder_named rules name = position (λ bidder. bytes_eq bidder.name name) rules.bidders
+
+-- The place of the node that bears a name.
+abbrev pub node_named : Rules → List ℕ → Option ℕ
+node_named rules name = position (λ node. bytes_eq node.name name) rules.nodes
+
+-- What is found under a name, or a refusal.
+abbrev pub found : {A : Type 0} → ℕ → Option ℕ → (ℕ → Result A ℕ) → Result A ℕ
+found code None next = Err code
+found code (Some place) next = next place
+
+-- What is asked for by what a line spells: the bidder is looked up first, then the node.
+abbrev pub looked_up : Rules → Option Spelled → Result Request ℕ
+looked_up rules None = Err LINE
+looked_up rules (Some (bid_line from ticket on amount)) =
+    found BIDDER (bidder_named rules from) (λ from. found NODE (node_named rules on) (λ on. Ok (command (Bid from ticket on amount))))
+looked_up rules (Some (close_line ticket)) = Ok (command (Close ticket))
+looked_up rules (Some (stage_line ticket)) = Ok (command (Stage ticket))
+looked_up rules (Some show_line) = Ok show
+looked_up rules (Some (node_line name)) = found NODE (node_named rules name) (λ place. Ok (node place))
+looked_up rules (Some (who_line name)) = found BIDDER (bidder_named rules name) (λ place. Ok (who place))
+
+-- The request that a line spells under a definition, or why it is refused.
+abbrev pub request_of : Rules → List ℕ → Result Request ℕ
+request_of rules line = looked_up rules (spelled line)
+
+-- Words with a space between each two.
+abbrev pub spaced : List (List ℕ) → List ℕ
+spaced parts = join_with_byte 32 parts
+
+-- The line that spells something.
+abbrev pub spelling_of : Spelled → List ℕ
+spelling_of (bid_line from ticket on amount) = spaced (codes "BID" ∷ from ∷ decimal ticket ∷ on ∷ decimal amount ∷ [])
+spelling_of (close_line ticket) = spaced (codes "CLOSE" ∷ decimal ticket ∷ [])
+spelling_of (stage_line ticket) = spaced (codes "STAGE" ∷ decimal ticket ∷ [])
+spelling_of show_line = codes "SHOW"
+spelling_of (node_line name) = spaced (codes "NODE" ∷ name ∷ [])
+spelling_of (who_line name) = spaced (codes "WHO" ∷ name ∷ [])

@@ -1,0 +1,109 @@
+-- What is written for what is read: one line for each line.
+-- Source: this project's own.
+use Rattle.std.specs.Prelude.{ℕ, zero, suc, List, [], ◌∷◌, ◌++◌, ◌==◌, length, reverse, codes, option_map, Result, Ok, Err, if◌then◌else◌}
+use Rattle.std.specs.List.{slice_split}
+use Rattle.hpb_rules.specs.declared.command.Command.{Command}
+use Rattle.hpb_rules.specs.declared.refusal.TheConstants.{LINE}
+use Rattle.hpb_rules.specs.Tree.{Rules, Node, Bidder}
+use Rattle.hpb_rules.specs.Choices.{is_in, revenue}
+use Rattle.hpb_rules.specs.Prices.{price, minimum}
+use Rattle.hpb_rules.specs.History
+use Rattle.hpb_rules.specs.Answer.{answer_after, after}
+use Rattle.hpb_rules.specs.Lines.{Request, command, show, node, who, request_of, is_line_feed}
+use Rattle.hpb_rules.specs.Rendering.{refusal_text, reply_text, show_text, node_text, who_text}
+
+-- A text with the line feed at its end.
+abbrev pub line_of : List ℕ → List ℕ
+line_of text = text ++ codes "\n"
+
+-- The answers to lines one after another: each is answered from a state and leads to the next.
+-- A last line without its end, where it has a byte, gets an answer of its own.
+abbrev pub transcript : {State : Type 0} → (answer : State → List ℕ → List ℕ) (next : State → List ℕ → State) (unfinished : List ℕ) → State → List (List ℕ) → List ℕ
+transcript answer next unfinished state [] = []
+transcript answer next unfinished state (last ∷ []) = if length last == 0 then [] else unfinished
+transcript answer next unfinished state (line ∷ following ∷ more) =
+    answer state line ++ transcript answer next unfinished (next state line) (following ∷ more)
+
+-- The answer to a last line without its end, whatever it says.
+abbrev pub unfinished_text : List ℕ
+unfinished_text = line_of (refusal_text LINE)
+
+-- The name of the node at a place.
+abbrev pub node_name : List Node → ℕ → List ℕ
+node_name [] place = []
+node_name (first ∷ nodes) zero = first.name
+node_name (first ∷ nodes) (suc place) = node_name nodes place
+
+-- The name of the bidder at a place.
+abbrev pub bidder_name : List Bidder → ℕ → List ℕ
+bidder_name [] place = []
+bidder_name (first ∷ bidders) zero = first.name
+bidder_name (first ∷ bidders) (suc place) = bidder_name bidders place
+
+module _ (rules : Rules) where
+  -- What is shown of the auction after a past.
+  abbrev pub shown : List Command → List ℕ
+  shown past =
+      show_text (History.round past) (History.stage past) (History.is_over past)
+      (revenue (History.high_bid past) (History.won rules past)) (length past)
+
+  -- What is shown of a node, by closed rounds.
+  abbrev pub shown_node : List Command → ℕ → List ℕ
+  shown_node past place =
+      let bid = History.high_bid past in
+      node_text (node_name rules.nodes place)
+      (option_map (λ high. (high.amount, bidder_name rules.bidders high.bidder)) (History.high past place))
+      (price rules.nodes bid place) (minimum rules bid place) (is_in (History.won rules past) place)
+
+  -- What is shown of a bidder.
+  abbrev pub shown_bidder : List Command → ℕ → List ℕ
+  shown_bidder past from =
+      who_text (bidder_name rules.bidders from) (History.eligibility rules past from)
+      (History.activity rules past from) (History.last_ticket past (History.bidder from))
+
+  -- The answer to a request, or to a line that is refused.
+  abbrev pub response : List Command → Result Request ℕ → List ℕ
+  response past (Err code) = refusal_text code
+  response past (Ok (command asked)) = reply_text (answer_after rules past asked)
+  response past (Ok show) = shown past
+  response past (Ok (node place)) = shown_node past place
+  response past (Ok (who from)) = shown_bidder past from
+
+  -- The past after a request: only a newly accepted command changes it.
+  abbrev pub past_after : List Command → Result Request ℕ → List Command
+  past_after past (Ok (command asked)) = after rules past asked
+  past_after past other = past
+
+  -- What a line is answered, with its line feed.
+  abbrev pub answer_line : List Command → List ℕ → List ℕ
+  answer_line past line = line_of (response past (request_of rules line))
+
+  -- The past after a line.
+  abbrev pub next_past : List Command → List ℕ → List Command
+  next_past past line = past_after past (request_of rules line)
+
+  -- The text of lines after a past.
+  abbrev pub lines_after : List Command → List (List ℕ) → List ℕ
+  lines_after past lines = transcript answer_line next_past unfinished_text past lines
+
+  -- The text of an input after a past.
+  abbrev pub text_after : List Command → List ℕ → List ℕ
+  text_after past input = lines_after past (slice_split is_line_feed input)
+
+  -- The text of an input that follows a history.
+  abbrev pub lines_text : List Command → List ℕ → List ℕ
+  lines_text history input = text_after (reverse history) input
+
+-- The text of a script whose first line was read as a definition, or refused.
+abbrev pub text_by : Result Rules ℕ → List (List ℕ) → List ℕ
+text_by (Err code) lines = line_of (refusal_text code)
+text_by (Ok rules) lines = lines_after rules [] lines
+
+-- The first line of a script defines the auction, and has no answer where it is accepted.
+abbrev pub text_of_lines : (List ℕ → Result Rules ℕ) → List (List ℕ) → List ℕ
+text_of_lines define [] = []
+text_of_lines define (first ∷ lines) = text_by (define first) lines
+
+-- The text of a script, by a reading of definitions.
+abbrev pub script_text : (List ℕ → Result Rules ℕ) → List ℕ → List ℕ
+script_text define input = text_of_lines define (slice_split is_line_feed input)

@@ -1,0 +1,37 @@
+ghost use Rattle.hpb_rules.specs.HistoryLaws.{AcceptedIsNew, PercentageIsKnown, HistoryGrows, FrontIsHistory, RepeatChangesNothing, AnswerIsShown, ShownIsOne};
+
+/// A command is accepted under the next number exactly where its names are known, it bears its sender's next ticket,
+/// there is room for it, the auction is not over, and nothing is wrong with it.
+pub fn accepted_is_new()
+    ensures { AcceptedIsNew }
+{}
+
+/// In a history of a definition that is not refused the stage in force has a percentage from 50 to 100.
+pub fn percentage_is_known()
+    ensures { PercentageIsKnown }
+{}
+
+/// A history with a newly accepted command at its end is a history.
+pub fn history_grows()
+    ensures { HistoryGrows }
+{}
+
+/// Each front of a history is a history.
+pub fn front_is_history()
+    ensures { FrontIsHistory }
+{}
+
+/// A sender's last command, sent again, gets its number again and changes nothing.
+pub fn repeat_changes_nothing()
+    ensures { RepeatChangesNothing }
+{}
+
+/// An answer depends on nothing but what a history says.
+pub fn answer_is_shown()
+    ensures { AnswerIsShown }
+{}
+
+/// Two values of one definition that show one history are equal.
+pub fn shown_is_one()
+    ensures { ShownIsOne }
+{}

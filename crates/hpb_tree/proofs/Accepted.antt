@@ -1,0 +1,169 @@
+-- What follows for rules that aren't refused.
+use Rattle.std.proofs.Common.{◌≡◌, ℕ, ◌<◌, ◌≤◌, Bool, true, false, cond, not, List, [], ◌∷◌, length, get_or, Option, Some, None, refl, sym, ap, ◌∙◌, arith}
+use Rattle.std.specs.Prelude.{Vec}
+use Rattle.std.specs.Global.{Global}
+use Rattle.std.specs.List.{list_any, slice_get}
+use Rattle.std.proofs.lemmas.Bool.{or_parts, not-false, and_parts, leb-true, ltb-false, both_ways, false_from_ne_true}
+use Rattle.std.proofs.lemmas.List.{length-map, get_or-map}
+use Rattle.std.proofs.lemmas.List.Folds.{list_any_at}
+use Rattle.hpb_rules.specs.declared.id.TheConstants.{MOST_NODES, MOST_BIDDERS}
+use Rattle.hpb_rules.specs.declared.licence.Terms.{Terms}
+use Rattle.hpb_rules.specs.Tree.{Rules, TreeRules, Bidder, terms_of, units_at, opening_at}
+use Rattle.hpb_tree.specs.declared.tree.TheConstants.{MOST_STEP, MOST_PERCENT, MOST_LICENCES, MOST_LICENCE_UNITS, MOST_LICENCE_OPENING}
+use Rattle.hpb_tree.specs.declared.definition.TheConstants.{MOST_STAGES, LEAST_PERCENTAGE, MOST_PERCENTAGE, MOST_BIDDER_UNITS}
+use Rattle.hpb_tree.specs.declared.tree.Tree.TheInside.{Inside}
+use Rattle.hpb_tree.specs.declared.tree.TreeNode.{TreeNode}
+use Rattle.hpb_tree.specs.declared.fault.DefinitionFault.{DefinitionFault}
+use Rattle.hpb_tree.specs.declared.fault.DefinitionFault.TheVariants.{Number, Empty, Name, Duplicate, Parent, Children, Leaf, Limits, Terms as BadTerms}
+use Rattle.hpb_tree.specs.declared.definition.Bidder.{Bidder as Entry}
+use Rattle.hpb_tree.specs.declared.draft.Draft.{Draft}
+use Rattle.hpb_tree.specs.declared.draft.BidderDraft.{BidderDraft}
+use Rattle.hpb_tree.specs.Definition.{bidder_view, bidders_view, IsDefined}
+use Rattle.hpb_tree.specs.Draft.{rules_of, bidder_said, bidders_said}
+use Rattle.hpb_tree.specs.Licences.{licence_count}
+use Rattle.hpb_tree.specs.View.{nodes_view, IsSummed, IsChecked}
+use Rattle.hpb_tree.specs.Refusal.{is_within, is_empty, has_bad_number, lacks_something, has_bad_name, has_duplicate, has_late_parent, has_thin_package, has_parted_licence, is_over_limits, are_bad_terms, has_bad_terms, refusal_of, AreSound}
+use Rattle.hpb_tree.proofs.Masks.{terms_in}
+use Rattle.hpb_tree.proofs.Places.{none_at}
+use Rattle.hpb_tree.proofs.Sound.{is_tree}
+use Rattle.hpb_tree.proofs.Views.{length-nodes_view}
+
+-- no test speaks against the rules
+pub record Accepted (d : Rules) : Type 0 where
+  pub number : has_bad_number d ≡ false
+  pub lacks : lacks_something d ≡ false
+  pub name : has_bad_name d ≡ false
+  pub duplicate : has_duplicate d ≡ false
+  pub parent : has_late_parent d.nodes ≡ false
+  pub children : has_thin_package d.nodes ≡ false
+  pub leaf : has_parted_licence d.nodes ≡ false
+  pub limits : is_over_limits d ≡ false
+  pub terms : has_bad_terms d ≡ false
+
+none_from : (b : Bool) (x : DefinitionFault) (o : Option DefinitionFault) → cond b (Some x) o ≡ None → (b ≡ false) × (o ≡ None)
+none_from true x o e = cc
+none_from false x o e = (refl, e)
+
+pub accepted : (d : Rules) → refusal_of d ≡ None → Accepted d
+unfolding refusal_of
+accepted d e =
+    let number = none_from (has_bad_number d) Number _ e in
+    let lacks = none_from (lacks_something d) Empty _ number.1 in
+    let name = none_from (has_bad_name d) Name _ lacks.1 in
+    let duplicate = none_from (has_duplicate d) Duplicate _ name.1 in
+    let parent = none_from (has_late_parent d.nodes) Parent _ duplicate.1 in
+    let children = none_from (has_thin_package d.nodes) Children _ parent.1 in
+    let leaf = none_from (has_parted_licence d.nodes) Leaf _ children.1 in
+    let limits = none_from (is_over_limits d) Limits _ leaf.1 in
+    let terms = none_from (has_bad_terms d) BadTerms None limits.1 in
+    record { number = number.0; lacks = lacks.0; name = name.0; duplicate = duplicate.0; parent = parent.0; children = children.0; leaf = leaf.0; limits = limits.0; terms = terms.0 }
+
+within_from : (least most n : ℕ) → not (is_within least most n) ≡ false → (least ≤ n) × (n ≤ most)
+within_from least most n e =
+    let both = and_parts _ _ (not-false (is_within least most n) e) in
+    (leb-true least n both.0, leb-true n most both.1)
+
+all_fail : {X : Type 0} (p : X → Bool) (xs : List X) → list_any p xs ≡ false → (k : ℕ) (d : X) → k < length xs → p (get_or xs k d) ≡ false
+all_fail p xs none k d h = false_from_ne_true _ (λ e. both_ways _ none (list_any_at p xs k d h e))
+
+some_in : {A : Type 0} (xs : List A) → is_empty xs ≡ false → 0 < length xs
+some_in [] e = cc
+some_in (x ∷ xs) e = omega arith
+
+module _ (d : Rules) (a : Accepted d) where
+  pub step_within : (1 ≤ d.step) × (d.step ≤ MOST_STEP)
+  step_within = within_from 1 MOST_STEP d.step (or_parts _ _ (or_parts _ _ (or_parts _ _ a.number).0).0).0
+
+  pub percent_within : (1 ≤ d.percent) × (d.percent ≤ MOST_PERCENT)
+  percent_within = within_from 1 MOST_PERCENT d.percent (or_parts _ _ (or_parts _ _ (or_parts _ _ a.number).0).0).1
+
+  pub stage_within : (k : ℕ) (p : ℕ) → k < length d.stages → (LEAST_PERCENTAGE ≤ get_or d.stages k p) × (get_or d.stages k p ≤ MOST_PERCENTAGE)
+  stage_within k p h = within_from LEAST_PERCENTAGE MOST_PERCENTAGE (get_or d.stages k p) (all_fail (λ q. not (is_within LEAST_PERCENTAGE MOST_PERCENTAGE q)) d.stages (or_parts _ _ (or_parts _ _ a.number).0).1 k p h)
+
+  pub units_within : (k : ℕ) (b : Bidder) → k < length d.bidders → (1 ≤ (get_or d.bidders k b).units) × ((get_or d.bidders k b).units ≤ MOST_BIDDER_UNITS)
+  units_within k b h = within_from 1 MOST_BIDDER_UNITS (get_or d.bidders k b).units (all_fail (λ (c : Bidder). not (is_within 1 MOST_BIDDER_UNITS c.units)) d.bidders (or_parts _ _ a.number).1 k b h)
+
+  pub some_node : 0 < length d.nodes
+  some_node = some_in d.nodes (or_parts _ _ (or_parts _ _ a.lacks).0).0
+
+  pub some_bidder : 0 < length d.bidders
+  some_bidder = some_in d.bidders (or_parts _ _ (or_parts _ _ a.lacks).0).1
+
+  pub some_stage : 0 < length d.stages
+  some_stage = some_in d.stages (or_parts _ _ a.lacks).1
+
+  few : ((length d.nodes ≤ MOST_NODES) × (licence_count d.nodes ≤ MOST_LICENCES)) × ((length d.bidders ≤ MOST_BIDDERS) × (length d.stages ≤ MOST_STAGES))
+  few =
+      let four = (or_parts _ _ a.limits).0 in
+      let three = (or_parts _ _ four).0 in
+      let two = or_parts _ _ (or_parts _ _ three).0 in
+      ((ltb-false _ _ two.0, ltb-false _ _ two.1), (ltb-false _ _ (or_parts _ _ three).1, ltb-false _ _ (or_parts _ _ four).1))
+
+  pub most_bidders : length d.bidders ≤ MOST_BIDDERS
+  most_bidders = few.1.0
+
+  pub most_stages : length d.stages ≤ MOST_STAGES
+  most_stages = few.1.1
+
+  terms_within : (l : ℕ) → (units_at d.nodes l ≤ MOST_LICENCE_UNITS) × (opening_at d.nodes l ≤ MOST_LICENCE_OPENING)
+  terms_within l = by (terms_of d.nodes l) refl
+    where
+      by : (t : Option Terms) → terms_of d.nodes l ≡ t → (units_at d.nodes l ≤ MOST_LICENCE_UNITS) × (opening_at d.nodes l ≤ MOST_LICENCE_OPENING)
+      by None e = rw e (omega arith, omega arith)
+      by (Some t) e =
+          let here : are_bad_terms d.step (terms_of d.nodes l) ≡ false = none_at (λ n. are_bad_terms d.step (terms_of d.nodes n)) (length d.nodes) l a.terms (terms_in d.nodes l (rw e refl)) in
+          let parts = or_parts _ _ (or_parts _ _ (rw e at here)).0 in
+          rw e ((within_from 1 MOST_LICENCE_UNITS t.units parts.0).1, (within_from 1 MOST_LICENCE_OPENING t.opening parts.1).1)
+
+  pub sound : AreSound d.nodes
+  sound = record {
+    some = some_node;
+    most = few.0.0;
+    ordered = a.parent;
+    packages = a.children;
+    licences = a.leaf;
+    most_licences = few.0.1;
+    units = λ l. (terms_within l).0;
+    openings = λ l. (terms_within l).1;
+  }
+
+  pub checked : (t : Inside) → t.step ≡ d.step → t.percent ≡ d.percent → nodes_view t.nodes.items ≡ d.nodes
+      → ((i : ℕ) (n : TreeNode) → slice_get t.nodes.items i ≡ Some n → IsSummed d.nodes i n) → IsChecked t
+  checked t step percent seen sums = record {
+    some_step = omega (arith, step_within);
+    most_step = omega (arith, step_within);
+    most_percent = omega (arith, percent_within);
+    some_node = omega (arith, ap length seen, length-nodes_view t.nodes.items, some_node);
+    most_nodes = omega (arith, ap length seen, length-nodes_view t.nodes.items, few.0.0);
+    tree = rw seen (is_tree d.nodes sound);
+    most_licences = rw seen few.0.1;
+    sums = λ i n e. rw seen (sums i n e);
+  }
+
+-- what a draft's bidders start with
+pub draft_units_within : (draft : Draft) → Accepted (rules_of draft) → (k : ℕ) (b : BidderDraft) → k < length draft.bidders.items → (get_or draft.bidders.items k b).units ≤ MOST_BIDDER_UNITS
+draft_units_within draft a k b h =
+    let same : get_or (bidders_said draft.bidders.items) k (bidder_said b) ≡ bidder_said (get_or draft.bidders.items k b) = get_or-map bidder_said draft.bidders.items k b (bidder_said b) h in
+    omega (arith, ap (λ (x : Bidder). x.units) same, (units_within (rules_of draft) a k (bidder_said b) (omega (arith, length-map draft.bidders.items bidder_said))).1)
+
+pub defined : (draft : Draft) → Accepted (rules_of draft) → (stages : Vec ℕ Global) (bidders : Vec Entry Global) (tree : TreeRules) → stages.items ≡ draft.stages.items → bidders_view bidders.items ≡ bidders_said draft.bidders.items
+    → IsDefined (record { tree = tree; stages = stages; bidders = bidders })
+defined draft a stages bidders tree same seen = record {
+  some_stage = omega (arith, ap length same, some_stage d a);
+  most_stages = omega (arith, ap length same, most_stages d a);
+  least_percentage = rw same (λ k p h. (stage_within d a k p h).0);
+  most_percentage = rw same (λ k p h. (stage_within d a k p h).1);
+  some_bidder = omega (arith, count, some_bidder d a);
+  most_bidders = omega (arith, count, most_bidders d a);
+  some_units = λ k b h. omega (arith, ap (λ (x : Bidder). x.units) (at k b h), (units_within d a k (bidder_view b) (omega (arith, count))).0);
+  most_units = λ k b h. omega (arith, ap (λ (x : Bidder). x.units) (at k b h), (units_within d a k (bidder_view b) (omega (arith, count))).1);
+}
+  where
+    d : Rules
+    d = rules_of draft
+
+    count : length bidders.items ≡ length (bidders_said draft.bidders.items)
+    count = sym (length-map bidders.items bidder_view) ∙ ap length seen
+
+    at : (k : ℕ) (b : Entry) → k < length bidders.items → get_or (bidders_said draft.bidders.items) k (bidder_view b) ≡ bidder_view (get_or bidders.items k b)
+    at k b h = ap (λ xs. get_or xs k (bidder_view b)) (sym seen) ∙ get_or-map bidder_view bidders.items k b (bidder_view b) h

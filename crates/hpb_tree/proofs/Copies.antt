@@ -1,0 +1,81 @@
+-- What a copy keeps.
+use Rattle.std.proofs.Common.{◌≡◌, ℕ, ◌<◌, List, map, length, get_or, Some, sym, ap, ◌∙◌, arith}
+use Rattle.std.specs.List.{slice_get}
+use Rattle.std.proofs.lemmas.List.{length-map, get_or-map}
+use Rattle.std.proofs.lemmas.Option.{slice_get_within, slice_get-get_or, get_or_from_slice_get}
+use Rattle.hpb_rules.specs.Tree.{Node, Bidder as Shown}
+use Rattle.hpb_tree.specs.View.{Known, known, AreCopies, nodes_view, IsSummed, IsChecked}
+use Rattle.hpb_tree.specs.Definition.{bidder_view, bidders_view, IsDefined}
+use Rattle.hpb_tree.specs.declared.definition.Bidder.{Bidder}
+use Rattle.hpb_tree.specs.declared.definition.Definition.TheInside.{Inside as Defined}
+use Rattle.hpb_tree.specs.declared.tree.Tree.TheInside.{Inside}
+use Rattle.hpb_tree.specs.declared.tree.TreeNode.{TreeNode}
+use Rattle.hpb_tree.proofs.Lists.{map_map}
+
+pub copied_views : (old new : List TreeNode) → AreCopies old new → nodes_view new ≡ nodes_view old
+copied_views old new e = sym (map_map known (λ (k : Known). k.node) new) ∙ ap (map (λ (k : Known). k.node)) e ∙ map_map known (λ (k : Known). k.node) old
+
+known_at : (old new : List TreeNode) → AreCopies old new → (i : ℕ) (n : TreeNode) → i < length new → known (get_or new i n) ≡ known (get_or old i n)
+known_at old new e i n h =
+    sym (get_or-map known new i n (known n) h)
+    ∙ ap (λ xs. get_or xs i (known n)) e
+    ∙ get_or-map known old i n (known n) (omega (arith, length-map new known, length-map old known, ap length e))
+
+summed_known : (nodes : List Node) (i : ℕ) (m n : TreeNode) → known n ≡ known m → IsSummed nodes i m → IsSummed nodes i n
+summed_known nodes i m n e s = record {
+  units = ap (λ (k : Known). k.units) e ∙ s.units;
+  most_units = omega (arith, ap (λ (k : Known). k.units) e, s.most_units);
+  opening = ap (λ (k : Known). k.opening) e ∙ s.opening;
+  most_opening = omega (arith, ap (λ (k : Known). k.opening) e, s.most_opening);
+  licences = rw (ap (λ (k : Known). k.licences) e) s.licences;
+  children = ap (λ (k : Known). k.children) e ∙ s.children;
+  rank = λ p up. ap (λ (k : Known). k.rank) e ∙ s.rank p up;
+}
+
+pub checked_copy : (old new : Inside) → new.step ≡ old.step → new.percent ≡ old.percent → AreCopies old.nodes.items new.nodes.items → IsChecked old → IsChecked new
+checked_copy old new step percent e c = record {
+  some_step = omega (arith, c.some_step);
+  most_step = omega (arith, c.most_step);
+  most_percent = omega (arith, c.most_percent);
+  some_node = omega (arith, count, c.some_node);
+  most_nodes = omega (arith, count, c.most_nodes);
+  tree = rw seen c.tree;
+  most_licences = rw seen c.most_licences;
+  sums = λ i n found. rw seen (one i n found);
+}
+  where
+    seen : nodes_view new.nodes.items ≡ nodes_view old.nodes.items
+    seen = copied_views old.nodes.items new.nodes.items e
+
+    count : length new.nodes.items ≡ length old.nodes.items
+    count = omega (arith, length-map new.nodes.items known, length-map old.nodes.items known, ap length e)
+
+    one : (i : ℕ) (n : TreeNode) → slice_get new.nodes.items i ≡ Some n → IsSummed (nodes_view old.nodes.items) i n
+    one i n found =
+        let small : i < length new.nodes.items = slice_get_within new.nodes.items i n found in
+        let here : get_or new.nodes.items i n ≡ n = get_or_from_slice_get new.nodes.items i n n found in
+        summed_known (nodes_view old.nodes.items) i (get_or old.nodes.items i n) n
+        (ap known (sym here) ∙ known_at old.nodes.items new.nodes.items e i n small)
+        (c.sums i (get_or old.nodes.items i n) (slice_get-get_or old.nodes.items i n (omega (arith, count))))
+
+pub defined_copy : (old new : Defined) → new.stages.items ≡ old.stages.items → bidders_view new.bidders.items ≡ bidders_view old.bidders.items → IsDefined old → IsDefined new
+defined_copy old new same seen d = record {
+  some_stage = rw same d.some_stage;
+  most_stages = rw same d.most_stages;
+  least_percentage = rw same d.least_percentage;
+  most_percentage = rw same d.most_percentage;
+  some_bidder = omega (arith, count, d.some_bidder);
+  most_bidders = omega (arith, count, d.most_bidders);
+  some_units = λ k b h. omega (arith, at k b h, d.some_units k b (omega (arith, count)));
+  most_units = λ k b h. omega (arith, at k b h, d.most_units k b (omega (arith, count)));
+}
+  where
+    count : length new.bidders.items ≡ length old.bidders.items
+    count = omega (arith, length-map new.bidders.items bidder_view, length-map old.bidders.items bidder_view, ap length seen)
+
+    at : (k : ℕ) (b : Bidder) → k < length new.bidders.items → (get_or new.bidders.items k b).units ≡ (get_or old.bidders.items k b).units
+    at k b h =
+        ap (λ (x : Shown). x.units)
+        (sym (get_or-map bidder_view new.bidders.items k b (bidder_view b) h)
+        ∙ ap (λ xs. get_or xs k (bidder_view b)) seen
+        ∙ get_or-map bidder_view old.bidders.items k b (bidder_view b) (omega (arith, count)))

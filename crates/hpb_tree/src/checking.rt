@@ -1,0 +1,72 @@
+ghost use Rattle.std.specs.Prelude.{◌≡◌, ◌≢◌, None, Some, IfOk, IfErr, OnOk};
+ghost use Rattle.hpb_tree.specs.Draft.{rules_of};
+ghost use Rattle.hpb_tree.specs.Refusal.{refusal_of};
+ghost use Rattle.hpb_tree.specs.declared.fault.DefinitionFault.TheVariants.{Memory};
+
+mod limits;
+mod names;
+mod ranges;
+mod shape;
+mod terms;
+
+use crate::building::build;
+use crate::definition::Definition;
+use crate::draft::Draft;
+use crate::fault::DefinitionFault;
+use limits::is_over_limits;
+use names::{has_bad_name, has_duplicate};
+use ranges::{has_bad_number, lacks_something};
+use shape::{has_late_parent, has_parted_licence, has_thin_package};
+use std::alloc::{AllocError, Global};
+use terms::has_bad_terms;
+
+impl Definition {
+    /// The definition that a draft spells. The first fault is named: a number out of range (62), then the
+    /// fault of the smallest number (50 to 57). Want of memory (90) may come in place of any.
+    pub fn check(alloc: Global, draft: &Draft) -> Result<Definition, DefinitionFault>
+        ensures ok { IfOk result (λ d. d ≡ rules_of draft.now) }
+        ensures accepted { OnOk result (refusal_of (rules_of draft.now) ≡ None) }
+        ensures refused { IfErr result (λ e. e ≢ Memory → refusal_of (rules_of draft.now) ≡ Some e) }
+    {
+        match refusal(alloc, draft)? {
+            Some(fault) => Err(fault),
+            None => Ok(build(alloc, draft)?),
+        }
+    }
+}
+
+/// Why a draft is refused, if it is.
+#[tactic(auto, unfolding(crate::specs::Refusal::refusal_of))]
+pub(crate) fn refusal(alloc: Global, draft: &Draft) -> Result<Option<DefinitionFault>, AllocError>
+    ensures { IfOk result (λ r. r ≡ refusal_of (rules_of draft.now)) }
+{
+    let nodes = draft.nodes.as_slice();
+    if has_bad_number(draft) {
+        return Ok(Some(DefinitionFault::Number));
+    }
+    if lacks_something(draft) {
+        return Ok(Some(DefinitionFault::Empty));
+    }
+    if has_bad_name(draft) {
+        return Ok(Some(DefinitionFault::Name));
+    }
+    if has_duplicate(alloc, draft)? {
+        return Ok(Some(DefinitionFault::Duplicate));
+    }
+    if has_late_parent(nodes) {
+        return Ok(Some(DefinitionFault::Parent));
+    }
+    if has_thin_package(nodes) {
+        return Ok(Some(DefinitionFault::Children));
+    }
+    if has_parted_licence(nodes) {
+        return Ok(Some(DefinitionFault::Leaf));
+    }
+    if is_over_limits(draft) {
+        return Ok(Some(DefinitionFault::Limits));
+    }
+    if has_bad_terms(draft) {
+        return Ok(Some(DefinitionFault::Terms));
+    }
+    Ok(None)
+}

@@ -1,0 +1,38 @@
+ghost use Rattle.std.specs.Prelude.{◌≡◌, ◌≤◌, ◌<◌, ◌+◌, false, length, nat_lt};
+ghost use Rattle.std.specs.List.{list_any};
+ghost use Rattle.hpb_rules.specs.Tree.{places};
+ghost use Rattle.hpb_tree.specs.Draft.{rules_of, nodes_said};
+ghost use Rattle.hpb_tree.specs.Refusal.{has_late_parent, depth, is_over_limits};
+
+use crate::definition::{MOST_DEPTH, MOST_STAGES};
+use crate::draft::{Draft, NodeDraft};
+use crate::outline::licences_before;
+use crate::tree::MOST_LICENCES;
+use crate::walking::depth;
+use hpb_rules::{MOST_BIDDERS, MOST_NODES};
+
+/// Whether there are too many nodes, licences, bidders, stages or levels.
+pub(crate) fn is_over_limits(draft: &Draft) -> bool
+    requires { has_late_parent (nodes_said draft.now.nodes.items) ≡ false }
+    ensures { result ≡ is_over_limits (rules_of draft.now) }
+{
+    let nodes = draft.nodes.as_slice();
+    MOST_NODES < nodes.len()
+        || MOST_LICENCES < licences_before(nodes, nodes.len())
+        || MOST_BIDDERS < draft.bidders.len()
+        || MOST_STAGES < draft.stages.len()
+        || is_too_deep(nodes)
+}
+
+fn is_too_deep(nodes: &[NodeDraft]) -> bool
+    requires before { has_late_parent (nodes_said nodes.now) ≡ false }
+    requires most { length nodes.now ≤ MOST_NODES }
+    ensures { result ≡ list_any (λ n. nat_lt MOST_DEPTH (depth (nodes_said nodes.now) n)) (places (nodes_said nodes.now)) }
+{
+    for place in 0..nodes.len() {
+        if MOST_DEPTH < depth(nodes, place) {
+            return true;
+        }
+    }
+    false
+}

@@ -1,0 +1,8 @@
+//! Bidding units: how active a bidder is, and how its eligibility follows from that.
+#![tactic(auto)]
+
+mod eligibility;
+mod units;
+
+pub use eligibility::{next_eligibility, required_met};
+pub use units::{activity, fits};

@@ -1,0 +1,4 @@
+pub mod NoBid
+pub mod Summing
+pub mod Marking
+pub mod Results

@@ -1,0 +1,34 @@
+use Rattle.std.proofs.Common.{◌-◌, ◌∙◌, length, get_or, ap, arith}
+use Rattle.hpb_bids.specs.View.{bid_of}
+use Rattle.hpb_winners.proofs.NoBid.{get_or-zeros}
+use Rattle.hpb_winners.proofs.Summing.{summed_start, part_more, part_small, top_more, top_small, revenue_is, revenue_small, inside_small, values_small}
+use Rattle.hpb_winners.proofs.winners.sum_up.Goals as goal
+
+pub loop-place-init : goal.loop-place-init
+loop-place-init c = summed_start c.args.tree.now.nodes (bid_of c.args.books.now) c.node_count-place.result c.fill.new.self c.args.values.now c.node_count-place.ensures.value
+    (omega (arith, c.fill.ensures.len)) c.requires.values
+    (λ p. ap (λ xs. get_or xs p 0) (c.fill.ensures.after (λ y e. e)) ∙ get_or-zeros (length c.args.inside.now) p)
+
+pub overflow_add-inside : goal.overflow_add-inside
+overflow_add-inside c = omega (arith, part_small c.args.tree.now.nodes (bid_of c.args.books.now) c.loop-place.place (c.loop-place.place - 1) _ _ _ c.loop-place.inside c.loop-place.values c.loop-place.revenue (omega arith) (omega arith) c.new-node.ensures c.high_bid.ensures.value c.high_bid.ensures.most c.max-value.ensures c.loop-place.invariant c.node_count-place.ensures.tree _ _ c.in-Some.ensures.value c.place.ensures.value)
+
+pub loop-place-preserved-in-Some : goal.loop-place-preserved-in-Some
+loop-place-preserved-in-Some c = part_more c.args.tree.now.nodes (bid_of c.args.books.now) c.loop-place.place (c.loop-place.place - 1) _ _ _ c.loop-place.inside c.loop-place.values c.loop-place.revenue (omega arith) (omega arith) c.new-node.ensures c.high_bid.ensures.value c.high_bid.ensures.most c.max-value.ensures c.loop-place.invariant c.node_count-place.ensures.tree _ _ c.in-Some.ensures.value c.place.ensures.value
+
+pub overflow_add-revenue : goal.overflow_add-revenue
+overflow_add-revenue c = omega (arith, top_small c.args.tree.now.nodes (bid_of c.args.books.now) c.loop-place.place (c.loop-place.place - 1) _ _ _ c.loop-place.inside c.loop-place.values c.loop-place.revenue (omega arith) (omega arith) c.new-node.ensures c.high_bid.ensures.value c.high_bid.ensures.most c.max-value.ensures c.loop-place.invariant c.in-None.ensures.value)
+
+pub loop-place-preserved : goal.loop-place-preserved
+loop-place-preserved c = top_more c.args.tree.now.nodes (bid_of c.args.books.now) c.loop-place.place (c.loop-place.place - 1) _ _ _ c.loop-place.inside c.loop-place.values c.loop-place.revenue (omega arith) (omega arith) c.new-node.ensures c.high_bid.ensures.value c.high_bid.ensures.most c.max-value.ensures c.loop-place.invariant c.in-None.ensures.value
+
+pub returns-clause-revenue : goal.returns-clause-revenue
+returns-clause-revenue c = revenue_is c.args.tree.now.nodes (bid_of c.args.books.now) c.loop-place.place c.loop-place.inside c.loop-place.values c.loop-place.revenue (omega arith) c.loop-place.invariant c.node_count-place.ensures.tree
+
+pub returns-clause-most_inside : goal.returns-clause-most_inside
+returns-clause-most_inside c = λ n. omega (arith, inside_small c.args.tree.now.nodes (bid_of c.args.books.now) c.loop-place.place c.loop-place.inside c.loop-place.values c.loop-place.revenue (omega arith) c.loop-place.invariant n)
+
+pub returns-clause-most_value : goal.returns-clause-most_value
+returns-clause-most_value c = λ n. omega (arith, values_small c.args.tree.now.nodes (bid_of c.args.books.now) c.loop-place.place c.loop-place.inside c.loop-place.values c.loop-place.revenue (omega arith) c.loop-place.invariant n)
+
+pub returns-clause-most_revenue : goal.returns-clause-most_revenue
+returns-clause-most_revenue c = omega (arith, revenue_small c.args.tree.now.nodes (bid_of c.args.books.now) c.loop-place.place c.loop-place.inside c.loop-place.values c.loop-place.revenue (omega arith) c.loop-place.invariant)

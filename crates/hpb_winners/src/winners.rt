@@ -1,0 +1,80 @@
+ghost use Rattle.std.specs.Prelude.{◌≡◌, ℕ, ◌<◌, ◌≤◌, length, slice_index, max};
+ghost use Rattle.hpb_rules.specs.Choices.{IsWinners, best, revenue, winners};
+ghost use Rattle.hpb_bids.specs.View.{bid_of};
+ghost use Rattle.hpb_winners.specs.Outcome.{IsOutcome, IsSized};
+
+use crate::outcome::{MOST_VALUE, Outcome};
+use hpb_bids::Books;
+use hpb_rules::{MOST_AMOUNT, NodeId};
+use hpb_tree::Tree;
+
+/// Finds the outcome of the high bids: the winners are the choice of greatest revenue, and on a tie the
+/// parts of a package win.
+pub fn upward(tree: &Tree, books: &Books, outcome: &mut Outcome)
+    requires { IsSized tree.now.nodes outcome.old }
+    ensures outcome { IsOutcome tree.now.nodes (bid_of books.now) outcome.new }
+    ensures winners { IsWinners tree.now.nodes (bid_of books.now) outcome.new.wins }
+{
+    outcome.revenue = sum_up(tree, books, &mut outcome.inside, &mut outcome.values);
+    mark_winners(
+        tree,
+        books,
+        &outcome.inside,
+        &mut outcome.free,
+        &mut outcome.wins,
+    );
+}
+
+/// Sums the values from the last node to the first, and returns the sum over the top nodes.
+fn sum_up(tree: &Tree, books: &Books, inside: &mut [u64], values: &mut [u64]) -> u64
+    requires inside { length inside.old ≡ length tree.now.nodes }
+    requires values { length values.old ≡ length tree.now.nodes }
+    ensures inside { (n : ℕ) → n < length tree.now.nodes → slice_index inside.new n ≡ best tree.now.nodes (bid_of books.now) n }
+    ensures values { (n : ℕ) → n < length tree.now.nodes → slice_index values.new n ≡ max (bid_of books.now n) (best tree.now.nodes (bid_of books.now) n) }
+    ensures revenue { result ≡ revenue (bid_of books.now) (winners tree.now.nodes (bid_of books.now)) }
+    ensures most_inside { (n : ℕ) → slice_index inside.new n ≤ MOST_VALUE }
+    ensures most_value { (n : ℕ) → slice_index values.new n ≤ MOST_VALUE }
+    ensures most_revenue { result ≤ MOST_VALUE }
+{
+    inside.fill(0);
+    let mut revenue = 0;
+    for place in (0..tree.node_count()).rev() {
+        let node = NodeId::new(place);
+        let value = high_bid(books, node).max(inside[place]);
+        values[place] = value;
+        match tree.parent(node) {
+            Some(parent) => inside[parent.place()] += value,
+            None => revenue += value,
+        }
+    }
+    revenue
+}
+
+/// Marks the winners from the first node to the last: below a winner nothing else wins.
+fn mark_winners(tree: &Tree, books: &Books, inside: &[u64], free: &mut [bool], wins: &mut [bool])
+    requires inside_length { length inside.now ≡ length tree.now.nodes }
+    requires inside { (n : ℕ) → n < length tree.now.nodes → slice_index inside.now n ≡ best tree.now.nodes (bid_of books.now) n }
+    requires free { length free.old ≡ length tree.now.nodes }
+    requires wins { length wins.old ≡ length tree.now.nodes }
+    ensures winners { IsWinners tree.now.nodes (bid_of books.now) wins.new }
+    ensures wins { wins.new ≡ winners tree.now.nodes (bid_of books.now) }
+{
+    for place in 0..tree.node_count() {
+        let node = NodeId::new(place);
+        let open = match tree.parent(node) {
+            Some(parent) => free[parent.place()],
+            None => true,
+        };
+        let won = open && inside[place] < high_bid(books, node);
+        wins[place] = won;
+        free[place] = open && !won;
+    }
+}
+
+/// The high bid of a node, or 0 where it has none.
+fn high_bid(books: &Books, node: NodeId) -> u64
+    ensures value { result ≡ bid_of books.now node }
+    ensures most { result ≤ MOST_AMOUNT }
+{
+    books.standing(node).map_or(0, |offer| offer.amount)
+}
