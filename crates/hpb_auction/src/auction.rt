@@ -48,6 +48,8 @@ impl Auction {
         ensures rules { IfOk result (λ a. a.rules ≡ definition.now) }
     {
         let definition = definition.copy(alloc)?;
+        let stages = definition.stage_count();
+        prove!(stages > 0);
         let books = Books::new(alloc, definition.tree())?;
         let outcome = Outcome::new(alloc, definition.tree())?;
         let prices = Prices::new(alloc, definition.tree())?;

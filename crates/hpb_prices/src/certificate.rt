@@ -1,8 +1,11 @@
-ghost use Rattle.std.specs.Prelude.{◌≡◌, ◌≤◌, length};
-ghost use Rattle.hpb_prices.specs.Certificate.{sum_where as sum_where_set};
+ghost use Rattle.std.specs.Prelude.{◌≡◌, ◌<◌, ◌≤◌, ◌↔◌, List, Bool, IsTrue, length};
+ghost use Rattle.hpb_rules.specs.Choices.{IsChoice, revenue};
+ghost use Rattle.hpb_rules.specs.Prices.{Covers, IsCertificate};
+ghost use Rattle.hpb_tree.specs.Licences.{licence_count as count_of_licences};
+ghost use Rattle.hpb_prices.specs.Certificate.{Certifies, IsBelowWinner, bid_in, price_in, set_of, sum_where as sum_of_set};
 
 use hpb_money::Dollars;
-use hpb_rules::NodeId;
+use hpb_rules::{MOST_NODES, NodeId};
 use hpb_tree::Tree;
 
 /// Whether prices prove that winners are a choice of greatest revenue. `highs` has the high bid of each
@@ -10,54 +13,82 @@ use hpb_tree::Tree;
 /// bit n of `winners` is for node n. Yes where each winner is a node with a high bid, no two winners have a
 /// licence in common, no high bid is more than the prices of its licences together, and the prices sum to
 /// the winners' high bids. No for lists of another length, and for a bit that no node has.
-pub fn check_certificate(
-    tree: &Tree,
-    highs: &[Dollars],
-    prices: &[Dollars],
-    winners: u128,
-) -> bool {
+pub fn check_certificate(tree: &Tree, highs: &[Dollars], prices: &[Dollars], winners: u128) -> bool
+    ensures yes { IsTrue result ↔ Certifies tree.now.nodes highs.now prices.now winners }
+    ensures best { IsTrue result → (c : List Bool) → IsChoice tree.now.nodes (bid_in highs.now) c → revenue (bid_in highs.now) c ≤ revenue (bid_in highs.now) (set_of tree.now.nodes winners) }
+{
     let count = tree.node_count();
-    highs.len() == count
-        && prices.len() == licence_count(tree)
-        && winners >> count == 0
-        && are_apart(tree, highs, winners)
-        && are_covered(tree, highs, prices)
-        && sum_where(prices, u128::MAX) == sum_where(highs, winners)
+    if highs.len() != count || prices.len() != licence_count(tree) || winners >> count != 0 {
+        return false;
+    }
+    is_certificate(tree, highs, prices, winners)
+}
+
+/// The same for lists of the right lengths.
+fn is_certificate(tree: &Tree, highs: &[Dollars], prices: &[Dollars], winners: u128) -> bool
+    requires highs { length highs.now ≡ length tree.now.nodes }
+    requires prices { length prices.now ≡ count_of_licences tree.now.nodes }
+    requires most { count_of_licences tree.now.nodes ≤ MOST_NODES }
+    requires nodes { length tree.now.nodes ≤ MOST_NODES }
+    ensures { IsTrue result ↔ IsCertificate tree.now.nodes (bid_in highs.now) (price_in tree.now.nodes prices.now) (set_of tree.now.nodes winners) }
+{
+    if !is_choice(tree, highs, winners) || !are_covered(tree, highs, prices) {
+        return false;
+    }
+    sum_where(prices, u128::MAX) == sum_where(highs, winners)
 }
 
 /// How many licences a tree has.
 fn licence_count(tree: &Tree) -> usize
-    ensures { result ≤ 64 }
+    ensures value { result ≡ count_of_licences tree.now.nodes }
+    ensures most { result ≤ MOST_NODES }
 {
-    let mut licences = 0;
+    let mut count = 0;
     for place in 0..tree.node_count() {
-        licences |= tree.licences(NodeId::new(place));
+        if tree.terms(NodeId::new(place)).is_some() {
+            count += 1;
+        }
     }
-    licences.count_ones() as usize
+    count
 }
 
-/// Whether each winner has a high bid, and no two of them have a licence in common.
-fn are_apart(tree: &Tree, highs: &[Dollars], winners: u128) -> bool
+/// Whether each winner has a high bid, and none stands below another.
+fn is_choice(tree: &Tree, highs: &[Dollars], winners: u128) -> bool
     requires { length highs.now ≡ length tree.now.nodes }
+    ensures { IsTrue result ↔ IsChoice tree.now.nodes (bid_in highs.now) (set_of tree.now.nodes winners) }
 {
-    let mut taken = 0;
     for place in 0..tree.node_count() {
         if winners >> place & 1 == 0 {
             continue;
         }
-        let licences = tree.licences(NodeId::new(place));
-        if highs[place] == 0 || taken & licences != 0 {
+        if highs[place] == 0 || is_below_winner(tree, winners, NodeId::new(place)) {
             return false;
         }
-        taken |= licences;
     }
     true
+}
+
+/// Whether a node stands below a winner.
+fn is_below_winner(tree: &Tree, winners: u128, node: NodeId) -> bool
+    requires { node < length tree.now.nodes }
+    ensures { IsTrue result ↔ IsBelowWinner tree.now.nodes winners node }
+{
+    let mut above = tree.parent(node);
+    while let Some(parent) = above {
+        if winners >> parent.place() & 1 == 1 {
+            return true;
+        }
+        above = tree.parent(parent);
+    }
+    false
 }
 
 /// Whether no high bid is more than the prices of its licences together.
 fn are_covered(tree: &Tree, highs: &[Dollars], prices: &[Dollars]) -> bool
     requires highs { length highs.now ≡ length tree.now.nodes }
-    requires prices { length prices.now ≤ 64 }
+    requires prices { length prices.now ≡ count_of_licences tree.now.nodes }
+    requires most { count_of_licences tree.now.nodes ≤ MOST_NODES }
+    ensures { IsTrue result ↔ Covers tree.now.nodes (bid_in highs.now) (price_in tree.now.nodes prices.now) }
 {
     for place in 0..tree.node_count() {
         let licences = tree.licences(NodeId::new(place));
@@ -71,7 +102,7 @@ fn are_covered(tree: &Tree, highs: &[Dollars], prices: &[Dollars]) -> bool
 /// The sum of the amounts at the places whose bits are set.
 fn sum_where(amounts: &[Dollars], set: u128) -> u128
     requires { length amounts.now ≤ 128 }
-    ensures { result ≡ sum_where_set set 0 amounts.now }
+    ensures { result ≡ sum_of_set set 0 amounts.now }
 {
     let mut sum = 0;
     for (place, amount) in amounts.iter().enumerate() {

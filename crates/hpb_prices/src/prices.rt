@@ -14,7 +14,7 @@ use std::marker::Model;
 pub struct Prices {
     pub(crate) prices: Vec<Dollars>,
     pub(crate) minima: Vec<Dollars>,
-    /// What was carried down to each node, in a pass.
+    /// What is carried down to each node, while prices are found.
     pub(crate) carried: Vec<Dollars>,
 }
 
@@ -31,7 +31,8 @@ impl Model for Prices {
 }
 
 impl Prices {
-    /// The prices of a tree without a bid: 0, so the least bids are the openings.
+    /// The prices of a tree without a bid: 0, so the least bids are the openings. Fails only where memory is
+    /// refused.
     pub fn new(alloc: Global, tree: &Tree) -> Result<Prices, AllocError>
         ensures sized { IfOk result (IsSized tree.now.nodes) }
         ensures prices { IfOk result (HasPrices tree.now.nodes no_bid) }
@@ -66,7 +67,7 @@ impl Prices {
         self.minima[index]
     }
 
-    /// Prices that say the same.
+    /// The same prices once more. Fails only where memory is refused.
     pub fn copy(&self, alloc: Global) -> Result<Prices, AllocError>
         ensures { IfOk result (λ prices. prices ≡ self.now) }
     {

@@ -16,7 +16,7 @@ use Rattle.hpb_rules.specs.MachineLaws.{IsSound, MachineKeeps}
 use Rattle.hpb_rules.proofs.Lists.{all_cons, append_nil, take_seam, get_seam, get_front, front_self, front_trans}
 use Rattle.hpb_rules.proofs.Pasts.{history_grows}
 
-new_reply : (n : ℕ) (reply : Reply) → is_reply_new n reply ≡ true → reply ≡ replies.Ok (suc n)
+pub new_reply : (n : ℕ) (reply : Reply) → is_reply_new n reply ≡ true → reply ≡ replies.Ok (suc n)
 new_reply n (replies.Ok m) e = ap replies.Ok (eqb-true m (suc n) e)
 new_reply n (replies.Refused code) e = absurd (cc)
 

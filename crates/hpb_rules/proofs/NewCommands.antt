@@ -4,10 +4,11 @@ use Rattle.std.specs.Prelude.{if◌then◌else◌}
 use Rattle.std.proofs.lemmas.Bool.{lt-leb, leb-false, both_ways, eqb-false, ne_eqb, ltb-false, le-ltb}
 use Rattle.std.proofs.lemmas.List.{length-reverse}
 use Rattle.hpb_rules.specs.declared.command.Command.{Command}
+use Rattle.hpb_rules.specs.declared.command.Command.TheVariants.{Bid}
 use Rattle.hpb_rules.specs.declared.reply.Reply.{Reply}
 use Rattle.hpb_rules.specs.declared.reply.Reply.TheVariants as replies
 use Rattle.hpb_rules.specs.declared.reply.TheConstants.{MOST_COMMANDS}
-use Rattle.hpb_rules.specs.declared.refusal.TheConstants.{OLD, TICKET, GAP, LIMIT, CLOSED}
+use Rattle.hpb_rules.specs.declared.refusal.TheConstants.{BIDDER, NODE, OLD, TICKET, GAP, LIMIT, CLOSED}
 use Rattle.hpb_rules.specs.Tree.{Rules}
 use Rattle.hpb_rules.specs.History
 use Rattle.hpb_rules.specs.History.{Sender, bidder, auctioneer, sender_of, same_sender, ticket_of, same_command, is_from, last_ticket, last_of}
@@ -37,6 +38,15 @@ not_repeated past sender command e = by (last_of past sender) refl e
         at : (b : Bool) → (if b then replies.Ok last.1 else replies.Refused TICKET) ≡ replies.Ok (suc (length past)) → ⊥
         at true h = let z : last.1 ≡ suc (length past) = cc in omega (arith, last_number past sender last.0 last.1 f)
         at false h = cc
+
+-- the bid's bidder and node are known
+pub known_names : (rules : Rules) (from ticket on amount : ℕ) → unknown rules (Bid from ticket on amount) ≡ None → (from < length rules.bidders) × (on < length rules.nodes)
+known_names rules from ticket on amount known = by (leb (length rules.bidders) from) refl (leb (length rules.nodes) on) refl known
+  where
+    by : (a : Bool) → leb (length rules.bidders) from ≡ a → (b : Bool) → leb (length rules.nodes) on ≡ b → (if a then Some BIDDER else (if b then Some NODE else None)) ≡ None → (from < length rules.bidders) × (on < length rules.nodes)
+    by true p b q e = absurd (cc)
+    by false p true q e = absurd (cc)
+    by false p false q e = (leb-false _ _ p, leb-false _ _ q)
 
 -- the parts of a reply that accepts
 record Accepts (u : Option ℕ) (t l n : ℕ) (o : Bool) (f : Option ℕ) : Type 0 where

@@ -79,6 +79,15 @@ module _ (nodes : List Node) (bid : ℕ → ℕ) (tree : IsTree nodes) where
       let v : best nodes bid n ≡ total (is_node n) ns (values_from (suc n) ns bid) = best_is bid nodes tree n h in
       omega (arith, whole, split, early n 0 n (omega arith), ap (λ a. sum_by (adds n) (range_with_len a (suc (length ns)))) zero_n, sum_by-cons (adds n) n (range_with_len (n + 1) (length ns)), next, late n h, own n (terms_of nodes n) h refl, v)
 
+  -- a licence's price is its bid and what is carried down to it
+  pub licence_price_is : (n : ℕ) (t : Terms) → n < length nodes → terms_of nodes n ≡ Some t → price nodes bid n ≡ licence_price nodes bid n
+  licence_price_is n t h e =
+      let ns : List Node = drop (suc n) nodes in
+      let f : From nodes tree (suc n) ns = from_drop bid nodes tree (suc n) h in
+      let leaf : (k : ℕ) → parent_of ns k ≡ Some n → ⊥ = λ k u. let z : terms_of nodes n ≡ None = tree.packages (suc n + k) n (f.parents k ∙ u) in cc in
+      let b : best nodes bid n ≡ 0 = best_is bid nodes tree n h ∙ total_none n ns (values_from (suc n) ns bid) leaf in
+      omega (arith, price_is n h, b)
+
   pub covers : Covers nodes bid (licence_price nodes bid)
   covers n h = omega (arith, price_is n h)
 

@@ -1,5 +1,5 @@
 -- The stage in force has a percentage.
-use Rattle.std.proofs.Common.{◌≡◌, ℕ, ◌+◌, ◌-◌, ◌<◌, ◌≤◌, Bool, true, false, cond, leb, List, [], ◌∷◌, reverse, Some, None, length, refl, arith}
+use Rattle.std.proofs.Common.{◌≡◌, ℕ, ◌+◌, ◌-◌, ◌<◌, ◌≤◌, ◌||◌, Bool, true, false, cond, leb, List, [], ◌∷◌, reverse, Some, None, length, refl, arith}
 use Rattle.std.specs.Prelude.{if◌then◌else◌}
 use Rattle.std.proofs.lemmas.Bool.{leb-false, both_ways}
 use Rattle.std.proofs.lemmas.List.Sums.{sum_by-cons}
@@ -16,7 +16,7 @@ use Rattle.hpb_rules.proofs.NewCommands.{accepted_new}
 use Rattle.hpb_rules.proofs.Accepted.{no_fault, right_fails, accepted_is_definition}
 
 -- a stage command adds a stage, and no other does
-stage_more : (command : Command) (past : List Command) → History.stage (command ∷ past) ≡ cond (History.is_stage command) 1 0 + History.stage past
+pub stage_more : (command : Command) (past : List Command) → History.stage (command ∷ past) ≡ cond (History.is_stage command) 1 0 + History.stage past
 stage_more command past = omega (arith, sum_by-cons (λ c. cond (History.is_stage c) 1 0) command past)
 
 module _ (rules : Rules) (some : 0 < length rules.stages) where
@@ -38,7 +38,7 @@ filled (stage ∷ stages) e = omega arith
 pub percentage_is_known : PercentageIsKnown
 percentage_is_known rules history accepted is =
     let lacks : lacks_something rules ≡ false = no_fault (draft_faults rules) accepted 1 in
-    let some : 0 < length rules.stages = filled rules.stages (right_fails _ _ lacks) in
+    let some : 0 < length rules.stages = filled rules.stages (right_fails (is_empty rules.nodes || is_empty rules.bidders) (is_empty rules.stages) lacks) in
     let stage : History.stage (reverse history) ≤ length rules.stages = stage_is rules some (reverse history) is in
     let definition : IsDefinition rules = accepted_is_definition rules accepted in
     let place : History.stage (reverse history) - 1 < length rules.stages = omega (arith, stage, some) in

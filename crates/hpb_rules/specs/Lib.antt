@@ -12,6 +12,8 @@ pub mod Fronts
 pub mod MachineLaws
 pub mod TextLaws
 pub mod Seen
+pub mod Values
+pub mod ValueLaws
 pub mod Letters
 pub mod Machine
 pub mod Refusals

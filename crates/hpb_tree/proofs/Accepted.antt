@@ -1,30 +1,29 @@
 -- What follows for rules that aren't refused.
-use Rattle.std.proofs.Common.{◌≡◌, ℕ, ◌<◌, ◌≤◌, Bool, true, false, cond, not, List, [], ◌∷◌, length, get_or, Option, Some, None, refl, sym, ap, ◌∙◌, arith}
-use Rattle.std.specs.Prelude.{Vec}
-use Rattle.std.specs.Global.{Global}
+use Rattle.std.proofs.Common.{zero, suc, ◌≡◌, ℕ, ◌<◌, ◌≤◌, Bool, true, false, cond, not, List, [], ◌∷◌, length, get_or, Option, Some, None, refl, ap, ◌∙◌, arith}
 use Rattle.std.specs.List.{list_any, slice_get}
 use Rattle.std.proofs.lemmas.Bool.{or_parts, not-false, and_parts, leb-true, ltb-false, both_ways, false_from_ne_true}
 use Rattle.std.proofs.lemmas.List.{length-map, get_or-map}
 use Rattle.std.proofs.lemmas.List.Folds.{list_any_at}
 use Rattle.hpb_rules.specs.declared.id.TheConstants.{MOST_NODES, MOST_BIDDERS}
 use Rattle.hpb_rules.specs.declared.licence.Terms.{Terms}
-use Rattle.hpb_rules.specs.Tree.{Rules, TreeRules, Bidder, terms_of, units_at, opening_at}
+use Rattle.hpb_rules.specs.Lines.{node_named, bidder_named}
+use Rattle.hpb_rules.specs.Text.{node_name, bidder_name}
+use Rattle.hpb_rules.specs.Tree.{Rules, Node, Bidder, terms_of, units_at, opening_at}
 use Rattle.hpb_tree.specs.declared.tree.TheConstants.{MOST_STEP, MOST_PERCENT, MOST_LICENCES, MOST_LICENCE_UNITS, MOST_LICENCE_OPENING}
 use Rattle.hpb_tree.specs.declared.definition.TheConstants.{MOST_STAGES, LEAST_PERCENTAGE, MOST_PERCENTAGE, MOST_BIDDER_UNITS}
 use Rattle.hpb_tree.specs.declared.tree.Tree.TheInside.{Inside}
 use Rattle.hpb_tree.specs.declared.tree.TreeNode.{TreeNode}
 use Rattle.hpb_tree.specs.declared.fault.DefinitionFault.{DefinitionFault}
 use Rattle.hpb_tree.specs.declared.fault.DefinitionFault.TheVariants.{Number, Empty, Name, Duplicate, Parent, Children, Leaf, Limits, Terms as BadTerms}
-use Rattle.hpb_tree.specs.declared.definition.Bidder.{Bidder as Entry}
 use Rattle.hpb_tree.specs.declared.draft.Draft.{Draft}
 use Rattle.hpb_tree.specs.declared.draft.BidderDraft.{BidderDraft}
-use Rattle.hpb_tree.specs.Definition.{bidder_view, bidders_view, IsDefined}
 use Rattle.hpb_tree.specs.Draft.{rules_of, bidder_said, bidders_said}
 use Rattle.hpb_tree.specs.Licences.{licence_count}
 use Rattle.hpb_tree.specs.View.{nodes_view, IsSummed, IsChecked}
-use Rattle.hpb_tree.specs.Refusal.{is_within, is_empty, has_bad_number, lacks_something, has_bad_name, has_duplicate, has_late_parent, has_thin_package, has_parted_licence, is_over_limits, are_bad_terms, has_bad_terms, refusal_of, AreSound}
+use Rattle.hpb_tree.specs.Refusal.{is_within, is_empty, is_name, has_bad_number, lacks_something, has_bad_name, has_duplicate, has_late_parent, has_thin_package, has_parted_licence, is_over_limits, are_bad_terms, has_bad_terms, refusal_of, AreSound}
 use Rattle.hpb_tree.proofs.Masks.{terms_in}
 use Rattle.hpb_tree.proofs.Places.{none_at}
+use Rattle.hpb_tree.proofs.Seen.{found_at}
 use Rattle.hpb_tree.proofs.Sound.{is_tree}
 use Rattle.hpb_tree.proofs.Views.{length-nodes_view}
 
@@ -146,24 +145,34 @@ draft_units_within draft a k b h =
     let same : get_or (bidders_said draft.bidders.items) k (bidder_said b) ≡ bidder_said (get_or draft.bidders.items k b) = get_or-map bidder_said draft.bidders.items k b (bidder_said b) h in
     omega (arith, ap (λ (x : Bidder). x.units) same, (units_within (rules_of draft) a k (bidder_said b) (omega (arith, length-map draft.bidders.items bidder_said))).1)
 
-pub defined : (draft : Draft) → Accepted (rules_of draft) → (stages : Vec ℕ Global) (bidders : Vec Entry Global) (tree : TreeRules) → stages.items ≡ draft.stages.items → bidders_view bidders.items ≡ bidders_said draft.bidders.items
-    → IsDefined (record { tree = tree; stages = stages; bidders = bidders })
-defined draft a stages bidders tree same seen = record {
-  some_stage = omega (arith, ap length same, some_stage d a);
-  most_stages = omega (arith, ap length same, most_stages d a);
-  least_percentage = rw same (λ k p h. (stage_within d a k p h).0);
-  most_percentage = rw same (λ k p h. (stage_within d a k p h).1);
-  some_bidder = omega (arith, count, some_bidder d a);
-  most_bidders = omega (arith, count, most_bidders d a);
-  some_units = λ k b h. omega (arith, ap (λ (x : Bidder). x.units) (at k b h), (units_within d a k (bidder_view b) (omega (arith, count))).0);
-  most_units = λ k b h. omega (arith, ap (λ (x : Bidder). x.units) (at k b h), (units_within d a k (bidder_view b) (omega (arith, count))).1);
-}
-  where
-    d : Rules
-    d = rules_of draft
+named_node : (nodes : List Node) (k : ℕ) (n : Node) → k < length nodes → node_name nodes k ≡ (get_or nodes k n).name
+named_node [] k n h = absurd (omega arith)
+named_node (m ∷ nodes) zero n h = refl
+named_node (m ∷ nodes) (suc k) n h = named_node nodes k n (omega arith)
 
-    count : length bidders.items ≡ length (bidders_said draft.bidders.items)
-    count = sym (length-map bidders.items bidder_view) ∙ ap length seen
+named_bidder : (bidders : List Bidder) (k : ℕ) (b : Bidder) → k < length bidders → bidder_name bidders k ≡ (get_or bidders k b).name
+named_bidder [] k b h = absurd (omega arith)
+named_bidder (c ∷ bidders) zero b h = refl
+named_bidder (c ∷ bidders) (suc k) b h = named_bidder bidders k b (omega arith)
 
-    at : (k : ℕ) (b : Entry) → k < length bidders.items → get_or (bidders_said draft.bidders.items) k (bidder_view b) ≡ bidder_view (get_or bidders.items k b)
-    at k b h = ap (λ xs. get_or xs k (bidder_view b)) (sym seen) ∙ get_or-map bidder_view bidders.items k b (bidder_view b) h
+-- names are as they must be, and each is found where it stands
+module _ (d : Rules) (a : Accepted d) where
+  pub node_name_valid : (k : ℕ) → k < length d.nodes → is_name (node_name d.nodes k) ≡ true
+  node_name_valid k h =
+      let n : Node = record { name = []; parent = None; terms = None } in
+      ap is_name (named_node d.nodes k n h) ∙ not-false _ (all_fail (λ (m : Node). not (is_name m.name)) d.nodes (or_parts _ _ a.name).0 k n h)
+
+  pub bidder_name_valid : (k : ℕ) → k < length d.bidders → is_name (bidder_name d.bidders k) ≡ true
+  bidder_name_valid k h =
+      let b : Bidder = record { name = []; units = 0 } in
+      ap is_name (named_bidder d.bidders k b h) ∙ not-false _ (all_fail (λ (c : Bidder). not (is_name c.name)) d.bidders (or_parts _ _ a.name).1 k b h)
+
+  pub node_found : (k : ℕ) → k < length d.nodes → node_named d (node_name d.nodes k) ≡ Some k
+  node_found k h =
+      let n : Node = record { name = []; parent = None; terms = None } in
+      ap (node_named d) (named_node d.nodes k n h) ∙ found_at (λ (m : Node). m.name) d.nodes k n (or_parts _ _ a.duplicate).0 h
+
+  pub bidder_found : (k : ℕ) → k < length d.bidders → bidder_named d (bidder_name d.bidders k) ≡ Some k
+  bidder_found k h =
+      let b : Bidder = record { name = []; units = 0 } in
+      ap (bidder_named d) (named_bidder d.bidders k b h) ∙ found_at (λ (c : Bidder). c.name) d.bidders k b (or_parts _ _ a.duplicate).1 h

@@ -3,11 +3,8 @@ use Rattle.std.proofs.Common.{◌≡◌, ℕ, ◌<◌, List, map, length, get_or
 use Rattle.std.specs.List.{slice_get}
 use Rattle.std.proofs.lemmas.List.{length-map, get_or-map}
 use Rattle.std.proofs.lemmas.Option.{slice_get_within, slice_get-get_or, get_or_from_slice_get}
-use Rattle.hpb_rules.specs.Tree.{Node, Bidder as Shown}
+use Rattle.hpb_rules.specs.Tree.{Node}
 use Rattle.hpb_tree.specs.View.{Known, known, AreCopies, nodes_view, IsSummed, IsChecked}
-use Rattle.hpb_tree.specs.Definition.{bidder_view, bidders_view, IsDefined}
-use Rattle.hpb_tree.specs.declared.definition.Bidder.{Bidder}
-use Rattle.hpb_tree.specs.declared.definition.Definition.TheInside.{Inside as Defined}
 use Rattle.hpb_tree.specs.declared.tree.Tree.TheInside.{Inside}
 use Rattle.hpb_tree.specs.declared.tree.TreeNode.{TreeNode}
 use Rattle.hpb_tree.proofs.Lists.{map_map}
@@ -57,25 +54,3 @@ checked_copy old new step percent e c = record {
         summed_known (nodes_view old.nodes.items) i (get_or old.nodes.items i n) n
         (ap known (sym here) ∙ known_at old.nodes.items new.nodes.items e i n small)
         (c.sums i (get_or old.nodes.items i n) (slice_get-get_or old.nodes.items i n (omega (arith, count))))
-
-pub defined_copy : (old new : Defined) → new.stages.items ≡ old.stages.items → bidders_view new.bidders.items ≡ bidders_view old.bidders.items → IsDefined old → IsDefined new
-defined_copy old new same seen d = record {
-  some_stage = rw same d.some_stage;
-  most_stages = rw same d.most_stages;
-  least_percentage = rw same d.least_percentage;
-  most_percentage = rw same d.most_percentage;
-  some_bidder = omega (arith, count, d.some_bidder);
-  most_bidders = omega (arith, count, d.most_bidders);
-  some_units = λ k b h. omega (arith, at k b h, d.some_units k b (omega (arith, count)));
-  most_units = λ k b h. omega (arith, at k b h, d.most_units k b (omega (arith, count)));
-}
-  where
-    count : length new.bidders.items ≡ length old.bidders.items
-    count = omega (arith, length-map new.bidders.items bidder_view, length-map old.bidders.items bidder_view, ap length seen)
-
-    at : (k : ℕ) (b : Bidder) → k < length new.bidders.items → (get_or new.bidders.items k b).units ≡ (get_or old.bidders.items k b).units
-    at k b h =
-        ap (λ (x : Shown). x.units)
-        (sym (get_or-map bidder_view new.bidders.items k b (bidder_view b) h)
-        ∙ ap (λ xs. get_or xs k (bidder_view b)) seen
-        ∙ get_or-map bidder_view old.bidders.items k b (bidder_view b) (omega (arith, count)))

@@ -1,12 +1,13 @@
 -- Nodes and bidders of the code, looked up by name or by place.
-use Rattle.std.proofs.Common.{◌≡◌, ℕ, zero, suc, ◌+◌, ◌<◌, Bool, cond, not, List, [], ◌∷◌, map, length, get_or, string_bytes, refl, sym, ap, ◌∙◌, arith}
-use Rattle.std.proofs.lemmas.List.{length-map}
-use Rattle.std.specs.List.{position, prefix_len}
+use Rattle.std.proofs.Common.{◌≡◌, ℕ, zero, suc, ◌+◌, ◌<◌, Bool, cond, not, List, [], ◌∷◌, map, length, get_or, Some, string_bytes, refl, sym, ap, ◌∙◌, arith}
+use Rattle.std.proofs.lemmas.List.{length-map, get_or-map}
+use Rattle.std.proofs.lemmas.Option.{slice_get-get_or}
+use Rattle.std.specs.List.{position, prefix_len, slice_get}
 use Rattle.std.specs.Str.{bytes_eq}
 use Rattle.hpb_rules.specs.Tree.{Node, Bidder}
+use Rattle.hpb_rules.specs.Text.{bidder_name}
 use Rattle.hpb_tree.specs.View.{nodes_view, node_view}
 use Rattle.hpb_tree.specs.Definition.{bidders_view, bidder_view}
-use Rattle.hpb_tree.specs.Names.{node_named, bidder_named, bidder_name_of, bidder_units_of}
 use Rattle.hpb_tree.specs.declared.tree.TreeNode.{TreeNode}
 use Rattle.hpb_tree.specs.declared.definition.Bidder.{Bidder as Entry}
 
@@ -17,29 +18,31 @@ prefix_len-map f p (x ∷ xs) = ap (λ n. cond (p (f x)) (1 + n) 0) (prefix_len-
 position-map : {X Y : Type 0} (f : X → Y) (p : Y → Bool) (xs : List X) → position p (map f xs) ≡ position (λ x. p (f x)) xs
 position-map f p xs = rw (prefix_len-map f (λ y. not (p y)) xs, length-map xs f) refl
 
-pub node_named-nodes_view : (ns : List TreeNode) (name : List ℕ) → node_named (nodes_view ns) name ≡ position (λ (n : TreeNode). bytes_eq (string_bytes n.name) name) ns
-node_named-nodes_view ns name = position-map node_view (λ (n : Node). bytes_eq n.name name) ns
+pub node_position : (ns : List TreeNode) (name : List ℕ) → position (λ (n : Node). bytes_eq n.name name) (nodes_view ns) ≡ position (λ (n : TreeNode). bytes_eq (string_bytes n.name) name) ns
+node_position ns name = position-map node_view (λ (n : Node). bytes_eq n.name name) ns
 
-pub bidder_named-bidders_view : (bs : List Entry) (name : List ℕ) → bidder_named (bidders_view bs) name ≡ position (λ (b : Entry). bytes_eq (string_bytes b.name) name) bs
-bidder_named-bidders_view bs name = position-map bidder_view (λ (b : Bidder). bytes_eq b.name name) bs
+pub bidder_position : (bs : List Entry) (name : List ℕ) → position (λ (b : Bidder). bytes_eq b.name name) (bidders_view bs) ≡ position (λ (b : Entry). bytes_eq (string_bytes b.name) name) bs
+bidder_position bs name = position-map bidder_view (λ (b : Bidder). bytes_eq b.name name) bs
 
-bidder_name_of-bidders_view : (bs : List Entry) (i : ℕ) (d : Entry) → i < length bs → bidder_name_of (bidders_view bs) i ≡ string_bytes (get_or bs i d).name
-bidder_name_of-bidders_view [] i d h = absurd (omega arith)
-bidder_name_of-bidders_view (b ∷ bs) zero d h = refl
-bidder_name_of-bidders_view (b ∷ bs) (suc i) d h = bidder_name_of-bidders_view bs i d (omega arith)
+bidder_name-bidders_view : (bs : List Entry) (i : ℕ) (d : Entry) → i < length bs → bidder_name (bidders_view bs) i ≡ string_bytes (get_or bs i d).name
+bidder_name-bidders_view [] i d h = absurd (omega arith)
+bidder_name-bidders_view (b ∷ bs) zero d h = refl
+bidder_name-bidders_view (b ∷ bs) (suc i) d h = bidder_name-bidders_view bs i d (omega arith)
 
-bidder_units_of-bidders_view : (bs : List Entry) (i : ℕ) (d : Entry) → i < length bs → bidder_units_of (bidders_view bs) i ≡ (get_or bs i d).units
-bidder_units_of-bidders_view [] i d h = absurd (omega arith)
-bidder_units_of-bidders_view (b ∷ bs) zero d h = refl
-bidder_units_of-bidders_view (b ∷ bs) (suc i) d h = bidder_units_of-bidders_view bs i d (omega arith)
+pub bidder_inside : (bs : List Entry) (bidders : List Bidder) (i k : ℕ) → bidders_view bs ≡ bidders → i ≡ k → k < length bidders → i < length bs
+bidder_inside bs bidders i k seen same within = omega (arith, length-map bs bidder_view, ap length seen)
 
 -- what is read of the bidder at a place
 module _ (bs : List Entry) (bidders : List Bidder) (i k : ℕ) (b : Entry) (seen : bidders_view bs ≡ bidders) (found : b ≡ get_or bs i b) (same : i ≡ k) (within : k < length bidders) where
   inside : i < length bs
-  inside = omega (arith, length-map bs bidder_view, ap length seen)
+  inside = bidder_inside bs bidders i k seen same within
 
-  pub bidder_name_at : string_bytes b.name ≡ bidder_name_of bidders k
-  bidder_name_at = ap (λ (c : Entry). string_bytes c.name) found ∙ sym (bidder_name_of-bidders_view bs i b inside) ∙ ap (λ xs. bidder_name_of xs i) seen ∙ ap (bidder_name_of bidders) same
+  pub bidder_name_at : string_bytes b.name ≡ bidder_name bidders k
+  bidder_name_at = ap (λ (c : Entry). string_bytes c.name) found ∙ sym (bidder_name-bidders_view bs i b inside) ∙ ap (λ xs. bidder_name xs i) seen ∙ ap (bidder_name bidders) same
 
-  pub bidder_units_at : b.units ≡ bidder_units_of bidders k
-  bidder_units_at = ap (λ (c : Entry). c.units) found ∙ sym (bidder_units_of-bidders_view bs i b inside) ∙ ap (λ xs. bidder_units_of xs i) seen ∙ ap (bidder_units_of bidders) same
+  pub bidder_at : slice_get bidders k ≡ Some (bidder_view b)
+  bidder_at =
+      ap (slice_get bidders) (sym same)
+      ∙ ap (λ xs. slice_get xs i) (sym seen)
+      ∙ slice_get-get_or (bidders_view bs) i (bidder_view b) (omega (arith, inside, length-map bs bidder_view))
+      ∙ ap Some (get_or-map bidder_view bs i b (bidder_view b) inside ∙ ap bidder_view (sym found))

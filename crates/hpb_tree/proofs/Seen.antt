@@ -1,11 +1,14 @@
 -- Names that were seen before.
-use Rattle.std.proofs.Common.{map, ◌≡◌, ℕ, ◌+◌, ◌<◌, ◌≤◌, Bool, true, false, not, ◌||◌, List, [], ◌∷◌, take, drop, length, get_or, Bor, refl, sym, ap, ◌∙◌}
-use Rattle.std.specs.List.{list_any}
+use Rattle.std.proofs.Common.{map, ◌≡◌, ℕ, zero, suc, ◌+◌, ◌<◌, ◌≤◌, Bool, true, false, cond, not, ◌||◌, List, [], ◌∷◌, ◌++◌, take, drop, length, get_or, Some, None, Bor, refl, sym, ap, ◌∙◌, arith}
+use Rattle.std.specs.List.{list_any, position, position_or_len}
 use Rattle.std.specs.List.Sorted.{IsPermutation}
 use Rattle.std.specs.Str.{bytes_eq}
-use Rattle.std.proofs.lemmas.List.{take_more, at_drop_more, at_drop_all, get_or-map}
-use Rattle.std.proofs.lemmas.List.Folds.{list_any_more}
+use Rattle.std.proofs.lemmas.Bool.{or_parts, both_ways, false_from_ne_true, lt-ltb}
+use Rattle.std.proofs.lemmas.List.{append-nil, append_assoc, take_more, at_drop_more, at_drop_all, get_or-map, get_or-take, length-map, length-take-le}
+use Rattle.std.proofs.lemmas.List.Folds.{list_any_more, list_any_at}
 use Rattle.std.proofs.lemmas.List.Sorted.{list_any-IsPermutation}
+use Rattle.std.proofs.lemmas.List.Sums.{position_or_len_is}
+use Rattle.std.proofs.lemmas.Slice.Eq.{bytes_eq-Decides}
 use Rattle.hpb_tree.specs.Refusal.{has_seen}
 
 -- the keys are the first names, and none of those stands twice
@@ -61,3 +64,38 @@ was_known added false e h = cc
 pub was_new : (added known : Bool) → added ≡ not known → added ≡ true → known ≡ false
 was_new added true e h = cc
 was_new added false e h = refl
+
+-- each name differs from those that stand before it
+apart_from : (seen xs : List (List ℕ)) → has_seen seen xs ≡ false → (j : ℕ) → j < length xs → list_any (bytes_eq (get_or xs j [])) (seen ++ take j xs) ≡ false
+apart_from seen [] e j h = absurd (omega arith)
+apart_from seen (x ∷ xs) e zero h = ap (list_any (bytes_eq x)) (append-nil seen) ∙ (or_parts _ _ e).0
+apart_from seen (x ∷ xs) e (suc j) h =
+    ap (list_any (bytes_eq (get_or xs j []))) (sym (append_assoc seen (x ∷ []) (take j xs)))
+    ∙ apart_from (seen ++ x ∷ []) xs (or_parts _ _ e).1 j (omega arith)
+
+flip : (a b : List ℕ) → bytes_eq a b ≡ bytes_eq b a
+flip a b = same_from_bools (bytes_eq a b) (bytes_eq b a) (λ e. (bytes_eq-Decides b a).1 (sym ((bytes_eq-Decides a b).0 e))) (λ e. (bytes_eq-Decides a b).1 (sym ((bytes_eq-Decides b a).0 e)))
+  where
+    same_from_bools : (x y : Bool) → (x ≡ true → y ≡ true) → (y ≡ true → x ≡ true) → x ≡ y
+    same_from_bools true y f g = sym (f refl)
+    same_from_bools false true f g = g refl
+    same_from_bools false false f g = refl
+
+-- a name that stands once is found where it stands
+pub found_at : {X : Type 0} (f : X → List ℕ) (xs : List X) (j : ℕ) (d : X) → has_seen [] (map f xs) ≡ false → j < length xs → position (λ x. bytes_eq (f x) (f (get_or xs j d))) xs ≡ Some j
+found_at f xs j d e h =
+    let at : position_or_len (λ x. bytes_eq (f x) (f (get_or xs j d))) xs ≡ j = position_or_len_is (λ x. bytes_eq (f x) (f (get_or xs j d))) xs j d (omega arith) other (λ less. (bytes_eq-Decides (f (get_or xs j d)) (f (get_or xs j d))).1 refl) in
+    rw at (ap (λ b. cond b (Some j) None) (lt-ltb j (length xs) h))
+  where
+    mine : get_or (map f xs) j [] ≡ f (get_or xs j d)
+    mine = get_or-map f xs j d [] h
+
+    apart : list_any (bytes_eq (f (get_or xs j d))) (take j (map f xs)) ≡ false
+    apart = rw mine at (apart_from [] (map f xs) e j (omega (arith, length-map xs f)))
+
+    other : (k : ℕ) → k < j → bytes_eq (f (get_or xs k d)) (f (get_or xs j d)) ≡ false
+    other k l =
+        let there : get_or (take j (map f xs)) k [] ≡ f (get_or xs k d) = get_or-take j (map f xs) k [] l ∙ get_or-map f xs k d [] (omega arith) in
+        flip (f (get_or xs k d)) (f (get_or xs j d))
+        ∙ ap (bytes_eq (f (get_or xs j d))) (sym there)
+        ∙ false_from_ne_true _ (λ yes. both_ways _ apart (list_any_at (bytes_eq (f (get_or xs j d))) (take j (map f xs)) k [] (omega (arith, length-take-le j (map f xs), length-map xs f)) yes))

@@ -4,7 +4,8 @@ use Rattle.std.specs.Prelude.{IfSome, string_bytes, slice_get}
 use Rattle.std.proofs.lemmas.Option.{slice_get_read, get_or_from_slice_get}
 use Rattle.std.proofs.lemmas.List.{map_push, take_more, length-take-le}
 use Rattle.hpb_rules.specs.Tree.{Node, IsTree, parent_of, terms_of}
-use Rattle.hpb_tree.specs.View.{node_view, nodes_view, name_of, IsSummed}
+use Rattle.hpb_rules.specs.Text.{node_name}
+use Rattle.hpb_tree.specs.View.{node_view, nodes_view, IsSummed}
 use Rattle.hpb_tree.specs.declared.tree.TreeNode.{TreeNode}
 
 pub length-nodes_view : (ns : List TreeNode) → length (nodes_view ns) ≡ length ns
@@ -21,18 +22,18 @@ terms_of-nodes_view [] i d h = absurd (omega arith)
 terms_of-nodes_view (n ∷ ns) zero d h = refl
 terms_of-nodes_view (n ∷ ns) (suc i) d h = terms_of-nodes_view ns i d (omega arith)
 
-pub name_of-nodes_view : (ns : List TreeNode) (i : ℕ) (d : TreeNode) → i < length ns → name_of (nodes_view ns) i ≡ string_bytes (get_or ns i d).name
-name_of-nodes_view [] i d h = absurd (omega arith)
-name_of-nodes_view (n ∷ ns) zero d h = refl
-name_of-nodes_view (n ∷ ns) (suc i) d h = name_of-nodes_view ns i d (omega arith)
+pub node_name-nodes_view : (ns : List TreeNode) (i : ℕ) (d : TreeNode) → i < length ns → node_name (nodes_view ns) i ≡ string_bytes (get_or ns i d).name
+node_name-nodes_view [] i d h = absurd (omega arith)
+node_name-nodes_view (n ∷ ns) zero d h = refl
+node_name-nodes_view (n ∷ ns) (suc i) d h = node_name-nodes_view ns i d (omega arith)
 
 -- what is read of the node at a place
 module _ (ns : List TreeNode) (nodes : List Node) (i k : ℕ) (n : TreeNode) (seen : nodes_view ns ≡ nodes) (found : n ≡ get_or ns i n) (same : i ≡ k) (within : k < length nodes) where
   inside : i < length ns
   inside = omega (arith, length-nodes_view ns, ap length seen)
 
-  pub name_at : string_bytes n.name ≡ name_of nodes k
-  name_at = ap (λ (m : TreeNode). string_bytes m.name) found ∙ sym (name_of-nodes_view ns i n inside) ∙ ap (λ xs. name_of xs i) seen ∙ ap (name_of nodes) same
+  pub name_at : string_bytes n.name ≡ node_name nodes k
+  name_at = ap (λ (m : TreeNode). string_bytes m.name) found ∙ sym (node_name-nodes_view ns i n inside) ∙ ap (λ xs. node_name xs i) seen ∙ ap (node_name nodes) same
 
   pub parent_at : n.parent ≡ parent_of nodes k
   parent_at = ap (λ (m : TreeNode). m.parent) found ∙ sym (parent_of-nodes_view ns i n inside) ∙ ap (λ xs. parent_of xs i) seen ∙ ap (parent_of nodes) same

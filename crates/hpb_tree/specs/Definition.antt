@@ -1,27 +1,28 @@
 -- What the code of a definition stands for.
-use Rattle.std.specs.Prelude.{◌<◌, ◌≤◌, List, map, length, string_bytes, All}
+use Rattle.std.specs.Prelude.{◌≡◌, List, map, None, string_bytes}
 use Rattle.hpb_rules.specs.Tree.{Rules, Bidder}
-use Rattle.hpb_rules.specs.declared.id.TheConstants.{MOST_BIDDERS}
-use Rattle.hpb_tree.specs.declared.definition.TheConstants.{MOST_STAGES, LEAST_PERCENTAGE, MOST_PERCENTAGE, MOST_BIDDER_UNITS}
+use Rattle.hpb_tree.specs.Refusal.{refusal_of}
 use Rattle.hpb_tree.specs.declared.definition.Bidder.{Bidder as Entry}
 use Rattle.hpb_tree.specs.declared.definition.Definition.TheInside.{Inside}
 
+-- A bidder is its name and its units.
 abbrev pub bidder_view : Entry → Bidder
-bidder_view b = record { name = string_bytes b.name; units = b.units }
+bidder_view bidder = record { name = string_bytes bidder.name; units = bidder.units }
 
+-- The bidders, in their order.
 abbrev pub bidders_view : List Entry → List Bidder
-bidders_view bs = map bidder_view bs
+bidders_view bidders = map bidder_view bidders
 
+-- A definition is its tree, its stages and its bidders.
 abbrev pub rules_view : Inside → Rules
-rules_view d = record { step = d.tree.step; percent = d.tree.percent; stages = d.stages.items; nodes = d.tree.nodes; bidders = bidders_view d.bidders.items }
+rules_view d = record {
+  step = d.tree.step;
+  percent = d.tree.percent;
+  stages = d.stages.items;
+  nodes = d.tree.nodes;
+  bidders = bidders_view d.bidders.items;
+}
 
--- what a definition keeps beside what its tree does
-pub record IsDefined (d : Inside) : Type 0 where
-  pub some_stage : 0 < length d.stages.items
-  pub most_stages : length d.stages.items ≤ MOST_STAGES
-  pub least_percentage : All (λ p. LEAST_PERCENTAGE ≤ p) d.stages.items
-  pub most_percentage : All (λ p. p ≤ MOST_PERCENTAGE) d.stages.items
-  pub some_bidder : 0 < length d.bidders.items
-  pub most_bidders : length d.bidders.items ≤ MOST_BIDDERS
-  pub some_units : All (λ b. 0 < b.units) d.bidders.items
-  pub most_units : All (λ b. b.units ≤ MOST_BIDDER_UNITS) d.bidders.items
+-- A definition isn't refused.
+abbrev pub IsDefined : Inside → Type 0
+IsDefined d = refusal_of (rules_view d) ≡ None

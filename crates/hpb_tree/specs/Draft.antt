@@ -7,21 +7,32 @@ use Rattle.hpb_tree.specs.declared.draft.NodeDraft.{NodeDraft}
 use Rattle.hpb_tree.specs.declared.draft.TermsDraft.{TermsDraft}
 use Rattle.hpb_tree.specs.declared.draft.BidderDraft.{BidderDraft}
 
+-- The terms that were written.
 abbrev pub terms_said : TermsDraft → Terms
-terms_said t = record { units = t.units; opening = t.opening }
+terms_said terms = record { units = terms.units; opening = terms.opening }
 
+-- The node that was written.
 abbrev pub node_said : NodeDraft → Node
-node_said n = record { name = string_bytes n.name; parent = n.parent; terms = option_map terms_said n.terms }
+node_said node = record { name = string_bytes node.name; parent = node.parent; terms = option_map terms_said node.terms }
 
+-- The nodes that were written, in their order.
 abbrev pub nodes_said : List NodeDraft → List Node
-nodes_said ns = map node_said ns
+nodes_said nodes = map node_said nodes
 
+-- The bidder that was written.
 abbrev pub bidder_said : BidderDraft → Bidder
-bidder_said b = record { name = string_bytes b.name; units = b.units }
+bidder_said bidder = record { name = string_bytes bidder.name; units = bidder.units }
 
+-- The bidders that were written, in their order.
 abbrev pub bidders_said : List BidderDraft → List Bidder
-bidders_said bs = map bidder_said bs
+bidders_said bidders = map bidder_said bidders
 
--- the rules that a draft would give, whatever its numbers
+-- The definition that a draft would be if nothing spoke against it.
 abbrev pub rules_of : Draft → Rules
-rules_of d = record { step = d.step; percent = d.percent; stages = d.stages.items; nodes = nodes_said d.nodes.items; bidders = bidders_said d.bidders.items }
+rules_of draft = record {
+  step = draft.step;
+  percent = draft.percent;
+  stages = draft.stages.items;
+  nodes = nodes_said draft.nodes.items;
+  bidders = bidders_said draft.bidders.items;
+}

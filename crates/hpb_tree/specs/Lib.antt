@@ -1,6 +1,5 @@
 pub mod Licences
 pub mod View
-pub mod Names
 pub mod Definition
 pub mod Draft
 pub mod Refusal

@@ -1,25 +1,26 @@
 -- The licences of a tree, numbered from 0 in the order of the nodes.
-use Rattle.std.specs.Prelude.{ℕ, ◌≡◌, ◌<◌, ◌^◌, Bool, cond, List, Some, None, is_some, IsSome}
+use Rattle.std.specs.Prelude.{◌≡◌, ℕ, ◌<◌, ◌^◌, Bool, cond, List, Some, None, is_some, IsSome}
 use Rattle.std.specs.List.{sum_by, range_with_len}
 use Rattle.std.specs.Int.{bit_at}
 use Rattle.hpb_rules.specs.Tree.{Node, terms_of, places, at_or_under}
 
--- how many of these nodes are licences
+-- How many of these nodes are licences.
 abbrev pub licences_among : List Node → List ℕ → ℕ
-licences_among nodes ns = sum_by (λ n. cond (is_some (terms_of nodes n)) 1 0) ns
+licences_among nodes some = sum_by (λ node. cond (is_some (terms_of nodes node)) 1 0) some
 
+-- How many licences there are.
 abbrev pub licence_count : List Node → ℕ
 licence_count nodes = licences_among nodes (places nodes)
 
--- the number of the licence at a place: how many stand before it
+-- The number of the licence at a place: how many stand before it.
 abbrev pub licence_number : List Node → ℕ → ℕ
-licence_number nodes l = licences_among nodes (range_with_len 0 l)
+licence_number nodes licence = licences_among nodes (range_with_len 0 licence)
 
--- the bits of the mask say which licences are at or under node n
-pub record IsMask (nodes : List Node) (n mask : ℕ) : Type 0 where
-  pub bits : (l : ℕ) → IsSome (terms_of nodes l) → bit_at mask (licence_number nodes l) ≡ cond (at_or_under nodes n l) 1 0
+-- The bits of a mask say which licences are at or under a node, each licence's bit standing at its number.
+pub record IsMask (nodes : List Node) (node mask : ℕ) : Type 0 where
+  pub bits : (licence : ℕ) → IsSome (terms_of nodes licence) → bit_at mask (licence_number nodes licence) ≡ cond (at_or_under nodes node licence) 1 0
   pub most : mask < 2 ^ licence_count nodes
 
--- what a place adds to a sum over the licences that pass the test
+-- What a place adds to the sum of a number over the licences that pass a test.
 abbrev pub part_over : List Node → (ℕ → Bool) → (ℕ → ℕ) → ℕ → ℕ
-part_over nodes test f l = elim (terms_of nodes l) [ None ↦ 0 | Some t ↦ cond (test l) (f l) 0 ]
+part_over nodes test number licence = elim (terms_of nodes licence) [ None ↦ 0 | Some terms ↦ cond (test licence) (number licence) 0 ]

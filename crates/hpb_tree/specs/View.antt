@@ -1,5 +1,5 @@
--- What a definition's code stands for.
-use Rattle.std.specs.Prelude.{ℕ, ◌≡◌, ◌<◌, ◌≤◌, ◌*◌, zero, suc, List, [], ◌∷◌, map, length, slice_get, Some, string_bytes}
+-- What the code of a tree stands for.
+use Rattle.std.specs.Prelude.{◌≡◌, ℕ, ◌<◌, ◌≤◌, ◌*◌, List, map, length, slice_get, Some, string_bytes}
 use Rattle.std.specs.List.{range_with_len}
 use Rattle.hpb_rules.specs.Tree as tree
 use Rattle.hpb_rules.specs.Tree.{TreeRules, Node, IsTree, parent_of, places}
@@ -10,32 +10,29 @@ use Rattle.hpb_tree.specs.declared.tree.TheConstants.{MOST_STEP, MOST_PERCENT, M
 use Rattle.hpb_tree.specs.declared.tree.TreeNode.{TreeNode}
 use Rattle.hpb_tree.specs.declared.tree.Tree.TheInside.{Inside}
 
+-- A node as it was written.
 abbrev pub node_view : TreeNode → Node
-node_view n = record { name = string_bytes n.name; parent = n.parent; terms = n.terms }
+node_view node = record { name = string_bytes node.name; parent = node.parent; terms = node.terms }
 
+-- The nodes as they were written.
 abbrev pub nodes_view : List TreeNode → List Node
-nodes_view ns = map node_view ns
+nodes_view nodes = map node_view nodes
 
+-- A tree is its nodes with the step and the percent.
 abbrev pub tree_view : Inside → TreeRules
 tree_view t = record { step = t.step; percent = t.percent; nodes = nodes_view t.nodes.items }
 
--- the name of a node
-abbrev pub name_of : List Node → ℕ → List ℕ
-name_of [] n = []
-name_of (m ∷ ms) zero = m.name
-name_of (m ∷ ms) (suc n) = name_of ms n
+-- What is kept of a node beside what was written is what the definitions say of it.
+pub record IsSummed (nodes : List Node) (place : ℕ) (node : TreeNode) : Type 0 where
+  pub units : node.units ≡ tree.units nodes place
+  pub most_units : node.units ≤ MOST_LICENCES * MOST_LICENCE_UNITS
+  pub opening : node.opening ≡ tree.opening nodes place
+  pub most_opening : node.opening ≤ MOST_LICENCES * MOST_LICENCE_OPENING
+  pub licences : IsMask nodes place node.licences
+  pub children : node.children ≡ children_among nodes place (places nodes)
+  pub rank : (parent : ℕ) → parent_of nodes place ≡ Some parent → node.rank ≡ children_among nodes parent (range_with_len 0 place)
 
--- what is kept of a node beside what was written
-pub record IsSummed (nodes : List Node) (i : ℕ) (n : TreeNode) : Type 0 where
-  pub units : n.units ≡ tree.units nodes i
-  pub most_units : n.units ≤ MOST_LICENCES * MOST_LICENCE_UNITS
-  pub opening : n.opening ≡ tree.opening nodes i
-  pub most_opening : n.opening ≤ MOST_LICENCES * MOST_LICENCE_OPENING
-  pub licences : IsMask nodes i n.licences
-  pub children : n.children ≡ children_among nodes i (places nodes)
-  pub rank : (p : ℕ) → parent_of nodes i ≡ Some p → n.rank ≡ children_among nodes p (range_with_len 0 i)
-
--- what a checked tree keeps
+-- A checked tree has nodes, though not too many, in the shape of a tree, and what is kept of each is right.
 pub record IsChecked (t : Inside) : Type 0 where
   pub some_step : 0 < t.step
   pub most_step : t.step ≤ MOST_STEP
@@ -44,9 +41,9 @@ pub record IsChecked (t : Inside) : Type 0 where
   pub most_nodes : length t.nodes.items ≤ MOST_NODES
   pub tree : IsTree (nodes_view t.nodes.items)
   pub most_licences : licence_count (nodes_view t.nodes.items) ≤ MOST_LICENCES
-  pub sums : (i : ℕ) (n : TreeNode) → slice_get t.nodes.items i ≡ Some n → IsSummed (nodes_view t.nodes.items) i n
+  pub sums : (place : ℕ) (node : TreeNode) → slice_get t.nodes.items place ≡ Some node → IsSummed (nodes_view t.nodes.items) place node
 
--- all that is known of a node
+-- All that is known of a node.
 pub record Known : Type 0 where
   pub node : Node
   pub units : ℕ
@@ -55,9 +52,17 @@ pub record Known : Type 0 where
   pub children : ℕ
   pub rank : ℕ
 
+-- What is known of a node of the code.
 abbrev pub known : TreeNode → Known
-known n = record { node = node_view n; units = n.units; opening = n.opening; licences = n.licences; children = n.children; rank = n.rank }
+known node = record {
+  node = node_view node;
+  units = node.units;
+  opening = node.opening;
+  licences = node.licences;
+  children = node.children;
+  rank = node.rank;
+}
 
--- the same is known of each two nodes at one place
+-- The same is known of each two nodes at one place.
 abbrev pub AreCopies : List TreeNode → List TreeNode → Type 0
 AreCopies old new = map known new ≡ map known old

@@ -1,12 +1,14 @@
-ghost use Rattle.std.specs.Prelude.{◌≡◌, ℕ, ◌+◌, ◌-◌, ◌*◌, ◌<◌, ◌≤◌, length, slice_index, IfSome, Some, All, position, string_bytes, IfOk};
+ghost use Rattle.std.specs.Prelude.{◌≡◌, ℕ, ◌+◌, ◌-◌, ◌*◌, ◌<◌, ◌≤◌, length, slice_index, IfSome, Some, All, position, string_bytes, IfOk, IsTrue, None};
 ghost use Rattle.std.specs.List.{range_with_len};
 ghost use Rattle.std.specs.Str.{bytes_eq};
 ghost use Rattle.hpb_rules.specs.Tree.{IsTree, tree_of, parent_of, terms_of, places, units, opening};
 ghost use Rattle.hpb_rules.specs.Prices.{children_among};
-ghost use Rattle.hpb_tree.specs.View.{name_of};
+ghost use Rattle.hpb_rules.specs.Text.{node_name, bidder_name};
+ghost use Rattle.hpb_rules.specs.Lines.{node_named, bidder_named};
+ghost use Rattle.hpb_rules.specs.Units.{bidder_units};
 ghost use Rattle.hpb_tree.specs.Definition.{bidders_view};
 ghost use Rattle.hpb_tree.specs.Licences.{IsMask, licence_count};
-ghost use Rattle.hpb_tree.specs.Names.{bidder_named, bidder_name_of, bidder_units_of, node_named};
+ghost use Rattle.hpb_tree.specs.Refusal.{is_name, refusal_of};
 
 use crate::tree::{
     MOST_LICENCE_OPENING, MOST_LICENCE_UNITS, MOST_LICENCES, MOST_PERCENT, MOST_STEP, Tree,
@@ -102,6 +104,7 @@ impl Definition {
         ensures most { result ≤ MOST_NODES }
         ensures tree { IsTree self.now.nodes }
         ensures licences { licence_count self.now.nodes ≤ MOST_LICENCES }
+        ensures accepted { refusal_of self.now ≡ None }
     {
         self.tree.node_count()
     }
@@ -109,7 +112,9 @@ impl Definition {
     /// A node's name, 1 to 16 bytes of `a-z0-9_`.
     pub fn name(&self, node: NodeId) -> &str
         requires { node < length self.now.nodes }
-        ensures { result.now ≡ name_of self.now.nodes node }
+        ensures value { result.now ≡ node_name self.now.nodes node }
+        ensures valid { IsTrue (is_name result.now) }
+        ensures found { node_named self.now result.now ≡ Some node }
     {
         self.tree.name(node)
     }
@@ -218,7 +223,9 @@ impl Definition {
     /// A bidder's name, 1 to 16 bytes of `a-z0-9_`.
     pub fn bidder_name(&self, bidder: BidderId) -> &str
         requires { bidder < length self.now.bidders }
-        ensures { result.now ≡ bidder_name_of self.now.bidders bidder }
+        ensures value { result.now ≡ bidder_name self.now.bidders bidder }
+        ensures valid { IsTrue (is_name result.now) }
+        ensures found { bidder_named self.now result.now ≡ Some bidder }
     {
         let index = bidder.place();
         self.bidders[index].name.as_str()
@@ -227,7 +234,7 @@ impl Definition {
     /// The bidding units that a bidder starts with, 1 to 64,000,000.
     pub fn bidder_units(&self, bidder: BidderId) -> u32
         requires { bidder < length self.now.bidders }
-        ensures value { result ≡ bidder_units_of self.now.bidders bidder }
+        ensures value { result ≡ bidder_units self.now bidder }
         ensures some { 0 < result }
         ensures most { result ≤ MOST_BIDDER_UNITS }
     {
@@ -237,15 +244,15 @@ impl Definition {
 
     /// The node with a name, if one has it.
     pub fn find_node(&self, name: &[u8]) -> Option<NodeId>
-        ensures value { result ≡ node_named self.now.nodes name.now }
+        ensures value { result ≡ node_named self.now name.now }
         ensures within { IfSome result (λ n. n < length self.now.nodes) }
     {
-        self.tree.find(name)
+        self.tree.find_node(name)
     }
 
     /// The bidder with a name, if one has it.
     pub fn find_bidder(&self, name: &[u8]) -> Option<BidderId>
-        ensures value { result ≡ bidder_named self.now.bidders name.now }
+        ensures value { result ≡ bidder_named self.now name.now }
         ensures within { IfSome result (λ b. b < length self.now.bidders) }
     {
         match place_named(self.bidders.as_slice(), name) {

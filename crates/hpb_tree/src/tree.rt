@@ -3,9 +3,9 @@ ghost use Rattle.std.specs.List.{range_with_len};
 ghost use Rattle.std.specs.Str.{bytes_eq};
 ghost use Rattle.hpb_rules.specs.Tree.{IsTree, parent_of, terms_of, places, units, opening};
 ghost use Rattle.hpb_rules.specs.Prices.{children_among};
-ghost use Rattle.hpb_tree.specs.View.{name_of, AreCopies};
+ghost use Rattle.hpb_rules.specs.Text.{node_name};
+ghost use Rattle.hpb_tree.specs.View.{AreCopies};
 ghost use Rattle.hpb_tree.specs.Licences.{IsMask, licence_count};
-ghost use Rattle.hpb_tree.specs.Names.{node_named};
 
 use hpb_rules::{MOST_NODES, NodeId, Terms};
 use std::alloc::{AllocError, Global};
@@ -103,15 +103,15 @@ impl Tree {
     /// A node's name, 1 to 16 bytes of `a-z0-9_`.
     pub fn name(&self, node: NodeId) -> &str
         requires { node < length self.now.nodes }
-        ensures { result.now ≡ name_of self.now.nodes node }
+        ensures { result.now ≡ node_name self.now.nodes node }
     {
         let index = node.place();
         self.nodes[index].name.as_str()
     }
 
     /// The node with a name, if one has it.
-    pub fn find(&self, name: &[u8]) -> Option<NodeId>
-        ensures value { result ≡ node_named self.now.nodes name.now }
+    pub fn find_node(&self, name: &[u8]) -> Option<NodeId>
+        ensures value { result ≡ position (λ n. bytes_eq n.name name.now) self.now.nodes }
         ensures within { IfSome result (λ n. n < length self.now.nodes) }
     {
         match place_named(self.nodes.as_slice(), name) {

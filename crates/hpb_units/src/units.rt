@@ -1,8 +1,10 @@
-ghost use Rattle.std.specs.Prelude.{◌≡◌, ◌*◌, ◌<◌, ◌≤◌, ◌&&◌, length};
+ghost use Rattle.std.specs.Prelude.{◌≡◌, ℕ, ◌<◌, ◌≤◌, ◌&&◌, ◌↔◌, IsTrue, IsSome, length};
 ghost use Rattle.hpb_rules.specs.Choices.{is_in};
 ghost use Rattle.hpb_rules.specs.History.{is_of};
+ghost use Rattle.hpb_rules.specs.Tree.{terms_of, sum_over, units_at};
 ghost use Rattle.hpb_bids.specs.View.{offer_at};
 ghost use Rattle.hpb_winners.specs.Outcome.{IsSized};
+ghost use Rattle.hpb_units.specs.Activity.{is_active_on, held, activity_of, activity_with, is_marked};
 
 use hpb_bids::Books;
 use hpb_rules::{BidderId, NodeId};
@@ -13,6 +15,7 @@ use hpb_winners::Outcome;
 /// open round or which it won at the last close, each licence once.
 pub fn activity(tree: &Tree, books: &Books, outcome: &Outcome, bidder: BidderId) -> u32
     requires { IsSized tree.now.nodes outcome.now }
+    ensures { result ≡ activity_of tree.now.nodes books.now outcome.now bidder }
 {
     units_of(tree, licences_held(tree, books, outcome, bidder))
 }
@@ -28,6 +31,7 @@ pub fn fits(
 ) -> bool
     requires sized { IsSized tree.now.nodes outcome.now }
     requires node { node < length tree.now.nodes }
+    ensures { IsTrue result ↔ (activity_with tree.now.nodes books.now outcome.now bidder node ≤ eligibility) }
 {
     let licences = licences_held(tree, books, outcome, bidder) | tree.licences(node);
     units_of(tree, licences) <= eligibility
@@ -36,15 +40,24 @@ pub fn fits(
 /// A bit for each licence of the nodes on which a bidder bid in the open round or which it won.
 fn licences_held(tree: &Tree, books: &Books, outcome: &Outcome, bidder: BidderId) -> u64
     requires { IsSized tree.now.nodes outcome.now }
+    ensures { (l : ℕ) → IsSome (terms_of tree.now.nodes l) → is_marked tree.now.nodes result l ≡ held tree.now.nodes books.now outcome.now bidder l }
 {
     let mut licences = 0;
     for place in 0..tree.node_count() {
         let node = NodeId::new(place);
-        if books.has_bid_on(bidder, node) || has_won(books, outcome, bidder, node) {
+        if is_active_on(books, outcome, bidder, node) {
             licences |= tree.licences(node);
         }
     }
     licences
+}
+
+/// Whether a bidder bid on a node in the open round, or won it.
+fn is_active_on(books: &Books, outcome: &Outcome, bidder: BidderId, node: NodeId) -> bool
+    requires { node < length outcome.now.wins }
+    ensures { result ≡ is_active_on books.now outcome.now bidder node }
+{
+    books.has_bid_on(bidder, node) || has_won(books, outcome, bidder, node)
 }
 
 /// Whether a node won, and by this bidder's bid.
@@ -58,16 +71,19 @@ fn has_won(books: &Books, outcome: &Outcome, bidder: BidderId, node: NodeId) -> 
     }
 }
 
-/// The bidding units of these licences, a bit each.
-fn units_of(tree: &Tree, licences: u64) -> u32 {
-    let mut total: u32 = 0;
+/// The bidding units of these licences: bit i is for the i-th licence of the tree, from 0.
+fn units_of(tree: &Tree, licences: u64) -> u32
+    ensures { result ≡ sum_over tree.now.nodes (is_marked tree.now.nodes licences) (units_at tree.now.nodes) }
+{
+    let mut total = 0;
+    let mut number: u32 = 0;
     for place in 0..tree.node_count() {
         let node = NodeId::new(place);
-        if let Some(terms) = tree.terms(node) {
-            if tree.licences(node) & licences != 0 {
-                // All licences together have at most 64,000,000 units.
-                total = total.saturating_add(terms.units);
+        if tree.terms(node).is_some() {
+            if (licences >> number) & 1 == 1 {
+                total += tree.units(node);
             }
+            number += 1;
         }
     }
     total

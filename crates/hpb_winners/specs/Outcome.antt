@@ -3,27 +3,27 @@ use Rattle.std.specs.Prelude.{◌≡◌, ℕ, ◌<◌, List, Bool, length, slice
 use Rattle.hpb_rules.specs.Tree.{Node}
 use Rattle.hpb_rules.specs.Choices.{best, winners, revenue}
 
--- of each node the best revenue inside it, its value and whether it wins
+-- An outcome says of each node the best revenue inside it, its value and whether it wins, and the winners' revenue.
 pub record OutcomeView : Type 0 where
   pub inside : List ℕ
   pub values : List ℕ
   pub wins : List Bool
   pub revenue : ℕ
 
--- each table has a place for each node
-pub record IsSized (nodes : List Node) (o : OutcomeView) : Type 0 where
-  pub inside : length o.inside ≡ length nodes
-  pub values : length o.values ≡ length nodes
-  pub wins : length o.wins ≡ length nodes
+-- Each table has a place for each node.
+pub record IsSized (nodes : List Node) (outcome : OutcomeView) : Type 0 where
+  pub inside : length outcome.inside ≡ length nodes
+  pub values : length outcome.values ≡ length nodes
+  pub wins : length outcome.wins ≡ length nodes
 
--- the outcome of these high bids
-pub record IsOutcome (nodes : List Node) (bid : ℕ → ℕ) (o : OutcomeView) : Type 0 where
-  pub sized : IsSized nodes o
-  pub inside : (n : ℕ) → n < length nodes → slice_index o.inside n ≡ best nodes bid n
-  pub values : (n : ℕ) → n < length nodes → slice_index o.values n ≡ max (bid n) (best nodes bid n)
-  pub wins : o.wins ≡ winners nodes bid
-  pub revenue : o.revenue ≡ revenue bid o.wins
+-- The outcome is that of these high bids.
+pub record IsOutcome (nodes : List Node) (bid : ℕ → ℕ) (outcome : OutcomeView) : Type 0 where
+  pub sized : IsSized nodes outcome
+  pub inside : (node : ℕ) → node < length nodes → slice_index outcome.inside node ≡ best nodes bid node
+  pub values : (node : ℕ) → node < length nodes → slice_index outcome.values node ≡ max (bid node) (best nodes bid node)
+  pub wins : outcome.wins ≡ winners nodes bid
+  pub revenue : outcome.revenue ≡ revenue bid outcome.wins
 
--- no node has a bid
+-- No node has a bid.
 abbrev pub no_bid : ℕ → ℕ
-no_bid n = 0
+no_bid node = 0

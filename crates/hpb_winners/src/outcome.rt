@@ -17,7 +17,7 @@ pub struct Outcome {
     pub(crate) inside: Vec<u64>,
     pub(crate) values: Vec<u64>,
     pub(crate) wins: Vec<bool>,
-    /// The nodes that neither win nor stand below a winner, in the downward half of a pass.
+    /// The nodes that neither win nor stand below a winner, while winners are marked.
     pub(crate) free: Vec<bool>,
     pub(crate) revenue: u64,
 }
@@ -35,7 +35,7 @@ impl Model for Outcome {
 }
 
 impl Outcome {
-    /// The outcome of a tree without a bid: no winner, no revenue.
+    /// The outcome of a tree without a bid: no winner, no revenue. Fails only where memory is refused.
     pub fn new(alloc: Global, tree: &Tree) -> Result<Outcome, AllocError>
         ensures { IfOk result (IsOutcome tree.now.nodes no_bid) }
     {
@@ -86,7 +86,7 @@ impl Outcome {
         self.revenue
     }
 
-    /// An outcome that says the same.
+    /// The same outcome once more. Fails only where memory is refused.
     pub fn copy(&self, alloc: Global) -> Result<Outcome, AllocError>
         ensures { IfOk result (λ outcome. outcome ≡ self.now) }
     {

@@ -1,5 +1,7 @@
-use Rattle.hpb_tree.specs.Draft.{rules_of}
-use Rattle.hpb_tree.proofs.Accepted.{accepted, stage_within, draft_units_within, defined}
+use Rattle.std.proofs.Common.{◌≡◌}
+use Rattle.hpb_tree.specs.Definition.{bidders_view}
+use Rattle.hpb_tree.specs.Draft.{rules_of, bidders_said}
+use Rattle.hpb_tree.proofs.Accepted.{accepted, stage_within, draft_units_within}
 use Rattle.hpb_tree.proofs.building.build.Goals as goal
 
 pub build_stages-requires : goal.build_stages-requires
@@ -10,5 +12,6 @@ build_bidders-requires c = rw c.as_slice-2.ensures.value (λ k d h. draft_units_
 
 pub invariant_of-result : goal.invariant_of-result
 invariant_of-result c =
-    defined c.args.draft.now (accepted (rules_of c.args.draft.now) c.requires) c.in_ok-stages.stages c.in_ok-bidders.bidders c.in_ok-tree.tree
-    (rw c.as_slice.ensures.value at c.in_ok-stages.ensures) (rw c.as_slice-2.ensures.value at c.in_ok-bidders.ensures)
+    let stages : c.in_ok-stages.stages.items ≡ c.args.draft.now.stages.items = rw c.as_slice.ensures.value at c.in_ok-stages.ensures in
+    let bidders : bidders_view c.in_ok-bidders.bidders.items ≡ bidders_said c.args.draft.now.bidders.items = rw c.as_slice-2.ensures.value at c.in_ok-bidders.ensures in
+    rw (c.in_ok-tree.ensures, stages, bidders) c.requires

@@ -1,5 +1,9 @@
-use Rattle.hpb_tree.proofs.Copies.{defined_copy}
+use Rattle.std.proofs.Common.{◌≡◌}
+use Rattle.hpb_tree.specs.Definition.{bidders_view}
 use Rattle.hpb_tree.proofs.definition.Definition.copy.Goals as goal
 
 pub invariant_of-result : goal.invariant_of-result
-invariant_of-result c = defined_copy c.self.inside _ (rw c.as_slice.ensures.value at c.in_ok-stages.ensures) (rw c.as_slice-2.ensures.value at c.in_ok-bidders.ensures) c.self.invariant
+invariant_of-result c =
+    let stages : c.in_ok-stages.stages.items ≡ c.self.inside.stages.items = rw c.as_slice.ensures.value at c.in_ok-stages.ensures in
+    let bidders : bidders_view c.in_ok-bidders.bidders.items ≡ bidders_view c.self.inside.bidders.items = rw c.as_slice-2.ensures.value at c.in_ok-bidders.ensures in
+    rw (c.in_ok-tree.ensures, stages, bidders) c.self.invariant

@@ -1,0 +1,13 @@
+use Rattle.std.proofs.Common.{sym, ◌∙◌, arith}
+use Rattle.hpb_prices.proofs.LicenceSums.{number_most, number_at}
+use Rattle.hpb_prices.proofs.certificate.licence_count.Goals.{then-is_some, else-is_some}
+use Rattle.hpb_prices.proofs.certificate.licence_count.Goals as goal
+
+pub overflow_add-count : goal.overflow_add-count
+overflow_add-count c = omega (arith, number_most c.args.tree.now.nodes c.loop-place.place)
+
+pub loop-place-preserved : goal.loop-place-preserved
+loop-place-preserved c = elim c.if-is_some.branch [
+  | then-is_some w ↦ w.count-is ∙ number_at c.args.tree.now.nodes c.loop-place.place c.new.result c.loop-place.count c.terms.result _ c.new.ensures c.terms.ensures (sym w.if-is_some.true ∙ c.is_some.ensures) c.loop-place.invariant
+  | else-is_some w ↦ w.count-is ∙ omega arith ∙ number_at c.args.tree.now.nodes c.loop-place.place c.new.result c.loop-place.count c.terms.result _ c.new.ensures c.terms.ensures (sym w.if-is_some.false ∙ c.is_some.ensures) c.loop-place.invariant
+]

@@ -1,0 +1,67 @@
+-- Lists that are made from the places of a range.
+use Rattle.std.proofs.Common.{◌≡◌, ℕ, zero, suc, ◌+◌, ◌<◌, ◌≤◌, Bool, true, false, ◌||◌, List, [], ◌∷◌, map, set, refl, sym, ap, ◌∙◌, ⊎_elim, arith}
+use Rattle.std.specs.List.{list_any, range_with_len}
+use Rattle.std.proofs.lemmas.Bool.{cases_eq, cases_lt, both_ways}
+
+-- the first place or a later one
+pub later : (a b : ℕ) → a ≤ b → (a ≡ b → ⊥) → a + 1 ≤ b
+later a b le other = ⊎_elim (λ less. omega arith) (λ no. absurd (other (omega arith))) (cases_lt a b)
+
+-- maps that agree at each place of the range
+pub map_same : {A : Type 0} (f g : ℕ → A) (a k : ℕ) → ((n : ℕ) → a ≤ n → n < a + k → f n ≡ g n) → map f (range_with_len a k) ≡ map g (range_with_len a k)
+map_same f g a zero h = refl
+map_same f g a (suc k) h = both (f a) (g a) _ _ (h a (omega arith) (omega arith)) (map_same f g (a + 1) k (λ n l m. h n (omega arith) (omega arith)))
+  where
+    both : {A : Type 0} (x y : A) (xs ys : List A) → x ≡ y → xs ≡ ys → x ∷ xs ≡ y ∷ ys
+    both x y xs ys e f = cc
+
+-- one place set
+pub map_set : {A : Type 0} (f g : ℕ → A) (y : A) (a k i : ℕ) → i < k → g (a + i) ≡ y → ((n : ℕ) → a ≤ n → n < a + k → (n ≡ a + i → ⊥) → g n ≡ f n) → set (map f (range_with_len a k)) i y ≡ map g (range_with_len a k)
+map_set f g y a zero i l e h = absurd (omega arith)
+map_set f g y a (suc k) zero l e h = both y (g a) _ _ (sym e ∙ ap g (omega arith)) (map_same f g (a + 1) k (λ n p q. sym (h n (omega arith) (omega arith) (λ z. omega (arith, z)))))
+  where
+    both : {A : Type 0} (x y : A) (xs ys : List A) → x ≡ y → xs ≡ ys → x ∷ xs ≡ y ∷ ys
+    both x y xs ys e f = cc
+map_set f g y a (suc k) (suc i) l e h =
+    both (f a) (g a) _ _ (sym (h a (omega arith) (omega arith) (λ z. omega (arith, z))))
+    (map_set f g y (a + 1) k i (omega arith) (ap g (omega arith) ∙ e) (λ n p q o. h n (omega arith) (omega arith) (λ z. o (omega (arith, z)))))
+  where
+    both : {A : Type 0} (x y : A) (xs ys : List A) → x ≡ y → xs ≡ ys → x ∷ xs ≡ y ∷ ys
+    both x y xs ys e f = cc
+
+-- what a test finds in a range
+pub found_in : (test : ℕ → Bool) (a k : ℕ) → list_any test (range_with_len a k) ≡ true → (n : ℕ) × (a ≤ n) × (n < a + k) × (test n ≡ true)
+found_in test a zero e = absurd (both_ways false refl e)
+found_in test a (suc k) e = by (found_in test (a + 1) k) (test a) refl e
+  where
+    by : (list_any test (range_with_len (a + 1) k) ≡ true → (n : ℕ) × (a + 1 ≤ n) × (n < a + 1 + k) × (test n ≡ true)) → (b : Bool) → test a ≡ b → (b || list_any test (range_with_len (a + 1) k)) ≡ true → (n : ℕ) × (a ≤ n) × (n < a + suc k) × (test n ≡ true)
+    by rec true p f = (a, omega arith, omega arith, p)
+    by rec false p f = let r : (n : ℕ) × (a + 1 ≤ n) × (n < a + 1 + k) × (test n ≡ true) = rec f in (r.0, omega (arith, r.1), omega (arith, r.2), r.3)
+
+-- what is in a range is found
+pub finds_in : (test : ℕ → Bool) (a k n : ℕ) → a ≤ n → n < a + k → test n ≡ true → list_any test (range_with_len a k) ≡ true
+finds_in test a zero n l h e = absurd (omega arith)
+finds_in test a (suc k) n l h e = ⊎_elim
+    (λ same. left (test a) _ (ap test same ∙ e))
+    (λ other. right (test a) _ (finds_in test (a + 1) k n (later a n l other) (omega arith) e))
+    (cases_eq a n)
+  where
+    left : (x y : Bool) → x ≡ true → (x || y) ≡ true
+    left true y e = refl
+    left false y e = absurd (both_ways false refl e)
+
+    right : (x y : Bool) → y ≡ true → (x || y) ≡ true
+    right true y e = refl
+    right false y e = e
+
+pub list_any_map : {A : Type 0} (test : A → Bool) (f : ℕ → A) (xs : List ℕ) → list_any test (map f xs) ≡ list_any (λ n. test (f n)) xs
+list_any_map test f [] = refl
+list_any_map test f (x ∷ xs) = ap (λ b. test (f x) || b) (list_any_map test f xs)
+
+-- two tests that agree at each place of a range find alike
+pub list_any_same : (p q : ℕ → Bool) (a k : ℕ) → ((n : ℕ) → a ≤ n → n < a + k → p n ≡ q n) → list_any p (range_with_len a k) ≡ list_any q (range_with_len a k)
+list_any_same p q a zero h = refl
+list_any_same p q a (suc k) h = either (p a) (q a) _ _ (h a (omega arith) (omega arith)) (list_any_same p q (a + 1) k (λ n l m. h n (omega arith) (omega arith)))
+  where
+    either : (x y v w : Bool) → x ≡ y → v ≡ w → (x || v) ≡ (y || w)
+    either x y v w e f = cc

@@ -1,0 +1,23 @@
+ghost use Rattle.hpb_rules.specs.ValueLaws.{ReplyIsAnswer, NextIsShown, RunIsShown, RunIsBestChoice};
+
+/// A value that shows a history answers each command as the history does.
+pub fn reply_is_answer()
+    ensures { ReplyIsAnswer }
+{}
+
+/// After a command a value shows the history with that command where it was newly accepted, and else the same
+/// history.
+pub fn next_is_shown()
+    ensures { NextIsShown }
+{}
+
+/// Over a whole run from the beginning the replies are those of the history, and the value shows it.
+pub fn run_is_shown()
+    ensures { RunIsShown }
+{}
+
+/// At each point of a run under a definition that is not refused, the winners that are shown are disjoint bids of
+/// the greatest total, and the prices that are shown prove it.
+pub fn run_is_best_choice()
+    ensures { RunIsBestChoice }
+{}

@@ -1,0 +1,20 @@
+use Rattle.std.proofs.Common.{◌-◌, length, ap, arith}
+use Rattle.hpb_rules.specs.Tree.{Rules}
+use Rattle.hpb_tree.proofs.Kept.{kept}
+use Rattle.hpb_tree.proofs.definition.Definition.percentage.Goals as goal
+
+pub returns-clause-least : goal.returns-clause-least
+returns-clause-least c =
+    omega (
+      arith,
+      c.index.ensures,
+      (kept c.self.inside c.self.invariant).least_percentage (c.from-index.result - 1) c.index.result.now (omega (arith, ap (λ (d : Rules). length d.stages) c.self.view_is)),
+    )
+
+pub returns-clause-greatest : goal.returns-clause-greatest
+returns-clause-greatest c =
+    omega (
+      arith,
+      c.index.ensures,
+      (kept c.self.inside c.self.invariant).most_percentage (c.from-index.result - 1) c.index.result.now (omega (arith, ap (λ (d : Rules). length d.stages) c.self.view_is)),
+    )

@@ -1,0 +1,6 @@
+use Rattle.hpb_units.specs.Activity.{is_active_on}
+use Rattle.hpb_units.proofs.Marks.{Gathered}
+use Rattle.hpb_units.proofs.units.licences_held.Given as goal
+
+abbrev pub invariant-loop-place : goal.invariant-loop-place
+invariant-loop-place l = Gathered l.tree.nodes (is_active_on l.books l.outcome l.bidder) l.place l.licences
