@@ -1,0 +1,5 @@
+mod Each
+mod Lists
+mod Nodes
+mod Noting
+mod Refusals

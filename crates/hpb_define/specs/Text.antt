@@ -1,0 +1,41 @@
+-- The bytes that spell a definition, and what is answered to any bytes.
+use Rattle.std.specs.Prelude.{◌≡◌, ◌≤◌, ℕ, List, false, IsTrue, length, Some, None, Result, Ok, Err}
+use Rattle.std.specs.Str.{IsUtf8}
+use Rattle.serde_json.specs.Data.{Data}
+use Rattle.serde_json.specs.Read.{read}
+use Rattle.hpb_rules.specs.Tree.{Rules}
+use Rattle.hpb_tree.specs.Refusal.{refusal_of}
+use Rattle.hpb_define.specs.declared.fault.DefineFault.{DefineFault}
+use Rattle.hpb_define.specs.declared.fault.DefineFault.TheVariants.{Memory, Json, Field, Number, Refused}
+use Rattle.hpb_define.specs.declared.reading.TheConstants.{MOST_BYTES}
+use Rattle.hpb_define.specs.Shape.{has_shape}
+use Rattle.hpb_define.specs.Spelling.{rules_in}
+
+-- The bytes are the text of a JSON value, and not too many.
+abbrev pub IsJson : List ℕ → Data → Type 0
+IsJson bytes value = (length bytes ≤ MOST_BYTES) × IsUtf8 bytes × (read bytes ≡ Some value)
+
+-- The bytes spell rules: a value with the fields of a definition, whose numbers are whole.
+abbrev pub Spells : List ℕ → Rules → Type 0
+Spells bytes rules = (value : Data) × IsJson bytes value × IsTrue (has_shape value) × (rules_in value ≡ Some rules)
+
+-- The bytes are no JSON, or too many.
+abbrev pub IsNoJson : List ℕ → Type 0
+IsNoJson bytes = (value : Data) → IsJson bytes value → ⊥
+
+-- The bytes are JSON, but the fields are not those of a definition, or not of their types.
+abbrev pub HasOtherFields : List ℕ → Type 0
+HasOtherFields bytes = (value : Data) × IsJson bytes value × (has_shape value ≡ false)
+
+-- The fields are those of a definition, but some number is not whole.
+abbrev pub HasOtherNumbers : List ℕ → Type 0
+HasOtherNumbers bytes = (value : Data) × IsJson bytes value × IsTrue (has_shape value) × (rules_in value ≡ None)
+
+-- What is answered to bytes: the first fault of their text, or else of the rules that they spell.
+abbrev pub Answers : List ℕ → Result Rules DefineFault → Type 0
+Answers bytes (Ok rules) = Spells bytes rules × (refusal_of rules ≡ None)
+Answers bytes (Err Memory) = Unit {0}
+Answers bytes (Err Json) = IsNoJson bytes
+Answers bytes (Err Field) = HasOtherFields bytes
+Answers bytes (Err Number) = HasOtherNumbers bytes
+Answers bytes (Err (Refused fault)) = (rules : Rules) × Spells bytes rules × (refusal_of rules ≡ Some fault)

@@ -1,0 +1,17 @@
+//! Tests that cross crates: worked examples as scripts, and calls that may want memory.
+#![tactic(auto)]
+
+#[cfg(test)]
+mod memory;
+#[cfg(test)]
+mod rows_of_definitions;
+#[cfg(test)]
+mod rows_of_lines;
+#[cfg(test)]
+mod rows_of_rounds;
+#[cfg(test)]
+mod rows_of_sums;
+#[cfg(test)]
+mod rows_of_units;
+#[cfg(test)]
+mod script;

@@ -1,0 +1,181 @@
+//! Each call that may want memory, with enough of it.
+
+use crate::script::{FIRST_ROUND, SIX_NODES, joined};
+use hpb_auction::{Auction, BidderId, Command, NodeId, Offer, Reply};
+use hpb_bids::Books;
+use hpb_define::read_definition;
+use hpb_prices::{Prices, downward};
+use hpb_server::{Job, ScriptDesk, ScriptEnd, program, read_words, run_script, serve};
+use hpb_tree::{BidderDraft, Definition, Draft, NodeDraft, TermsDraft};
+use hpb_winners::{Outcome, upward};
+use hpb_wire::{Answer, render};
+use std::alloc::{AllocError, Global};
+use std::test::Fail;
+
+/// A definition of one licence and one bidder, before it is checked.
+fn draft(alloc: Global) -> Result<Draft, AllocError> {
+    let mut nodes = Vec::new(alloc);
+    nodes.push(NodeDraft {
+        name: String::from_str(alloc, "licence")?,
+        parent: None,
+        terms: Some(TermsDraft {
+            units: 3,
+            opening: 50,
+        }),
+    })?;
+    let mut bidders = Vec::new(alloc);
+    bidders.push(BidderDraft {
+        name: String::from_str(alloc, "bidder")?,
+        units: 7,
+    })?;
+    Ok(Draft {
+        step: 5,
+        percent: 10,
+        stages: vec![in alloc; 80]?,
+        nodes,
+        bidders,
+    })
+}
+
+#[test]
+fn a_draft_is_checked_and_copied(rt: HostRuntime) -> Result<(), Fail> {
+    let alloc = rt.alloc();
+    let draft = draft(alloc)?;
+    let definition = Definition::check(alloc, &draft)?;
+    let copy = definition.copy(alloc)?;
+    for made in [&definition, &copy] {
+        assert_eq!(rt; made.step(), 5);
+        assert_eq!(rt; made.find_node(b"licence"), Some(NodeId::new(0)));
+        assert_eq!(rt; made.find_bidder(b"bidder"), Some(BidderId::new(0)));
+        assert_eq!(rt; made.node_count(), 1);
+        assert_eq!(rt; made.opening(NodeId::new(0)), 50);
+        assert_eq!(rt; made.bidder_count(), 1);
+        assert_eq!(rt; made.bidder_units(BidderId::new(0)), 7);
+    }
+    Ok(())
+}
+
+#[test]
+fn a_definition_is_read(rt: HostRuntime) -> Result<(), Fail> {
+    let definition = read_definition(rt.alloc(), SIX_NODES.as_bytes())?;
+    assert_eq!(rt; definition.node_count(), 6);
+    assert_eq!(rt; definition.stages(), [80, 95].as_slice());
+    assert_eq!(rt; definition.licences(NodeId::new(0)), 7);
+    assert_eq!(rt; definition.licences(NodeId::new(1)), 3);
+    assert_eq!(rt; definition.licences(NodeId::new(5)), 8);
+    assert_eq!(rt; definition.opening(NodeId::new(0)), 300);
+    assert_eq!(rt; definition.find_bidder(b"w"), Some(BidderId::new(3)));
+    Ok(())
+}
+
+#[test]
+fn books_are_made_and_copied(rt: HostRuntime) -> Result<(), Fail> {
+    let alloc = rt.alloc();
+    let definition = read_definition(alloc, SIX_NODES.as_bytes())?;
+    let (node, bidder) = (NodeId::new(2), BidderId::new(1));
+    let mut books = Books::new(alloc, definition.tree())?;
+    assert!(rt; books.is_quiet());
+    books.place(bidder, node, 100);
+    let copy = books.copy(alloc)?;
+    let offer = Offer {
+        amount: 100,
+        bidder,
+    };
+    assert_eq!(rt; copy.incoming(node), Some(offer));
+    assert_eq!(rt; copy.standing(node), None);
+    assert_eq!(rt; copy.bid_on(bidder), 1 << 2);
+    Ok(())
+}
+
+#[test]
+fn outcome_and_prices_are_made_and_copied(rt: HostRuntime) -> Result<(), Fail> {
+    let alloc = rt.alloc();
+    let definition = read_definition(alloc, SIX_NODES.as_bytes())?;
+    let tree = definition.tree();
+    let mut books = Books::new(alloc, tree)?;
+    books.place(BidderId::new(1), NodeId::new(2), 100);
+    books.fold_round();
+    let mut outcome = Outcome::new(alloc, tree)?;
+    assert_eq!(rt; outcome.revenue(), 0);
+    upward(tree, &books, &mut outcome);
+    let mut prices = Prices::new(alloc, tree)?;
+    downward(tree, &books, &outcome, &mut prices);
+    assert_eq!(rt; outcome.copy(alloc)?.revenue(), 100);
+    let copy = prices.copy(alloc)?;
+    assert_eq!(rt; tree.node_count(), 6);
+    assert_eq!(rt; copy.price(NodeId::new(2)), 100);
+    assert_eq!(rt; copy.minimum(NodeId::new(2)), 110);
+    Ok(())
+}
+
+#[test]
+fn an_auction_is_made_and_copied(rt: HostRuntime) -> Result<(), Fail> {
+    let alloc = rt.alloc();
+    let definition = read_definition(alloc, SIX_NODES.as_bytes())?;
+    let mut auction = Auction::new(alloc, &definition)?;
+    let bid = Command::Bid {
+        bidder: BidderId::new(0),
+        ticket: 1,
+        node: NodeId::new(2),
+        amount: 100,
+    };
+    assert_eq!(rt; auction.judge(&bid), Reply::Ok(1));
+    assert_eq!(rt; auction.apply(&bid), Reply::Ok(1));
+    let mut copy = auction.copy(alloc)?;
+    assert_eq!(rt; copy.apply(&Command::Close { ticket: 1 }), Reply::Ok(2));
+    assert_eq!(rt; copy.revenue(), 100);
+    assert_eq!(rt; auction.revenue(), 0);
+    Ok(())
+}
+
+#[test]
+fn answers_are_rendered(rt: HostRuntime) -> Result<(), Fail> {
+    let mut text = String::new(rt.alloc());
+    render(&mut text, &Answer::Reply(Reply::Ok(7)))?;
+    render(&mut text, &Answer::Reply(Reply::Refused(25)))?;
+    assert_eq!(rt; text.as_str(), "OK 7\nERR 25 eligibility\n");
+    Ok(())
+}
+
+#[test]
+fn a_desk_is_served(rt: HostRuntime) -> Result<(), Fail> {
+    let alloc = rt.alloc();
+    let definition = read_definition(alloc, SIX_NODES.as_bytes())?;
+    let mut desk = ScriptDesk::new(Auction::new(alloc, &definition)?);
+    let mut input = b"CLOSE 1\nSHOW\n".as_slice();
+    let mut output = Vec::new(alloc);
+    serve(alloc, &mut input, &mut output, &mut desk)?;
+    let wanted = b"OK 1\nROUND 1 STAGE 1 CLOSED REVENUE 0 COUNT 1\n".as_slice();
+    assert_eq!(rt; output.as_slice(), wanted);
+    Ok(())
+}
+
+#[test]
+fn a_script_is_run(rt: HostRuntime) -> Result<(), Fail> {
+    let alloc = rt.alloc();
+    let script = joined(alloc, SIX_NODES, FIRST_ROUND, "")?;
+    let mut input = script.as_bytes();
+    let mut output = Vec::new(alloc);
+    let end = run_script(alloc, &mut input, &mut output)?;
+    assert_eq!(rt; end, ScriptEnd::Answered);
+    assert_eq!(rt;
+        output.as_slice(),
+        b"OK 1\nOK 2\nOK 3\nOK 4\nOK 5\n".as_slice()
+    );
+    Ok(())
+}
+
+#[test]
+fn words_are_read_and_the_program_runs(rt: HostRuntime) -> Result<(), Fail> {
+    let alloc = rt.alloc();
+    let words = ["hpb"];
+    assert_eq!(rt; read_words(alloc, &words)?, Job::Script);
+    let mut input = SIX_NODES.as_bytes();
+    let mut output = Vec::new(alloc);
+    let mut errors = Vec::new(alloc);
+    let status = program(&rt, alloc, &words, &mut input, &mut output, &mut errors);
+    assert_eq!(rt; status, 0);
+    assert!(rt; output.is_empty());
+    assert!(rt; errors.is_empty());
+    Ok(())
+}

@@ -1,0 +1,208 @@
+use crate::script::joined;
+use hpb_server::program;
+use std::alloc::Global;
+use std::test::Fail;
+
+const HEAD: &str = "{\"step\":10,\"percent\":10,\"stages\":[80,95],\"nodes\":[";
+
+const PACKAGES: &str = "{\"name\":\"all\",\"parent\":null},{\"name\":\"east\",\"parent\":\"all\"},";
+
+const A: &str = "{\"name\":\"a\",\"parent\":\"east\",\"units\":10,\"opening\":100},";
+
+const B: &str = "{\"name\":\"b\",\"parent\":\"east\",\"units\":10,\"opening\":100},";
+
+const C: &str = "{\"name\":\"c\",\"parent\":\"all\",\"units\":20,\"opening\":100}";
+
+const D: &str = ",{\"name\":\"d\",\"parent\":null,\"units\":5,\"opening\":100}";
+
+const BIDDERS: &str =
+    "],\"bidders\":[{\"name\":\"x\",\"units\":10},{\"name\":\"y\",\"units\":10},{\"name\":\"z\",\"units\":40},{\"name\":\"w\",\"units\":25}]}\n";
+
+/// The definition of six nodes in its parts, each of which a test may change.
+#[derive(Clone, Copy, Debug)]
+struct Parts {
+    head: &'static str,
+    packages: &'static str,
+    a: &'static str,
+    b: &'static str,
+    c: &'static str,
+    d: &'static str,
+}
+
+const SIX_NODES: Parts = Parts {
+    head: HEAD,
+    packages: PACKAGES,
+    a: A,
+    b: B,
+    c: C,
+    d: D,
+};
+
+const NO_NODES: Parts = Parts {
+    head: HEAD,
+    packages: "",
+    a: "",
+    b: "",
+    c: "",
+    d: "",
+};
+
+/// What the program answers a script, and its status.
+fn answer(rt: &HostRuntime, script: &str) -> Result<(u8, String), Fail> {
+    let alloc = rt.alloc();
+    let mut input = script.as_bytes();
+    let mut output = Vec::new(alloc);
+    let mut errors = Vec::new(alloc);
+    let status = program(rt, alloc, &["hpb"], &mut input, &mut output, &mut errors);
+    Ok((status, String::from_utf8(output)?))
+}
+
+fn definition(alloc: Global, parts: Parts) -> Result<String, Fail> {
+    let front = joined(alloc, parts.head, parts.packages, parts.a)?;
+    let back = joined(alloc, parts.b, parts.c, parts.d)?;
+    joined(alloc, front.as_str(), back.as_str(), BIDDERS)
+}
+
+#[test]
+fn refused_definitions(rt: HostRuntime) -> Result<(), Fail> {
+    let alloc = rt.alloc();
+    let percent = "{\"step\":10,\"percent\":51,\"stages\":[80,95],\"nodes\":[";
+    let percent_51 = definition(
+        alloc,
+        Parts {
+            head: percent,
+            ..SIX_NODES
+        },
+    )?;
+    let c_at_top = "{\"name\":\"c\",\"parent\":null,\"units\":20,\"opening\":100}";
+    let without_d = definition(
+        alloc,
+        Parts {
+            c: c_at_top,
+            d: "",
+            ..SIX_NODES
+        },
+    )?;
+    let table = [
+        ("{\n", "ERR 60 json\n"),
+        ("{}\n", "ERR 61 field\n"),
+        ("[]\n", "ERR 61 field\n"),
+        (percent_51.as_str(), "ERR 62 number\n"),
+        (without_d.as_str(), "ERR 54 children\n"),
+    ];
+    for (script, wanted) in table {
+        let (status, output) = answer(&rt, script)?;
+        assert_eq!(rt; output.as_str(), wanted, "{script}");
+        assert_eq!(rt; status, 1, "{script}");
+    }
+    Ok(())
+}
+
+/// What the program answers the definition of six nodes with one part changed.
+fn answer_to(rt: &HostRuntime, parts: Parts) -> Result<(u8, String), Fail> {
+    let script = definition(rt.alloc(), parts)?;
+    answer(rt, script.as_str())
+}
+
+#[test]
+fn refused_definitions_one_change(rt: HostRuntime) -> Result<(), Fail> {
+    let table = [
+        (
+            "{\"step\":10,\"percent\":10.0,\"stages\":[80,95],\"nodes\":[",
+            "ERR 62 number\n",
+        ),
+        (
+            "{\"step\":10,\"percent\":-1,\"stages\":[80,95],\"nodes\":[",
+            "ERR 62 number\n",
+        ),
+        (
+            "{\"step\":10,\"note\":1,\"percent\":10,\"stages\":[80,95],\"nodes\":[",
+            "ERR 61 field\n",
+        ),
+        (
+            "{\"step\":10,\"waivers\":0,\"percent\":10,\"stages\":[80,95],\"nodes\":[",
+            "ERR 61 field\n",
+        ),
+        (
+            "{\"percent\":51,\"stages\":[80,95],\"nodes\":[",
+            "ERR 61 field\n",
+        ),
+        (
+            "{\"step\":10,\"percent\":10,\"stages\":[],\"nodes\":[",
+            "ERR 50 empty\n",
+        ),
+        (
+            "{\"step\":10,\"percent\":10,\"stages\":[80,80,80,80,80],\"nodes\":[",
+            "ERR 56 limits\n",
+        ),
+    ];
+    for (head, wanted) in table {
+        let (status, output) = answer_to(&rt, Parts { head, ..SIX_NODES })?;
+        assert_eq!(rt; output.as_str(), wanted, "{head}");
+        assert_eq!(rt; status, 1, "{head}");
+    }
+    Ok(())
+}
+
+/// The same, where the change is in the nodes.
+#[test]
+fn refused_nodes_one_change(rt: HostRuntime) -> Result<(), Fail> {
+    let percent = "{\"step\":10,\"percent\":51,\"stages\":[80,95],\"nodes\":[";
+    let packages = "{\"name\":\"all\",\"parent\":null},{\"name\":\"east\",\"parent\":\"al\"},";
+    let opening = "{\"name\":\"a\",\"parent\":\"east\",\"units\":10,\"opening\":105},";
+    let upper = ",{\"name\":\"D\",\"parent\":null,\"units\":5,\"opening\":100}";
+    let same = ",{\"name\":\"a\",\"parent\":null,\"units\":5,\"opening\":100}";
+    let part =
+        ",{\"name\":\"d\",\"parent\":null,\"units\":5,\"opening\":100},{\"name\":\"e\",\"parent\":\"a\",\"units\":5,\"opening\":100}";
+    let table = [
+        (
+            Parts {
+                packages,
+                ..SIX_NODES
+            },
+            "ERR 53 parent\n",
+        ),
+        (
+            Parts {
+                a: opening,
+                ..SIX_NODES
+            },
+            "ERR 57 terms\n",
+        ),
+        (
+            Parts {
+                d: upper,
+                ..SIX_NODES
+            },
+            "ERR 51 name\n",
+        ),
+        (
+            Parts {
+                d: same,
+                ..SIX_NODES
+            },
+            "ERR 52 duplicate\n",
+        ),
+        (
+            Parts {
+                d: part,
+                ..SIX_NODES
+            },
+            "ERR 55 leaf\n",
+        ),
+        (NO_NODES, "ERR 50 empty\n"),
+        (
+            Parts {
+                head: percent,
+                ..NO_NODES
+            },
+            "ERR 62 number\n",
+        ),
+    ];
+    for (parts, wanted) in table {
+        let (status, output) = answer_to(&rt, parts)?;
+        assert_eq!(rt; output.as_str(), wanted, "{parts:?}");
+        assert_eq!(rt; status, 1, "{parts:?}");
+    }
+    Ok(())
+}

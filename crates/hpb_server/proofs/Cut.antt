@@ -1,0 +1,31 @@
+-- A line cut off what was read.
+use Rattle.std.proofs.Common.{◌≡◌, ℕ, suc, ◌+◌, ◌-◌, ◌<◌, ◌≤◌, List, ◌∷◌, ◌++◌, length, get_or, take, drop, sym, ap, ◌∙◌, arith, add-one, take-append-drop}
+use Rattle.std.specs.Prelude.{slice_range}
+use Rattle.std.proofs.lemmas.List.{drop-drop, drop-take, length-take}
+use Rattle.std.proofs.Math.Seq.{drop-cons}
+
+-- what is left of a part once its front is gone
+drop-slice_range : (xs : List ℕ) (i j n : ℕ) → n ≤ j - i → drop n (slice_range xs i j) ≡ slice_range xs (i + n) j
+drop-slice_range xs i j n within =
+    let whole : j - i ≡ n + (j - (i + n)) = omega arith in
+    ap (λ k. drop n (take k (drop i xs))) whole
+    ∙ drop-take n (j - (i + n)) (drop i xs)
+    ∙ ap (take (j - (i + n))) (drop-drop n i xs)
+
+-- a list around one place
+around : (xs : List ℕ) (n x : ℕ) → n < length xs → get_or xs n 0 ≡ x → xs ≡ take n xs ++ x ∷ drop (n + 1) xs
+around xs n x within is =
+    sym (take-append-drop n xs)
+    ∙ ap (λ ys. take n xs ++ ys) (drop-cons xs n 0 within ∙ ap (λ y. y ∷ drop (suc n) xs) is)
+    ∙ ap (λ k. take n xs ++ x ∷ drop k xs) (sym (add-one n))
+
+-- a part around one place, and what is left of it behind that place
+pub cut_part : (chunk xs part : List ℕ) (i j n x : ℕ) → xs ≡ chunk → slice_range chunk i j ≡ part → n < length (slice_range xs i j) → get_or (slice_range xs i j) n 0 ≡ x
+    → part ≡ take n (slice_range xs i j) ++ x ∷ slice_range chunk (i + (n + 1)) j
+cut_part chunk xs part i j n x same seen within is =
+    let front = take n (slice_range xs i j) in
+    let more : n + 1 ≤ j - i = omega (arith, within, length-take (j - i) (drop i xs)) in
+    sym seen
+    ∙ ap (λ ys. slice_range ys i j) (sym same)
+    ∙ around (slice_range xs i j) n x within is
+    ∙ ap (λ ys. front ++ x ∷ ys) (drop-slice_range xs i j (n + 1) more ∙ ap (λ ys. slice_range ys (i + (n + 1)) j) same)

@@ -1,0 +1,4 @@
+mod Cut
+mod Kept
+mod Streams
+mod Definitions

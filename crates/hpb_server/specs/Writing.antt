@@ -1,0 +1,21 @@
+-- What a writer takes.
+use Rattle.std.specs.Prelude.{ℕ, ◌≤◌, List, length, take, Option, Result, Ok, Err, ⊤}
+use Rattle.std.specs.Io.KnownBytes.{Appends, Keeps}
+use Rattle.hpb_rules.specs.declared.reply.Reply.TheVariants as replies
+use Rattle.hpb_wire.specs.declared.answer.Answer.{Answer}
+use Rattle.hpb_wire.specs.declared.answer.Answer.TheVariants as answers
+use Rattle.hpb_server.specs.declared.fault.Fault.{Fault}
+
+-- a front was taken, or nothing
+abbrev pub Writes : Option (List ℕ) → Option (List ℕ) → List ℕ → Result ℕ Fault → Type 0
+Writes old new bytes (Ok n) = (n ≤ length bytes) × Appends old new (take n bytes)
+Writes old new bytes (Err e) = Keeps old new
+
+-- all was taken, or a front
+abbrev pub Sends : Option (List ℕ) → Option (List ℕ) → List ℕ → Result ⊤ Fault → Type 0
+Sends old new bytes (Ok done) = Appends old new bytes
+Sends old new bytes (Err e) = (n : ℕ) × Appends old new (take n bytes)
+
+-- the answer that refuses by a number
+abbrev pub refusal : ℕ → Answer
+refusal code = answers.Reply (replies.Refused code)

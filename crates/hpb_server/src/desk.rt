@@ -1,0 +1,74 @@
+ghost use Rattle.std.specs.Prelude.{◌≡◌, IfSome};
+ghost use Rattle.std.specs.Borrow.{sem};
+ghost use Rattle.std.specs.Io.BufRead.{Rests};
+
+use hpb_auction::{Auction, Command, Reply};
+use hpb_tree::Definition;
+use std::marker::Model;
+
+/// Whom a session asks: the auction of a script, or a seat of a house.
+pub trait Desk {
+    ghost use Rattle.hpb_rules.specs.Tree.{Rules};
+
+    /// What the definition says.
+    ghost rules: { Self → Rules };
+
+    /// The definition that lines are read by.
+    fn definition(&self) -> &Definition
+        ensures { result.now ≡ rules self.now };
+
+    /// Asks for a command, and gives what it is answered.
+    fn ask(&mut self, command: &Command) -> Reply
+        ensures { rules self.new ≡ rules self.old };
+
+    /// The auction as it stands, where the desk can still show one.
+    fn look(&mut self) -> Option<&Auction>
+        ensures shown { IfSome result (λ a. a.now.rules ≡ rules self.old) }
+        ensures* after { sem 𝓛 (Rests Self.row self.entry (λ new. rules new ≡ rules self.old)) };
+}
+
+/// The desk of an auction in memory.
+#[derive(Drop)]
+pub struct ScriptDesk {
+    auction: Auction,
+}
+
+impl Model for ScriptDesk {
+    ghost use Rattle.hpb_rules.specs.Seen.{Quantities};
+
+    ghost Value = { Quantities };
+
+    ghost view = { λ d. d.auction };
+}
+
+impl ScriptDesk {
+    /// A desk that asks the auction itself.
+    pub fn new(auction: Auction) -> Self
+        ensures { result ≡ auction }
+    {
+        ScriptDesk { auction }
+    }
+
+    /// The auction, with all that was accepted here.
+    pub fn into_auction(self) -> Auction
+        ensures { result ≡ self }
+    {
+        self.auction
+    }
+}
+
+impl Desk for ScriptDesk {
+    ghost rules = { λ d. d.rules };
+
+    fn definition(&self) -> &Definition {
+        self.auction.definition()
+    }
+
+    fn ask(&mut self, command: &Command) -> Reply {
+        self.auction.apply(command)
+    }
+
+    fn look(&mut self) -> Option<&Auction> {
+        Some(&self.auction)
+    }
+}

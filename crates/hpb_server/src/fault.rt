@@ -1,0 +1,46 @@
+ghost use Rattle.std.specs.Prelude.{◌≡◌};
+ghost use Rattle.hpb_server.specs.declared.fault.Fault.TheVariants.{Memory};
+ghost use Rattle.hpb_server.specs.Fault.{code_of};
+
+use hpb_rules::refusal;
+use std::alloc::{AllocError, AllocFailed};
+use thiserror::Error;
+
+/// Why a session ended early. No line tells of it: its number is for whoever started the session.
+#[derive(Clone, Copy, Debug, PartialEq, Eq, Error)]
+pub enum Fault {
+    /// 90: memory was refused.
+    #[error("memory")]
+    Memory,
+    /// 92: the reader or the writer failed, or more was read than may be.
+    #[error("stream")]
+    Stream,
+}
+
+impl Fault {
+    /// Its number in the table of refusals.
+    pub fn code(self) -> u8
+        ensures { result ≡ code_of self }
+    {
+        match self {
+            Fault::Memory => refusal::MEMORY,
+            Fault::Stream => refusal::STREAM,
+        }
+    }
+}
+
+impl From<AllocError> for Fault {
+    ghost from_gives = { λ _ e. e ≡ Memory };
+
+    fn from(_error: AllocError) -> Fault {
+        Fault::Memory
+    }
+}
+
+impl<T: Drop> From<AllocFailed<T>> for Fault {
+    ghost from_gives = { λ _ e. e ≡ Memory };
+
+    fn from(_error: AllocFailed<T>) -> Fault {
+        Fault::Memory
+    }
+}

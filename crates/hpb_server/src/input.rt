@@ -1,0 +1,192 @@
+ghost use Rattle.std.specs.Prelude.{◌≡◌, ◌<◌, ◌≤◌, [], ◌++◌, take, length, vec_len, IfOk, OnOk, OnErr};
+ghost use Rattle.std.specs.Io.{ReadsAtMost};
+ghost use Rattle.std.specs.Io.KnownBytes.{Consumes, IsAtEnd, Keeps};
+ghost use Rattle.hpb_server.specs.Reading.{Fills, FindsEnd, GivesDefinition, ReadsInVain, TakesPart};
+
+use crate::fault::Fault;
+use crate::line::{KEPT_BYTES, Line};
+use hpb_define::MOST_BYTES;
+use std::alloc::{AllocError, Global};
+use std::io::{ErrorKind, Read};
+use std::marker::Model;
+
+/// How many bytes a session reads at most.
+pub const MOST_READ: u64 = 1_000_000_000;
+
+/// How many bytes are asked of a reader at a time.
+const CHUNK_BYTES: usize = 65_536;
+
+/// How many bytes of a definition are kept: one more than it may have, which shows that it is too long.
+const KEPT_DEFINITION_BYTES: usize = MOST_BYTES + 1;
+
+/// What ends a line.
+const LINE_FEED: u8 = b'\n';
+
+/// The first line of a script, as far as it may be a definition.
+#[derive(Drop)]
+pub(crate) struct DefinitionText {
+    pub(crate) bytes: Vec<u8>,
+    /// Whether lines may come after it.
+    pub(crate) has_end: bool,
+}
+
+/// What a reader has given, cut into lines. A reader is only asked for more where all of it is taken.
+#[derive(Drop)]
+pub(crate) struct Input {
+    chunk: Vec<u8>,
+    start: usize,
+    end: usize,
+    budget: u64,
+}
+
+impl Model for Input {
+    ghost use Rattle.hpb_server.specs.Reading.{Pending};
+
+    ghost Value = { Pending };
+
+    ghost use Rattle.hpb_server.specs.Input.{pending, IsInput};
+
+    ghost view = { pending };
+
+    ghost invariant = { IsInput };
+}
+
+impl Input {
+    /// An input of at most so many bytes.
+    pub(crate) fn new(alloc: Global, budget: u64) -> Result<Self, AllocError>
+        ensures { IfOk result (λ i. i ≡ record { unread = []; budget = budget }) }
+    {
+        Ok(Input {
+            chunk: vec![in alloc; 0; CHUNK_BYTES]?,
+            start: 0,
+            end: 0,
+            budget,
+        })
+    }
+
+    /// Reads more, once all that was read is taken. `false` says that the reader has ended.
+    pub(crate) fn fill<R: Read>(&mut self, reader: &mut R) -> Result<bool, Fault>
+        requires { self.old.unread ≡ [] }
+        ensures { Fills (R.remaining reader.old) (R.remaining reader.new) self.old self.new result }
+    {
+        // Where nothing more may be read, one byte shows whether there is more.
+        let most = self.budget.clamp(1, CHUNK_BYTES as u64) as usize;
+        let count = read_some(reader, self.chunk.as_mut_slice(), most)?;
+        if count == 0 {
+            return Ok(false);
+        }
+        if count as u64 > self.budget {
+            return Err(Fault::Stream);
+        }
+        self.budget -= count as u64;
+        self.start = 0;
+        self.end = count;
+        Ok(true)
+    }
+
+    /// Reads the first line, as far as it may be a definition: of a longer one only as many bytes are
+    /// taken as show that it is one.
+    pub(crate) fn take_definition<R: Read>(
+        &mut self,
+        alloc: Global,
+        reader: &mut R,
+    ) -> Result<DefinitionText, Fault>
+        requires { self.old.unread ≡ [] }
+        ensures ok { IfOk result (GivesDefinition (R.remaining reader.old) (R.remaining reader.new) self.new) }
+        ensures err { OnErr result (ReadsInVain (R.remaining reader.old) (R.remaining reader.new)) }
+    {
+        let mut bytes = Vec::new(alloc);
+        'chunks: loop {
+            let has_end = self.take_definition_part(&mut bytes)?;
+            if has_end {
+                return Ok(DefinitionText { bytes, has_end });
+            }
+            let is_too_long = bytes.len() > MOST_BYTES;
+            if is_too_long {
+                return Ok(DefinitionText { bytes, has_end });
+            }
+            let has_more = self.fill(reader)?;
+            if !has_more {
+                return Ok(DefinitionText { bytes, has_end });
+            }
+        }
+    }
+
+    /// Adds what was read to a definition, up to its end. `false` says that all is taken and it goes on.
+    fn take_definition_part(&mut self, bytes: &mut Vec<u8>) -> Result<bool, AllocError>
+        requires { vec_len bytes.old ≤ KEPT_DEFINITION_BYTES }
+        ensures { IfOk result (TakesPart KEPT_DEFINITION_BYTES self.old self.new bytes.old.items bytes.new.items) }
+    {
+        let unread = &self.chunk[self.start..self.end];
+        match find_end(unread) {
+            Some(length) => {
+                keep(bytes, &unread[..length])?;
+                self.start += length + 1;
+                Ok(true)
+            }
+            None => {
+                keep(bytes, unread)?;
+                self.start = self.end;
+                Ok(false)
+            }
+        }
+    }
+
+    /// Adds what was read to a line, up to its end. `false` says that all is taken and the line goes on.
+    pub(crate) fn take_line(&mut self, line: &mut Line) -> bool
+        ensures { TakesPart KEPT_BYTES self.old self.new line.old line.new result }
+    {
+        let unread = &self.chunk[self.start..self.end];
+        match find_end(unread) {
+            Some(length) => {
+                line.extend(&unread[..length]);
+                self.start += length + 1;
+                true
+            }
+            None => {
+                line.extend(unread);
+                self.start = self.end;
+                false
+            }
+        }
+    }
+}
+
+/// Adds a part to a definition, as far as its bytes are kept.
+fn keep(bytes: &mut Vec<u8>, part: &[u8]) -> Result<(), AllocError>
+    requires { vec_len bytes.old ≤ KEPT_DEFINITION_BYTES }
+    ensures { OnOk result (bytes.new.items ≡ take KEPT_DEFINITION_BYTES (bytes.old.items ++ part.now)) }
+{
+    let room = KEPT_DEFINITION_BYTES - bytes.len();
+    bytes.extend_from_slice(&part[..room.min(part.len())])?;
+    Ok(())
+}
+
+/// The place of the first line feed.
+fn find_end(bytes: &[u8]) -> Option<usize>
+    ensures { FindsEnd bytes.now result }
+{
+    bytes.iter().position(|byte| *byte == LINE_FEED)
+}
+
+/// One read of at most so many bytes into the front of a buffer, tried again where a signal came first.
+fn read_some<R: Read>(reader: &mut R, buffer: &mut [u8], most: usize) -> Result<usize, Fault>
+    requires some { 0 < most }
+    requires room { most ≤ length buffer.old }
+    ensures bound { IfOk result (λ n. n ≤ most) }
+    ensures bytes { IfOk result (λ n. Consumes (R.remaining reader.old) (R.remaining reader.new) (take n buffer.new)) }
+    ensures end { IfOk result (λ n. n ≡ 0 → IsAtEnd (R.remaining reader.new)) }
+    ensures kept { OnErr result (Keeps (R.remaining reader.old) (R.remaining reader.new)) }
+{
+    'tries: for _ in 0..u64::MAX {
+        match reader.read(&mut buffer[..most]) {
+            Ok(count) => return Ok(count),
+            Err(error) => {
+                if error.kind() != ErrorKind::Interrupted {
+                    return Err(Fault::Stream);
+                }
+            }
+        }
+    }
+    Err(Fault::Stream)
+}

@@ -1,0 +1,23 @@
+//! Sessions: lines in, answers out, over readers and writers; and the whole of the program.
+#![tactic(auto)]
+
+mod desk;
+mod fault;
+mod input;
+mod line;
+mod output;
+mod running;
+mod script;
+mod serving;
+mod words;
+
+pub use desk::{Desk, ScriptDesk};
+pub use fault::Fault;
+pub use input::MOST_READ;
+pub use running::program;
+pub use script::{ScriptEnd, run_script};
+pub use serving::serve;
+pub use words::{Job, WordsFault, read_words};
+
+#[cfg(test)]
+mod tests;

@@ -1,0 +1,41 @@
+ghost use Rattle.std.specs.Prelude.{◌≤◌};
+
+use crate::script::{ScriptEnd, run_script};
+use crate::words::{Job, WRONG_WORDS, WordsFault, read_words};
+use std::alloc::Global;
+use std::convert::AsStr;
+use std::io::{Read, Write};
+
+/// All went well.
+const WELL: u8 = 0;
+
+/// A definition or memory was refused, or a stream failed.
+const FAILED: u8 = 1;
+
+/// The whole of the program, with its status: 0; 1 where the definition is refused, memory is refused or
+/// a stream fails; 2 where the words are wrong. The first word is the program's name. Lines go to
+/// the output, and what is said of the words, help too, goes to the errors. The runtime is for jobs that
+/// reach beyond these streams.
+pub fn program<H, S: AsStr, R: Read, W: Write, E: Write>(
+    _rt: &H,
+    alloc: Global,
+    words: &[S],
+    input: &mut R,
+    output: &mut W,
+    errors: &mut E,
+) -> u8
+    ensures { result ≤ WRONG_WORDS }
+{
+    match read_words(alloc, words) {
+        Ok(Job::Script) => match run_script(alloc, input, output) {
+            Ok(ScriptEnd::Answered) => WELL,
+            Ok(ScriptEnd::Refused(_)) | Err(_) => FAILED,
+        },
+        Err(WordsFault::Memory) => FAILED,
+        Err(WordsFault::Refused { text, status }) => {
+            let _ = errors.write_all(text.as_bytes());
+            let _ = errors.flush();
+            status
+        }
+    }
+}

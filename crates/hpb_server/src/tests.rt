@@ -1,0 +1,370 @@
+ghost use Rattle.std.specs.Io.{ReadsAtMost};
+
+use super::*;
+use crate::input::Input;
+use crate::output::Output;
+use crate::serving::answer_lines;
+use hpb_auction::Auction;
+use hpb_define::read_definition;
+use std::alloc::Global;
+use std::cell::Cell;
+use std::io;
+use std::io::{ErrorKind, Read, Write};
+use std::test::Fail;
+
+const DEFINITION: &[u8] =
+    b"{\"step\":10,\"percent\":10,\"stages\":[80,95],\"nodes\":[{\"name\":\"all\",\"parent\":null},{\"name\":\"east\",\"parent\":\"all\"},{\"name\":\"a\",\"parent\":\"east\",\"units\":10,\"opening\":100},{\"name\":\"b\",\"parent\":\"east\",\"units\":10,\"opening\":100},{\"name\":\"c\",\"parent\":\"all\",\"units\":20,\"opening\":100},{\"name\":\"d\",\"parent\":null,\"units\":5,\"opening\":100}],\"bidders\":[{\"name\":\"x\",\"units\":10},{\"name\":\"y\",\"units\":10},{\"name\":\"z\",\"units\":40},{\"name\":\"w\",\"units\":25}]}\n";
+
+/// What a session does, as both of its ends see it.
+#[derive(Drop)]
+struct Talk {
+    reads: Cell<usize>,
+    writes: Cell<usize>,
+    /// How many lines were written, and how many of them were flushed.
+    written: Cell<usize>,
+    flushed: Cell<usize>,
+    /// Whether more was asked for before all that had been given was answered and flushed.
+    early: Cell<bool>,
+}
+
+impl Talk {
+    fn new() -> Self {
+        Talk {
+            reads: Cell::new(0),
+            writes: Cell::new(0),
+            written: Cell::new(0),
+            flushed: Cell::new(0),
+            early: Cell::new(false),
+        }
+    }
+}
+
+/// Gives one line a read; the first is a definition, which gets no answer.
+#[derive(Drop)]
+struct Lines<'a> {
+    talk: &'a Talk,
+    rest: &'a [u8],
+}
+
+impl Read for Lines<'_> {
+    fn read(&mut self, buffer: &mut [u8]) -> io::Result<usize> {
+        let reads = self.talk.reads.get();
+        if self.talk.flushed.get().saturating_add(1) < reads {
+            self.talk.early.set(true);
+        }
+        self.talk.reads.set(reads.saturating_add(1));
+        let length = match self.rest.iter().position(|byte| *byte == b'\n') {
+            Some(end) => end + 1,
+            None => self.rest.len(),
+        };
+        give(&mut self.rest, buffer, length)
+    }
+}
+
+/// Gives at most so many bytes.
+fn give(rest: &mut &[u8], buffer: &mut [u8], most: usize) -> io::Result<usize>
+    ensures { ReadsAtMost result buffer.new }
+{
+    let all = *rest;
+    let length = most.min(all.len()).min(buffer.len());
+    buffer[..length].copy_from_slice(&all[..length]);
+    *rest = &all[length..];
+    Ok(length)
+}
+
+/// Counts the lines that are written, and the calls.
+#[derive(Drop)]
+struct Counts<'a> {
+    talk: &'a Talk,
+}
+
+impl Write for Counts<'_> {
+    fn write(&mut self, bytes: &[u8]) -> io::Result<usize> {
+        let lines = bytes.iter().filter(|byte| **byte == b'\n').count();
+        self.talk
+            .written
+            .set(self.talk.written.get().saturating_add(lines));
+        self.talk
+            .writes
+            .set(self.talk.writes.get().saturating_add(1));
+        Ok(bytes.len())
+    }
+
+    fn flush(&mut self) -> io::Result<()> {
+        self.talk.flushed.set(self.talk.written.get());
+        Ok(())
+    }
+}
+
+/// Gives one byte a call, each second call, and a signal comes at the others.
+#[derive(Drop)]
+struct OneByteReader<'a> {
+    rest: &'a [u8],
+    signal: bool,
+}
+
+impl Read for OneByteReader<'_> {
+    fn read(&mut self, buffer: &mut [u8]) -> io::Result<usize> {
+        self.signal = !self.signal;
+        if self.signal {
+            return Err(ErrorKind::Interrupted.into());
+        }
+        give(&mut self.rest, buffer, 1)
+    }
+}
+
+/// Takes one byte a call, each second call, and a signal comes at the others.
+#[derive(Drop)]
+struct OneByteWriter {
+    bytes: Vec<u8>,
+    signal: bool,
+}
+
+impl Write for OneByteWriter {
+    fn write(&mut self, bytes: &[u8]) -> io::Result<usize> {
+        self.signal = !self.signal;
+        if self.signal {
+            return Err(ErrorKind::Interrupted.into());
+        }
+        match bytes {
+            [] => Ok(0),
+            [first, ..] => {
+                self.bytes.push(*first)?;
+                Ok(1)
+            }
+        }
+    }
+
+    fn flush(&mut self) -> io::Result<()> {
+        self.signal = !self.signal;
+        if self.signal {
+            return Err(ErrorKind::Interrupted.into());
+        }
+        Ok(())
+    }
+}
+
+/// Fails once all is given.
+#[derive(Drop)]
+struct FailingReader<'a> {
+    rest: &'a [u8],
+}
+
+impl Read for FailingReader<'_> {
+    fn read(&mut self, buffer: &mut [u8]) -> io::Result<usize> {
+        if self.rest.is_empty() {
+            return Err(ErrorKind::ConnectionReset.into());
+        }
+        let most = self.rest.len();
+        give(&mut self.rest, buffer, most)
+    }
+}
+
+/// Takes all of its first write, and fails from then on.
+#[derive(Drop)]
+struct FailingWriter {
+    bytes: Vec<u8>,
+}
+
+impl Write for FailingWriter {
+    fn write(&mut self, bytes: &[u8]) -> io::Result<usize> {
+        if self.bytes.is_empty() {
+            self.bytes.extend_from_slice(bytes)?;
+            return Ok(bytes.len());
+        }
+        Err(ErrorKind::BrokenPipe.into())
+    }
+
+    fn flush(&mut self) -> io::Result<()> {
+        Ok(())
+    }
+}
+
+/// A script of so many equal lines.
+fn script(alloc: Global, line: &[u8], count: usize) -> Result<Vec<u8>, Fail> {
+    let mut text = DEFINITION.to_vec(alloc)?;
+    for _ in 0..count {
+        text.extend_from_slice(line)?;
+    }
+    Ok(text)
+}
+
+fn desk(alloc: Global) -> Result<ScriptDesk, Fail> {
+    let definition = read_definition(alloc, DEFINITION)?;
+    Ok(ScriptDesk::new(Auction::new(alloc, &definition)?))
+}
+
+#[test]
+fn an_answer_leaves_before_the_next_line_is_asked_for(rt: HostRuntime) -> Result<(), Fail> {
+    let alloc = rt.alloc();
+    let text = script(alloc, b"SHOW\n", 5)?;
+    let talk = Talk::new();
+    let mut reader = Lines {
+        talk: &talk,
+        rest: text.as_slice(),
+    };
+    let mut writer = Counts { talk: &talk };
+    assert_eq!(rt;
+        run_script(alloc, &mut reader, &mut writer),
+        Ok(ScriptEnd::Answered)
+    );
+    assert!(rt; !talk.early.get());
+    assert_eq!(rt; talk.flushed.get(), 5);
+    assert_eq!(rt; talk.writes.get(), 5);
+    Ok(())
+}
+
+#[test]
+fn a_script_that_is_piped_in_costs_few_writes(rt: HostRuntime) -> Result<(), Fail> {
+    let alloc = rt.alloc();
+    let text = script(alloc, b"SHOW\n", 10_000)?;
+    let talk = Talk::new();
+    let mut reader = text.as_slice();
+    let mut writer = Counts { talk: &talk };
+    assert_eq!(rt;
+        run_script(alloc, &mut reader, &mut writer),
+        Ok(ScriptEnd::Answered)
+    );
+    assert_eq!(rt; talk.flushed.get(), 10_000);
+    assert!(rt; talk.writes.get() < 20);
+    Ok(())
+}
+
+#[test]
+fn bytes_come_and_go_one_by_one(rt: HostRuntime) -> Result<(), Fail> {
+    let alloc = rt.alloc();
+    let text = script(alloc, b"BID x 1 a 100\nSHOW\n\nBID x 1 a", 1)?;
+    let mut reader = OneByteReader {
+        rest: text.as_slice(),
+        signal: false,
+    };
+    let mut writer = OneByteWriter {
+        bytes: Vec::new(alloc),
+        signal: false,
+    };
+    assert_eq!(rt;
+        run_script(alloc, &mut reader, &mut writer),
+        Ok(ScriptEnd::Answered)
+    );
+    let want =
+        b"OK 1\nROUND 1 STAGE 1 OPEN REVENUE 0 COUNT 1\nERR 10 line\nERR 10 line\n".as_slice();
+    assert_eq!(rt; writer.bytes.as_slice(), want);
+    Ok(())
+}
+
+#[test]
+fn a_reader_fails(rt: HostRuntime) -> Result<(), Fail> {
+    let alloc = rt.alloc();
+    let text = script(alloc, b"BID x 1 a 100\nBID", 1)?;
+    let mut reader = FailingReader {
+        rest: text.as_slice(),
+    };
+    let mut output = Vec::new(alloc);
+    assert_eq!(rt;
+        run_script(alloc, &mut reader, &mut output),
+        Err(Fault::Stream)
+    );
+    assert_eq!(rt; output.as_slice(), b"OK 1\n".as_slice());
+    Ok(())
+}
+
+#[test]
+fn a_writer_fails_on_its_second_write(rt: HostRuntime) -> Result<(), Fail> {
+    let alloc = rt.alloc();
+    let talk = Talk::new();
+    let rest = b"BID x 1 a 100\nBID y 1 b 150\nCLOSE 1\n".as_slice();
+    let mut reader = Lines { talk: &talk, rest };
+    let mut writer = FailingWriter {
+        bytes: Vec::new(alloc),
+    };
+    let mut desk = desk(alloc)?;
+    assert_eq!(rt;
+        serve(alloc, &mut reader, &mut writer, &mut desk),
+        Err(Fault::Stream)
+    );
+    assert_eq!(rt; writer.bytes.as_slice(), b"OK 1\n".as_slice());
+    assert_eq!(rt; desk.into_auction().count(), 2);
+    Ok(())
+}
+
+#[test]
+fn no_more_is_read_than_may_be(rt: HostRuntime) -> Result<(), Fail> {
+    let alloc = rt.alloc();
+    let text = b"CLOSE 0\nCLOSE 0\nCLOSE 0\n".as_slice();
+    let refused = b"ERR 13 old\nERR 13 old\nERR 13 old\nERR 10 line\n".as_slice();
+    let table = [
+        (24, Ok(()), &refused[..33]),
+        (23, Err(Fault::Stream), &refused[..22]),
+        (16, Err(Fault::Stream), &refused[..22]),
+        (0, Err(Fault::Stream), b"".as_slice()),
+    ];
+    for (budget, end, want) in table {
+        let mut reader = text;
+        let mut written = Vec::new(alloc);
+        let mut desk = desk(alloc)?;
+        let mut input = Input::new(alloc, budget)?;
+        let mut output = Output::new(alloc)?;
+        let result = answer_lines(
+            &mut reader,
+            &mut written,
+            &mut desk,
+            &mut input,
+            &mut output,
+        );
+        assert_eq!(rt; result, end, "{budget}");
+        assert_eq!(rt; written.as_slice(), want, "{budget}");
+    }
+    Ok(())
+}
+
+#[test]
+fn inputs_end_early(rt: HostRuntime) -> Result<(), Fail> {
+    let alloc = rt.alloc();
+    let definition = &DEFINITION[..DEFINITION.len() - 1];
+    let long = script(alloc, b"x", 129)?;
+    let table = [
+        (b"".as_slice(), ScriptEnd::Refused(60), "ERR 60 json\n"),
+        (
+            b"\nSHOW\n".as_slice(),
+            ScriptEnd::Refused(60),
+            "ERR 60 json\n",
+        ),
+        (definition, ScriptEnd::Answered, ""),
+        (DEFINITION, ScriptEnd::Answered, ""),
+        (long.as_slice(), ScriptEnd::Answered, "ERR 10 line\n"),
+    ];
+    for (text, end, want) in table {
+        let mut input = text;
+        let mut output = Vec::new(alloc);
+        assert_eq!(rt;
+            run_script(alloc, &mut input, &mut output),
+            Ok(end),
+            "{want}"
+        );
+        assert_eq!(rt; output.as_slice(), want.as_bytes(), "{want}");
+    }
+    Ok(())
+}
+
+#[test]
+fn words_are_read(rt: HostRuntime) -> Result<(), Fail> {
+    let alloc = rt.alloc();
+    let table: [(&[&str], u8, &str, &str); 5] = [
+        (&["hpb"], 1, "ERR 60 json\n", ""),
+        (&["hpb", "--help"], 0, "", "Usage: hpb"),
+        (&["hpb", "--version"], 0, "", "hpb 0."),
+        (&["hpb", "bogus"], 2, "", "error: "),
+        (&["hpb", "--bogus"], 2, "", "error: "),
+    ];
+    for (words, want, line, said) in table {
+        let mut input = b"{".as_slice();
+        let mut output = Vec::new(alloc);
+        let mut errors = Vec::new(alloc);
+        let status = program(&rt, alloc, words, &mut input, &mut output, &mut errors);
+        assert_eq!(rt; status, want, "{words:?}");
+        assert_eq!(rt; output.as_slice(), line.as_bytes(), "{words:?}");
+        let text = String::from_utf8(errors)?;
+        assert!(rt; text.contains(said), "{words:?} gives {text}");
+    }
+    Ok(())
+}

@@ -1,0 +1,100 @@
+ghost use Rattle.std.specs.Prelude.{◌≡◌, IfErr, IfOk};
+ghost use Rattle.hpb_server.specs.declared.words.WordsFault.TheVariants.{Memory};
+ghost use Rattle.hpb_server.specs.Words.{HasStatus};
+
+use clap::Command;
+use clap::error::ErrorKind;
+use std::alloc::{AllocError, Global};
+use std::convert::AsStr;
+use thiserror::Error;
+
+/// The status of the program where its words are wrong.
+pub(crate) const WRONG_WORDS: u8 = 2;
+
+const ABOUT: &str = "Runs a simultaneous ascending auction with bids on packages.";
+
+const HELP: &str =
+    r#"Without a command the auction is in memory. Standard input has its definition in JSON, in one line, and
+then commands and questions, one a line. Each of them gets one line on standard output:
+
+  BID bidder ticket node amount   a bid, in whole dollars        OK number
+  CLOSE ticket                    ends the round                 OK number
+  STAGE ticket                    moves on to the next stage     OK number
+  SHOW                            the auction                    ROUND r STAGE s OPEN REVENUE v COUNT n
+  NODE name                       a package or a licence         NODE name HIGH h x PRICE p MIN m WIN yes
+  WHO bidder                      a bidder                       WHO x ELIGIBILITY e ACTIVITY a TICKET t
+
+Each bidder numbers its commands 1, 2, .. by tickets, and so does who closes rounds and moves stages.
+What is refused gets ERR with a number and a word.
+
+Status: 0 each line got its answer; 1 the definition or memory was refused, or reading or writing
+failed; 2 the words were wrong.
+
+Example: the lines
+
+  {"step":10,"percent":10,"stages":[80],"nodes":[{"name":"a","parent":null,"units":1,"opening":100}],"bidders":[{"name":"x","units":1}]}
+  BID x 1 a 100
+  CLOSE 1
+  NODE a
+
+are answered by OK 1, OK 2 and NODE a HIGH 100 x PRICE 100 MIN 110 WIN yes.
+
+docs/RULES.md has the rules of the auction; docs/PROTOCOL.md has the definition, all lines, answers and
+refusals."#;
+
+/// What a command line asks for.
+#[derive(Clone, Copy, Debug, PartialEq, Eq)]
+pub enum Job {
+    /// An auction in memory: a definition and lines from the input.
+    Script,
+}
+
+/// Why words ask for nothing.
+#[derive(Debug, Drop, Error)]
+pub enum WordsFault {
+    /// 90: memory was refused.
+    #[error("memory")]
+    Memory,
+    /// The words are wrong, or ask for help. The text is for whoever wrote them, and the status is the
+    /// program's: 2 for wrong words, else 0.
+    #[error("{text}")]
+    Refused { text: String, status: u8 },
+}
+
+impl From<AllocError> for WordsFault {
+    ghost from_gives = { λ _ e. e ≡ Memory };
+
+    fn from(_error: AllocError) -> WordsFault {
+        WordsFault::Memory
+    }
+}
+
+/// The job that a command line asks for. Its first word is the program's name.
+pub fn read_words<'a, S: AsStr>(alloc: Global, words: &'a [S]) -> Result<Job, WordsFault>
+    ensures { IfErr result HasStatus }
+{
+    let command = command(alloc);
+    match command.try_get_matches_from(words) {
+        Ok(_) => Ok(Job::Script),
+        Err(error) => Err(refused(alloc, &error)?),
+    }
+}
+
+/// What becomes of words that `clap` gives no matches for.
+fn refused(alloc: Global, error: &clap::Error) -> Result<WordsFault, AllocError>
+    ensures { IfOk result HasStatus }
+{
+    if error.kind() == ErrorKind::OutOfMemory {
+        return Ok(WordsFault::Memory);
+    }
+    let text = error.to_string(alloc)?;
+    let status = if error.use_stderr() { WRONG_WORDS } else { 0 };
+    Ok(WordsFault::Refused { text, status })
+}
+
+fn command<'a>(alloc: Global) -> Command<'a> {
+    Command::new(alloc, "hpb")
+        .version("0.1.0")
+        .about(ABOUT)
+        .after_help(HELP)
+}

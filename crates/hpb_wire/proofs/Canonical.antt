@@ -1,0 +1,85 @@
+-- The one spelling of a number.
+use Rattle.std.proofs.Common.{◌≡◌, ℕ, zero, suc, ◌^◌, ◌<◌, ◌≤◌, Bool, true, false, cond, ltb, leb, not, ◌&&◌, List, length, get_or, Some, None, refl, sym, ap, ◌∙◌, arith, decimal}
+use Rattle.std.specs.Str.{all_ascii_digits}
+use Rattle.std.specs.Str.Parse.{digits_value}
+use Rattle.std.proofs.lemmas.Bool.{ltb-true, lt-ltb, le-leb, lt-leb, leb-true, and_parts}
+use Rattle.std.proofs.lemmas.Bool.Decides.{nat_tests}
+use Rattle.std.proofs.lemmas.Fmt.{digits_decimal, digits_value-decimal, decimal_nonempty, first_decimal, decimal_digit, decimal-digits_value}
+use Rattle.hpb_rules.specs.Lines.{number_up_to}
+use Rattle.hpb_wire.specs.Numbers.{has_front_zero, number_of_digits}
+use Rattle.hpb_wire.proofs.Numerals.{own}
+
+-- some digits
+abbrev are_digits : List ℕ → Bool
+are_digits word = all_ascii_digits word && ltb 0 (length word)
+
+-- what the tests give
+with_front_zero : (digits within : Bool) (v : ℕ) → cond (digits && false && within) (Some v) None ≡ None
+with_front_zero true within v = refl
+with_front_zero false within v = refl
+
+not_below : (digits front within below : Bool) (v : ℕ) → cond (digits && below) (Some v) None ≡ None → (within ≡ true → below ≡ true) → cond (digits && not front && within) (Some v) None ≡ None
+not_below false front within below v h k = refl
+not_below true true within below v h k = refl
+not_below true false false below v h k = refl
+not_below true false true true v h k = cc
+not_below true false true false v h k = absurd (let e : false ≡ true = k refl in cc)
+
+not_within : (digits front : Bool) (v : ℕ) → cond (digits && not front && false) (Some v) None ≡ None
+not_within true true v = refl
+not_within true false v = refl
+not_within false front v = refl
+
+digits_below : (digits below : Bool) (v n : ℕ) → cond (digits && below) (Some v) None ≡ Some n → (digits ≡ true) × (v ≡ n)
+digits_below true true v n h = (refl, cc)
+digits_below true false v n h = cc
+digits_below false below v n h = cc
+
+pub fronted : (most : ℕ) (word : List ℕ) → has_front_zero word ≡ true → number_up_to most word ≡ None
+fronted most word h = rw h (with_front_zero (are_digits word) (leb (digits_value 10 word) most) (digits_value 10 word))
+
+-- what is no number below 2^64 is none up to a lesser bound
+pub no_number : (most : ℕ) (word : List ℕ) → number_of_digits word ≡ None → most < 2 ^ 64 → number_up_to most word ≡ None
+no_number most word h small = not_below (are_digits word) (has_front_zero word) (leb (digits_value 10 word) most) (ltb (digits_value 10 word) (2 ^ 64)) (digits_value 10 word) h (λ e. lt-ltb _ _ (omega (arith, leb-true _ _ e)))
+
+pub too_large : (most n : ℕ) (word : List ℕ) → number_of_digits word ≡ Some n → most < n → number_up_to most word ≡ None
+too_large most n word h large =
+    let over : leb (digits_value 10 word) most ≡ false = lt-leb _ _ (omega (arith, (digits_below (are_digits word) _ _ n h).1)) in
+    rw over (not_within (are_digits word) (has_front_zero word) (digits_value 10 word))
+
+pub canonical : (most n : ℕ) (word : List ℕ) → number_of_digits word ≡ Some n → n ≤ most → has_front_zero word ≡ false → number_up_to most word ≡ Some n
+canonical most n word h small plain =
+    let is = digits_below (are_digits word) _ _ n h in
+    let within : leb (digits_value 10 word) most ≡ true = le-leb _ _ (omega (arith, is.1)) in
+    rw (is.0, plain, within) (ap Some is.1)
+
+-- what a number's one spelling is
+found : (digits front within : Bool) (v n : ℕ) → cond (digits && not front && within) (Some v) None ≡ Some n → (digits ≡ true) × (front ≡ false) × (within ≡ true) × (v ≡ n)
+found true false true v n h = (refl, refl, refl, cc)
+found true false false v n h = cc
+found true true within v n h = cc
+found false front within v n h = cc
+
+one_digit : (word : List ℕ) → has_front_zero word ≡ false → 0 < length word → get_or word 0 0 ≡ 48 → length word ≡ 1
+one_digit word plain some e = grind (arith, nat_tests)
+
+pub text_of_number : (most n : ℕ) (word : List ℕ) → most < 2 ^ 64 → number_up_to most word ≡ Some n → (n ≤ most) × (word ≡ decimal n)
+text_of_number most n word small h =
+    let is = found (are_digits word) (has_front_zero word) (leb (digits_value 10 word) most) (digits_value 10 word) n h in
+    let digits = and_parts (all_ascii_digits word) (ltb 0 (length word)) is.0 in
+    let some : 0 < length word = ltb-true _ _ digits.1 in
+    let within : digits_value 10 word ≤ most = leb-true _ _ is.2 in
+    let text = decimal-digits_value own word digits.0 some (one_digit word is.1 some) (omega arith) in
+    (omega (arith, is.3), sym text ∙ ap decimal is.3)
+
+zero_alone : (n : ℕ) → n < 2 ^ 64 → has_front_zero (decimal n) ≡ false
+zero_alone zero small = rw (decimal_digit 0 (omega arith)) refl
+zero_alone (suc n) small =
+    let first = first_decimal (suc n) (omega arith) small in
+    grind (arith, nat_tests)
+
+pub number_of_text : (most n : ℕ) → most < 2 ^ 64 → n ≤ most → number_up_to most (decimal n) ≡ Some n
+number_of_text most n small within =
+    let value = digits_value-decimal own n (omega arith) in
+    let some : ltb 0 (length (decimal n)) ≡ true = lt-ltb _ _ (decimal_nonempty n (omega arith)) in
+    rw (digits_decimal own n (omega arith), some, zero_alone n (omega arith), value, le-leb n most within) refl

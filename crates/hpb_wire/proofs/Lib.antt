@@ -1,0 +1,6 @@
+mod Numerals
+mod Cutting
+mod Canonical
+mod Names
+mod Spelled
+mod Read

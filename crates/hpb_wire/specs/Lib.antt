@@ -1,0 +1,6 @@
+pub mod Numbers
+pub mod Requests
+pub mod Spelling
+pub mod Answers
+pub mod Views
+pub mod Laws

@@ -1,0 +1,60 @@
+-- What the code makes of lines, as the rules see it.
+use Rattle.std.specs.Prelude.{ℕ, ◌<◌, List, [], length, Option, Some, None, Result, Ok, Err, ⊤}
+use Rattle.std.specs.Borrow.{Bor}
+use Rattle.hpb_rules.specs.declared.command.Command.{Command}
+use Rattle.hpb_rules.specs.declared.command.Command.TheVariants.{Bid, Close, Stage}
+use Rattle.hpb_rules.specs.Lines as lines
+use Rattle.hpb_rules.specs.Tree.{Rules}
+use Rattle.hpb_wire.specs.declared.request.Request.{Request}
+use Rattle.hpb_wire.specs.declared.request.Request.TheVariants as requests
+use Rattle.hpb_wire.specs.declared.spelling.Spelled.{Spelled}
+use Rattle.hpb_wire.specs.declared.spelling.Spelled.TheVariants as spelled
+
+-- A request of the code as one of the rules.
+abbrev pub request_view : Request → lines.Request
+request_view (requests.Command command) = lines.command command
+request_view requests.Show = lines.show
+request_view (requests.Node place) = lines.node place
+request_view (requests.Who from) = lines.who from
+
+-- What is asked for, or the number of a refusal.
+abbrev pub asked : Result Request ℕ → Result lines.Request ℕ
+asked (Ok request) = Ok (request_view request)
+asked (Err code) = Err code
+
+-- What a line spells, by the bytes of its names.
+abbrev pub spelled_view : Spelled → lines.Spelled
+spelled_view (spelled.Bid from ticket on amount) = lines.bid_line from.now ticket on.now amount
+spelled_view (spelled.Close ticket) = lines.close_line ticket
+spelled_view (spelled.Stage ticket) = lines.stage_line ticket
+spelled_view spelled.Show = lines.show_line
+spelled_view (spelled.Node name) = lines.node_line name.now
+spelled_view (spelled.Who name) = lines.who_line name.now
+
+-- What is spelled, if anything is.
+abbrev pub seen : Option Spelled → Option lines.Spelled
+seen None = None
+seen (Some spelling) = Some (spelled_view spelling)
+
+-- The bytes of a name, if there is one.
+abbrev pub name_seen : Option (Bor (List ℕ)) → Option (List ℕ)
+name_seen None = None
+name_seen (Some word) = Some word.now
+
+-- The words of what is left of a line, if anything is.
+abbrev pub words_left : Option (Bor (List ℕ)) → List (List ℕ)
+words_left None = []
+words_left (Some rest) = lines.words rest.now
+
+-- A command's bidder and node are the definition's.
+abbrev pub IsCommandOf : Rules → Command → Type 0
+IsCommandOf rules (Bid from ticket on amount) = (from < length rules.bidders) × (on < length rules.nodes)
+IsCommandOf rules (Close ticket) = ⊤
+IsCommandOf rules (Stage ticket) = ⊤
+
+-- A request's bidder and node are the definition's.
+abbrev pub IsRequestOf : Rules → Request → Type 0
+IsRequestOf rules (requests.Command command) = IsCommandOf rules command
+IsRequestOf rules requests.Show = ⊤
+IsRequestOf rules (requests.Node place) = place < length rules.nodes
+IsRequestOf rules (requests.Who from) = from < length rules.bidders

@@ -1,0 +1,14 @@
+use hpb_rules::{BidderId, Command, NodeId};
+
+/// What a line asks for.
+#[derive(Clone, Copy, Debug, PartialEq, Eq)]
+pub enum Request {
+    /// A command to the auction: `BID`, `CLOSE` or `STAGE`.
+    Command(Command),
+    /// `SHOW`: the round, the stage, the revenue and the count.
+    Show,
+    /// `NODE`: how a node stands.
+    Node(NodeId),
+    /// `WHO`: how a bidder stands.
+    Who(BidderId),
+}

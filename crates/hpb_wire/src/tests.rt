@@ -1,0 +1,230 @@
+use super::*;
+use hpb_auction::Auction;
+use hpb_rules::{BidderId, Command, NodeId, Reply, refusal};
+use hpb_tree::{BidderDraft, Definition, Draft, NodeDraft, TermsDraft};
+use std::alloc::{AllocError, Global};
+use std::test::Fail;
+
+fn licence(alloc: Global, name: &str) -> Result<NodeDraft, AllocError> {
+    let terms = TermsDraft {
+        units: 10,
+        opening: 100,
+    };
+    Ok(NodeDraft {
+        name: String::from_str(alloc, name)?,
+        parent: None,
+        terms: Some(terms),
+    })
+}
+
+/// The licences `a` and `d`, and the bidders `x` and `y`.
+fn definition(alloc: Global) -> Result<Definition, Fail> {
+    let mut draft = Draft {
+        step: 10,
+        percent: 10,
+        stages: vec![in alloc; 80]?,
+        nodes: Vec::new(alloc),
+        bidders: Vec::new(alloc),
+    };
+    for name in ["a", "d"] {
+        draft.nodes.push(licence(alloc, name)?)?;
+    }
+    for name in ["x", "y"] {
+        let name = String::from_str(alloc, name)?;
+        draft.bidders.push(BidderDraft { name, units: 20 })?;
+    }
+    Ok(Definition::check(alloc, &draft)?)
+}
+
+/// A bid of `x` on `a`.
+fn bid(ticket: u32, amount: u64) -> Result<Request, u8> {
+    Ok(Request::Command(Command::Bid {
+        bidder: BidderId::new(0),
+        ticket,
+        node: NodeId::new(0),
+        amount,
+    }))
+}
+
+fn close(ticket: u32) -> Result<Request, u8> {
+    Ok(Request::Command(Command::Close { ticket }))
+}
+
+fn stage(ticket: u32) -> Result<Request, u8> {
+    Ok(Request::Command(Command::Stage { ticket }))
+}
+
+#[test]
+fn malformed_lines(rt: HostRuntime) -> Result<(), Fail> {
+    let definition = definition(rt.alloc())?;
+    let table: [(&[u8], Result<Request, u8>); 20] = [
+        (b"BID x 1 a 100", bid(1, 100)),
+        (b"BID x 01 a 100", Err(10)),
+        (b"BID x  1 a 100", Err(10)),
+        (b"BID  1 a 100", Err(10)),
+        (b" BID x 1 a 100", Err(10)),
+        (b"BID x 1 a 100 ", Err(10)),
+        (b"BID x 1 a", Err(10)),
+        (b"BID x 1 a 100 1", Err(10)),
+        (b"BID x +1 a 100", Err(10)),
+        (b"bid x 1 a 100", Err(10)),
+        (b"CLOSE 7", close(7)),
+        (b"CLOSE", Err(10)),
+        (b"STAGE 0", stage(0)),
+        (b"STAGE 00", Err(10)),
+        (b"SHOW", Ok(Request::Show)),
+        (b"SHOW ", Err(10)),
+        (b"NODE d", Ok(Request::Node(NodeId::new(1)))),
+        (b"NODE ", Err(10)),
+        (b"WHO y", Ok(Request::Who(BidderId::new(1)))),
+        (b"", Err(10)),
+    ];
+    for (line, wanted) in table {
+        assert_eq!(rt; parse_line(line, &definition), wanted, "at {line:?}");
+    }
+    Ok(())
+}
+
+#[test]
+fn hostile_lines(rt: HostRuntime) -> Result<(), Fail> {
+    let definition = definition(rt.alloc())?;
+    let long = [b'x'; 1000];
+    let table: [(&[u8], Result<Request, u8>); 14] = [
+        (&long, Err(10)),
+        (b"\xff\xff\xff\xff", Err(10)),
+        (
+            b"BID x 4294967295 a 18446744073709551615",
+            bid(u32::MAX, u64::MAX),
+        ),
+        (b"BID x 4294967296 a 100", Err(10)),
+        (b"BID x 1 a 18446744073709551616", Err(10)),
+        (b"SHOW\r", Err(10)),
+        (b"NODE a\r", Err(12)),
+        (b"NODE a\nNODE d", Err(10)),
+        (b"WHO \xff", Err(11)),
+        (b"WHO X", Err(11)),
+        (b"BID q 1 e 100", Err(11)),
+        (b"BID x 1 e 100", Err(12)),
+        (b"BID q 1 e 1x", Err(10)),
+        (b"BID a 0 x 0", Err(11)),
+    ];
+    for (line, wanted) in table {
+        assert_eq!(rt; parse_line(line, &definition), wanted, "at {line:?}");
+    }
+    Ok(())
+}
+
+#[test]
+fn answers_are_written(rt: HostRuntime) -> Result<(), Fail> {
+    let mut text = String::new(rt.alloc());
+    let standing = Some(HighBid {
+        amount: 100,
+        bidder: "x",
+    });
+    let node = NodeLine {
+        name: "a",
+        high: standing,
+        price: 138,
+        minimum: 160,
+        wins: false,
+    };
+    let free = NodeLine {
+        name: "d",
+        high: None,
+        price: 0,
+        minimum: 100,
+        wins: true,
+    };
+    let who = BidderLine {
+        name: "w",
+        eligibility: 21,
+        activity: 20,
+        ticket: 2,
+    };
+    let round = RoundLine {
+        round: 2,
+        stage: 1,
+        closed: false,
+        revenue: 64_000_000_000_000,
+        count: 65,
+    };
+    let last = RoundLine {
+        closed: true,
+        ..round
+    };
+    let table = [
+        (Answer::Reply(Reply::Ok(1_000_000)), "OK 1000000\n"),
+        (Answer::Reply(Reply::Refused(25)), "ERR 25 eligibility\n"),
+        (
+            Answer::Show(round),
+            "ROUND 2 STAGE 1 OPEN REVENUE 64000000000000 COUNT 65\n",
+        ),
+        (
+            Answer::Show(last),
+            "ROUND 2 STAGE 1 CLOSED REVENUE 64000000000000 COUNT 65\n",
+        ),
+        (
+            Answer::Node(node),
+            "NODE a HIGH 100 x PRICE 138 MIN 160 WIN no\n",
+        ),
+        (
+            Answer::Node(free),
+            "NODE d HIGH 0 - PRICE 0 MIN 100 WIN yes\n",
+        ),
+        (
+            Answer::Who(who),
+            "WHO w ELIGIBILITY 21 ACTIVITY 20 TICKET 2\n",
+        ),
+    ];
+    for (answer, line) in table {
+        text.clear();
+        render(&mut text, &answer)?;
+        assert_eq!(rt; text.as_str(), line);
+    }
+    render(&mut text, &Answer::Reply(Reply::Ok(1)))?;
+    assert_eq!(rt;
+        text.as_str(),
+        "WHO w ELIGIBILITY 21 ACTIVITY 20 TICKET 2\nOK 1\n"
+    );
+    Ok(())
+}
+
+/// The line that answers what is asked about an auction.
+fn shown(alloc: Global, auction: &Auction, line: &[u8]) -> Result<String, AllocError> {
+    let answer = match parse_line(line, auction.definition()) {
+        Ok(Request::Show) => show(auction),
+        Ok(Request::Node(place)) => node(auction, place),
+        Ok(Request::Who(bidder)) => who(auction, bidder),
+        Ok(Request::Command(_)) => Answer::Reply(Reply::Refused(refusal::LINE)),
+        Err(code) => Answer::Reply(Reply::Refused(code)),
+    };
+    let mut text = String::new(alloc);
+    render(&mut text, &answer)?;
+    Ok(text)
+}
+
+#[test]
+fn auctions_are_shown(rt: HostRuntime) -> Result<(), Fail> {
+    let alloc = rt.alloc();
+    let mut auction = Auction::new(alloc, &definition(alloc)?)?;
+    let bid = Command::Bid {
+        bidder: BidderId::new(0),
+        ticket: 1,
+        node: NodeId::new(0),
+        amount: 200,
+    };
+    assert_eq!(rt; auction.apply(&bid), Reply::Ok(1));
+    assert_eq!(rt; auction.apply(&Command::Close { ticket: 1 }), Reply::Ok(2));
+    let table: [(&[u8], &str); 5] = [
+        (b"SHOW", "ROUND 2 STAGE 1 OPEN REVENUE 200 COUNT 2\n"),
+        (b"NODE a", "NODE a HIGH 200 x PRICE 200 MIN 220 WIN yes\n"),
+        (b"NODE d", "NODE d HIGH 0 - PRICE 0 MIN 100 WIN no\n"),
+        (b"WHO x", "WHO x ELIGIBILITY 12 ACTIVITY 10 TICKET 1\n"),
+        (b"WHO z", "ERR 11 bidder\n"),
+    ];
+    for (line, wanted) in table {
+        let text = shown(alloc, &auction, line)?;
+        assert_eq!(rt; text.as_str(), wanted);
+    }
+    Ok(())
+}
