@@ -1,3 +1,5 @@
+ghost use Rattle.hpb_wire.specs.Requests.{IsRequestOf};
+
 use super::*;
 use hpb_auction::Auction;
 use hpb_rules::{BidderId, Command, NodeId, Reply, refusal};
@@ -189,13 +191,22 @@ fn answers_are_written(rt: HostRuntime) -> Result<(), Fail> {
     Ok(())
 }
 
+/// What a request to see something is answered.
+fn answered(auction: &Auction, request: Request) -> Answer<'_>
+    requires { IsRequestOf auction.now.rules request }
+{
+    match request {
+        Request::Command(_) => Answer::Reply(Reply::Refused(refusal::LINE)),
+        Request::Show => show(auction),
+        Request::Node(place) => node(auction, place),
+        Request::Who(bidder) => who(auction, bidder),
+    }
+}
+
 /// The line that answers what is asked about an auction.
 fn shown(alloc: Global, auction: &Auction, line: &[u8]) -> Result<String, AllocError> {
     let answer = match parse_line(line, auction.definition()) {
-        Ok(Request::Show) => show(auction),
-        Ok(Request::Node(place)) => node(auction, place),
-        Ok(Request::Who(bidder)) => who(auction, bidder),
-        Ok(Request::Command(_)) => Answer::Reply(Reply::Refused(refusal::LINE)),
+        Ok(request) => answered(auction, request),
         Err(code) => Answer::Reply(Reply::Refused(code)),
     };
     let mut text = String::new(alloc);
