@@ -1,2 +1,10 @@
 pub mod Verdicts
 pub mod Tables
+pub mod Activities
+pub mod Quiet
+pub mod BidTables
+pub mod CloseTables
+pub mod Faults
+pub mod Histories
+pub mod FirstTables
+pub mod Choices

@@ -1,3 +1,4 @@
 pub mod Verdicts
 pub mod View
+pub mod Rows
 pub mod Machine

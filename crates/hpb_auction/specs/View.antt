@@ -1,9 +1,10 @@
 -- What the code of an auction stands for.
-use Rattle.std.specs.Prelude.{◌≡◌, ℕ, ◌+◌, ◌<◌, ◌≤◌, false, List, [], map, length, Option, Some, None, slice_index, slice_index_or}
+use Rattle.std.specs.Prelude.{◌≡◌, ℕ, ◌+◌, ◌<◌, ◌≤◌, true, List, map, length, Option, Some, None, slice_index, slice_index_or, IfSome}
 use Rattle.std.specs.List.{range_with_len}
+use Rattle.hpb_rules.specs.declared.command.Offer.{Offer}
 use Rattle.hpb_rules.specs.declared.id.TheConstants.{MOST_BIDDERS}
 use Rattle.hpb_rules.specs.declared.reply.TheConstants.{MOST_COMMANDS}
-use Rattle.hpb_rules.specs.Tree.{Rules, places}
+use Rattle.hpb_rules.specs.Tree.{Rules, IsTree, places}
 use Rattle.hpb_rules.specs.Choices.{is_in}
 use Rattle.hpb_rules.specs.History.{ticket_of}
 use Rattle.hpb_rules.specs.Seen.{Quantities, NodeView, BidderView, SenderView}
@@ -14,12 +15,12 @@ use Rattle.hpb_auction.specs.declared.sender.Accepted.{Accepted}
 use Rattle.hpb_auction.specs.declared.sender.BidderRow.{BidderRow}
 use Rattle.hpb_auction.specs.declared.auction.Auction.TheInside.{Inside}
 
--- what is known of a sender by its last accepted command
+-- What is known of a sender by its last accepted command.
 abbrev pub sender_view : Option Accepted → SenderView
 sender_view None = record { ticket = 0; last = None }
 sender_view (Some accepted) = record { ticket = ticket_of accepted.command; last = Some (accepted.command, accepted.number) }
 
--- what is known of a node by the tables
+-- What is known of a node by the tables.
 abbrev pub node_view : BooksView → OutcomeView → prices.PricesView → ℕ → NodeView
 node_view books outcome priced node = record {
   high = offer_at books.standing node;
@@ -29,25 +30,26 @@ node_view books outcome priced node = record {
   minimum = slice_index priced.minima node;
 }
 
--- the row of a bidder that has done nothing and may do nothing
+-- The row of a bidder that has done nothing and may do nothing.
 abbrev pub empty_row : BidderRow
 empty_row = record { eligibility = 0; last = None }
 
+-- A bidder's row.
 abbrev pub row_at : List BidderRow → ℕ → BidderRow
 row_at rows bidder = slice_index_or rows bidder empty_row
 
--- what is known of a bidder by the tables
+-- What is known of a bidder by the tables.
 abbrev pub bidder_view : Rules → BooksView → List BidderRow → ℕ → BidderView
 bidder_view rules books rows bidder = record {
   eligibility = (row_at rows bidder).eligibility;
   bid_on = map (has_bid books bidder) (places rules.nodes);
 }
 
--- the places of the bidders
+-- The places of the bidders.
 abbrev pub bidder_places : Rules → List ℕ
 bidder_places rules = range_with_len 0 (length rules.bidders)
 
--- all that is known of an auction by its tables
+-- All that is known of an auction by its tables.
 abbrev pub quantities_of : Inside → Quantities
 quantities_of a = record {
   rules = a.definition;
@@ -62,37 +64,31 @@ quantities_of a = record {
   count = a.count;
 }
 
--- a node of which nothing is known
-abbrev pub no_node : NodeView
-no_node = record { high = None; incoming = None; wins = false; price = 0; minimum = 0 }
+-- An offer stands on a node of the definition and is one of its bidders'.
+abbrev pub IsOfferOf : Rules → ℕ → Offer → Type 0
+IsOfferOf rules node offer = (node < length rules.nodes) × (offer.bidder < length rules.bidders)
 
--- what is known of a node
-abbrev pub node_at : Quantities → ℕ → NodeView
-node_at q node = slice_index_or q.nodes node no_node
+-- Each bid in the books is on a node of the definition and by one of its bidders.
+pub record AreBidsOf (rules : Rules) (books : BooksView) : Type 0 where
+  pub standing : (node : ℕ) → IfSome (offer_at books.standing node) (IsOfferOf rules node)
+  pub incoming : (node : ℕ) → IfSome (offer_at books.incoming node) (IsOfferOf rules node)
+  pub bids : (bidder node : ℕ) → has_bid books bidder node ≡ true → (bidder < length rules.bidders) × (node < length rules.nodes)
 
--- a bidder of which nothing is known
-abbrev pub no_bidder : BidderView
-no_bidder = record { eligibility = 0; bid_on = [] }
+-- The number of a sender's last command is at most the number of commands.
+abbrev pub IsNumbered : ℕ → Option Accepted → Type 0
+IsNumbered count last = IfSome last (λ accepted. accepted.number ≤ count)
 
--- what is known of a bidder beside its commands
-abbrev pub bidder_at : Quantities → ℕ → BidderView
-bidder_at q bidder = slice_index_or q.bidders bidder no_bidder
-
--- a sender of which nothing is known
-abbrev pub no_sender : SenderView
-no_sender = record { ticket = 0; last = None }
-
--- what is known of a bidder's commands
-abbrev pub bidder_sender_at : Quantities → ℕ → SenderView
-bidder_sender_at q bidder = slice_index_or q.senders bidder no_sender
-
--- what an auction keeps
+-- What an auction keeps.
 pub record IsKept (a : Inside) : Type 0 where
+  pub tree : IsTree a.definition.nodes
   pub rows : length a.bidders.items ≡ length a.definition.bidders
   pub most_rows : length a.bidders.items ≤ MOST_BIDDERS
+  pub bids : AreBidsOf a.definition a.books
   pub outcome : IsSized a.definition.nodes a.outcome
   pub prices : prices.IsSized a.definition.nodes a.prices
   pub count : a.count ≤ MOST_COMMANDS
+  pub numbers : (bidder : ℕ) → IsNumbered a.count (row_at a.bidders.items bidder).last
+  pub number : IsNumbered a.count a.auctioneer
   pub round : a.round ≤ a.count + 1
   pub some_stage : 0 < a.stage
   pub most_stage : a.stage ≤ length a.definition.stages

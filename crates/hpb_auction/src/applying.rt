@@ -1,5 +1,11 @@
-ghost use Rattle.std.specs.Prelude.{◌≡◌, ◌+◌, ◌<◌, ◌≤◌, ℕ, false, length};
+ghost use Rattle.std.specs.Prelude.{◌≡◌, ℕ, ◌+◌, ◌≤◌, List, false};
+ghost use Rattle.hpb_rules.specs.declared.command.Command.TheVariants.{Bid, Close, Stage};
 ghost use Rattle.hpb_rules.specs.declared.reply.TheConstants.{MOST_AMOUNT, MOST_COMMANDS};
+ghost use Rattle.hpb_rules.specs.Answer.{answer, is_reply_new};
+ghost use Rattle.hpb_rules.specs.History.{ticket_of};
+ghost use Rattle.hpb_rules.specs.Seen.{Shows};
+ghost use Rattle.hpb_rules.specs.Values.{reply_in, changed, next_value};
+ghost use Rattle.hpb_auction.specs.Machine.{CanTake, IsKnown, IsNext, closed_value, history_after};
 
 use crate::auction::Auction;
 use crate::sender::{Accepted, renew_eligibility};
@@ -9,12 +15,17 @@ use hpb_rules::{BidderId, Command, NodeId, Reply};
 use hpb_winners::upward;
 
 impl Auction {
-    ghost use Rattle.hpb_rules.specs.Answer.{is_reply_new};
-    ghost use Rattle.hpb_auction.specs.Machine.{CanTake};
-
     /// Answers the command, and takes it in where it is newly accepted. Its sender's last command once more
     /// gets its first reply. A refused or repeated command changes nothing.
+    ///
+    /// The reply is the one of the rules after each history that the auction shows, and the auction then shows
+    /// that history with the command where it was newly accepted. Refusals are those of `judge`.
+    #[tactic(auto, using(crate::proofs::Histories::answered, crate::proofs::Histories::shown_at))]
     pub fn apply(&mut self, command: &Command) -> Reply
+        ensures reply { result ≡ reply_in self.old command.now }
+        ensures value { self.new ≡ next_value self.old command.now }
+        ensures answer { (history : List Command) → Shows self.old history → result ≡ answer self.old.rules history command.now }
+        ensures shown { (history : List Command) → Shows self.old history → Shows self.new (history_after self.old.rules history command.now) }
         ensures refused { (code : ℕ) → result ≡ Reply.Refused code → self.new ≡ self.old }
 
         // A repeat gets the number of an earlier command.
@@ -30,13 +41,13 @@ impl Auction {
 
     /// Takes in a command as the one of this number.
     fn accept(&mut self, command: &Command, number: u32)
-        requires next { number ≡ self.old.count + 1 }
+        requires count { number ≡ self.old.count + 1 }
         requires limit { number ≤ MOST_COMMANDS }
+        requires known { IsKnown self.old command.now }
         requires can { CanTake self.old command.now }
-        ensures rules { self.new.rules ≡ self.old.rules }
-        ensures count { self.new.count ≡ number }
+        requires next { IsNext self.old command.now }
+        ensures { self.new ≡ changed self.old command.now }
     {
-        self.count = number;
         let accepted = Accepted {
             command: *command,
             number,
@@ -47,27 +58,59 @@ impl Auction {
                 node,
                 amount,
                 ..
-            } => {
-                self.books.place(bidder, node, amount);
-                self.bidders[bidder.place()].last = Some(accepted);
-            }
-            Command::Close { .. } => {
-                self.close_round();
-                self.auctioneer = Some(accepted);
-            }
-            Command::Stage { .. } => {
-                self.stage += 1;
-                self.auctioneer = Some(accepted);
-            }
+            } => self.accept_bid(accepted, bidder, node, amount),
+            Command::Close { .. } => self.accept_close(accepted),
+            Command::Stage { .. } => self.accept_stage(accepted),
         }
+    }
+
+    /// Takes in a bid: it counts from the next close on.
+    fn accept_bid(&mut self, accepted: Accepted, bidder: BidderId, node: NodeId, amount: u64)
+        requires command { accepted.command ≡ Bid bidder (ticket_of accepted.command) node amount }
+        requires count { accepted.number ≡ self.old.count + 1 }
+        requires limit { accepted.number ≤ MOST_COMMANDS }
+        requires known { IsKnown self.old accepted.command }
+        requires can { amount ≤ MOST_AMOUNT }
+        requires next { IsNext self.old accepted.command }
+        ensures { self.new ≡ changed self.old accepted.command }
+    {
+        self.count = accepted.number;
+        self.books.place(bidder, node, amount);
+        self.bidders[bidder.place()].last = Some(accepted);
+    }
+
+    /// Takes in a close.
+    fn accept_close(&mut self, accepted: Accepted)
+        requires command { accepted.command ≡ Close (ticket_of accepted.command) }
+        requires count { accepted.number ≡ self.old.count + 1 }
+        requires limit { accepted.number ≤ MOST_COMMANDS }
+        requires next { IsNext self.old accepted.command }
+        ensures { self.new ≡ changed self.old accepted.command }
+    {
+        self.count = accepted.number;
+        self.close_round();
+        self.auctioneer = Some(accepted);
+    }
+
+    /// Takes in the step to the next stage.
+    fn accept_stage(&mut self, accepted: Accepted)
+        requires command { accepted.command ≡ Stage (ticket_of accepted.command) }
+        requires count { accepted.number ≡ self.old.count + 1 }
+        requires limit { accepted.number ≤ MOST_COMMANDS }
+        requires can { CanTake self.old accepted.command }
+        requires next { IsNext self.old accepted.command }
+        ensures { self.new ≡ changed self.old accepted.command }
+    {
+        self.count = accepted.number;
+        self.stage += 1;
+        self.auctioneer = Some(accepted);
     }
 
     /// Ends the round: eligibilities by what was bid in it, then its bids count. A round without a bid is
     /// the last.
     fn close_round(&mut self)
         requires { self.old.round ≤ self.old.count }
-        ensures rules { self.new.rules ≡ self.old.rules }
-        ensures count { self.new.count ≡ self.old.count }
+        ensures { self.new ≡ closed_value self.old }
     {
         let percentage = self.definition.percentage(self.stage);
         let tree = self.definition.tree();
@@ -78,11 +121,9 @@ impl Auction {
             &self.books,
             &self.outcome,
         );
-        if self.books.is_quiet() {
-            self.closed = true;
-        } else {
-            self.round += 1;
-        }
+        let quiet = self.books.is_quiet();
+        self.closed |= quiet;
+        self.round += u32::from(!quiet);
         self.books.fold_round();
         upward(tree, &self.books, &mut self.outcome);
         downward(tree, &self.books, &self.outcome, &mut self.prices);

@@ -1,4 +1,4 @@
-ghost use Rattle.std.specs.Prelude.{◌≡◌, ◌+◌, ◌<◌, ◌≤◌, length, IfOk};
+ghost use Rattle.std.specs.Prelude.{◌≡◌, ◌+◌, ◌<◌, ◌≤◌, List, [], length, IfOk, IfSome};
 ghost use Rattle.hpb_rules.specs.declared.reply.TheConstants.{MOST_COMMANDS};
 
 use crate::sender::{Accepted, BidderRow, bidder_rows, last_ticket};
@@ -41,15 +41,20 @@ impl Model for Auction {
 }
 
 impl Auction {
-    ghost use Rattle.hpb_auction.specs.View.{node_at, bidder_at, bidder_sender_at};
+    ghost use Rattle.hpb_rules.specs.declared.command.Command.{Command};
+    ghost use Rattle.hpb_rules.specs.Seen.{Shows};
+    ghost use Rattle.hpb_rules.specs.ValueLaws.{IsBestChoice};
+    ghost use Rattle.hpb_rules.specs.Values.{first_value, node_at, bidder_at, activity_of};
+    ghost use Rattle.hpb_auction.specs.Machine.{bidder_sender_at};
 
     /// The auction before its first command. Fails only where memory is refused.
     pub fn new(alloc: Global, definition: &Definition) -> Result<Self, AllocError>
-        ensures rules { IfOk result (λ a. a.rules ≡ definition.now) }
+        ensures value { IfOk result (λ a. a ≡ first_value definition.now) }
+        ensures empty { IfOk result (λ a. Shows a []) }
     {
         let definition = definition.copy(alloc)?;
-        let stages = definition.stage_count();
-        prove!(stages > 0);
+        let (nodes, stages) = (definition.node_count(), definition.stage_count());
+        prove!(nodes > 0 && stages > 0);
         let books = Books::new(alloc, definition.tree())?;
         let outcome = Outcome::new(alloc, definition.tree())?;
         let prices = Prices::new(alloc, definition.tree())?;
@@ -116,9 +121,11 @@ impl Auction {
         self.closed
     }
 
-    /// The sum of the winning bids, in whole dollars.
+    /// The sum of the winning bids, in whole dollars: of an auction that shows a history the greatest that
+    /// disjoint bids have, and the prices prove it.
     pub fn revenue(&self) -> u64
-        ensures { result ≡ self.now.revenue }
+        ensures value { result ≡ self.now.revenue }
+        ensures best { (history : List Command) → Shows self.now history → IsBestChoice self.now }
     {
         self.outcome.revenue()
     }
@@ -139,6 +146,7 @@ impl Auction {
         ensures price { result.price ≡ (node_at self.now node).price }
         ensures minimum { result.minimum ≡ (node_at self.now node).minimum }
         ensures wins { result.wins ≡ (node_at self.now node).wins }
+        ensures bidder { IfSome result.high (λ offer. offer.bidder < length self.now.rules.bidders) }
     {
         NodeView {
             high: self.books.standing(node),
@@ -153,6 +161,7 @@ impl Auction {
     pub fn bidder_view(&self, bidder: BidderId) -> BidderView
         requires { bidder < length self.now.rules.bidders }
         ensures eligibility { result.eligibility ≡ (bidder_at self.now bidder).eligibility }
+        ensures activity { result.activity ≡ activity_of self.now bidder }
         ensures ticket { result.ticket ≡ (bidder_sender_at self.now bidder).ticket }
     {
         let row = &self.bidders[bidder.place()];

@@ -1,6 +1,13 @@
-ghost use Rattle.std.specs.Prelude.{◌≡◌, ◌+◌, ◌<◌, ◌≤◌, length, IsNone, Ok, None, IfOk};
+ghost use Rattle.std.specs.Prelude.{◌≡◌, ℕ, ◌+◌, ◌<◌, ◌≤◌, List, length, Ok, None, IfOk, IfErr};
+ghost use Rattle.hpb_rules.specs.declared.command.Command.TheVariants.{Bid, Stage};
 ghost use Rattle.hpb_rules.specs.declared.reply.TheConstants.{MOST_AMOUNT, MOST_COMMANDS};
+ghost use Rattle.hpb_rules.specs.Answer.{answer, unknown};
+ghost use Rattle.hpb_rules.specs.History.{sender_of};
+ghost use Rattle.hpb_rules.specs.Seen.{Shows};
+ghost use Rattle.hpb_rules.specs.Values.{sender_at, fault_in, reply_in};
 ghost use Rattle.hpb_tree.specs.declared.definition.TheConstants.{MOST_STAGES};
+ghost use Rattle.hpb_auction.specs.Machine.{CanTake, IsKnown, IsNext, bidder_sender_at};
+ghost use Rattle.hpb_auction.specs.Verdicts.{reply_of, IfNew, IfRepeat, IsFoundIn};
 
 use crate::auction::Auction;
 use crate::sender::Accepted;
@@ -9,20 +16,24 @@ use hpb_rules::{BidderId, Command, MOST_AMOUNT, NodeId, Reply, refusal};
 use hpb_units::fits;
 
 impl Auction {
-    ghost use Rattle.hpb_auction.specs.Verdicts.{reply_of, IfNew};
-    ghost use Rattle.hpb_auction.specs.Machine.{CanTake, IsKnown};
-
-    /// What the command would be answered. Nothing changes.
+    /// What the command would be answered: what the rules answer it after each history that the auction
+    /// shows. Nothing changes.
     ///
     /// Refusals, the first that holds: 11 `bidder`, 12 `node`, 13 `old`, 14 `ticket`, 15 `gap`, 26 `limit`,
     /// 20 `closed`; of a bid 21 `step`, 22 `low`, 23 `high`, 24 `again`, 25 `eligibility`; of a stage 27 `stage`.
-    pub fn judge(&self, command: &Command) -> Reply {
+    #[tactic(auto, using(crate::proofs::Histories::answered))]
+    pub fn judge(&self, command: &Command) -> Reply
+        ensures value { result ≡ reply_in self.now command.now }
+        ensures history { (history : List Command) → Shows self.now history → result ≡ answer self.now.rules history command.now }
+    {
         self.verdict(command).reply()
     }
 
     /// What becomes of a command.
     pub(crate) fn verdict(&self, command: &Command) -> Verdict
-        ensures new { IfNew result (λ number. (number ≡ self.now.count + 1) × (number ≤ MOST_COMMANDS) × CanTake self.now command.now) }
+        ensures reply { reply_of result ≡ reply_in self.now command.now }
+        ensures new { IfNew result (λ number. (number ≡ self.now.count + 1) × (number ≤ MOST_COMMANDS) × IsKnown self.now command.now × CanTake self.now command.now × IsNext self.now command.now) }
+        ensures repeat { IfRepeat result (λ number. number ≤ self.now.count) }
     {
         let last = match self.last_of(command) {
             Ok(last) => last,
@@ -36,7 +47,9 @@ impl Auction {
 
     /// The last command of a command's sender, or the refusal of a bidder or a node that the definition hasn't.
     fn last_of(&self, command: &Command) -> Result<Option<&Accepted>, u8>
-        ensures { IfOk result (λ _. IsKnown self.now command.now) }
+        ensures known { IfOk result (λ _. IsKnown self.now command.now × (unknown self.now.rules command.now ≡ None)) }
+        ensures found { IfOk result (λ last. IsFoundIn (sender_at self.now (sender_of command.now)) self.now.count last) }
+        ensures refused { IfErr result (λ code. unknown self.now.rules command.now ≡ Some code) }
     {
         match command {
             Command::Bid { bidder, node, .. } => self.last_bid_of(*bidder, *node),
@@ -46,6 +59,8 @@ impl Auction {
 
     fn last_bid_of(&self, bidder: BidderId, node: NodeId) -> Result<Option<&Accepted>, u8>
         ensures known { IfOk result (λ _. (bidder < length self.now.rules.bidders) × (node < length self.now.rules.nodes)) }
+        ensures found { IfOk result (λ last. IsFoundIn (bidder_sender_at self.now bidder) self.now.count last) }
+        ensures refused { (ticket amount : ℕ) → IfErr result (λ code. unknown self.now.rules (Bid bidder ticket node amount) ≡ Some code) }
     {
         let row = bidder.place();
         if row >= self.bidders.len() {
@@ -60,7 +75,8 @@ impl Auction {
     /// What is wrong with a command of the definition's bidders and nodes, whatever its ticket is.
     fn fault(&self, command: &Command) -> Option<u8>
         requires { IsKnown self.now command.now }
-        ensures { result ≡ None → CanTake self.now command.now }
+        ensures value { result ≡ fault_in self.now command.now }
+        ensures none { result ≡ None → CanTake self.now command.now }
     {
         match *command {
             Command::Bid {
@@ -77,7 +93,8 @@ impl Auction {
     fn bid_fault(&self, bidder: BidderId, node: NodeId, amount: u64) -> Option<u8>
         requires bidder { bidder < length self.now.rules.bidders }
         requires node { node < length self.now.rules.nodes }
-        ensures { result ≡ None → amount ≤ MOST_AMOUNT }
+        ensures value { (ticket : ℕ) → result ≡ fault_in self.now (Bid bidder ticket node amount) }
+        ensures none { result ≡ None → amount ≤ MOST_AMOUNT }
     {
         if amount % u64::from(self.definition.step()) != 0 {
             return Some(refusal::STEP);
@@ -100,6 +117,7 @@ impl Auction {
     }
 
     fn stage_fault(&self) -> Option<u8>
+        ensures value { (ticket : ℕ) → result ≡ fault_in self.now (Stage ticket) }
         ensures further { result ≡ None → self.now.stage < length self.now.rules.stages }
         ensures within { result ≡ None → self.now.stage < MOST_STAGES }
     {

@@ -1,8 +1,10 @@
-ghost use Rattle.std.specs.Prelude.{◌≡◌, ◌≤◌, length, IfOk};
+ghost use Rattle.std.specs.Prelude.{◌≡◌, ℕ, ◌<◌, ◌≤◌, length, IfOk};
 ghost use Rattle.hpb_rules.specs.History.{ticket_of};
 ghost use Rattle.hpb_rules.specs.declared.id.TheConstants.{MOST_BIDDERS};
 ghost use Rattle.hpb_winners.specs.Outcome.{IsSized};
 ghost use Rattle.hpb_auction.specs.Verdicts.{last_ticket};
+ghost use Rattle.hpb_auction.specs.View.{row_at};
+ghost use Rattle.hpb_auction.specs.Rows.{first_rows, renewed};
 
 use hpb_bids::Books;
 use hpb_rules::{BidderId, Command};
@@ -51,8 +53,8 @@ pub(crate) fn bidder_rows(
     alloc: Global,
     definition: &Definition,
 ) -> Result<Vec<BidderRow>, AllocError>
-    ensures rows { IfOk result (λ rows. length rows.items ≡ length definition.now.bidders) }
-    ensures most { IfOk result (λ rows. length rows.items ≤ MOST_BIDDERS) }
+    ensures rows { IfOk result (λ rows. rows.items ≡ first_rows definition.now) }
+    ensures most { length definition.now.bidders ≤ MOST_BIDDERS }
 {
     let mut rows = Vec::new(alloc);
     for place in 0..definition.bidder_count() {
@@ -77,6 +79,8 @@ pub(crate) fn renew_eligibility(
     requires some { 50 ≤ percentage }
     requires most { percentage ≤ 100 }
     requires outcome { IsSized tree.now.nodes outcome.now }
+    ensures length { length rows.new ≡ length rows.old }
+    ensures rows { (b : ℕ) → b < length rows.old → row_at rows.new b ≡ renewed tree.now.nodes books.now outcome.now percentage b (row_at rows.old b) }
 {
     for place in 0..rows.len() {
         let used = activity(tree, books, outcome, BidderId::new(place));

@@ -1,6 +1,7 @@
-ghost use Rattle.std.specs.Prelude.{◌≡◌, ◌+◌, ◌≤◌, IfSome, None};
+ghost use Rattle.std.specs.Prelude.{◌≡◌, suc, ◌+◌, ◌≤◌, IfSome, None};
 ghost use Rattle.hpb_rules.specs.Answer.{repeated};
-ghost use Rattle.hpb_auction.specs.Verdicts.{reply_of, last_of, ticket_reply, state_reply, told, IfNew};
+ghost use Rattle.hpb_auction.specs.Verdicts.{reply_of, last_of, last_number, last_ticket, ticket_reply, state_reply, told, IfNew, IfRepeat};
+ghost use Rattle.hpb_rules.specs.History.{ticket_of};
 
 use crate::sender::{Accepted, last_ticket, ticket};
 use hpb_rules::{Command, MOST_COMMANDS, Reply, refusal};
@@ -32,6 +33,8 @@ impl Verdict {
 pub(crate) fn by_ticket(command: &Command, last: Option<&Accepted>) -> Option<Verdict>
     ensures reply { told result ≡ ticket_reply command.now last.entry }
     ensures never_new { IfSome result (λ verdict. IfNew verdict (λ _. ⊥)) }
+    ensures repeat { IfSome result (λ verdict. IfRepeat verdict (λ number. number ≡ last_number last.entry)) }
+    ensures next { result ≡ None → ticket_of command.now ≡ suc (last_ticket last.entry) }
 {
     let given = ticket(command);
     let before = last_ticket(last);
@@ -51,6 +54,7 @@ pub(crate) fn by_ticket(command: &Command, last: Option<&Accepted>) -> Option<Ve
 fn by_repeat(command: &Command, last: Option<&Accepted>) -> Verdict
     ensures reply { reply_of result ≡ repeated command.now (last_of last.entry) }
     ensures never_new { IfNew result (λ _. ⊥) }
+    ensures repeat { IfRepeat result (λ number. number ≡ last_number last.entry) }
 {
     match last {
         Some(accepted) if accepted.command == *command => Verdict::Repeat(accepted.number),
@@ -64,6 +68,7 @@ fn by_repeat(command: &Command, last: Option<&Accepted>) -> Verdict
 pub(crate) fn by_state(count: u32, closed: bool, fault: Option<u8>) -> Verdict
     ensures reply { reply_of result ≡ state_reply count closed fault }
     ensures new { IfNew result (λ number. (number ≡ count + 1) × (number ≤ MOST_COMMANDS) × (fault ≡ None)) }
+    ensures never_repeat { IfRepeat result (λ _. ⊥) }
 {
     if count >= MOST_COMMANDS {
         return Verdict::Refused(refusal::LIMIT);

@@ -1,18 +1,17 @@
 -- The books after each kind of command.
 use Rattle.std.proofs.Common.{◌≡◌, ℕ, zero, suc, ◌<◌, ◌≤◌, ◌^◌, Bool, true, false, ◌&&◌, ◌||◌, eqb, List, [], ◌∷◌, map, length, get_or, set, eq-eqb, Option, Some, None, max, refl, sym, ap, ◌∙◌, ⊎_elim, arith, subst}
-use Rattle.std.specs.Prelude.{All, not, IsTrue, ◌↔◌, ◌==◌, nat_lt, if◌then◌else◌, bit_or}
+use Rattle.std.specs.Prelude.{◌==◌, nat_lt, if◌then◌else◌, bit_or}
 use Rattle.std.specs.Int.{bit_at}
-use Rattle.std.specs.List.{list_any}
 use Rattle.std.proofs.lemmas.Bool.{cases_eq, cases_lt, ne_eqb, lt-ltb, le-ltb}
-use Rattle.std.proofs.lemmas.List.{get_or-set_same, get_or-set_other, get_or_past}
+use Rattle.std.proofs.lemmas.List.{get_or-set_same, get_or-set_other}
 use Rattle.std.proofs.lemmas.Nat.Bits.{bit_at_or, bit_at-pow_same, bit_at-pow_other, bit_at-zero, bit_at-lt}
 use Rattle.hpb_rules.specs.declared.command.Offer.{Offer}
 use Rattle.hpb_rules.specs.declared.command.Command.{Command}
 use Rattle.hpb_rules.specs.declared.command.Command.TheVariants.{Bid, Close, Stage}
 use Rattle.hpb_rules.specs.declared.id.TheConstants.{MOST_BIDDERS, MOST_NODES}
-use Rattle.hpb_rules.specs.History.{amount_of, greatest_bid, is_bid, open_round, high, incoming, bid_on}
-use Rattle.hpb_bids.specs.View.{BooksView, IsBooks, IsQuiet, IsEmpty, offer_at, greater, merged, placed, folded}
-use Rattle.hpb_bids.specs.Holds.{Holds, IsCounted}
+use Rattle.hpb_rules.specs.History.{amount_of, greater, greatest_bid, high, incoming, bid_on}
+use Rattle.hpb_bids.specs.View.{BooksView, IsBooks, IsQuiet, IsEmpty, offer_at, has_bid, merged, placed, folded}
+use Rattle.hpb_bids.specs.Holds.{Holds}
 
 greater_newer : (o n : Option Offer) → amount_of o < amount_of n → greater o n ≡ n
 greater_newer o n h = ap (λ t. if t then n else o) (lt-ltb (amount_of o) (amount_of n) h)
@@ -104,42 +103,25 @@ placed_holds old new b n a sized i j e past t h = subst (λ v. Holds v (Bid b t 
   bids = λ c m k l. placed_mask old.bids b n c m (bid_on past c m) (omega (arith, sized.bids)) (h.bids c m k l);
 })
 
--- ---- a round without a bid
+-- ---- what a bid and a close leave, place by place
 
-quiet_round : (past : List Command) → list_any is_bid (open_round past) ≡ false → (n : ℕ) → incoming past n ≡ None
-quiet_round [] e n = refl
-quiet_round (Bid b t m a ∷ past) e n = cc
-quiet_round (Close t ∷ past) e n = refl
-quiet_round (Stage t ∷ past) e n = quiet_round past e n
+pub placed_offers : (old new : BooksView) (b n a : ℕ) → IsBooks old → n < MOST_NODES → new ≡ placed old b n a
+    → (m : ℕ) → offer_at new.incoming m ≡ (if n == m then greater (offer_at old.incoming m) (Some (record { amount = a; bidder = b })) else offer_at old.incoming m)
+placed_offers old new b n a sized h e m = ap (λ (v : BooksView). offer_at v.incoming m) e ∙ ⊎_elim
+    (λ f. subst (λ k. offer_at (set old.incoming n (greater (offer_at old.incoming n) (Some (record { amount = a; bidder = b })))) k ≡ (if n == k then greater (offer_at old.incoming k) (Some (record { amount = a; bidder = b })) else offer_at old.incoming k)) f
+    (get_or-set_same old.incoming n _ None (omega (arith, sized.incoming)) ∙ sym (ap (λ t. if t then greater (offer_at old.incoming n) (Some (record { amount = a; bidder = b })) else offer_at old.incoming n) (eq-eqb n n refl))))
+    (λ f. get_or-set_other old.incoming n m _ None (λ g. f (sym g)) ∙ sym (ap (λ t. if t then greater (offer_at old.incoming m) (Some (record { amount = a; bidder = b })) else offer_at old.incoming m) (ne_eqb n m f)))
+    (cases_eq n m)
 
--- the greater of a bid and an older one is more than 0 where the bid is
-greater_some : (o : Option Offer) (b a : ℕ) → 0 < a → 0 < amount_of (greater o (Some (record { amount = a; bidder = b })))
-greater_some o b a h = ⊎_elim
-    (λ p. omega (arith, ap amount_of (greater_newer o (Some (record { amount = a; bidder = b })) p)))
-    (λ p. omega (arith, ap amount_of (greater_older o (Some (record { amount = a; bidder = b })) p)))
-    (cases_lt (amount_of o) a)
+pub placed_bids : (old new : BooksView) (b n a : ℕ) → IsBooks old → b < MOST_BIDDERS → new ≡ placed old b n a
+    → (c m : ℕ) → has_bid new c m ≡ (((b == c) && (n == m)) || has_bid old c m)
+placed_bids old new b n a sized h e c m = ap (λ (v : BooksView). has_bid v c m) e ∙ placed_mask old.bids b n c m (has_bid old c m) (omega (arith, sized.bids)) refl
 
-loud_round : (past : List Command) → All IsCounted past → list_any is_bid (open_round past) ≡ true → (n : ℕ) × (n < MOST_NODES) × (0 < amount_of (incoming past n))
-loud_round [] h e = cc
-loud_round (Bid b t n a ∷ past) h e =
-    let counted : (n < MOST_NODES) × (0 < a) = h 0 (Bid b t n a) (omega arith) in (
-      n,
-      counted.0,
-      subst (λ hit. 0 < amount_of (if hit && nat_lt (amount_of (incoming past n)) a then Some (record { amount = a; bidder = b }) else incoming past n)) (sym (eq-eqb n n refl)) (greater_some (incoming past n) b a counted.1),
-    )
-loud_round (Close t ∷ past) h e = cc
-loud_round (Stage t ∷ past) h e = loud_round past (λ i d within. h (suc i) d (omega arith)) e
+pub folded_standing : (old new : BooksView) → IsBooks old → new ≡ folded old → (n : ℕ) → offer_at new.standing n ≡ greater (offer_at old.standing n) (offer_at old.incoming n)
+folded_standing old new sized e n = ap (λ (v : BooksView). offer_at v.standing n) e ∙ merged_at old.standing old.incoming n (sized.standing ∙ sym sized.incoming)
 
-none_past : (offers : List (Option Offer)) (size : ℕ) → length offers ≡ size → ((n : ℕ) → n < size → offer_at offers n ≡ None) → (n : ℕ) → offer_at offers n ≡ None
-none_past offers size e h n = ⊎_elim (h n) (λ past. get_or_past offers n None (omega arith)) (cases_lt n size)
+pub folded_incoming : (old new : BooksView) → new ≡ folded old → (n : ℕ) → offer_at new.incoming n ≡ None
+folded_incoming old new e n = ap (λ (v : BooksView). offer_at v.incoming n) e ∙ none_left old.incoming n
 
-pub quiet_holds : (books : BooksView) (quiet : Bool) → IsBooks books → IsTrue quiet ↔ IsQuiet books → (past : List Command) → All IsCounted past → Holds books past → quiet ≡ not (list_any is_bid (open_round past))
-quiet_holds books quiet sized e past counted h = by_answer (list_any is_bid (open_round past)) refl
-  where
-    off : (b : Bool) → (b ≡ true → ⊥) → b ≡ false
-    off true g = absurd (g refl)
-    off false g = refl
-
-    by_answer : (loud : Bool) → list_any is_bid (open_round past) ≡ loud → quiet ≡ not loud
-    by_answer false f = e.1 (none_past books.incoming MOST_NODES sized.incoming (λ n k. h.incoming n k ∙ quiet_round past f n))
-    by_answer true f = off quiet (λ t. let l = loud_round past counted f in omega (arith, l.2, ap amount_of (sym (h.incoming l.0 l.1) ∙ e.0 t l.0)))
+pub folded_quiet : (old new : BooksView) → new ≡ folded old → IsQuiet new
+folded_quiet old new e b = ap (λ (v : BooksView). get_or {A = ℕ} v.bids b 0) e ∙ zero_left old.bids b

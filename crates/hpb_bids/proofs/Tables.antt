@@ -8,8 +8,8 @@ use Rattle.std.proofs.Math.Seq.{map-set_same, take-append_seam}
 use Rattle.hpb_rules.specs.declared.command.Offer.{Offer}
 use Rattle.hpb_rules.specs.declared.id.TheConstants.{MOST_BIDDERS, MOST_NODES}
 use Rattle.hpb_rules.specs.declared.reply.TheConstants.{MOST_AMOUNT}
-use Rattle.hpb_rules.specs.History.{amount_of}
-use Rattle.hpb_bids.specs.View.{BooksView, IsBooks, greater, merged, placed, folded, IsQuiet}
+use Rattle.hpb_rules.specs.History.{amount_of, greater}
+use Rattle.hpb_bids.specs.View.{BooksView, IsBooks, merged, placed, folded, IsQuiet}
 use Rattle.hpb_bids.specs.Inside.{tables_view, received, closed, IsSmall}
 use Rattle.hpb_bids.specs.declared.books.NodeBids.{NodeBids}
 
@@ -95,13 +95,15 @@ small_all_closed nodes h = All-map IsSmall closed nodes (λ i d within. small_cl
 
 -- ---- a round without a bid
 
-each_quiet : (nodes : List NodeBids) → All (λ m. m.incoming ≡ None) nodes → (n : ℕ) → get_or (map (λ (m : NodeBids). m.incoming) nodes) n None ≡ None
-each_quiet [] h n = refl
+each_quiet : (masks : List ℕ) → All (λ m. m ≡ 0) masks → (b : ℕ) → get_or {A = ℕ} masks b 0 ≡ 0
+each_quiet [] h b = refl
 each_quiet (m ∷ ms) h zero = h 0 m (omega arith)
-each_quiet (m ∷ ms) h (suc n) = each_quiet ms (λ i d within. h (suc i) d (omega arith)) n
+each_quiet (m ∷ ms) h (suc b) = each_quiet ms (λ i d within. h (suc i) d (omega arith)) b
 
-all_quiet : (nodes : List NodeBids) → ((n : ℕ) → get_or (map (λ (m : NodeBids). m.incoming) nodes) n None ≡ None) → All (λ m. m.incoming ≡ None) nodes
-all_quiet nodes h i d within = sym (get_or-map (λ (m : NodeBids). m.incoming) nodes i d None within) ∙ h i
+all_quiet : (masks : List ℕ) → ((b : ℕ) → get_or {A = ℕ} masks b 0 ≡ 0) → All (λ m. m ≡ 0) masks
+all_quiet [] h i d within = absurd (omega arith)
+all_quiet (m ∷ ms) h zero d within = h 0
+all_quiet (m ∷ ms) h (suc i) d within = all_quiet ms (λ b. h (suc b)) i d (omega arith)
 
-pub quiet_view : (nodes : List NodeBids) (masks : List ℕ) (books : BooksView) (b : Bool) → tables_view nodes masks ≡ books → IsTrue b ↔ All (λ m. m.incoming ≡ None) nodes → IsTrue b ↔ IsQuiet books
-quiet_view nodes masks books b seen e = subst (λ v. IsTrue b ↔ IsQuiet v) seen (λ t. each_quiet nodes (e.0 t), λ q. e.1 (all_quiet nodes q))
+pub quiet_view : (nodes : List NodeBids) (masks : List ℕ) (books : BooksView) (b : Bool) → tables_view nodes masks ≡ books → IsTrue b ↔ All (λ m. m ≡ 0) masks → IsTrue b ↔ IsQuiet books
+quiet_view nodes masks books b seen e = subst (λ v. IsTrue b ↔ IsQuiet v) seen (λ t. each_quiet masks (e.0 t), λ q. e.1 (all_quiet masks q))

@@ -1,7 +1,6 @@
 -- What the books are to a list of accepted commands, the newest first.
 use Rattle.std.specs.Prelude.{◌≡◌, ℕ, ◌<◌, List}
 use Rattle.hpb_rules.specs.declared.command.Command.{Command}
-use Rattle.hpb_rules.specs.declared.command.Command.TheVariants.{Bid, Close, Stage}
 use Rattle.hpb_rules.specs.declared.id.TheConstants.{MOST_BIDDERS, MOST_NODES}
 use Rattle.hpb_rules.specs.History.{high, incoming, bid_on}
 use Rattle.hpb_bids.specs.View.{BooksView, offer_at, has_bid}
@@ -11,9 +10,3 @@ pub record Holds (books : BooksView) (past : List Command) : Type 0 where
   pub standing : (n : ℕ) → n < MOST_NODES → offer_at books.standing n ≡ high past n
   pub incoming : (n : ℕ) → n < MOST_NODES → offer_at books.incoming n ≡ incoming past n
   pub bids : (b n : ℕ) → b < MOST_BIDDERS → n < MOST_NODES → has_bid books b n ≡ bid_on past b n
-
--- a bid is on a node that a definition may have, and its amount is more than 0
-abbrev pub IsCounted : Command → Type 0
-IsCounted (Bid b t n a) = (n < MOST_NODES) × (0 < a)
-IsCounted (Close t) = Unit {0}
-IsCounted (Stage t) = Unit {0}

@@ -3,7 +3,8 @@ use Rattle.std.specs.Prelude.{◌≡◌, ℕ, ◌≤◌, List, map, length, Some
 use Rattle.hpb_rules.specs.declared.id.TheConstants.{MOST_BIDDERS, MOST_NODES}
 use Rattle.hpb_rules.specs.declared.reply.TheConstants.{MOST_AMOUNT}
 use Rattle.hpb_rules.specs.declared.command.Offer.{Offer}
-use Rattle.hpb_bids.specs.View.{BooksView, greater}
+use Rattle.hpb_rules.specs.History.{greater}
+use Rattle.hpb_bids.specs.View.{BooksView}
 use Rattle.hpb_bids.specs.declared.books.NodeBids.{NodeBids}
 use Rattle.hpb_bids.specs.declared.books.Books.TheInside.{Inside}
 

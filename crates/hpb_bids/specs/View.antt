@@ -1,10 +1,10 @@
 -- What the books stand for.
-use Rattle.std.specs.Prelude.{length, ◌≤◌, ◌≡◌, ℕ, ◌^◌, Bool, ◌==◌, nat_lt, List, [], ◌∷◌, map, Option, Some, None, slice_index, slice_index_or, slice_set, bit_or, if◌then◌else◌}
+use Rattle.std.specs.Prelude.{length, ◌≤◌, ◌≡◌, ℕ, ◌^◌, Bool, ◌==◌, List, [], ◌∷◌, map, Option, Some, None, slice_index, slice_index_or, slice_set, bit_or}
 use Rattle.std.specs.Int.{bit_at}
 use Rattle.hpb_rules.specs.declared.command.Offer.{Offer}
 use Rattle.hpb_rules.specs.declared.id.TheConstants.{MOST_BIDDERS, MOST_NODES}
 use Rattle.hpb_rules.specs.declared.reply.TheConstants.{MOST_AMOUNT}
-use Rattle.hpb_rules.specs.History.{amount_of}
+use Rattle.hpb_rules.specs.History.{amount_of, greater}
 
 -- of each node the high bid of closed rounds and the greatest of the open round, and of each bidder the nodes on which it bid in the open round: bit n of its number is for node n
 pub record BooksView : Type 0 where
@@ -23,10 +23,6 @@ bid_of books n = amount_of (offer_at books.standing n)
 -- whether the bidder bid on the node in the open round
 abbrev pub has_bid : BooksView → ℕ → ℕ → Bool
 has_bid books b n = bit_at (slice_index books.bids b) n == 1
-
--- the newer bid where it is more, and else the older
-abbrev pub greater : Option Offer → Option Offer → Option Offer
-greater older newer = if nat_lt (amount_of older) (amount_of newer) then newer else older
 
 -- each table has its size, and no high bid is above the greatest amount
 pub record IsBooks (books : BooksView) : Type 0 where
@@ -57,12 +53,12 @@ folded books = record {
   bids = map (λ _. 0) books.bids;
 }
 
--- the open round has no bid
+-- nobody bid in the open round
 abbrev pub IsQuiet : BooksView → Type 0
-IsQuiet books = (n : ℕ) → offer_at books.incoming n ≡ None
+IsQuiet books = (b : ℕ) → slice_index books.bids b ≡ 0
 
 -- nobody has bid
 pub record IsEmpty (books : BooksView) : Type 0 where
   pub standing : (n : ℕ) → offer_at books.standing n ≡ None
-  pub incoming : IsQuiet books
-  pub bids : (b : ℕ) → slice_index books.bids b ≡ 0
+  pub incoming : (n : ℕ) → offer_at books.incoming n ≡ None
+  pub bids : IsQuiet books

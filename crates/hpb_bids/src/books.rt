@@ -1,10 +1,9 @@
-ghost use Rattle.std.specs.List.{list_any};
-ghost use Rattle.std.specs.Prelude.{All, not, ℕ, List, [], ◌∷◌, ◌≡◌, ◌≤◌, ◌↔◌, IsTrue, IfOk, IfSome, slice_index, slice_set};
+ghost use Rattle.std.specs.Prelude.{ℕ, List, [], ◌∷◌, ◌≡◌, ◌≤◌, ◌↔◌, ◌==◌, ◌&&◌, ◌||◌, if◌then◌else◌, Some, None, IsTrue, IfOk, IfSome, slice_index, slice_set};
 ghost use Rattle.hpb_rules.specs.declared.command.Command.{Command};
 ghost use Rattle.hpb_rules.specs.declared.command.Command.TheVariants.{Bid, Close};
-ghost use Rattle.hpb_rules.specs.History.{amount_of, is_bid, open_round};
+ghost use Rattle.hpb_rules.specs.History.{amount_of, greater};
 ghost use Rattle.hpb_bids.specs.View.{offer_at, has_bid, placed, folded, IsBooks, IsQuiet, IsEmpty};
-ghost use Rattle.hpb_bids.specs.Holds.{Holds, IsCounted};
+ghost use Rattle.hpb_bids.specs.Holds.{Holds};
 
 use hpb_rules::{BidderId, MOST_AMOUNT, MOST_BIDDERS, MOST_NODES, NodeId, Offer};
 use hpb_tree::Tree;
@@ -118,18 +117,19 @@ impl Books {
         (self.bid_on(bidder) >> node.place()) & 1 == 1
     }
 
-    /// Whether the open round has no bid.
+    /// Whether nobody bid in the open round.
     pub fn is_quiet(&self) -> bool
-        ensures value { IsTrue result ↔ IsQuiet self.now }
-        ensures history { (past : List Command) → All IsCounted past → Holds self.now past → result ≡ not (list_any is_bid (open_round past)) }
+        ensures { IsTrue result ↔ IsQuiet self.now }
     {
-        self.nodes.iter().all(|bids| bids.incoming.is_none())
+        self.bids.iter().all(|nodes| *nodes == 0)
     }
 
     /// Takes a bid in the open round. It becomes the node's best where it is more than that.
     pub fn place(&mut self, bidder: BidderId, node: NodeId, amount: u64)
         requires { amount ≤ MOST_AMOUNT }
         ensures value { self.new ≡ placed self.old bidder node amount }
+        ensures incoming { (n : ℕ) → offer_at self.new.incoming n ≡ (if node == n then greater (offer_at self.old.incoming n) (Some (record { amount = amount; bidder = bidder })) else offer_at self.old.incoming n) }
+        ensures bids { (b n : ℕ) → has_bid self.new b n ≡ (((bidder == b) && (node == n)) || has_bid self.old b n) }
         ensures history { (past : List Command) (t : ℕ) → Holds self.old past → Holds self.new (Bid bidder t node amount ∷ past) }
     {
         let index = node.place();
@@ -140,6 +140,9 @@ impl Books {
     /// Closes the round: what was bid in it counts from now on, and the next round has no bid.
     pub fn fold_round(&mut self)
         ensures value { self.new ≡ folded self.old }
+        ensures standing { (n : ℕ) → offer_at self.new.standing n ≡ greater (offer_at self.old.standing n) (offer_at self.old.incoming n) }
+        ensures incoming { (n : ℕ) → offer_at self.new.incoming n ≡ None }
+        ensures quiet { IsQuiet self.new }
         ensures history { (past : List Command) (t : ℕ) → Holds self.old past → Holds self.new (Close t ∷ past) }
     {
         for bids in self.nodes.iter_mut() {

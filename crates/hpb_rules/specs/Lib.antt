@@ -13,6 +13,7 @@ pub mod MachineLaws
 pub mod TextLaws
 pub mod Seen
 pub mod Values
+pub mod ValueText
 pub mod ValueLaws
 pub mod Letters
 pub mod Machine

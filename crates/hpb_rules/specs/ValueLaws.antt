@@ -1,5 +1,5 @@
 -- The laws of values: without a history they answer and become what the history says, and their winners are the best choice.
-use Rattle.std.specs.Prelude.{◌≡◌, ◌≤◌, List, Bool, [], None}
+use Rattle.std.specs.Prelude.{◌≡◌, ◌≤◌, ℕ, List, Bool, [], None}
 use Rattle.hpb_rules.specs.declared.command.Command.{Command}
 use Rattle.hpb_rules.specs.Tree.{Rules}
 use Rattle.hpb_rules.specs.Drafts.{draft_refusal}
@@ -8,6 +8,8 @@ use Rattle.hpb_rules.specs.Prices.{IsCertificate}
 use Rattle.hpb_rules.specs.Answer.{answer_after, after, IsPast, replies_from, past_from}
 use Rattle.hpb_rules.specs.Seen.{Quantities, quantities}
 use Rattle.hpb_rules.specs.Values.{bid_of, price_of, wins_of, reply_in, next_value, first_value, value_after, replies_in}
+use Rattle.hpb_rules.specs.Text.{text_after}
+use Rattle.hpb_rules.specs.ValueText.{text_in}
 
 -- A value shows a past: what it shows of the history that is the past read backwards.
 abbrev pub ShowsPast : Quantities → List Command → Type 0
@@ -26,6 +28,10 @@ abbrev pub RunIsShown : Type 0
 RunIsShown = (rules : Rules) (commands : List Command)
     → ShowsPast (value_after (first_value rules) commands) (past_from rules [] commands)
     × (replies_in (first_value rules) commands ≡ replies_from rules [] commands)
+
+-- The text of an input from a value on is its text after the past that the value shows.
+abbrev pub TextIsShown : Type 0
+TextIsShown = (value : Quantities) (past : List Command) (input : List ℕ) → ShowsPast value past → text_in value input ≡ text_after value.rules past input
 
 -- The winners that a value shows are the winners by its high bids, its revenue is theirs and the greatest of all choices, and the prices that it shows certify it.
 pub record IsBestChoice (value : Quantities) : Type 0 where

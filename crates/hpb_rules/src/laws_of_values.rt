@@ -1,4 +1,4 @@
-ghost use Rattle.hpb_rules.specs.ValueLaws.{ReplyIsAnswer, NextIsShown, RunIsShown, RunIsBestChoice};
+ghost use Rattle.hpb_rules.specs.ValueLaws.{ReplyIsAnswer, NextIsShown, RunIsShown, TextIsShown, RunIsBestChoice};
 
 /// A value that shows a history answers each command as the history does.
 pub fn reply_is_answer()
@@ -14,6 +14,11 @@ pub fn next_is_shown()
 /// Over a whole run from the beginning the replies are those of the history, and the value shows it.
 pub fn run_is_shown()
     ensures { RunIsShown }
+{}
+
+/// The text of an input from a value on is its text after the history that the value shows.
+pub fn text_is_shown()
+    ensures { TextIsShown }
 {}
 
 /// At each point of a run under a definition that is not refused, the winners that are shown are disjoint bids of

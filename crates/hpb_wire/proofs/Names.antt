@@ -1,5 +1,5 @@
 -- Names by their places.
-use Rattle.std.proofs.Common.{◌≡◌, ℕ, zero, suc, ◌<◌, ◌≤◌, List, [], ◌∷◌, length, get_or, None, refl, arith}
+use Rattle.std.proofs.Common.{◌≡◌, ℕ, zero, suc, ◌<◌, List, [], ◌∷◌, length, get_or, None, refl, arith}
 use Rattle.hpb_rules.specs.Text.{node_name, bidder_name}
 use Rattle.hpb_rules.specs.Tree.{Node, Bidder}
 
@@ -18,8 +18,3 @@ pub node_name-get_or : (ns : List Node) (i : ℕ) (n : Node) → i < length ns �
 node_name-get_or [] i n h = absurd (omega arith)
 node_name-get_or (m ∷ ns) zero n h = refl
 node_name-get_or (m ∷ ns) (suc i) n h = node_name-get_or ns i n (omega arith)
-
-pub bidder_name-beyond : (bs : List Bidder) (i : ℕ) → length bs ≤ i → bidder_name bs i ≡ []
-bidder_name-beyond [] i h = refl
-bidder_name-beyond (b ∷ bs) zero h = absurd (omega arith)
-bidder_name-beyond (b ∷ bs) (suc i) h = bidder_name-beyond bs i (omega arith)

@@ -2,5 +2,4 @@ pub mod Numbers
 pub mod Requests
 pub mod Spelling
 pub mod Answers
-pub mod Views
 pub mod Laws

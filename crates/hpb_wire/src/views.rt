@@ -1,8 +1,6 @@
-ghost use Rattle.std.specs.Prelude.{◌≡◌, ◌<◌, length};
-ghost use Rattle.hpb_rules.specs.Text.{bidder_name};
-ghost use Rattle.hpb_auction.specs.View.{bidder_at, bidder_sender_at};
+ghost use Rattle.std.specs.Prelude.{◌≡◌, ◌<◌, length, IfSome};
+ghost use Rattle.hpb_rules.specs.ValueText.{shown_in, node_shown_in, bidder_shown_in, high_in};
 ghost use Rattle.hpb_wire.specs.Answers.{text_of, high_of};
-ghost use Rattle.hpb_wire.specs.Views.{auction_text, node_text_at, high_at, IfWho};
 
 use crate::answer::{Answer, BidderLine, HighBid, NodeLine, RoundLine};
 use hpb_auction::{Auction, BidderId, NodeId, Offer};
@@ -10,7 +8,7 @@ use hpb_tree::Definition;
 
 /// What `SHOW` is answered.
 pub fn show(auction: &Auction) -> Answer<'static>
-    ensures { text_of result ≡ auction_text auction.now }
+    ensures { text_of result ≡ shown_in auction.now }
 {
     Answer::Show(RoundLine {
         round: auction.round(),
@@ -24,7 +22,7 @@ pub fn show(auction: &Auction) -> Answer<'static>
 /// What `NODE` is answered of a node: how it stands by closed rounds.
 pub fn node(auction: &Auction, node: NodeId) -> Answer<'_>
     requires { node < length auction.now.rules.nodes }
-    ensures { text_of result ≡ node_text_at auction.now node }
+    ensures { text_of result ≡ node_shown_in auction.now node }
 {
     let definition = auction.definition();
     let view = auction.node_view(node);
@@ -40,9 +38,7 @@ pub fn node(auction: &Auction, node: NodeId) -> Answer<'_>
 /// What `WHO` is answered of a bidder.
 pub fn who(auction: &Auction, bidder: BidderId) -> Answer<'_>
     requires { bidder < length auction.now.rules.bidders }
-    ensures name { IfWho result (λ line. line.name.now ≡ bidder_name auction.now.rules.bidders bidder) }
-    ensures eligibility { IfWho result (λ line. line.eligibility ≡ (bidder_at auction.now bidder).eligibility) }
-    ensures ticket { IfWho result (λ line. line.ticket ≡ (bidder_sender_at auction.now bidder).ticket) }
+    ensures { text_of result ≡ bidder_shown_in auction.now bidder }
 {
     let view = auction.bidder_view(bidder);
     Answer::Who(BidderLine {
@@ -55,22 +51,12 @@ pub fn who(auction: &Auction, bidder: BidderId) -> Answer<'_>
 
 /// A high bid with its bidder's name.
 fn high_bid(definition: &Definition, high: Option<Offer>) -> Option<HighBid<'_>>
-    ensures { high_of result ≡ high_at definition.now high }
+    requires { IfSome high (λ offer. offer.bidder < length definition.now.bidders) }
+    ensures { high_of result ≡ high_in definition.now high }
 {
     let offer = high?;
     Some(HighBid {
         amount: offer.amount,
-        bidder: name_of(definition, offer.bidder),
+        bidder: definition.bidder_name(offer.bidder),
     })
-}
-
-/// A bidder's name, and no byte where the definition has no such bidder.
-fn name_of(definition: &Definition, bidder: BidderId) -> &str
-    ensures { result.now ≡ bidder_name definition.now.bidders bidder }
-{
-    if bidder.place() < definition.bidder_count() {
-        definition.bidder_name(bidder)
-    } else {
-        ""
-    }
 }

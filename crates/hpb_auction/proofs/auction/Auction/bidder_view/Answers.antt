@@ -1,8 +1,11 @@
 use Rattle.std.proofs.Common.{◌≡◌, ◌<◌, length, ap, sym, ◌∙◌, arith}
+use Rattle.hpb_rules.specs.Tree.{TreeRules}
 use Rattle.hpb_rules.specs.Seen.{Quantities, BidderView, SenderView}
+use Rattle.hpb_units.specs.Activity as units
 use Rattle.hpb_auction.specs.View.{row_at}
 use Rattle.hpb_auction.specs.declared.sender.BidderRow.{BidderRow}
 use Rattle.hpb_auction.proofs.Tables.{bidder_found, sender_found, row_found, ticket_seen}
+use Rattle.hpb_auction.proofs.Activities.{activity_found}
 use Rattle.hpb_auction.proofs.auction.Auction.bidder_view.Goals as goal
 
 read : (c : goal.After-last_ticket) → c.index-row.result.now ≡ row_at c.self.inside.bidders.items c.args.bidder
@@ -20,3 +23,9 @@ returns-clause-ticket c =
     c.last_ticket.ensures
     ∙ ticket_seen c.as_ref.result _ (c.as_ref.ensures.value ∙ ap (λ (r : BidderRow). r.last) (read c))
     ∙ sym (ap (λ (v : SenderView). v.ticket) (sender_found c.self.inside _ c.self.view_is c.args.bidder c.requires))
+
+pub returns-clause-activity : goal.returns-clause-activity
+returns-clause-activity c =
+    c.activity.ensures
+    ∙ ap (λ (t : TreeRules). units.activity_of t.nodes c.self.inside.books c.self.inside.outcome c.args.bidder) c.tree.ensures
+    ∙ sym (activity_found c.self.inside c.args.self.now c.self.view_is c.args.bidder c.requires)

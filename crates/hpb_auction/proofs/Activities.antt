@@ -1,0 +1,96 @@
+-- A bidder's activity by the tables is its activity by what is known.
+use Rattle.std.proofs.Common.{◌≡◌, ℕ, ◌+◌, ◌<◌, ◌≤◌, Bool, true, false, ◌&&◌, ◌||◌, eqb, [], length, refl, sym, ap, ◌∙◌, arith, subst}
+use Rattle.std.specs.Prelude.{◌==◌}
+use Rattle.std.specs.List.{list_any, range_with_len}
+use Rattle.std.proofs.lemmas.Bool.{eq-eqb, eqb-true, both_ways}
+use Rattle.hpb_rules.specs.Tree.{sum_over, at_or_under, units_at}
+use Rattle.hpb_rules.specs.History.{is_of}
+use Rattle.hpb_rules.specs.Seen.{NodeView, Quantities}
+use Rattle.hpb_rules.specs.Values.{is_active, activity_of, activity_with}
+use Rattle.hpb_rules.proofs.Ranges.{found_in, finds_in}
+use Rattle.hpb_rules.proofs.Readings.{units_same}
+use Rattle.hpb_units.specs.Activity as units
+use Rattle.hpb_auction.specs.declared.auction.Auction.TheInside.{Inside}
+use Rattle.hpb_auction.specs.View.{quantities_of}
+use Rattle.hpb_auction.proofs.Tables.{node_here, flag_here}
+
+both : (x y : Bool) → (x && y) ≡ true → (x ≡ true) × (y ≡ true)
+both true y e = (refl, e)
+both false y e = absurd (both_ways false refl e)
+
+pub one_of : (x y : Bool) → (x || y) ≡ true → (x ≡ false → y ≡ true)
+one_of true y e f = absurd (both_ways true f refl)
+one_of false y e f = e
+
+-- two answers that imply each other are one
+pub same_answer : (a b : Bool) → (a ≡ true → b ≡ true) → (b ≡ true → a ≡ true) → a ≡ b
+same_answer true b f g = sym (f refl)
+same_answer false true f g = g refl
+same_answer false false f g = refl
+
+-- what is found under one node more
+one_more : (under active : ℕ → Bool) (on a k : ℕ) → a ≤ on → on < a + k
+    → list_any (λ n. under n && ((on == n) || active n)) (range_with_len a k) ≡ (list_any (λ n. under n && active n) (range_with_len a k) || under on)
+one_more under active on a k from to = same_answer _ _ there back
+  where
+    older : ℕ → Bool
+    older n = under n && active n
+
+    newer : ℕ → Bool
+    newer n = under n && ((on == n) || active n)
+
+    right : (x y : Bool) → y ≡ true → (x || y) ≡ true
+    right true y e = refl
+    right false y e = e
+
+    left : (x y : Bool) → x ≡ true → (x || y) ≡ true
+    left true y e = refl
+    left false y e = absurd (both_ways false refl e)
+
+    and : (x y : Bool) → x ≡ true → y ≡ true → (x && y) ≡ true
+    and true y e f = f
+    and false y e f = absurd (both_ways false refl e)
+
+    there : list_any newer (range_with_len a k) ≡ true → (list_any older (range_with_len a k) || under on) ≡ true
+    there e =
+        let f : (n : ℕ) × (a ≤ n) × (n < a + k) × (newer n ≡ true) = found_in newer a k e in
+        let g : (under f.0 ≡ true) × (((on == f.0) || active f.0) ≡ true) = both (under f.0) ((on == f.0) || active f.0) f.3 in
+        by f.0 f.1 f.2 g.0 g.1 (eqb on f.0) refl
+      where
+        by : (n : ℕ) → a ≤ n → n < a + k → under n ≡ true → ((on == n) || active n) ≡ true → (b : Bool) → eqb on n ≡ b → (list_any older (range_with_len a k) || under on) ≡ true
+        by n l h u v true p = right (list_any older (range_with_len a k)) (under on) (ap under (eqb-true on n p) ∙ u)
+        by n l h u v false p = left (list_any older (range_with_len a k)) (under on) (finds_in older a k n l h (and (under n) (active n) u (one_of (on == n) (active n) v p)))
+
+    back : (list_any older (range_with_len a k) || under on) ≡ true → list_any newer (range_with_len a k) ≡ true
+    back e = by (list_any older (range_with_len a k)) refl
+      where
+        by : (b : Bool) → list_any older (range_with_len a k) ≡ b → list_any newer (range_with_len a k) ≡ true
+        by true p =
+            let f : (n : ℕ) × (a ≤ n) × (n < a + k) × (older n ≡ true) = found_in older a k p in
+            let g : (under f.0 ≡ true) × (active f.0 ≡ true) = both (under f.0) (active f.0) f.3 in
+            finds_in newer a k f.0 f.1 f.2 (and (under f.0) ((on == f.0) || active f.0) g.0 (right (on == f.0) (active f.0) g.1))
+        by false p = finds_in newer a k on from to (and (under on) ((on == on) || active on) (one_of (list_any older (range_with_len a k)) (under on) e p) (left (on == on) (active on) (eq-eqb on on refl)))
+
+module _ (a : Inside) where
+  active_here : (b n : ℕ) → b < length a.definition.bidders → n < length a.definition.nodes → is_active (quantities_of a) b n ≡ units.is_active_on a.books a.outcome b n
+  active_here b n h k = either _ _ _ _ (flag_here a b n h k) (ap (λ (v : NodeView). v.wins && is_of b v.high) (node_here a n k))
+    where
+      either : (x y v w : Bool) → x ≡ y → v ≡ w → (x || v) ≡ (y || w)
+      either x y v w e f = cc
+
+  pub activity_here : (b : ℕ) → b < length a.definition.bidders → activity_of (quantities_of a) b ≡ units.activity_of a.definition.nodes a.books a.outcome b
+  activity_here b h = units_same a.definition [] (is_active (quantities_of a) b) (units.is_active_on a.books a.outcome b) (λ n k. active_here b n h k)
+
+  pub activity_with_here : (b on : ℕ) → b < length a.definition.bidders → on < length a.definition.nodes → activity_with (quantities_of a) b on ≡ units.activity_with a.definition.nodes a.books a.outcome b on
+  activity_with_here b on h k =
+      units_same a.definition [] (λ node. (on == node) || is_active (quantities_of a) b node) (λ node. (on == node) || units.is_active_on a.books a.outcome b node)
+      (λ n l. ap (λ t. (on == n) || t) (active_here b n h l))
+      ∙ ap (λ (test : ℕ → Bool). sum_over a.definition.nodes test (units_at a.definition.nodes))
+      (λ i. λ licence. one_more (λ n. at_or_under a.definition.nodes n licence) (units.is_active_on a.books a.outcome b) on 0 (length a.definition.nodes) (omega arith) (omega arith) i)
+
+module _ (a : Inside) (q : Quantities) (seen : quantities_of a ≡ q) where
+  pub activity_found : (b : ℕ) → b < length q.rules.bidders → activity_of q b ≡ units.activity_of a.definition.nodes a.books a.outcome b
+  activity_found b h = subst (λ (q : Quantities). b < length q.rules.bidders → activity_of q b ≡ units.activity_of a.definition.nodes a.books a.outcome b) seen (activity_here a b) h
+
+  pub activity_with_found : (b on : ℕ) → b < length q.rules.bidders → on < length q.rules.nodes → activity_with q b on ≡ units.activity_with a.definition.nodes a.books a.outcome b on
+  activity_with_found b on h k = subst (λ (q : Quantities). b < length q.rules.bidders → on < length q.rules.nodes → activity_with q b on ≡ units.activity_with a.definition.nodes a.books a.outcome b on) seen (activity_with_here a b on) h k

@@ -1,0 +1,21 @@
+-- The rows of bidders.
+use Rattle.std.specs.Prelude.{ℕ, ◌*◌, ◌/◌, List, map, min, None}
+use Rattle.hpb_rules.specs.Tree.{Rules, Node}
+use Rattle.hpb_rules.specs.History.{bidder_units}
+use Rattle.hpb_bids.specs.View.{BooksView}
+use Rattle.hpb_winners.specs.Outcome.{OutcomeView}
+use Rattle.hpb_units.specs.Activity.{activity_of}
+use Rattle.hpb_auction.specs.declared.sender.BidderRow.{BidderRow}
+use Rattle.hpb_auction.specs.View.{bidder_places}
+
+-- A bidder's row before the first command: the units that it starts with.
+abbrev pub first_row : Rules → ℕ → BidderRow
+first_row rules bidder = record { eligibility = bidder_units rules bidder; last = None }
+
+-- The rows before the first command.
+abbrev pub first_rows : Rules → List BidderRow
+first_rows rules = map (first_row rules) (bidder_places rules)
+
+-- A bidder's row after a close: its eligibility is at most what its activity allows under the percentage.
+abbrev pub renewed : List Node → BooksView → OutcomeView → ℕ → ℕ → BidderRow → BidderRow
+renewed nodes books outcome percentage bidder row = record row { eligibility = min row.eligibility (activity_of nodes books outcome bidder * 100 / percentage) }
