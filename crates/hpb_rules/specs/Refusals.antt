@@ -1,7 +1,7 @@
 -- The word of each refusal.
 -- Source: this project's own.
 use Rattle.std.specs.Prelude.{ℕ, List, [], ◌∷◌, ◌==◌, codes, if◌then◌else◌}
-use Rattle.hpb_rules.specs.declared.refusal.TheConstants.{LINE, BIDDER, NODE, OLD, TICKET, GAP, CLOSED, STEP, LOW, HIGH, AGAIN, ELIGIBILITY, LIMIT, STAGE, EMPTY, NAME, DUPLICATE, PARENT, CHILDREN, LEAF, LIMITS, TERMS, JSON, FIELD, NUMBER, MEMORY, STREAM}
+use Rattle.hpb_rules.specs.declared.refusal.TheConstants.{LINE, BIDDER, NODE, OLD, TICKET, GAP, CLOSED, STEP, LOW, HIGH, AGAIN, ELIGIBILITY, LIMIT, STAGE, EMPTY, NAME, DUPLICATE, PARENT, CHILDREN, LEAF, LIMITS, TERMS, JSON, FIELD, NUMBER, MEMORY, STREAM, FAILED}
 
 -- The numbers of the refusals with their words.
 abbrev pub words : List (ℕ × List ℕ)
@@ -32,7 +32,8 @@ words =
     ∷ (FIELD, codes "field")
     ∷ (NUMBER, codes "number")
     ∷ (MEMORY, codes "memory")
-    ∷ (STREAM, codes "stream") ∷ []
+    ∷ (STREAM, codes "stream")
+    ∷ (FAILED, codes "failed") ∷ []
 
 -- The word beside a number in a table, and `unknown` where it is not there.
 abbrev pub word_in : List (ℕ × List ℕ) → ℕ → List ℕ

@@ -55,6 +55,8 @@ pub const NUMBER: u8 = 62;
 pub const MEMORY: u8 = 90;
 /// A reader or a writer failed, or too much was read.
 pub const STREAM: u8 = 92;
+/// What was asked can't be shown or done any more until the auction is opened anew.
+pub const FAILED: u8 = 93;
 
 /// The word that stands behind a refusal's number in an `ERR` line. A number that is no refusal's has
 /// the word `unknown`.
@@ -89,6 +91,7 @@ pub fn word(code: u8) -> &'static str
         NUMBER => "number",
         MEMORY => "memory",
         STREAM => "stream",
+        FAILED => "failed",
         _ => "unknown",
     }
 }

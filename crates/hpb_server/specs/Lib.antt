@@ -3,3 +3,8 @@ pub mod Reading
 pub mod Input
 pub mod Writing
 pub mod Words
+pub mod Desk
+pub mod Serving
+pub mod Session
+pub mod Script
+pub mod ScriptLaws

@@ -41,11 +41,15 @@ TakesPart most before after old new true =
 TakesPart most before after old new false =
     HasNoEnd before.unread × (after.unread ≡ []) × (new ≡ take most (old ++ before.unread)) × (after.budget ≡ before.budget)
 
+-- these bytes were taken, and so much less may be read
+abbrev pub TakesWithin : (old new : Option (List ℕ)) (before after : ℕ) → List ℕ → Type 0
+TakesWithin old new before after bytes = Consumes old new bytes × (length bytes + after ≡ before)
+
 -- what stands behind the bytes of a definition: its end, or nothing more that is of use
-abbrev pub EndsDefinition : (old new : Option (List ℕ)) (after : Pending) (bytes : List ℕ) → Bool → Type 0
-EndsDefinition old new after bytes true = Consumes old new (bytes ++ LINE_FEED ∷ after.unread)
-EndsDefinition old new after bytes false = Consumes old new bytes × ((MOST_BYTES < length bytes) ⊎ IsAtEnd new)
+abbrev pub EndsDefinition : (old new : Option (List ℕ)) (budget : ℕ) (after : Pending) (bytes : List ℕ) → Bool → Type 0
+EndsDefinition old new budget after bytes true = TakesWithin old new budget after.budget (bytes ++ LINE_FEED ∷ after.unread)
+EndsDefinition old new budget after bytes false = TakesWithin old new budget after.budget bytes × ((MOST_BYTES < length bytes) ⊎ IsAtEnd new)
 
 -- the first line was read, and so much of it is kept
-abbrev pub GivesDefinition : (old new : Option (List ℕ)) (after : Pending) (text : DefinitionText) → Type 0
-GivesDefinition old new after text = (bytes : List ℕ) × HasNoEnd bytes × (text.bytes.items ≡ take KEPT_DEFINITION_BYTES bytes) × EndsDefinition old new after bytes text.has_end
+abbrev pub GivesDefinition : (old new : Option (List ℕ)) (budget : ℕ) (after : Pending) (text : DefinitionText) → Type 0
+GivesDefinition old new budget after text = (bytes : List ℕ) × HasNoEnd bytes × (text.bytes.items ≡ take KEPT_DEFINITION_BYTES bytes) × EndsDefinition old new budget after bytes text.has_end

@@ -1,9 +1,7 @@
 -- What a writer takes.
-use Rattle.std.specs.Prelude.{ℕ, ◌≤◌, List, length, take, Option, Result, Ok, Err, ⊤}
+use Rattle.std.specs.Prelude.{◌≡◌, ℕ, ◌≤◌, List, ◌++◌, length, take, Option, Result, Ok, Err, ⊤}
 use Rattle.std.specs.Io.KnownBytes.{Appends, Keeps}
-use Rattle.hpb_rules.specs.declared.reply.Reply.TheVariants as replies
-use Rattle.hpb_wire.specs.declared.answer.Answer.{Answer}
-use Rattle.hpb_wire.specs.declared.answer.Answer.TheVariants as answers
+use Rattle.hpb_rules.specs.Text.{line_of}
 use Rattle.hpb_server.specs.declared.fault.Fault.{Fault}
 
 -- a front was taken, or nothing
@@ -16,6 +14,7 @@ abbrev pub Sends : Option (List ℕ) → Option (List ℕ) → List ℕ → Resu
 Sends old new bytes (Ok done) = Appends old new bytes
 Sends old new bytes (Err e) = (n : ℕ) × Appends old new (take n bytes)
 
--- the answer that refuses by a number
-abbrev pub refusal : ℕ → Answer
-refusal code = answers.Reply (replies.Refused code)
+-- An answer was added with the end of its line, or nothing.
+abbrev pub Adds : {E : Type 0} → (old new answer : List ℕ) → Result ⊤ E → Type 0
+Adds old new answer (Ok done) = new ≡ old ++ line_of answer
+Adds old new answer (Err fault) = new ≡ old

@@ -8,10 +8,21 @@ use std::marker::Model;
 
 /// Whom a session asks: the auction of a script, or a seat of a house.
 pub trait Desk {
+    ghost use Rattle.std.specs.Prelude.{Option};
     ghost use Rattle.hpb_rules.specs.Tree.{Rules};
+    ghost use Rattle.hpb_rules.specs.Seen.{Quantities};
+    ghost use Rattle.hpb_rules.specs.declared.command.Command.{Command as Asked};
+    ghost use Rattle.hpb_rules.specs.declared.reply.Reply.{Reply as Answered};
+    ghost use Rattle.hpb_server.specs.Desk.{seen};
 
     /// What the definition says.
     ghost rules: { Self → Rules };
+
+    /// A desk that is asked for a command may give this reply and be this desk afterwards.
+    ghost asks: { Self → Asked → Answered → Self → Type 0 };
+
+    /// A desk may show this, or nothing any more, and be this desk afterwards.
+    ghost looks: { Self → Option Quantities → Self → Type 0 };
 
     /// The definition that lines are read by.
     fn definition(&self) -> &Definition
@@ -19,12 +30,13 @@ pub trait Desk {
 
     /// Asks for a command, and gives what it is answered.
     fn ask(&mut self, command: &Command) -> Reply
-        ensures { rules self.new ≡ rules self.old };
+        ensures asked { asks self.old command.now result self.new }
+        ensures rules { rules self.new ≡ rules self.old };
 
     /// The auction as it stands, where the desk can still show one.
     fn look(&mut self) -> Option<&Auction>
         ensures shown { IfSome result (λ a. a.now.rules ≡ rules self.old) }
-        ensures* after { sem 𝓛 (Rests Self.row self.entry (λ new. rules new ≡ rules self.old)) };
+        ensures* after { sem 𝓛 (Rests Self.row self.entry (λ new. looks self.old (seen result) new × (rules new ≡ rules self.old))) };
 }
 
 /// The desk of an auction in memory.
@@ -58,7 +70,13 @@ impl ScriptDesk {
 }
 
 impl Desk for ScriptDesk {
-    ghost rules = { λ d. d.rules };
+    ghost use Rattle.hpb_server.specs.Desk.{rules_in, RepliesIn, ShowsItself};
+
+    ghost rules = { rules_in };
+
+    ghost asks = { RepliesIn };
+
+    ghost looks = { ShowsItself };
 
     fn definition(&self) -> &Definition {
         self.auction.definition()

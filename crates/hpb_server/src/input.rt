@@ -92,7 +92,7 @@ impl Input {
         reader: &mut R,
     ) -> Result<DefinitionText, Fault>
         requires { self.old.unread ≡ [] }
-        ensures ok { IfOk result (GivesDefinition (R.remaining reader.old) (R.remaining reader.new) self.new) }
+        ensures ok { IfOk result (GivesDefinition (R.remaining reader.old) (R.remaining reader.new) self.old.budget self.new) }
         ensures err { OnErr result (ReadsInVain (R.remaining reader.old) (R.remaining reader.new)) }
     {
         let mut bytes = Vec::new(alloc);

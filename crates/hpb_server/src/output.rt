@@ -1,7 +1,8 @@
-ghost use Rattle.std.specs.Prelude.{◌≡◌, [], ◌++◌, IfOk, OnErr, OnOk, string_bytes};
+ghost use Rattle.std.specs.Prelude.{◌≡◌, [], IfOk, string_bytes};
 ghost use Rattle.std.specs.Io.KnownBytes.{Keeps};
-ghost use Rattle.hpb_wire.specs.Answers.{line_of};
-ghost use Rattle.hpb_server.specs.Writing.{Sends, Writes, refusal};
+ghost use Rattle.hpb_rules.specs.Rendering.{refusal_text};
+ghost use Rattle.hpb_wire.specs.Answers.{text_of};
+ghost use Rattle.hpb_server.specs.Writing.{Adds, Sends, Writes};
 
 use crate::fault::Fault;
 use hpb_rules::Reply;
@@ -36,8 +37,7 @@ impl Output {
 
     /// Adds an answer, or nothing where memory is refused.
     pub(crate) fn add(&mut self, answer: &Answer<'_>) -> Result<(), AllocError>
-        ensures ok { OnOk result (string_bytes self.new.answers ≡ string_bytes self.old.answers ++ line_of answer.now) }
-        ensures err { OnErr result (string_bytes self.new.answers ≡ string_bytes self.old.answers) }
+        ensures { Adds (string_bytes self.old.answers) (string_bytes self.new.answers) (text_of answer.now) result }
     {
         self.newest.clear();
         render(&mut self.newest, answer)?;
@@ -47,8 +47,7 @@ impl Output {
 
     /// Adds a refusal by its number.
     pub(crate) fn refuse(&mut self, code: u8) -> Result<(), AllocError>
-        ensures ok { OnOk result (string_bytes self.new.answers ≡ string_bytes self.old.answers ++ line_of (refusal code)) }
-        ensures err { OnErr result (string_bytes self.new.answers ≡ string_bytes self.old.answers) }
+        ensures { Adds (string_bytes self.old.answers) (string_bytes self.new.answers) (refusal_text code) result }
     {
         self.add(&Answer::Reply(Reply::Refused(code)))
     }

@@ -1,3 +1,7 @@
+ghost use Rattle.std.specs.Prelude.{◌≡◌, [], string_bytes};
+ghost use Rattle.hpb_rules.specs.Values.{first_value};
+ghost use Rattle.hpb_server.specs.Script.{Refuses, RunsScript, ServesScript, WritesRefusal};
+
 use crate::desk::ScriptDesk;
 use crate::fault::Fault;
 use crate::input::{Input, MOST_READ};
@@ -5,6 +9,7 @@ use crate::output::Output;
 use crate::serving::answer_lines;
 use hpb_auction::Auction;
 use hpb_define::{DefineFault, read_definition};
+use hpb_tree::Definition;
 use std::alloc::Global;
 use std::io::{Read, Write};
 
@@ -24,24 +29,65 @@ pub fn run_script<R: Read, W: Write>(
     alloc: Global,
     reader: &mut R,
     writer: &mut W,
-) -> Result<ScriptEnd, Fault> {
+) -> Result<ScriptEnd, Fault>
+    ensures { RunsScript (R.remaining reader.old) (R.remaining reader.new) (W.contents writer.old) (W.contents writer.new) result }
+{
     let mut input = Input::new(alloc, MOST_READ)?;
     let mut output = Output::new(alloc)?;
     let text = input.take_definition(alloc, reader)?;
     match read_definition(alloc, text.bytes.as_slice()) {
         Ok(definition) => {
-            let mut desk = ScriptDesk::new(Auction::new(alloc, &definition)?);
-            if text.has_end {
-                answer_lines(reader, writer, &mut desk, &mut input, &mut output)?;
+            if !text.has_end {
+                return Ok(ScriptEnd::Answered);
             }
+            answer_script(alloc, reader, writer, &definition, &mut input, &mut output)?;
             Ok(ScriptEnd::Answered)
         }
-        Err(DefineFault::Memory) => Err(Fault::Memory),
-        Err(fault) => {
-            let code = fault.code();
-            output.refuse(code)?;
-            output.send(writer)?;
-            Ok(ScriptEnd::Refused(code))
-        }
+        Err(fault) => refuse_script(writer, fault, &mut output),
     }
+}
+
+/// Answers the lines that come after a definition.
+fn answer_script<R: Read, W: Write>(
+    alloc: Global,
+    reader: &mut R,
+    writer: &mut W,
+    definition: &Definition,
+    input: &mut Input,
+    output: &mut Output,
+) -> Result<(), Fault>
+    requires { string_bytes output.old.answers ≡ [] }
+    ensures { ServesScript (R.remaining reader.old) (R.remaining reader.new) (W.contents writer.old) (W.contents writer.new)
+        input.old (first_value definition.now) result }
+{
+    let mut desk = ScriptDesk::new(Auction::new(alloc, definition)?);
+    answer_lines(reader, writer, &mut desk, input, output)
+}
+
+/// Writes the line of a refused definition, and nothing where memory was refused.
+fn refuse_script<W: Write>(
+    writer: &mut W,
+    fault: DefineFault,
+    output: &mut Output,
+) -> Result<ScriptEnd, Fault>
+    requires { string_bytes output.old.answers ≡ [] }
+    ensures { Refuses (W.contents writer.old) (W.contents writer.new) fault result }
+{
+    match fault {
+        DefineFault::Memory => Err(Fault::Memory),
+        fault => write_refusal(writer, fault.code(), output),
+    }
+}
+
+fn write_refusal<W: Write>(
+    writer: &mut W,
+    code: u8,
+    output: &mut Output,
+) -> Result<ScriptEnd, Fault>
+    requires { string_bytes output.old.answers ≡ [] }
+    ensures { WritesRefusal (W.contents writer.old) (W.contents writer.new) code result }
+{
+    output.refuse(code)?;
+    output.send(writer)?;
+    Ok(ScriptEnd::Refused(code))
 }

@@ -1,18 +1,20 @@
-ghost use Rattle.hpb_wire.specs.Requests.{IsRequestOf};
-ghost use Rattle.std.specs.Prelude.{◌≡◌, [], OnOk};
+ghost use Rattle.std.specs.Prelude.{◌≡◌, ◌<◌, ℕ, List, [], ◌++◌, take, Ok, OnOk, length, string_bytes};
+ghost use Rattle.hpb_rules.specs.Lines.{request_of};
+ghost use Rattle.hpb_rules.specs.ValueText.{shown_in, node_shown_in, bidder_shown_in};
+ghost use Rattle.hpb_wire.specs.Requests.{IsRequestOf, request_view};
+ghost use Rattle.hpb_server.specs.Reading.{HasNoEnd};
+ghost use Rattle.hpb_server.specs.Serving.{Serves};
+ghost use Rattle.hpb_server.specs.Session.{AddsAnswer, AddsLook, Ends, PassesAnswer, Proceeds};
 
 use crate::desk::Desk;
 use crate::fault::Fault;
 use crate::input::{Input, MOST_READ};
-use crate::line::Line;
+use crate::line::{KEPT_BYTES, Line};
 use crate::output::Output;
-use hpb_rules::refusal;
+use hpb_rules::{BidderId, NodeId, refusal};
 use hpb_wire::{Answer, Request, parse_line};
 use std::alloc::{AllocError, Global};
 use std::io::{Read, Write};
-
-/// The desk can show no auction any more.
-const FAILED: u8 = 93;
 
 /// Answers each line of the reader by one line on the writer, to the end of the reader. What has been
 /// answered is written and flushed before more is read.
@@ -27,7 +29,9 @@ pub fn serve<R: Read, W: Write, D: Desk>(
     writer: &mut W,
     desk: &mut D,
 ) -> Result<(), Fault>
-    ensures { D.rules desk.new ≡ D.rules desk.old }
+    ensures served { Serves D.rules D.asks D.looks [] MOST_READ (R.remaining reader.old) (R.remaining reader.new)
+        (W.contents writer.old) (W.contents writer.new) desk.old desk.new result }
+    ensures rules { D.rules desk.new ≡ D.rules desk.old }
 {
     let mut input = Input::new(alloc, MOST_READ)?;
     let mut output = Output::new(alloc)?;
@@ -42,7 +46,10 @@ pub(crate) fn answer_lines<R: Read, W: Write, D: Desk>(
     input: &mut Input,
     output: &mut Output,
 ) -> Result<(), Fault>
-    ensures { D.rules desk.new ≡ D.rules desk.old }
+    requires { string_bytes output.old.answers ≡ [] }
+    ensures served { Serves D.rules D.asks D.looks input.old.unread input.old.budget (R.remaining reader.old) (R.remaining reader.new)
+        (W.contents writer.old) (W.contents writer.new) desk.old desk.new result }
+    ensures rules { D.rules desk.new ≡ D.rules desk.old }
 {
     let mut line = Line::new();
     'chunks: loop {
@@ -52,9 +59,18 @@ pub(crate) fn answer_lines<R: Read, W: Write, D: Desk>(
             break;
         }
     }
-    if !line.is_empty() {
-        output.refuse(refusal::LINE)?;
+    end_lines(writer, &line, output)
+}
+
+/// Answers a last line without its end, where it has a byte.
+fn end_lines<W: Write>(writer: &mut W, line: &Line, output: &mut Output) -> Result<(), Fault>
+    requires { string_bytes output.old.answers ≡ [] }
+    ensures { Ends (W.contents writer.old) (W.contents writer.new) line.now result }
+{
+    if line.is_empty() {
+        return Ok(());
     }
+    output.refuse(refusal::LINE)?;
     output.send(writer)
 }
 
@@ -66,24 +82,53 @@ fn answer_unread<W: Write, D: Desk>(
     line: &mut Line,
     output: &mut Output,
 ) -> Result<(), Fault>
+    ensures lines { (partial : List ℕ) → HasNoEnd partial → line.old ≡ take KEPT_BYTES partial
+        → Proceeds D.rules D.asks D.looks (partial ++ input.old.unread) desk.old desk.new
+        (W.contents writer.old) (W.contents writer.new) (string_bytes output.old.answers)
+        line.new input.new.unread (string_bytes output.new.answers) result }
     ensures rules { D.rules desk.new ≡ D.rules desk.old }
     ensures taken { OnOk result (input.new.unread ≡ []) }
     ensures read { OnOk result (input.new.budget ≡ input.old.budget) }
 {
     'lines: while input.take_line(line) {
-        let answered = answer_line(desk, line.as_slice(), output);
-        if answered.is_err() || output.is_nearly_full() {
-            output.send(writer)?;
-        }
-        answered?;
+        pass_answer(writer, desk, line.as_slice(), output)?;
         line.clear();
     }
     Ok(())
 }
 
+/// Answers a line. All that is answered is written where room for one answer more may be missing, and
+/// where memory is refused.
+fn pass_answer<W: Write, D: Desk>(
+    writer: &mut W,
+    desk: &mut D,
+    line: &[u8],
+    output: &mut Output,
+) -> Result<(), Fault>
+    ensures answer { PassesAnswer D.rules D.asks D.looks desk.old (request_of (D.rules desk.old) line.now) desk.new
+        (W.contents writer.old) (W.contents writer.new) (string_bytes output.old.answers) (string_bytes output.new.answers) result }
+    ensures rules { D.rules desk.new ≡ D.rules desk.old }
+{
+    match answer_line(desk, line, output) {
+        Ok(()) => {
+            if output.is_nearly_full() {
+                output.send(writer)
+            } else {
+                Ok(())
+            }
+        }
+        Err(error) => {
+            output.send(writer)?;
+            Err(error.into())
+        }
+    }
+}
+
 /// Adds the answer to a line.
 fn answer_line<D: Desk>(desk: &mut D, line: &[u8], output: &mut Output) -> Result<(), AllocError>
-    ensures { D.rules desk.new ≡ D.rules desk.old }
+    ensures answer { AddsAnswer D.rules D.asks D.looks desk.old (request_of (D.rules desk.old) line.now) desk.new
+        (string_bytes output.old.answers) (string_bytes output.new.answers) result }
+    ensures rules { D.rules desk.new ≡ D.rules desk.old }
 {
     match parse_line(line, desk.definition()) {
         Ok(request) => answer_request(desk, request, output),
@@ -98,26 +143,56 @@ fn answer_request<D: Desk>(
     output: &mut Output,
 ) -> Result<(), AllocError>
     requires { IsRequestOf (D.rules desk.old) request }
-    ensures { D.rules desk.new ≡ D.rules desk.old }
+    ensures answer { AddsAnswer D.rules D.asks D.looks desk.old (Ok (request_view request)) desk.new
+        (string_bytes output.old.answers) (string_bytes output.new.answers) result }
+    ensures rules { D.rules desk.new ≡ D.rules desk.old }
 {
     match request {
         Request::Command(command) => output.add(&Answer::Reply(desk.ask(&command))),
-        Request::Show => add_shown(output, desk.look().map(|auction| hpb_wire::show(auction))),
-        Request::Node(node) => add_shown(
-            output,
-            desk.look().map(|auction| hpb_wire::node(auction, node)),
-        ),
-        Request::Who(bidder) => add_shown(
-            output,
-            desk.look().map(|auction| hpb_wire::who(auction, bidder)),
-        ),
+        Request::Show => answer_show(desk, output),
+        Request::Node(node) => answer_node(desk, node, output),
+        Request::Who(bidder) => answer_who(desk, bidder, output),
     }
 }
 
-/// Adds what was asked to be shown, where the desk could show it.
-fn add_shown(output: &mut Output, answer: Option<Answer<'_>>) -> Result<(), AllocError> {
-    match answer {
-        Some(answer) => output.add(&answer),
-        None => output.refuse(FAILED),
+/// Adds the answer to `SHOW`.
+fn answer_show<D: Desk>(desk: &mut D, output: &mut Output) -> Result<(), AllocError>
+    ensures answer { AddsLook D.looks shown_in desk.old desk.new
+        (string_bytes output.old.answers) (string_bytes output.new.answers) result }
+    ensures rules { D.rules desk.new ≡ D.rules desk.old }
+{
+    match desk.look() {
+        Some(auction) => output.add(&hpb_wire::show(auction)),
+        None => output.refuse(refusal::FAILED),
+    }
+}
+
+/// Adds the answer to `NODE`.
+fn answer_node<D: Desk>(desk: &mut D, node: NodeId, output: &mut Output) -> Result<(), AllocError>
+    requires { node < length (D.rules desk.old).nodes }
+    ensures answer { AddsLook D.looks (λ value. node_shown_in value node) desk.old desk.new
+        (string_bytes output.old.answers) (string_bytes output.new.answers) result }
+    ensures rules { D.rules desk.new ≡ D.rules desk.old }
+{
+    match desk.look() {
+        Some(auction) => output.add(&hpb_wire::node(auction, node)),
+        None => output.refuse(refusal::FAILED),
+    }
+}
+
+/// Adds the answer to `WHO`.
+fn answer_who<D: Desk>(
+    desk: &mut D,
+    bidder: BidderId,
+    output: &mut Output,
+) -> Result<(), AllocError>
+    requires { bidder < length (D.rules desk.old).bidders }
+    ensures answer { AddsLook D.looks (λ value. bidder_shown_in value bidder) desk.old desk.new
+        (string_bytes output.old.answers) (string_bytes output.new.answers) result }
+    ensures rules { D.rules desk.new ≡ D.rules desk.old }
+{
+    match desk.look() {
+        Some(auction) => output.add(&hpb_wire::who(auction, bidder)),
+        None => output.refuse(refusal::FAILED),
     }
 }

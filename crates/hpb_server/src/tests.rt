@@ -53,11 +53,16 @@ impl Read for Lines<'_> {
             self.talk.early.set(true);
         }
         self.talk.reads.set(reads.saturating_add(1));
-        let length = match self.rest.iter().position(|byte| *byte == b'\n') {
-            Some(end) => end + 1,
-            None => self.rest.len(),
-        };
+        let length = line_length(self.rest);
         give(&mut self.rest, buffer, length)
+    }
+}
+
+/// How long the first line is, its end with it.
+fn line_length(bytes: &[u8]) -> usize {
+    match bytes.iter().position(|byte| *byte == b'\n') {
+        Some(end) => end + 1,
+        None => bytes.len(),
     }
 }
 
@@ -144,35 +149,39 @@ impl Write for OneByteWriter {
     }
 }
 
-/// Fails once all is given.
+/// Gives one line a read, so often, and fails then.
 #[derive(Drop)]
 struct FailingReader<'a> {
     rest: &'a [u8],
+    reads: usize,
 }
 
 impl Read for FailingReader<'_> {
     fn read(&mut self, buffer: &mut [u8]) -> io::Result<usize> {
-        if self.rest.is_empty() {
+        if self.reads == 0 {
             return Err(ErrorKind::ConnectionReset.into());
         }
-        let most = self.rest.len();
-        give(&mut self.rest, buffer, most)
+        self.reads -= 1;
+        let length = line_length(self.rest);
+        give(&mut self.rest, buffer, length)
     }
 }
 
-/// Takes all of its first write, and fails from then on.
+/// Takes all of a write, so often, and fails then.
 #[derive(Drop)]
 struct FailingWriter {
     bytes: Vec<u8>,
+    writes: usize,
 }
 
 impl Write for FailingWriter {
     fn write(&mut self, bytes: &[u8]) -> io::Result<usize> {
-        if self.bytes.is_empty() {
-            self.bytes.extend_from_slice(bytes)?;
-            return Ok(bytes.len());
+        if self.writes == 0 {
+            return Err(ErrorKind::BrokenPipe.into());
         }
-        Err(ErrorKind::BrokenPipe.into())
+        self.writes -= 1;
+        self.bytes.extend_from_slice(bytes)?;
+        Ok(bytes.len())
     }
 
     fn flush(&mut self) -> io::Result<()> {
@@ -252,38 +261,53 @@ fn bytes_come_and_go_one_by_one(rt: HostRuntime) -> Result<(), Fail> {
     Ok(())
 }
 
+const LINES: &[u8] = b"BID x 1 a 100\nBID y 1 b 150\nCLOSE 1\nSHOW\n";
+
+/// What stands written once so many of these lines are answered.
+const FRONTS: [&[u8]; 5] = [
+    b"",
+    b"OK 1\n",
+    b"OK 1\nOK 2\n",
+    b"OK 1\nOK 2\nOK 3\n",
+    b"OK 1\nOK 2\nOK 3\nROUND 2 STAGE 1 OPEN REVENUE 250 COUNT 3\n",
+];
+
 #[test]
-fn a_reader_fails(rt: HostRuntime) -> Result<(), Fail> {
+fn each_read_fails_in_turn(rt: HostRuntime) -> Result<(), Fail> {
     let alloc = rt.alloc();
-    let text = script(alloc, b"BID x 1 a 100\nBID", 1)?;
-    let mut reader = FailingReader {
-        rest: text.as_slice(),
-    };
-    let mut output = Vec::new(alloc);
-    assert_eq!(rt;
-        run_script(alloc, &mut reader, &mut output),
-        Err(Fault::Stream)
-    );
-    assert_eq!(rt; output.as_slice(), b"OK 1\n".as_slice());
+    let text = script(alloc, LINES, 1)?;
+    for lines in 0..FRONTS.len() {
+        let mut reader = FailingReader {
+            rest: text.as_slice(),
+            reads: lines + 1,
+        };
+        let mut output = Vec::new(alloc);
+        let result = run_script(alloc, &mut reader, &mut output);
+        assert_eq!(rt; result, Err(Fault::Stream), "{lines}");
+        assert_eq!(rt; output.as_slice(), FRONTS[lines], "{lines}");
+    }
     Ok(())
 }
 
 #[test]
-fn a_writer_fails_on_its_second_write(rt: HostRuntime) -> Result<(), Fail> {
+fn each_write_fails_in_turn(rt: HostRuntime) -> Result<(), Fail> {
     let alloc = rt.alloc();
-    let talk = Talk::new();
-    let rest = b"BID x 1 a 100\nBID y 1 b 150\nCLOSE 1\n".as_slice();
-    let mut reader = Lines { talk: &talk, rest };
-    let mut writer = FailingWriter {
-        bytes: Vec::new(alloc),
-    };
-    let mut desk = desk(alloc)?;
-    assert_eq!(rt;
-        serve(alloc, &mut reader, &mut writer, &mut desk),
-        Err(Fault::Stream)
-    );
-    assert_eq!(rt; writer.bytes.as_slice(), b"OK 1\n".as_slice());
-    assert_eq!(rt; desk.into_auction().count(), 2);
+    for (writes, accepted) in [(0, 1), (1, 2), (2, 3), (3, 3)] {
+        let talk = Talk::new();
+        let mut reader = Lines {
+            talk: &talk,
+            rest: LINES,
+        };
+        let mut writer = FailingWriter {
+            bytes: Vec::new(alloc),
+            writes,
+        };
+        let mut desk = desk(alloc)?;
+        let result = serve(alloc, &mut reader, &mut writer, &mut desk);
+        assert_eq!(rt; result, Err(Fault::Stream), "{writes}");
+        assert_eq!(rt; writer.bytes.as_slice(), FRONTS[writes], "{writes}");
+        assert_eq!(rt; desk.into_auction().count(), accepted, "{writes}");
+    }
     Ok(())
 }
 

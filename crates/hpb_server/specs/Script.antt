@@ -1,0 +1,103 @@
+-- What a script reads and writes: its first line is a definition, and each line after it gets its answer.
+use Rattle.std.specs.Prelude.{◌≡◌, ℕ, ◌<◌, ◌≤◌, List, [], ◌∷◌, ◌++◌, length, Option, Result, Ok, Err, ⊤, ◌⊎◌}
+use Rattle.std.specs.List.{slice_split}
+use Rattle.std.specs.Io.KnownBytes.{Appends, Consumes, IsAtEnd}
+use Rattle.hpb_rules.specs.Tree.{Rules}
+use Rattle.hpb_rules.specs.Fronts.{IsFront}
+use Rattle.hpb_rules.specs.Seen.{Quantities}
+use Rattle.hpb_rules.specs.Lines.{is_line_feed}
+use Rattle.hpb_rules.specs.Rendering.{refusal_text}
+use Rattle.hpb_rules.specs.Text.{line_of, script_text}
+use Rattle.hpb_define.specs.declared.fault.DefineFault.{DefineFault}
+use Rattle.hpb_define.specs.declared.fault.DefineFault.TheVariants.{Memory}
+use Rattle.hpb_define.specs.declared.reading.TheConstants.{MOST_BYTES}
+use Rattle.hpb_define.specs.Fault.{code_of}
+use Rattle.hpb_define.specs.Text.{Answers}
+use Rattle.hpb_server.specs.declared.fault.Fault.{Fault}
+use Rattle.hpb_server.specs.declared.input.TheConstants.{LINE_FEED, MOST_READ}
+use Rattle.hpb_server.specs.declared.script.ScriptEnd.{ScriptEnd}
+use Rattle.hpb_server.specs.declared.script.ScriptEnd.TheVariants.{Answered, Refused}
+use Rattle.hpb_server.specs.Desk.{rules_in, RepliesIn, ShowsItself}
+use Rattle.hpb_server.specs.Reading.{Pending, HasNoEnd, ReadsInVain}
+use Rattle.hpb_server.specs.Serving.{IsWhole, Serves}
+
+-- The number of a refusal. Want of memory is no refusal.
+abbrev pub IsTold : DefineFault → ℕ → Type 0
+IsTold Memory code = ⊥
+IsTold fault code = code ≡ code_of fault
+
+module _ (reader_old reader_new writer_old writer_new : Option (List ℕ)) where
+  -- The first line is a definition. All was read, and what is written is the text of the script, by any reading of definitions that reads this line so.
+  pub record AnswersScript : Type 0 where
+    pub input : List ℕ
+    pub first : List ℕ
+    pub lines : List (List ℕ)
+    pub rules : Rules
+    pub read : Consumes reader_old reader_new input
+    pub ended : IsAtEnd reader_new
+    pub within : length input ≤ MOST_READ
+    pub parts : slice_split is_line_feed input ≡ first ∷ lines
+    pub accepted : Answers first (Ok rules)
+    pub written : (define : List ℕ → Result Rules ℕ) → define first ≡ Ok rules → Appends writer_old writer_new (script_text define input)
+
+  -- The first line is refused as a definition. It was read to its end, or to the end of the reader, or so far that it is too long.
+  pub record RefusesScript (code : ℕ) : Type 0 where
+    pub taken : List ℕ
+    pub first : List ℕ
+    pub fault : DefineFault
+    pub read : Consumes reader_old reader_new taken
+    pub line : HasNoEnd first
+    pub ends : ((rest : List ℕ) × (taken ≡ first ++ LINE_FEED ∷ rest)) ⊎ ((taken ≡ first) × ((MOST_BYTES < length first) ⊎ IsAtEnd reader_new))
+    pub refused : Answers first (Err fault)
+    pub told : IsTold fault code
+
+  -- The refusal of the first line was written, or a front of it.
+  pub record RefusesFront : Type 0 where
+    pub code : ℕ
+    pub sent : List ℕ
+    pub refuses : RefusesScript code
+    pub written : Appends writer_old writer_new sent
+    pub front : IsFront sent (line_of (refusal_text code))
+
+  -- The first line is a definition. Whole lines of what was read were answered, or all that the reader had, and a front of the text of the script so far was written.
+  pub record AnswersScriptFront : Type 0 where
+    pub taken : List ℕ
+    pub first : List ℕ
+    pub done : List ℕ
+    pub rest : List ℕ
+    pub rules : Rules
+    pub sent : List ℕ
+    pub read : Consumes reader_old reader_new taken
+    pub line : HasNoEnd first
+    pub parts : taken ≡ (first ++ LINE_FEED ∷ done) ++ rest
+    pub whole : IsWhole done ⊎ ((rest ≡ []) × IsAtEnd reader_new)
+    pub accepted : Answers first (Ok rules)
+    pub written : Appends writer_old writer_new sent
+    pub front : (define : List ℕ → Result Rules ℕ) → define first ≡ Ok rules → IsFront sent (script_text define (first ++ LINE_FEED ∷ done))
+
+  -- Nothing was written.
+  abbrev pub WritesNothing : Type 0
+  WritesNothing = ReadsInVain reader_old reader_new × Appends writer_old writer_new []
+
+  -- What a run of a script reads and writes.
+  abbrev pub RunsScript : Result ScriptEnd Fault → Type 0
+  RunsScript (Ok Answered) = AnswersScript
+  RunsScript (Ok (Refused code)) = RefusesScript code × Appends writer_old writer_new (line_of (refusal_text code))
+  RunsScript (Err fault) = WritesNothing ⊎ (RefusesFront ⊎ AnswersScriptFront)
+
+  -- The lines of a script are answered from this value on.
+  abbrev pub ServesScript : Pending → Quantities → Result ⊤ Fault → Type 0
+  ServesScript input value result = (new : Quantities) × Serves rules_in RepliesIn ShowsItself input.unread input.budget reader_old reader_new writer_old writer_new value new result
+
+-- The line of a refusal was written, or a front of it.
+abbrev pub WritesRefusal : (writer_old writer_new : Option (List ℕ)) (code : ℕ) → Result ScriptEnd Fault → Type 0
+WritesRefusal writer_old writer_new code (Ok Answered) = ⊥
+WritesRefusal writer_old writer_new code (Ok (Refused told)) = (told ≡ code) × Appends writer_old writer_new (line_of (refusal_text code))
+WritesRefusal writer_old writer_new code (Err fault) = (sent : List ℕ) × Appends writer_old writer_new sent × IsFront sent (line_of (refusal_text code))
+
+-- The same by the fault of a definition; nothing was written where memory was refused.
+abbrev pub Refuses : (writer_old writer_new : Option (List ℕ)) → DefineFault → Result ScriptEnd Fault → Type 0
+Refuses writer_old writer_new fault (Ok Answered) = ⊥
+Refuses writer_old writer_new fault (Ok (Refused code)) = IsTold fault code × Appends writer_old writer_new (line_of (refusal_text code))
+Refuses writer_old writer_new fault (Err broken) =
+    Appends writer_old writer_new [] ⊎ ((code : ℕ) × (sent : List ℕ) × IsTold fault code × Appends writer_old writer_new sent × IsFront sent (line_of (refusal_text code)))

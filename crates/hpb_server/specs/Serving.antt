@@ -1,0 +1,84 @@
+-- What a session reads and writes, by what its desk is asked and how it is left.
+use Rattle.std.specs.Prelude.{◌≡◌, ℕ, ◌≤◌, ◌==◌, List, [], ◌∷◌, ◌++◌, length, Option, Some, None, Result, Ok, Err, if◌then◌else◌, ⊤, ◌⊎◌}
+use Rattle.std.specs.List.{slice_split}
+use Rattle.std.specs.Io.KnownBytes.{Appends, Consumes, IsAtEnd}
+use Rattle.hpb_rules.specs.declared.command.Command.{Command}
+use Rattle.hpb_rules.specs.declared.reply.Reply.{Reply}
+use Rattle.hpb_rules.specs.Tree.{Rules}
+use Rattle.hpb_rules.specs.Fronts.{IsFront}
+use Rattle.hpb_rules.specs.Seen.{Quantities}
+use Rattle.hpb_rules.specs.Lines.{Request, command, show, node, who, request_of, is_line_feed}
+use Rattle.hpb_rules.specs.Rendering.{refusal_text, reply_text}
+use Rattle.hpb_rules.specs.Text.{line_of, unfinished_text}
+use Rattle.hpb_rules.specs.ValueText.{shown_in, node_shown_in, bidder_shown_in}
+use Rattle.hpb_server.specs.declared.fault.Fault.{Fault}
+use Rattle.hpb_server.specs.declared.input.TheConstants.{LINE_FEED}
+use Rattle.hpb_rules.specs.declared.refusal.TheConstants.{FAILED}
+
+-- What is shown of a desk's auction, or that it can show none any more.
+abbrev pub shown_by : (Quantities → List ℕ) → Option Quantities → List ℕ
+shown_by how None = refusal_text FAILED
+shown_by how (Some value) = how value
+
+-- Bytes that are whole lines: none, or the last of them ends a line.
+abbrev pub IsWhole : List ℕ → Type 0
+IsWhole bytes = (bytes ≡ []) ⊎ ((front : List ℕ) × (bytes ≡ front ++ LINE_FEED ∷ []))
+
+-- A question is answered by what the desk shows.
+abbrev pub AnswersLook : {Desk : Type 0} (looks : Desk → Option Quantities → Desk → Type 0) → (Quantities → List ℕ) → Desk → List ℕ → Desk → Type 0
+AnswersLook looks how old answer new = (shown : Option Quantities) × looks old shown new × (answer ≡ shown_by how shown)
+
+-- A desk has rules that lines are read by; a command makes it reply and become another; a look shows what it has.
+module _ {Desk : Type 0} (rules : Desk → Rules) (asks : Desk → Command → Reply → Desk → Type 0) (looks : Desk → Option Quantities → Desk → Type 0) where
+  -- A request, or a line that is refused, gets this answer.
+  abbrev pub AnswersRequest : Desk → Result Request ℕ → List ℕ → Desk → Type 0
+  AnswersRequest old (Err code) answer new = (new ≡ old) × (answer ≡ refusal_text code)
+  AnswersRequest old (Ok (command asked)) answer new = (reply : Reply) × asks old asked reply new × (answer ≡ reply_text reply)
+  AnswersRequest old (Ok show) answer new = AnswersLook looks shown_in old answer new
+  AnswersRequest old (Ok (node place)) answer new = AnswersLook looks (λ value. node_shown_in value place) old answer new
+  AnswersRequest old (Ok (who from)) answer new = AnswersLook looks (λ value. bidder_shown_in value from) old answer new
+
+  -- A line gets this answer.
+  abbrev pub AnswersLine : Desk → List ℕ → List ℕ → Desk → Type 0
+  AnswersLine old line answer new = AnswersRequest old (request_of (rules old) line) answer new
+
+  -- Each line gets its one answer, in order. What stands behind the last end of a line is refused, where it has a byte.
+  abbrev pub AnswersLines : Desk → List (List ℕ) → List ℕ → Desk → Type 0
+  AnswersLines old [] text new = (new ≡ old) × (text ≡ [])
+  AnswersLines old (last ∷ []) text new = (new ≡ old) × (text ≡ (if length last == 0 then [] else unfinished_text))
+  AnswersLines old (line ∷ following ∷ more) text new =
+      (answer rest : List ℕ) × (next : Desk) × AnswersLine old line answer next × AnswersLines next (following ∷ more) rest new × (text ≡ line_of answer ++ rest)
+
+  -- An input gets this text.
+  abbrev pub AnswersInput : Desk → List ℕ → List ℕ → Desk → Type 0
+  AnswersInput old input text new = AnswersLines old (slice_split is_line_feed input) text new
+
+  module _ (unread : List ℕ) (budget : ℕ) (reader_old reader_new writer_old writer_new : Option (List ℕ)) (old new : Desk) where
+    -- All was read, to the end of the reader and within the budget, and answered.
+    pub record AnswersAll : Type 0 where
+      pub taken : List ℕ
+      pub text : List ℕ
+      pub read : Consumes reader_old reader_new taken
+      pub ended : IsAtEnd reader_new
+      pub within : length taken ≤ budget
+      pub answers : AnswersInput old (unread ++ taken) text new
+      pub written : Appends writer_old writer_new text
+
+    -- Whole lines of what was read were answered, or all that the reader had, and a front of the answers was written.
+    pub record AnswersFront : Type 0 where
+      pub taken : List ℕ
+      pub done : List ℕ
+      pub rest : List ℕ
+      pub text : List ℕ
+      pub sent : List ℕ
+      pub read : Consumes reader_old reader_new taken
+      pub parts : unread ++ taken ≡ done ++ rest
+      pub whole : IsWhole done ⊎ ((rest ≡ []) × IsAtEnd reader_new)
+      pub answers : AnswersInput old done text new
+      pub written : Appends writer_old writer_new sent
+      pub front : IsFront sent text
+
+    -- What a session does with what is unread and all that comes after it.
+    abbrev pub Serves : Result ⊤ Fault → Type 0
+    Serves (Ok done) = AnswersAll
+    Serves (Err fault) = AnswersFront
