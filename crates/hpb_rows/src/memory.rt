@@ -1,7 +1,7 @@
 //! Each call that may want memory, with enough of it.
 
 use crate::script::{FIRST_ROUND, SIX_NODES, joined};
-use hpb_auction::{Auction, BidderId, Command, NodeId, Offer, Reply};
+use hpb_auction::{Auction, BidderId, Command, NodeId, Offer, Reply, run_commands};
 use hpb_bids::Books;
 use hpb_define::read_definition;
 use hpb_prices::{Prices, downward};
@@ -125,6 +125,40 @@ fn an_auction_is_made_and_copied(rt: HostRuntime) -> Result<(), Fail> {
     assert_eq!(rt; copy.apply(&Command::Close { ticket: 1 }), Reply::Ok(2));
     assert_eq!(rt; copy.revenue(), 100);
     assert_eq!(rt; auction.revenue(), 0);
+    Ok(())
+}
+
+/// A bidder's first bid.
+fn first_bid(bidder: BidderId, node: NodeId, amount: u64) -> Command {
+    Command::Bid {
+        bidder,
+        ticket: 1,
+        node,
+        amount,
+    }
+}
+
+#[test]
+fn commands_are_run(rt: HostRuntime) -> Result<(), Fail> {
+    let alloc = rt.alloc();
+    let definition = read_definition(alloc, SIX_NODES.as_bytes())?;
+    let commands = [
+        first_bid(BidderId::new(0), NodeId::new(2), 100),
+        first_bid(BidderId::new(1), NodeId::new(3), 150),
+        first_bid(BidderId::new(2), NodeId::new(0), 500),
+        first_bid(BidderId::new(3), NodeId::new(4), 100),
+        Command::Close { ticket: 1 },
+    ];
+    let run = run_commands(alloc, &definition, &commands)?;
+    let wanted = [
+        Reply::Ok(1),
+        Reply::Ok(2),
+        Reply::Ok(3),
+        Reply::Ok(4),
+        Reply::Ok(5),
+    ];
+    assert_eq!(rt; run.replies.as_slice(), wanted.as_slice());
+    assert_eq!(rt; run.auction.revenue(), 500);
     Ok(())
 }
 

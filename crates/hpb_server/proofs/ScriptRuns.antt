@@ -1,6 +1,6 @@
 -- A run of a script: the definition, and what comes after it.
 use Rattle.std.proofs.Common.{◌≡◌, ℕ, ◌+◌, ◌<◌, ◌≤◌, Bool, true, false, List, [], ◌∷◌, ◌++◌, length, take, drop, Option, refl, sym, ap, ◌∙◌, subst, arith, append_assoc, length-append, take-append-drop, take_all, ⊎_elim, inl, inr}
-use Rattle.std.specs.Prelude.{Result, Ok, Err}
+use Rattle.std.specs.Prelude.{Result, Ok, Err, ◌⊎◌}
 use Rattle.std.specs.Result.{IsErr}
 use Rattle.std.specs.List.{slice_split}
 use Rattle.std.specs.Io.KnownBytes.{Appends, Consumes}
@@ -15,6 +15,8 @@ use Rattle.hpb_rules.specs.Values.{first_value}
 use Rattle.hpb_rules.specs.Lines.{is_line_feed}
 use Rattle.hpb_rules.specs.Rendering.{refusal_text}
 use Rattle.hpb_rules.specs.Text.{line_of, lines_after, text_by, text_of_lines, script_text}
+use Rattle.hpb_rules.proofs.Lists.{append_nil, front_self, front_trans}
+use Rattle.hpb_rules.proofs.Texts.{script_text_grows}
 use Rattle.hpb_rules.proofs.ValueTexts.{text_is_shown}
 use Rattle.hpb_define.specs.declared.fault.DefineFault.{DefineFault}
 use Rattle.hpb_define.specs.declared.fault.DefineFault.TheVariants as faults
@@ -28,7 +30,7 @@ use Rattle.hpb_server.specs.declared.script.ScriptEnd.{ScriptEnd}
 use Rattle.hpb_server.specs.declared.script.ScriptEnd.TheVariants.{Answered, Refused}
 use Rattle.hpb_server.specs.Desk.{rules_in, RepliesIn, ShowsItself}
 use Rattle.hpb_server.specs.Reading.{Pending, HasNoEnd, ReadsInVain, EndsDefinition, GivesDefinition}
-use Rattle.hpb_server.specs.Serving.{AnswersInput}
+use Rattle.hpb_server.specs.Serving.{AnswersInput, IsWhole}
 use Rattle.hpb_server.specs.Script.{IsTold, AnswersScript, RefusesScript, RunsScript, ServesScript, WritesRefusal, Refuses}
 use Rattle.hpb_server.specs.Writing.{Sends}
 use Rattle.hpb_server.proofs.Scripts.{lines_written}
@@ -49,6 +51,19 @@ text_is define first more text rules new no_end is h =
     lines_written (slice_split is_line_feed more) (first_value rules) new text h
     ∙ text_is_shown (first_value rules) [] more (tt, refl)
     ∙ sym (script_is define (first ++ LINE_FEED ∷ more) first (slice_split is_line_feed more) rules (slice_split_at is_line_feed first LINE_FEED more no_end refl) is)
+
+-- the text of whole lines is a front of the text of more
+text_grows : (define : List ℕ → Result Rules ℕ) (first done rest : List ℕ) → IsWhole done ⊎ (rest ≡ []) → IsFront (script_text define (first ++ LINE_FEED ∷ done)) (script_text define ((first ++ LINE_FEED ∷ done) ++ rest))
+text_grows define first done rest (inl (inl none)) =
+    subst (λ (done : List ℕ). IsFront (script_text define (first ++ LINE_FEED ∷ done)) (script_text define ((first ++ LINE_FEED ∷ done) ++ rest))) (sym none)
+    (subst (λ (input : List ℕ). IsFront (script_text define (first ++ LINE_FEED ∷ [])) (script_text define input)) (sym (append_assoc first (LINE_FEED ∷ []) rest)) (script_text_grows define first rest))
+text_grows define first done rest (inl (inr lines)) =
+    let same : first ++ LINE_FEED ∷ done ≡ (first ++ LINE_FEED ∷ lines.0) ++ LINE_FEED ∷ [] = ap (λ xs. first ++ LINE_FEED ∷ xs) lines.1 ∙ sym (append_assoc first (LINE_FEED ∷ lines.0) (LINE_FEED ∷ [])) in
+    subst (λ (input : List ℕ). IsFront (script_text define input) (script_text define (input ++ rest))) (sym same)
+    (subst (λ (input : List ℕ). IsFront (script_text define ((first ++ LINE_FEED ∷ lines.0) ++ LINE_FEED ∷ [])) (script_text define input)) (sym (append_assoc (first ++ LINE_FEED ∷ lines.0) (LINE_FEED ∷ []) rest)) (script_text_grows define (first ++ LINE_FEED ∷ lines.0) rest))
+text_grows define first done rest (inr none) =
+    subst (λ (rest : List ℕ). IsFront (script_text define (first ++ LINE_FEED ∷ done)) (script_text define ((first ++ LINE_FEED ∷ done) ++ rest))) (sym none)
+    (subst (λ (input : List ℕ). IsFront (script_text define (first ++ LINE_FEED ∷ done)) (script_text define input)) (append_nil (first ++ LINE_FEED ∷ done)) (front_self (script_text define (first ++ LINE_FEED ∷ done))))
 
 -- ---- the kept bytes of a definition tell what it is
 json_short : (bytes : List ℕ) → KEPT_DEFINITION_BYTES < length bytes → length (take KEPT_DEFINITION_BYTES bytes) ≤ MOST_BYTES → ⊥
@@ -163,12 +178,21 @@ module _ (reader_old : Option (List ℕ)) where
         sent = s.1.sent;
         read = read_all s.1.taken s.1.read;
         line = no_end;
-        parts = ap (λ xs. bytes ++ LINE_FEED ∷ xs) s.1.parts ∙ sym (append_assoc bytes (LINE_FEED ∷ s.1.done) s.1.rest);
+        parts = parts;
         whole = s.1.whole;
         accepted = accepted;
         written = s.1.written;
-        front = λ define is. subst (IsFront s.1.sent) (text_is define bytes s.1.done s.1.text rules s.0 no_end is s.1.answers) s.1.front;
+        front = λ define is. so_far define is;
+        text = λ define is. front_trans s.1.sent (script_text define (bytes ++ LINE_FEED ∷ s.1.done)) (script_text define (bytes ++ LINE_FEED ∷ (after.unread ++ s.1.taken))) (so_far define is)
+            (subst (λ (input : List ℕ). IsFront (script_text define (bytes ++ LINE_FEED ∷ s.1.done)) (script_text define input)) (sym parts)
+            (text_grows define bytes s.1.done s.1.rest (⊎_elim (λ whole. inl whole) (λ all. inr all.0) s.1.whole)));
       })))
+        where
+          so_far : (define : List ℕ → Result Rules ℕ) → define bytes ≡ Ok rules → IsFront s.1.sent (script_text define (bytes ++ LINE_FEED ∷ s.1.done))
+          so_far define is = subst (IsFront s.1.sent) (text_is define bytes s.1.done s.1.text rules s.0 no_end is s.1.answers) s.1.front
+
+          parts : bytes ++ LINE_FEED ∷ (after.unread ++ s.1.taken) ≡ (bytes ++ LINE_FEED ∷ s.1.done) ++ s.1.rest
+          parts = ap (λ xs. bytes ++ LINE_FEED ∷ xs) s.1.parts ∙ sym (append_assoc bytes (LINE_FEED ∷ s.1.done) s.1.rest)
 
 -- ---- the line of a refusal
 pub refusal_cut : (old new : Option (List ℕ)) (output : List ℕ) (code : ℕ) (fault : Fault) (r : Result ScriptEnd Fault) → IsErr r → output ≡ line_of (refusal_text code) → Sends old new output (Err fault) → WritesRefusal old new code r

@@ -59,7 +59,7 @@ module _ (reader_old reader_new writer_old writer_new : Option (List ℕ)) where
     pub written : Appends writer_old writer_new sent
     pub front : IsFront sent (line_of (refusal_text code))
 
-  -- The first line is a definition. Whole lines of what was read were answered, or all that the reader had, and a front of the text of the script so far was written.
+  -- The first line is a definition. Whole lines of what was read were answered, or all that the reader had, and a front of the text of the script so far was written. It is a front of the text of all that was read, too.
   pub record AnswersScriptFront : Type 0 where
     pub taken : List ℕ
     pub first : List ℕ
@@ -74,6 +74,7 @@ module _ (reader_old reader_new writer_old writer_new : Option (List ℕ)) where
     pub accepted : Answers first (Ok rules)
     pub written : Appends writer_old writer_new sent
     pub front : (define : List ℕ → Result Rules ℕ) → define first ≡ Ok rules → IsFront sent (script_text define (first ++ LINE_FEED ∷ done))
+    pub text : (define : List ℕ → Result Rules ℕ) → define first ≡ Ok rules → IsFront sent (script_text define taken)
 
   -- Nothing was written.
   abbrev pub WritesNothing : Type 0

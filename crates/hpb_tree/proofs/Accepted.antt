@@ -6,6 +6,7 @@ use Rattle.std.proofs.lemmas.List.{length-map, get_or-map}
 use Rattle.std.proofs.lemmas.List.Folds.{list_any_at}
 use Rattle.hpb_rules.specs.declared.id.TheConstants.{MOST_NODES, MOST_BIDDERS}
 use Rattle.hpb_rules.specs.declared.licence.Terms.{Terms}
+use Rattle.hpb_rules.specs.Drafts.{is_within, is_empty, is_name, has_bad_number, lacks_something, has_bad_name, has_late_parent, has_thin_package, has_licence_with_child, are_bad_terms}
 use Rattle.hpb_rules.specs.Lines.{node_named, bidder_named}
 use Rattle.hpb_rules.specs.Text.{node_name, bidder_name}
 use Rattle.hpb_rules.specs.Tree.{Rules, Node, Bidder, terms_of, units_at, opening_at}
@@ -20,7 +21,7 @@ use Rattle.hpb_tree.specs.declared.draft.BidderDraft.{BidderDraft}
 use Rattle.hpb_tree.specs.Draft.{rules_of, bidder_said, bidders_said}
 use Rattle.hpb_tree.specs.Licences.{licence_count}
 use Rattle.hpb_tree.specs.View.{nodes_view, IsSummed, IsChecked}
-use Rattle.hpb_tree.specs.Refusal.{is_within, is_empty, is_name, has_bad_number, lacks_something, has_bad_name, has_duplicate, has_late_parent, has_thin_package, has_parted_licence, is_over_limits, are_bad_terms, has_bad_terms, refusal_of, AreSound}
+use Rattle.hpb_tree.specs.Refusal.{has_duplicate, is_over_limits, has_bad_terms, refusal_of, AreSound}
 use Rattle.hpb_tree.proofs.Masks.{terms_in}
 use Rattle.hpb_tree.proofs.Places.{none_at}
 use Rattle.hpb_tree.proofs.Seen.{found_at}
@@ -35,7 +36,7 @@ pub record Accepted (d : Rules) : Type 0 where
   pub duplicate : has_duplicate d ≡ false
   pub parent : has_late_parent d.nodes ≡ false
   pub children : has_thin_package d.nodes ≡ false
-  pub leaf : has_parted_licence d.nodes ≡ false
+  pub leaf : has_licence_with_child d.nodes ≡ false
   pub limits : is_over_limits d ≡ false
   pub terms : has_bad_terms d ≡ false
 
@@ -52,7 +53,7 @@ accepted d e =
     let duplicate = none_from (has_duplicate d) Duplicate _ name.1 in
     let parent = none_from (has_late_parent d.nodes) Parent _ duplicate.1 in
     let children = none_from (has_thin_package d.nodes) Children _ parent.1 in
-    let leaf = none_from (has_parted_licence d.nodes) Leaf _ children.1 in
+    let leaf = none_from (has_licence_with_child d.nodes) Leaf _ children.1 in
     let limits = none_from (is_over_limits d) Limits _ leaf.1 in
     let terms = none_from (has_bad_terms d) BadTerms None limits.1 in
     record { number = number.0; lacks = lacks.0; name = name.0; duplicate = duplicate.0; parent = parent.0; children = children.0; leaf = leaf.0; limits = limits.0; terms = terms.0 }

@@ -73,7 +73,7 @@ apart_from seen (x ∷ xs) e (suc j) h =
     ap (list_any (bytes_eq (get_or xs j []))) (sym (append_assoc seen (x ∷ []) (take j xs)))
     ∙ apart_from (seen ++ x ∷ []) xs (or_parts _ _ e).1 j (omega arith)
 
-flip : (a b : List ℕ) → bytes_eq a b ≡ bytes_eq b a
+pub flip : (a b : List ℕ) → bytes_eq a b ≡ bytes_eq b a
 flip a b = same_from_bools (bytes_eq a b) (bytes_eq b a) (λ e. (bytes_eq-Decides b a).1 (sym ((bytes_eq-Decides a b).0 e))) (λ e. (bytes_eq-Decides a b).1 (sym ((bytes_eq-Decides b a).0 e)))
   where
     same_from_bools : (x y : Bool) → (x ≡ true → y ≡ true) → (y ≡ true → x ≡ true) → x ≡ y

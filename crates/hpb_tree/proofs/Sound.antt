@@ -6,13 +6,14 @@ use Rattle.std.specs.Option.{is_some, is_none}
 use Rattle.std.specs.List.{sum_by, range_with_len}
 use Rattle.std.proofs.lemmas.Bool.{both_ways, ltb-false, lt-ltb, eq-eqb, eqb-true}
 use Rattle.hpb_rules.specs.declared.licence.Terms.{Terms}
+use Rattle.hpb_rules.specs.Drafts.{children_of}
 use Rattle.hpb_rules.specs.Tree.{Node, IsTree, parent_of, terms_of, places}
 use Rattle.hpb_rules.specs.Choices.{is_node}
 use Rattle.hpb_rules.specs.Prices.{children_among}
 use Rattle.hpb_rules.proofs.Under.{parent_in}
 use Rattle.hpb_tree.specs.declared.tree.TheConstants.{MOST_LICENCES}
 use Rattle.hpb_tree.specs.Licences.{licences_among, part_over}
-use Rattle.hpb_tree.specs.Refusal.{AreSound, children_of}
+use Rattle.hpb_tree.specs.Refusal.{AreSound}
 use Rattle.hpb_tree.proofs.Places.{none_at, sum_more, sum_grows, sum_has, sum_found}
 use Rattle.hpb_tree.proofs.Walks.{Ordered, ordered}
 

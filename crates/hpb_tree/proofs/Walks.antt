@@ -1,10 +1,10 @@
 -- The way up from a node, where each parent stands before its children.
 use Rattle.std.proofs.Common.{◌≡◌, ℕ, zero, suc, ◌+◌, ◌<◌, ◌≤◌, Bool, true, false, ◌||◌, eqb, List, length, Option, Some, None, refl, sym, ap, ◌∙◌, subst, arith}
 use Rattle.std.proofs.lemmas.Bool.{leb-false, eq-eqb, ne_eqb}
+use Rattle.hpb_rules.specs.Drafts.{is_late, has_late_parent, depth_within, depth}
 use Rattle.hpb_rules.specs.Tree.{Node, parent_of, at_parent, at_or_under, at_or_under_within}
 use Rattle.hpb_rules.specs.Prices.{of_parent}
 use Rattle.hpb_rules.proofs.Under.{parent_in}
-use Rattle.hpb_tree.specs.Refusal.{is_late, has_late_parent, depth, depth_within}
 use Rattle.hpb_tree.proofs.Places.{none_at}
 
 -- each parent stands before its children
@@ -42,7 +42,7 @@ module _ (nodes : List Node) (o : Ordered nodes) where
   depth_enough (suc k) zero m a b =
       let z : m ≡ 0 = omega arith in
       subst (λ x. depth_within nodes (suc k) x ≡ 1) (sym z) (omega (arith, none_above (parent_of nodes 0) refl (depth_within nodes k)))
-  depth_enough (suc k) (suc j) m a b = ap (λ x. 1 + x) (by (depth_enough k j) (parent_of nodes m) refl)
+  depth_enough (suc k) (suc j) m a b = ap (λ x. suc x) (by (depth_enough k j) (parent_of nodes m) refl)
     where
       by : ((p : ℕ) → p ≤ k → p ≤ j → depth_within nodes k p ≡ depth_within nodes j p) → (c : Option ℕ) → parent_of nodes m ≡ c → of_parent c (depth_within nodes k) ≡ of_parent c (depth_within nodes j)
       by rec None e = refl
@@ -51,14 +51,15 @@ module _ (nodes : List Node) (o : Ordered nodes) where
   pub depth_below : (m p : ℕ) → parent_of nodes m ≡ Some p → 1 + depth nodes p ≡ depth nodes m
   depth_below m p e =
       let lt : p < m = o.before m p e in
-      ap (λ x. 1 + x) (depth_enough p m p (omega arith) (omega arith))
-      ∙ sym (ap (λ c. 1 + of_parent c (depth_within nodes m)) e)
+      let more : 1 + depth nodes p ≡ suc (depth nodes p) = omega arith in
+      more
+      ∙ ap (λ x. suc x) (depth_enough p m p (omega arith) (omega arith))
+      ∙ sym (ap (λ c. suc (of_parent c (depth_within nodes m))) e)
       ∙ depth_enough (suc m) m m (omega arith) (omega arith)
 
   pub depth_top : (m : ℕ) → parent_of nodes m ≡ None → 1 ≡ depth nodes m
   depth_top m e =
-      (let one : 1 ≡ 1 + 0 = omega arith in one)
-      ∙ sym (ap (λ c. 1 + of_parent c (depth_within nodes m)) e)
+      sym (ap (λ c. suc (of_parent c (depth_within nodes m))) e)
       ∙ depth_enough (suc m) m m (omega arith) (omega arith)
 
   under_enough : (k j n m : ℕ) → m ≤ k → m ≤ j → at_or_under_within nodes k n m ≡ at_or_under_within nodes j n m

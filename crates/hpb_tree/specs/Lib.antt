@@ -4,3 +4,4 @@ pub mod Definition
 pub mod Draft
 pub mod Refusal
 pub mod Fault
+pub mod Laws

@@ -1,5 +1,7 @@
 ghost use Rattle.std.specs.Prelude.{◌≡◌, ◌≢◌, None, Some, IfOk, IfErr, OnOk};
+ghost use Rattle.hpb_rules.specs.Drafts.{draft_refusal};
 ghost use Rattle.hpb_tree.specs.Draft.{rules_of};
+ghost use Rattle.hpb_tree.specs.Fault.{code_of};
 ghost use Rattle.hpb_tree.specs.Refusal.{refusal_of};
 ghost use Rattle.hpb_tree.specs.declared.fault.DefinitionFault.TheVariants.{Memory};
 
@@ -27,6 +29,8 @@ impl Definition {
         ensures ok { IfOk result (λ d. d ≡ rules_of draft.now) }
         ensures accepted { OnOk result (refusal_of (rules_of draft.now) ≡ None) }
         ensures refused { IfErr result (λ e. e ≢ Memory → refusal_of (rules_of draft.now) ≡ Some e) }
+        ensures draft_accepted { OnOk result (draft_refusal (rules_of draft.now) ≡ None) }
+        ensures draft_refused { IfErr result (λ e. e ≢ Memory → draft_refusal (rules_of draft.now) ≡ Some (code_of e)) }
     {
         match refusal(alloc, draft)? {
             Some(fault) => Err(fault),

@@ -1,6 +1,7 @@
 ghost use Rattle.std.specs.Prelude.{◌≡◌, ℕ, ◌+◌, ◌-◌, ◌*◌, ◌<◌, ◌≤◌, length, slice_index, IfSome, Some, All, position, string_bytes, IfOk, IsTrue, None};
 ghost use Rattle.std.specs.List.{range_with_len};
 ghost use Rattle.std.specs.Str.{bytes_eq};
+ghost use Rattle.hpb_rules.specs.Drafts.{is_name, draft_refusal};
 ghost use Rattle.hpb_rules.specs.Tree.{IsTree, tree_of, parent_of, terms_of, places, units, opening};
 ghost use Rattle.hpb_rules.specs.Prices.{children_among};
 ghost use Rattle.hpb_rules.specs.Text.{node_name, bidder_name};
@@ -8,7 +9,7 @@ ghost use Rattle.hpb_rules.specs.Lines.{node_named, bidder_named};
 ghost use Rattle.hpb_rules.specs.Units.{bidder_units};
 ghost use Rattle.hpb_tree.specs.Definition.{bidders_view};
 ghost use Rattle.hpb_tree.specs.Licences.{IsMask, licence_count};
-ghost use Rattle.hpb_tree.specs.Refusal.{is_name, refusal_of};
+ghost use Rattle.hpb_tree.specs.Refusal.{refusal_of};
 
 use crate::tree::{
     MOST_LICENCE_OPENING, MOST_LICENCE_UNITS, MOST_LICENCES, MOST_PERCENT, MOST_STEP, Tree,
@@ -107,6 +108,13 @@ impl Definition {
         ensures accepted { refusal_of self.now ≡ None }
     {
         self.tree.node_count()
+    }
+
+    /// A definition is a draft that isn't refused.
+    pub fn is_accepted_draft(&self)
+        ensures { draft_refusal self.now ≡ None }
+    {
+        let _ = &self.tree;
     }
 
     /// A node's name, 1 to 16 bytes of `a-z0-9_`.

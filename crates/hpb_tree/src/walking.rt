@@ -1,7 +1,7 @@
 ghost use Rattle.std.specs.Prelude.{◌≡◌, ◌≤◌, ◌<◌, ◌+◌, false, length};
+ghost use Rattle.hpb_rules.specs.Drafts.{has_late_parent, depth};
 ghost use Rattle.hpb_rules.specs.Tree.{at_or_under};
 ghost use Rattle.hpb_tree.specs.Draft.{nodes_said};
-ghost use Rattle.hpb_tree.specs.Refusal.{has_late_parent, depth};
 
 use crate::draft::NodeDraft;
 use crate::outline::parent_at;

@@ -1,8 +1,9 @@
 ghost use Rattle.std.specs.Prelude.{◌≡◌, ◌≤◌, ◌<◌, ◌+◌, false, length, nat_lt};
 ghost use Rattle.std.specs.List.{list_any};
+ghost use Rattle.hpb_rules.specs.Drafts.{has_late_parent, depth};
 ghost use Rattle.hpb_rules.specs.Tree.{places};
 ghost use Rattle.hpb_tree.specs.Draft.{rules_of, nodes_said};
-ghost use Rattle.hpb_tree.specs.Refusal.{has_late_parent, depth, is_over_limits};
+ghost use Rattle.hpb_tree.specs.Refusal.{is_over_limits};
 
 use crate::definition::{MOST_DEPTH, MOST_STAGES};
 use crate::draft::{Draft, NodeDraft};

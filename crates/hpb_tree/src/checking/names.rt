@@ -1,7 +1,8 @@
 ghost use Rattle.std.specs.Prelude.{◌≡◌, not, map, string_bytes, IfOk};
 ghost use Rattle.std.specs.List.{list_all, list_any};
+ghost use Rattle.hpb_rules.specs.Drafts.{is_name, is_name_byte, has_bad_name};
 ghost use Rattle.hpb_tree.specs.Draft.{rules_of};
-ghost use Rattle.hpb_tree.specs.Refusal.{is_name, is_name_byte, has_bad_name, has_twice, has_duplicate};
+ghost use Rattle.hpb_tree.specs.Refusal.{has_twice, has_duplicate};
 
 use crate::definition::MOST_NAME;
 use crate::draft::{BidderDraft, Draft, NodeDraft};

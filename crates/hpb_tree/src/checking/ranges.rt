@@ -1,7 +1,7 @@
 ghost use Rattle.std.specs.Prelude.{◌≡◌, not};
 ghost use Rattle.std.specs.List.{list_any};
+ghost use Rattle.hpb_rules.specs.Drafts.{is_within, has_bad_number, lacks_something};
 ghost use Rattle.hpb_tree.specs.Draft.{rules_of};
-ghost use Rattle.hpb_tree.specs.Refusal.{is_within, has_bad_number, lacks_something};
 
 use crate::definition::{LEAST_PERCENTAGE, MOST_BIDDER_UNITS, MOST_PERCENTAGE};
 use crate::draft::{BidderDraft, Draft};

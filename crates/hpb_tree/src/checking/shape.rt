@@ -1,7 +1,7 @@
 ghost use Rattle.std.specs.Prelude.{◌≡◌, ◌<◌, ◌&&◌, nat_lt, length, is_some, is_none};
+ghost use Rattle.hpb_rules.specs.Drafts.{is_late, has_late_parent, children_of, has_thin_package, has_licence_with_child};
 ghost use Rattle.hpb_rules.specs.Tree.{terms_of};
 ghost use Rattle.hpb_tree.specs.Draft.{nodes_said};
-ghost use Rattle.hpb_tree.specs.Refusal.{is_late, has_late_parent, children_of, has_thin_package, has_parted_licence};
 
 use crate::draft::NodeDraft;
 use crate::outline::{children_before, is_licence, parent_at};
@@ -51,7 +51,7 @@ fn is_thin_package(nodes: &[NodeDraft], place: usize) -> bool
 
 /// Whether a licence has a child.
 pub(crate) fn has_parted_licence(nodes: &[NodeDraft]) -> bool
-    ensures { result ≡ has_parted_licence (nodes_said nodes.now) }
+    ensures { result ≡ has_licence_with_child (nodes_said nodes.now) }
 {
     for place in 0..nodes.len() {
         if is_parted_licence(nodes, place) {

@@ -1,6 +1,6 @@
 use Rattle.std.proofs.Common.{nat_lt, lt-ltb, sym, ◌∙◌, ap}
+use Rattle.hpb_rules.specs.Drafts.{depth}
 use Rattle.hpb_tree.specs.Draft.{nodes_said}
-use Rattle.hpb_tree.specs.Refusal.{depth}
 use Rattle.hpb_tree.specs.declared.definition.TheConstants.{MOST_DEPTH}
 use Rattle.hpb_tree.proofs.Said.{some_place, no_place}
 use Rattle.hpb_tree.proofs.checking.limits.is_too_deep.Goals as goal

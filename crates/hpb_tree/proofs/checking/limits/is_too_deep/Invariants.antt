@@ -1,6 +1,6 @@
 use Rattle.std.proofs.Common.{◌≡◌, ℕ, ◌<◌, false, nat_lt}
+use Rattle.hpb_rules.specs.Drafts.{depth}
 use Rattle.hpb_tree.specs.Draft.{nodes_said}
-use Rattle.hpb_tree.specs.Refusal.{depth}
 use Rattle.hpb_tree.specs.declared.definition.TheConstants.{MOST_DEPTH}
 use Rattle.hpb_tree.proofs.checking.limits.is_too_deep.Given as goal
 

@@ -1,7 +1,7 @@
 use Rattle.std.proofs.Common.{sym, ◌∙◌, ap}
+use Rattle.hpb_rules.specs.Drafts.{is_late}
 use Rattle.hpb_rules.specs.Tree.{parent_of}
 use Rattle.hpb_tree.specs.Draft.{nodes_said}
-use Rattle.hpb_tree.specs.Refusal.{is_late}
 use Rattle.hpb_tree.proofs.Said.{some_place, no_place}
 use Rattle.hpb_tree.proofs.checking.shape.has_late_parent.Goals as goal
 

@@ -1,8 +1,8 @@
 use Rattle.std.proofs.Common.{nat_lt, ◌&&◌, sym, ◌∙◌}
 use Rattle.std.specs.Option.{is_none}
+use Rattle.hpb_rules.specs.Drafts.{children_of}
 use Rattle.hpb_rules.specs.Tree.{terms_of}
 use Rattle.hpb_tree.specs.Draft.{nodes_said}
-use Rattle.hpb_tree.specs.Refusal.{children_of}
 use Rattle.hpb_tree.proofs.Said.{some_place, no_place}
 use Rattle.hpb_tree.proofs.checking.shape.has_thin_package.Goals as goal
 

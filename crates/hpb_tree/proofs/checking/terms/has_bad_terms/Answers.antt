@@ -1,7 +1,7 @@
 use Rattle.std.proofs.Common.{sym, ◌∙◌, ap}
+use Rattle.hpb_rules.specs.Drafts.{are_bad_terms}
 use Rattle.hpb_rules.specs.Tree.{terms_of}
 use Rattle.hpb_tree.specs.Draft.{nodes_said}
-use Rattle.hpb_tree.specs.Refusal.{are_bad_terms}
 use Rattle.hpb_tree.proofs.Said.{some_place, no_place}
 use Rattle.hpb_tree.proofs.checking.terms.has_bad_terms.Goals as goal
 
