@@ -1,22 +1,27 @@
 -- The auction in memory: what it answers is the text by its history.
-use Rattle.std.proofs.Common.{◌≡◌, ℕ, Bool, true, false, List, [], ◌∷◌, ◌++◌, reverse, length, sym, ap, ◌∙◌, subst, append_assoc, append-nil}
+use Rattle.std.proofs.Common.{◌≡◌, ℕ, Bool, true, false, List, [], ◌∷◌, ◌++◌, reverse, length, sym, ap, ◌∙◌, subst, append_assoc, append-nil, ⊎_elim, refl}
 use Rattle.std.specs.Prelude.{Result, Ok, Err, if◌then◌else◌}
+use Rattle.std.specs.Io.KnownBytes.{Appends}
 use Rattle.std.specs.List.{slice_split}
 use Rattle.std.proofs.lemmas.List.{reverse-append, reverse-reverse}
 use Rattle.hpb_rules.specs.declared.command.Command.{Command}
+use Rattle.hpb_rules.specs.Tree.{Rules}
 use Rattle.hpb_rules.specs.Fronts.{IsFront}
 use Rattle.hpb_rules.specs.Seen.{Quantities}
 use Rattle.hpb_rules.specs.Answer.{is_reply_new, answer_after, after}
 use Rattle.hpb_rules.specs.Lines.{Request, command, show, node, who, request_of, is_line_feed}
 use Rattle.hpb_rules.specs.Rendering.{reply_text}
-use Rattle.hpb_rules.specs.Text.{line_of}
+use Rattle.hpb_rules.specs.Text.{line_of, lines_text}
 use Rattle.hpb_rules.specs.ValueText.{shown_in, node_shown_in, bidder_shown_in, response_in, value_after_request, lines_in}
 use Rattle.hpb_rules.specs.ValueLaws.{ShowsPast}
+use Rattle.hpb_rules.proofs.Lists.{front_trans}
+use Rattle.hpb_rules.proofs.Texts.{lines_text_grows}
 use Rattle.hpb_rules.proofs.Runs.{next_is_shown}
 use Rattle.hpb_rules.proofs.ValueTexts.{text_is_shown}
+use Rattle.hpb_server.specs.declared.input.TheConstants.{LINE_FEED}
 use Rattle.hpb_server.specs.Desk.{rules_in, RepliesIn, ShowsItself}
-use Rattle.hpb_server.specs.Serving.{shown_by, AnswersRequest, AnswersLines}
-use Rattle.hpb_server.specs.ScriptLaws.{InputIsText}
+use Rattle.hpb_server.specs.Serving.{IsWhole, shown_by, AnswersRequest, AnswersLines}
+use Rattle.hpb_server.specs.ScriptLaws.{InputIsText, SessionIsText}
 
 -- ---- one request
 abbrev Asked : Quantities → Result Request ℕ → List ℕ → Quantities → Type 0
@@ -91,3 +96,23 @@ input_is_text old new history input text shows h =
       lines_written (slice_split is_line_feed input) old new text h ∙ text_is_shown old (reverse history) input shows,
       (reverse on.longer, subst (λ (xs : List Command). IsFront xs (reverse on.longer)) (reverse-reverse history) on.front, subst (ShowsPast new) (sym (reverse-reverse on.longer)) on.shows),
     )
+
+-- ---- sessions
+-- the text of whole lines is a front of the text of these and more
+whole_front : (rules : Rules) (history : List Command) (done rest : List ℕ) → IsWhole done → IsFront (lines_text rules history done) (lines_text rules history (done ++ rest))
+whole_front rules history done rest whole = ⊎_elim
+    (λ none. subst (λ (xs : List ℕ). IsFront (lines_text rules history xs) (lines_text rules history (xs ++ rest))) (sym none) (lines_text rules history rest, refl))
+    (λ some. subst (λ (xs : List ℕ). IsFront (lines_text rules history xs) (lines_text rules history (xs ++ rest))) (sym some.1)
+    (subst (λ (xs : List ℕ). IsFront (lines_text rules history (some.0 ++ LINE_FEED ∷ [])) (lines_text rules history xs)) (sym (append_assoc some.0 (LINE_FEED ∷ []) rest)) (lines_text_grows rules history some.0 rest)))
+    whole
+
+pub session_is_text : SessionIsText
+session_is_text budget r0 r1 w0 w1 old new history (Ok done) shows s =
+    (s.taken, s.read, s.ended, subst (Appends w0 w1) (input_is_text old new history s.taken s.text shows s.answers).0 s.written)
+session_is_text budget r0 r1 w0 w1 old new history (Err fault) shows s =
+    let text : IsFront s.sent (lines_text old.rules history s.done) = subst (IsFront s.sent) (input_is_text old new history s.done s.text shows s.answers).0 s.front in
+    let all : IsFront (lines_text old.rules history s.done) (lines_text old.rules history (s.done ++ s.rest)) = ⊎_elim
+    (λ whole. whole_front old.rules history s.done s.rest whole)
+    (λ end. ([], ap (lines_text old.rules history) (ap (λ xs. s.done ++ xs) end.0 ∙ append-nil s.done) ∙ sym (append-nil (lines_text old.rules history s.done))))
+    s.whole in
+    (s.taken, s.sent, s.read, s.written, subst (λ (xs : List ℕ). IsFront s.sent (lines_text old.rules history xs)) (sym s.parts) (front_trans s.sent (lines_text old.rules history s.done) (lines_text old.rules history (s.done ++ s.rest)) text all))

@@ -15,7 +15,7 @@ mod words;
 pub use desk::{Desk, ScriptDesk};
 pub use fault::Fault;
 pub use input::MOST_READ;
-pub use laws::input_is_text;
+pub use laws::{input_is_text, session_is_text};
 pub use running::program;
 pub use script::{ScriptEnd, run_script};
 pub use serving::serve;
