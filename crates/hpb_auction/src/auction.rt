@@ -12,7 +12,7 @@ use hpb_winners::Outcome;
 use std::alloc::{AllocError, Global};
 use std::marker::Model;
 
-/// An auction after the commands that it accepted. Its tables have the size of its definition; what a
+/// An auction after the commands that it accepted. Its tables are made with it and never grow; what a
 /// command costs does not grow with the number of commands before it.
 #[derive(Drop)]
 pub struct Auction {
@@ -122,7 +122,7 @@ impl Auction {
     }
 
     /// The sum of the winning bids, in whole dollars: of an auction that shows a history the greatest that
-    /// disjoint bids have, and the prices prove it.
+    /// disjoint high bids of closed rounds have, and the prices prove it.
     pub fn revenue(&self) -> u64
         ensures value { result ≡ self.now.revenue }
         ensures best { (history : List Command) → Shows self.now history → IsBestChoice self.now }

@@ -1,4 +1,4 @@
-//! The auction: a machine over commands. It keeps tables of fixed size, which its answers are given by.
+//! The auction: a machine over commands. It keeps tables that never grow, by which it answers.
 #![tactic(auto)]
 
 mod applying;

@@ -12,6 +12,7 @@ use std::alloc::{AllocError, Global};
 /// An auction after commands, with what each of them was answered.
 #[derive(Drop)]
 pub struct Run {
+    /// The auction after all of them.
     pub auction: Auction,
     /// One reply for each command, in their order.
     pub replies: Vec<Reply>,
@@ -19,8 +20,8 @@ pub struct Run {
 
 /// Runs an auction from its beginning by commands, one after another. Fails only where memory is refused.
 ///
-/// The replies are those of the rules. At each point of the run the provisional winners are disjoint bids
-/// of the greatest total that bids can have together, and the prices prove it.
+/// The replies are those of the rules. At each point of the run the provisional winners are disjoint high
+/// bids of closed rounds, of the greatest total that these can have together, and the prices prove it.
 pub fn run_commands(
     alloc: Global,
     definition: &Definition,

@@ -21,8 +21,8 @@ pub fn text_is_shown()
     ensures { TextIsShown }
 {}
 
-/// At each point of a run under a definition that is not refused, the winners that are shown are disjoint bids of
-/// the greatest total, and the prices that are shown prove it.
+/// At each point of a run under a definition that is not refused, the winners that are shown are disjoint high
+/// bids of the greatest total, and the prices that are shown prove it.
 pub fn run_is_best_choice()
     ensures { RunIsBestChoice }
 {}

@@ -14,6 +14,7 @@ mod laws_of_rounds;
 mod laws_of_text;
 mod laws_of_values;
 mod licence;
+/// The numbers of refusals, and their words.
 pub mod refusal;
 mod reply;
 

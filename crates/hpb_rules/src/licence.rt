@@ -1,6 +1,8 @@
 /// What a licence is sold by: its bidding units, and its opening, the lowest first bid in whole dollars.
 #[derive(Clone, Copy, Debug, PartialEq, Eq)]
 pub struct Terms {
+    /// In bidding units.
     pub units: u32,
+    /// In whole dollars.
     pub opening: u64,
 }

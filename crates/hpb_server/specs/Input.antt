@@ -4,6 +4,7 @@ use Rattle.hpb_server.specs.declared.input.TheConstants.{CHUNK_BYTES}
 use Rattle.hpb_server.specs.declared.input.Input.TheInside.{Inside}
 use Rattle.hpb_server.specs.Reading.{Pending}
 
+-- What is unread of the chunk, and how much may still be read.
 abbrev pub pending : Inside → Pending
 pending i = record { unread = slice_range i.chunk.items i.start i.end; budget = i.budget }
 

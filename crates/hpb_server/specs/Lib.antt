@@ -3,6 +3,7 @@ pub mod Reading
 pub mod Input
 pub mod Writing
 pub mod Words
+pub mod Program
 pub mod Desk
 pub mod Serving
 pub mod Session

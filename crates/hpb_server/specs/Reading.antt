@@ -12,6 +12,7 @@ pub record Pending : Type 0 where
   pub unread : List ℕ
   pub budget : ℕ
 
+-- The byte at the end of a line.
 abbrev pub is_line_feed : ℕ → Bool
 is_line_feed b = b == LINE_FEED
 

@@ -6,7 +6,7 @@ use hpb_auction::{Auction, Command, Reply};
 use hpb_tree::Definition;
 use std::marker::Model;
 
-/// Whom a session asks: the auction of a script, or a seat of a house.
+/// Whom a session asks. `ScriptDesk` is the auction of a script.
 pub trait Desk {
     ghost use Rattle.std.specs.Prelude.{Option};
     ghost use Rattle.hpb_rules.specs.Tree.{Rules};

@@ -1,5 +1,7 @@
-ghost use Rattle.std.specs.Prelude.{◌≤◌};
+ghost use Rattle.std.specs.Prelude.{◌≡◌, ◌≤◌};
+ghost use Rattle.hpb_server.specs.Program.{RunsProgram, status_of};
 
+use crate::fault::Fault;
 use crate::script::{ScriptEnd, run_script};
 use crate::words::{Job, WRONG_WORDS, WordsFault, read_words};
 use std::alloc::Global;
@@ -10,12 +12,11 @@ use std::io::{Read, Write};
 const WELL: u8 = 0;
 
 /// A definition or memory was refused, or a stream failed.
-const FAILED: u8 = 1;
+const ILL: u8 = 1;
 
 /// The whole of the program, with its status: 0; 1 where the definition is refused, memory is refused or
 /// a stream fails; 2 where the words are wrong. The first word is the program's name. Lines go to
-/// the output, and what is said of the words, help too, goes to the errors. The runtime is for jobs that
-/// reach beyond these streams.
+/// the output, and what is said of the words, help too, goes to the errors. No job uses the runtime.
 pub fn program<H, S: AsStr, R: Read, W: Write, E: Write>(
     _rt: &H,
     alloc: Global,
@@ -24,18 +25,26 @@ pub fn program<H, S: AsStr, R: Read, W: Write, E: Write>(
     output: &mut W,
     errors: &mut E,
 ) -> u8
-    ensures { result ≤ WRONG_WORDS }
+    ensures status { result ≤ WRONG_WORDS }
+    ensures streams { RunsProgram (R.remaining input.old) (R.remaining input.new) (W.contents output.old) (W.contents output.new) result }
 {
     match read_words(alloc, words) {
-        Ok(Job::Script) => match run_script(alloc, input, output) {
-            Ok(ScriptEnd::Answered) => WELL,
-            Ok(ScriptEnd::Refused(_)) | Err(_) => FAILED,
-        },
-        Err(WordsFault::Memory) => FAILED,
+        Ok(Job::Script) => status_of(run_script(alloc, input, output)),
+        Err(WordsFault::Memory) => ILL,
         Err(WordsFault::Refused { text, status }) => {
             let _ = errors.write_all(text.as_bytes());
             let _ = errors.flush();
             status
         }
+    }
+}
+
+/// The status of the program by the end of its script.
+fn status_of(end: Result<ScriptEnd, Fault>) -> u8
+    ensures { result ≡ status_of end }
+{
+    match end {
+        Ok(ScriptEnd::Answered) => WELL,
+        Ok(ScriptEnd::Refused(_)) | Err(_) => ILL,
     }
 }

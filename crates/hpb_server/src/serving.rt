@@ -21,8 +21,8 @@ use std::io::{Read, Write};
 ///
 /// A line has at most 128 bytes and a line feed; any other, a last one without line feed too, is refused
 /// by `ERR 10 line`. No line tells of a fault: 90 where memory is refused, 92 where the reader or the writer
-/// fails or more than 1,000,000,000 bytes are read. What was answered before it is written, and what
-/// was accepted stands.
+/// fails or more than 1,000,000,000 bytes are read. Where memory is refused or the reader fails, what was
+/// answered before is written first; where the writer fails, a front of it. What was accepted stands.
 pub fn serve<R: Read, W: Write, D: Desk>(
     alloc: Global,
     reader: &mut R,
