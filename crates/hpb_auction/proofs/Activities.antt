@@ -18,12 +18,12 @@ both : (x y : Bool) → (x && y) ≡ true → (x ≡ true) × (y ≡ true)
 both true y e = (refl, e)
 both false y e = absurd (both_ways false refl e)
 
-pub one_of : (x y : Bool) → (x || y) ≡ true → (x ≡ false → y ≡ true)
+one_of : (x y : Bool) → (x || y) ≡ true → (x ≡ false → y ≡ true)
 one_of true y e f = absurd (both_ways true f refl)
 one_of false y e f = e
 
 -- two answers that imply each other are one
-pub same_answer : (a b : Bool) → (a ≡ true → b ≡ true) → (b ≡ true → a ≡ true) → a ≡ b
+same_answer : (a b : Bool) → (a ≡ true → b ≡ true) → (b ≡ true → a ≡ true) → a ≡ b
 same_answer true b f g = sym (f refl)
 same_answer false true f g = g refl
 same_answer false false f g = refl

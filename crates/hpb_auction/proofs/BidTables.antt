@@ -20,6 +20,7 @@ use Rattle.hpb_auction.specs.declared.sender.BidderRow.{BidderRow}
 use Rattle.hpb_auction.specs.declared.auction.Auction.TheInside.{Inside}
 use Rattle.hpb_auction.specs.Machine.{IsNext}
 use Rattle.hpb_auction.specs.View.{quantities_of, node_view, bidder_view, sender_view, row_at, empty_row, bidder_places, AreBidsOf, IsOfferOf, IsNumbered}
+use Rattle.hpb_auction.proofs.Kept.{greater_kept}
 use Rattle.hpb_auction.proofs.Tables.{node_here, bidder_here}
 
 -- a row set, and the others
@@ -39,19 +40,6 @@ pub record IsPlaced (books books' : BooksView) (b n amount : ℕ) : Type 0 where
   pub bids : (c m : ℕ) → has_bid books' c m ≡ (((b == c) && (n == m)) || has_bid books c m)
 
 -- ---- what the tables keep
-
-greater_kept : (rules : Rules) (n : ℕ) (older newer : Option Offer) → IfSome older (IsOfferOf rules n) → IfSome newer (IsOfferOf rules n) → IfSome (greater older newer) (IsOfferOf rules n)
-greater_kept rules n older newer h k = by _ refl
-  where
-    amount_of : Option Offer → ℕ
-    amount_of o = elim o [ None ↦ 0 | Some x ↦ x.amount ]
-
-    by : (x : Option Offer) → greater older newer ≡ x → IfSome (greater older newer) (IsOfferOf rules n)
-    by x e = pick _
-      where
-        pick : (b : Bool) → IfSome (if b then newer else older) (IsOfferOf rules n)
-        pick true = k
-        pick false = h
 
 pub placed_kept : (rules : Rules) (books books' : BooksView) (b n amount : ℕ) → AreBidsOf rules books → IsPlaced books books' b n amount → b < length rules.bidders → n < length rules.nodes → AreBidsOf rules books'
 placed_kept rules books books' b n amount kept new h k = record {

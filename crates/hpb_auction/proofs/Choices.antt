@@ -2,19 +2,14 @@
 use Rattle.std.proofs.Common.{◌≡◌, ◌++◌, List, [], ◌∷◌, reverse, refl, sym, ap, subst}
 use Rattle.hpb_rules.specs.declared.command.Command.{Command}
 use Rattle.hpb_rules.specs.declared.reply.Reply.{Reply}
-use Rattle.hpb_rules.specs.Tree.{Rules, IsTree}
-use Rattle.hpb_rules.specs.Answer.{past_from}
+use Rattle.hpb_rules.specs.Tree.{IsTree}
 use Rattle.hpb_rules.specs.Seen.{Quantities, Shows}
-use Rattle.hpb_rules.specs.Values.{reply_in, next_value, first_value, value_after, replies_in}
+use Rattle.hpb_rules.specs.Values.{reply_in, next_value, value_after, replies_in}
 use Rattle.hpb_rules.specs.ValueLaws.{IsBestChoice}
 use Rattle.hpb_rules.proofs.BestRuns.{best_choice}
-use Rattle.hpb_rules.proofs.Runs.{run_is}
 
 pub best_shown : (q : Quantities) → IsTree q.rules.nodes → (history : List Command) → Shows q history → IsBestChoice q
 best_shown q tree history shows = subst IsBestChoice (sym shows.1) (best_choice q.rules (reverse history) shows.0 tree)
-
-pub best_run : (rules : Rules) (commands : List Command) → IsTree rules.nodes → IsBestChoice (value_after (first_value rules) commands)
-best_run rules commands tree = subst IsBestChoice (sym (run_is rules commands [] tt).0) (best_choice rules (past_from rules [] commands) (run_is rules commands [] tt).1 tree)
 
 -- one command more
 pub value_more : (q : Quantities) (commands : List Command) (command : Command) → value_after q (commands ++ command ∷ []) ≡ next_value (value_after q commands) command

@@ -1,11 +1,9 @@
 -- The tables after a close.
 use Rattle.std.proofs.Common.{◌≡◌, ℕ, suc, ◌+◌, ◌-◌, ◌*◌, ◌/◌, ◌<◌, ◌≤◌, Bool, true, false, cond, List, map, min, get_or, length, Option, Some, None, refl, sym, ap, ◌∙◌, ⊎_elim, arith, subst}
-use Rattle.std.specs.Prelude.{if◌then◌else◌, ◌==◌, slice_index, IfSome}
-use Rattle.std.specs.Int.{bit_at}
+use Rattle.std.specs.Prelude.{slice_index, IfSome}
 use Rattle.std.proofs.lemmas.Bool.{cases_lt}
 use Rattle.std.proofs.lemmas.List.{get_or_past}
 use Rattle.std.proofs.lemmas.List.FromFn.{length-map-range_with_len}
-use Rattle.std.proofs.lemmas.Nat.Bits.{bit_at-zero}
 use Rattle.hpb_rules.specs.declared.command.Offer.{Offer}
 use Rattle.hpb_rules.specs.Tree.{Rules, places, tree_of}
 use Rattle.hpb_rules.specs.Choices.{is_in, winners, revenue}
@@ -14,7 +12,7 @@ use Rattle.hpb_rules.specs.declared.command.Command.{Command}
 use Rattle.hpb_rules.specs.declared.command.Command.TheVariants.{Close}
 use Rattle.hpb_rules.specs.History.{Sender, greater, amount_of, sender_of, ticket_of}
 use Rattle.hpb_rules.specs.Seen.{NodeView, BidderView, SenderView, Quantities}
-use Rattle.hpb_rules.specs.Values.{node_at, no_node, sender_at, counted, closed_bid, closed_node, closed_bidder, changed}
+use Rattle.hpb_rules.specs.Values.{node_at, no_node, sender_at, counted, closed_bid, closed_node, closed_bidder, closed_value, changed}
 use Rattle.hpb_rules.proofs.Ranges.{map_same}
 use Rattle.hpb_bids.specs.View.{BooksView, IsQuiet, offer_at, has_bid, bid_of}
 use Rattle.hpb_winners.specs.Outcome.{OutcomeView, IsOutcome}
@@ -23,8 +21,9 @@ use Rattle.hpb_auction.specs.declared.sender.BidderRow.{BidderRow}
 use Rattle.hpb_auction.specs.declared.auction.Auction.TheInside.{Inside}
 use Rattle.hpb_auction.specs.declared.sender.Accepted.{Accepted}
 use Rattle.hpb_auction.specs.Rows.{renewed}
-use Rattle.hpb_auction.specs.Machine.{IsNext, closed_value}
+use Rattle.hpb_auction.specs.Machine.{IsNext}
 use Rattle.hpb_auction.specs.View.{quantities_of, node_view, bidder_view, sender_view, row_at, bidder_places, AreBidsOf, IsOfferOf}
+use Rattle.hpb_auction.proofs.Kept.{no_bit, greater_kept}
 use Rattle.hpb_auction.proofs.Tables.{node_here, bidder_here}
 use Rattle.hpb_auction.proofs.Activities.{activity_here}
 
@@ -34,9 +33,6 @@ pub record IsFolded (books books' : BooksView) : Type 0 where
   pub incoming : (n : ℕ) → offer_at books'.incoming n ≡ None
   pub quiet : IsQuiet books'
 
-no_bit : (mask n : ℕ) → mask ≡ 0 → (bit_at mask n == 1) ≡ false
-no_bit mask n e = ap (λ k. bit_at k n == 1) e ∙ ap (λ k. k == 1) (bit_at-zero n)
-
 -- nothing stands on a place past the definition's nodes
 none_past : (rules : Rules) (n : ℕ) (o : Option Offer) → IfSome o (IsOfferOf rules n) → length rules.nodes ≤ n → o ≡ None
 none_past rules n None h k = refl
@@ -44,17 +40,13 @@ none_past rules n (Some x) h k = absurd (omega (arith, h.0))
 
 pub folded_kept : (rules : Rules) (books books' : BooksView) → AreBidsOf rules books → IsFolded books books' → AreBidsOf rules books'
 folded_kept rules books books' kept new = record {
-  standing = λ n. at n _ _ (sym (new.standing n)) (pick n (offer_at books.standing n) (offer_at books.incoming n) _ (kept.standing n) (kept.incoming n));
+  standing = λ n. at n _ _ (sym (new.standing n)) (greater_kept rules n (offer_at books.standing n) (offer_at books.incoming n) (kept.standing n) (kept.incoming n));
   incoming = λ n. at n _ _ (sym (new.incoming n)) tt;
   bids = λ b n e. absurd (both (has_bid books' b n) (no_bit (get_or books'.bids b 0) n (new.quiet b)) e);
 }
   where
     at : (n : ℕ) (x y : Option Offer) → x ≡ y → IfSome x (IsOfferOf rules n) → IfSome y (IsOfferOf rules n)
     at n x y e p = subst (λ (o : Option Offer). IfSome o (IsOfferOf rules n)) e p
-
-    pick : (n : ℕ) (older newer : Option Offer) (t : Bool) → IfSome older (IsOfferOf rules n) → IfSome newer (IsOfferOf rules n) → IfSome (if t then newer else older) (IsOfferOf rules n)
-    pick n older newer true h k = k
-    pick n older newer false h k = h
 
     both : (t : Bool) → t ≡ false → t ≡ true → ⊥
     both true e f = cc

@@ -1,11 +1,9 @@
 -- The tables before the first command.
 use Rattle.std.proofs.Common.{◌≡◌, ℕ, ◌<◌, Bool, false, List, [], map, length, get_or, Option, None, refl, sym, ap, ◌∙◌, ⊎_elim, arith, subst}
-use Rattle.std.specs.Prelude.{◌==◌, IfSome}
-use Rattle.std.specs.Int.{bit_at}
+use Rattle.std.specs.Prelude.{IfSome}
 use Rattle.std.proofs.lemmas.Bool.{cases_lt, both_ways}
 use Rattle.std.proofs.lemmas.List.{get_or_past}
 use Rattle.std.proofs.lemmas.List.FromFn.{length-map-range_with_len}
-use Rattle.std.proofs.lemmas.Nat.Bits.{bit_at-zero}
 use Rattle.hpb_rules.specs.declared.command.Offer.{Offer}
 use Rattle.hpb_rules.specs.Tree.{Rules, places, tree_of}
 use Rattle.hpb_rules.specs.Choices.{is_in, revenue}
@@ -21,10 +19,8 @@ use Rattle.hpb_prices.specs.View as prices
 use Rattle.hpb_auction.specs.declared.sender.BidderRow.{BidderRow}
 use Rattle.hpb_auction.specs.Rows.{first_row, first_rows}
 use Rattle.hpb_auction.specs.View.{node_view, bidder_view, sender_view, row_at, empty_row, bidder_places, AreBidsOf, IsOfferOf, IsNumbered}
+use Rattle.hpb_auction.proofs.Kept.{no_bit}
 use Rattle.hpb_auction.proofs.Tables.{entry_at}
-
-no_bit : (mask n : ℕ) → mask ≡ 0 → (bit_at mask n == 1) ≡ false
-no_bit mask n e = ap (λ k. bit_at k n == 1) e ∙ ap (λ k. k == 1) (bit_at-zero n)
 
 pub empty_kept : (rules : Rules) (books : BooksView) → IsEmpty books → AreBidsOf rules books
 empty_kept rules books e = record {

@@ -1,6 +1,7 @@
 pub mod Verdicts
 pub mod Tables
 pub mod Activities
+pub mod Kept
 pub mod Quiet
 pub mod BidTables
 pub mod CloseTables

@@ -1,16 +1,17 @@
 -- Nobody bid where no bidder's mask has a bit.
-use Rattle.std.proofs.Common.{◌≡◌, ℕ, zero, suc, ◌+◌, ◌/◌, ◌%◌, ◌<◌, ◌≤◌, Bool, true, false, not, get_or, length, refl, sym, ap, ◌∙◌, ⊎_elim, arith}
-use Rattle.std.specs.Prelude.{IsTrue, ◌↔◌, ◌==◌}
+use Rattle.std.proofs.Common.{◌≡◌, ℕ, zero, suc, ◌+◌, ◌/◌, ◌%◌, ◌<◌, ◌≤◌, Bool, true, false, not, get_or, length, refl, sym, ◌∙◌, ⊎_elim, arith}
+use Rattle.std.specs.Prelude.{IsTrue, ◌↔◌}
 use Rattle.std.specs.Int.{bit_at}
 use Rattle.std.specs.List.{list_any, range_with_len}
 use Rattle.std.proofs.lemmas.Bool.{cases_lt, eq-eqb, both_ways}
-use Rattle.std.proofs.lemmas.Nat.Bits.{bit_at-zero, bit_at-suc, bit_at_lowest}
+use Rattle.std.proofs.lemmas.Nat.Bits.{bit_at-suc, bit_at_lowest}
 use Rattle.hpb_rules.specs.Seen.{BidderView}
 use Rattle.hpb_rules.specs.Values as values
 use Rattle.hpb_rules.proofs.Ranges.{found_in, finds_in, list_any_map}
 use Rattle.hpb_bids.specs.View.{IsQuiet, has_bid}
 use Rattle.hpb_auction.specs.declared.auction.Auction.TheInside.{Inside}
 use Rattle.hpb_auction.specs.View.{quantities_of, bidder_view, AreBidsOf}
+use Rattle.hpb_auction.proofs.Kept.{no_bit}
 
 -- a number above 0 has a bit
 some_bit : (most n : ℕ) → n ≤ most → 0 < n → (i : ℕ) × (bit_at n i ≡ 1)
@@ -19,9 +20,6 @@ some_bit (suc most) n h p = ⊎_elim
     (λ even. let r : (i : ℕ) × (bit_at (n / 2) i ≡ 1) = some_bit most (n / 2) (omega arith) (omega arith) in (suc r.0, bit_at-suc n r.0 ∙ r.1))
     (λ odd. (zero, bit_at_lowest n ∙ omega arith))
     (cases_lt (n % 2) 1)
-
-no_bit : (mask n : ℕ) → mask ≡ 0 → (bit_at mask n == 1) ≡ false
-no_bit mask n e = ap (λ k. bit_at k n == 1) e ∙ ap (λ k. k == 1) (bit_at-zero n)
 
 module _ (a : Inside) (kept : AreBidsOf a.definition a.books) where
   abbrev flags : ℕ → Bool

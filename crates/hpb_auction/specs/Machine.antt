@@ -1,16 +1,14 @@
 -- What an auction answers by what is known of it.
-use Rattle.std.specs.Prelude.{◌≡◌, ℕ, suc, ◌+◌, ◌<◌, ◌≤◌, ◌++◌, ◌||◌, not, cond, map, List, [], ◌∷◌, length, if◌then◌else◌}
+use Rattle.std.specs.Prelude.{◌≡◌, ℕ, suc, ◌<◌, ◌≤◌, ◌++◌, List, [], ◌∷◌, length, if◌then◌else◌}
 use Rattle.hpb_rules.specs.declared.command.Command.{Command}
 use Rattle.hpb_rules.specs.declared.command.Command.TheVariants.{Bid, Close, Stage}
 use Rattle.hpb_rules.specs.declared.reply.TheConstants.{MOST_AMOUNT}
 use Rattle.hpb_tree.specs.declared.definition.TheConstants.{MOST_STAGES}
-use Rattle.hpb_rules.specs.Tree.{Rules, places}
-use Rattle.hpb_rules.specs.Choices.{winners, revenue}
+use Rattle.hpb_rules.specs.Tree.{Rules}
 use Rattle.hpb_rules.specs.Answer.{answer, is_reply_new}
 use Rattle.hpb_rules.specs.History.{bidder, sender_of, ticket_of}
 use Rattle.hpb_rules.specs.Seen.{Quantities, SenderView}
-use Rattle.hpb_rules.specs.Values.{sender_at, closed_bid, closed_node, closed_bidder, has_bid}
-use Rattle.hpb_auction.specs.View.{bidder_places}
+use Rattle.hpb_rules.specs.Values.{sender_at}
 
 -- What is known of a bidder's commands.
 abbrev pub bidder_sender_at : Quantities → ℕ → SenderView
@@ -31,16 +29,6 @@ CanTake q (Stage ticket) = (q.stage < length q.rules.stages) × (q.stage < MOST_
 -- The ticket is the next of the command's sender.
 abbrev pub IsNext : Quantities → Command → Type 0
 IsNext q command = ticket_of command ≡ suc (sender_at q (sender_of command)).ticket
-
--- The value after the end of its round.
-abbrev pub closed_value : Quantities → Quantities
-closed_value q = record q {
-  nodes = map (closed_node q) (places q.rules.nodes);
-  bidders = map (closed_bidder q) (bidder_places q.rules);
-  revenue = revenue (closed_bid q) (winners q.rules.nodes (closed_bid q));
-  round = cond (has_bid q) 1 0 + q.round;
-  over = not (has_bid q) || q.over;
-}
 
 -- A history with a command at its end where it is newly accepted, and else as it was.
 abbrev pub history_after : Rules → List Command → Command → List Command

@@ -4,8 +4,8 @@ ghost use Rattle.hpb_rules.specs.declared.reply.TheConstants.{MOST_AMOUNT, MOST_
 ghost use Rattle.hpb_rules.specs.Answer.{answer, is_reply_new};
 ghost use Rattle.hpb_rules.specs.History.{ticket_of};
 ghost use Rattle.hpb_rules.specs.Seen.{Shows};
-ghost use Rattle.hpb_rules.specs.Values.{reply_in, changed, next_value};
-ghost use Rattle.hpb_auction.specs.Machine.{CanTake, IsKnown, IsNext, closed_value, history_after};
+ghost use Rattle.hpb_rules.specs.Values.{reply_in, changed, closed_value, next_value};
+ghost use Rattle.hpb_auction.specs.Machine.{CanTake, IsKnown, IsNext, history_after};
 
 use crate::auction::Auction;
 use crate::sender::{Accepted, renew_eligibility};

@@ -53,8 +53,9 @@ impl Auction {
         ensures empty { IfOk result (λ a. Shows a []) }
     {
         let definition = definition.copy(alloc)?;
-        let (nodes, stages) = (definition.node_count(), definition.stage_count());
-        prove!(nodes > 0 && stages > 0);
+        definition.is_accepted_draft();
+        let stages = definition.stage_count();
+        prove!(stages > 0);
         let books = Books::new(alloc, definition.tree())?;
         let outcome = Outcome::new(alloc, definition.tree())?;
         let prices = Prices::new(alloc, definition.tree())?;

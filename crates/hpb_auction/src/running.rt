@@ -32,8 +32,7 @@ pub fn run_commands(
     ensures history { IfOk result (λ run. run.replies.items ≡ replies_from definition.now [] commands.now) }
     ensures best { IfOk result (λ _. (front rest : List Command) → commands.now ≡ front ++ rest → IsBestChoice (value_after (first_value definition.now) front)) }
 {
-    let nodes = definition.node_count();
-    prove!(nodes > 0);
+    definition.is_accepted_draft();
     let mut auction = Auction::new(alloc, definition)?;
     let mut replies = Vec::with_capacity(alloc, commands.len())?;
     for command in commands {

@@ -1,4 +1,4 @@
-//! Whole dollars: percentages, steps and shares.
+//! Amounts in dollars: percentages, steps and shares.
 #![tactic(auto)]
 
 ghost use Rattle.std.specs.Prelude.{◌≡◌, ℕ, ◌+◌, ◌*◌, ◌^◌, ◌<◌, ◌≤◌, List, slice_index};

@@ -122,6 +122,16 @@ closed_bidder value from = record {
   bid_on = map (λ node. false) (places value.rules.nodes);
 }
 
+-- A value after the end of its round, before the command that ends it is counted.
+abbrev pub closed_value : Quantities → Quantities
+closed_value value = record value {
+  nodes = map (closed_node value) (places value.rules.nodes);
+  bidders = map (closed_bidder value) (range_with_len 0 (length value.rules.bidders));
+  revenue = revenue (closed_bid value) (winners value.rules.nodes (closed_bid value));
+  round = cond (has_bid value) 1 0 + value.round;
+  over = not (has_bid value) || value.over;
+}
+
 -- What a value becomes by a command that it newly accepts.
 abbrev pub changed : Quantities → Command → Quantities
 changed value (Bid from ticket on amount) = record value {
@@ -130,15 +140,7 @@ changed value (Bid from ticket on amount) = record value {
   senders = slice_set value.senders from (counted value (Bid from ticket on amount));
   count = suc value.count;
 }
-changed value (Close ticket) = record value {
-  nodes = map (closed_node value) (places value.rules.nodes);
-  bidders = map (closed_bidder value) (range_with_len 0 (length value.rules.bidders));
-  auctioneer = counted value (Close ticket);
-  revenue = revenue (closed_bid value) (winners value.rules.nodes (closed_bid value));
-  round = cond (has_bid value) 1 0 + value.round;
-  over = not (has_bid value) || value.over;
-  count = suc value.count;
-}
+changed value (Close ticket) = record (closed_value value) { auctioneer = counted value (Close ticket); count = suc value.count }
 changed value (Stage ticket) = record value { auctioneer = counted value (Stage ticket); stage = suc value.stage; count = suc value.count }
 
 -- The value after a command: changed where the command is newly accepted, and else as it was.

@@ -7,7 +7,8 @@ use Rattle.std.proofs.lemmas.List.{take-append-le, length-take}
 use Rattle.std.proofs.lemmas.List.Elements.{All-append}
 use Rattle.hpb_server.specs.declared.input.TheConstants.{LINE_FEED, KEPT_DEFINITION_BYTES}
 use Rattle.hpb_define.specs.declared.reading.TheConstants.{MOST_BYTES}
-use Rattle.hpb_server.specs.Reading.{Pending, HasNoEnd, is_line_feed, TakesPart, TakesWithin, EndsDefinition, ReadsInVain}
+use Rattle.hpb_rules.specs.Lines.{is_line_feed}
+use Rattle.hpb_server.specs.Reading.{Pending, HasNoEnd, TakesPart, TakesWithin, EndsDefinition, ReadsInVain}
 
 -- so many bytes were taken and have no end, and so many of them are kept; the rest is unread
 pub record Taken (old new : Option (List ℕ)) (budget : ℕ) (input : Pending) (text : List ℕ) : Type 0 where

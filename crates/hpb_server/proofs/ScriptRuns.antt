@@ -30,7 +30,7 @@ use Rattle.hpb_server.specs.declared.script.ScriptEnd.{ScriptEnd}
 use Rattle.hpb_server.specs.declared.script.ScriptEnd.TheVariants.{Answered, Refused}
 use Rattle.hpb_server.specs.Desk.{rules_in, RepliesIn, ShowsItself}
 use Rattle.hpb_server.specs.Reading.{Pending, HasNoEnd, ReadsInVain, EndsDefinition, GivesDefinition}
-use Rattle.hpb_server.specs.Serving.{AnswersInput, IsWhole}
+use Rattle.hpb_server.specs.Serving.{AnswersInput, AreLines}
 use Rattle.hpb_server.specs.Script.{IsTold, AnswersScript, RefusesScript, RunsScript, ServesScript, WritesRefusal, Refuses}
 use Rattle.hpb_server.specs.Writing.{Sends}
 use Rattle.hpb_server.proofs.Scripts.{lines_written}
@@ -53,7 +53,7 @@ text_is define first more text rules new no_end is h =
     ∙ sym (script_is define (first ++ LINE_FEED ∷ more) first (slice_split is_line_feed more) rules (slice_split_at is_line_feed first LINE_FEED more no_end refl) is)
 
 -- the text of whole lines is a front of the text of more
-text_grows : (define : List ℕ → Result Rules ℕ) (first done rest : List ℕ) → IsWhole done ⊎ (rest ≡ []) → IsFront (script_text define (first ++ LINE_FEED ∷ done)) (script_text define ((first ++ LINE_FEED ∷ done) ++ rest))
+text_grows : (define : List ℕ → Result Rules ℕ) (first done rest : List ℕ) → AreLines done ⊎ (rest ≡ []) → IsFront (script_text define (first ++ LINE_FEED ∷ done)) (script_text define ((first ++ LINE_FEED ∷ done) ++ rest))
 text_grows define first done rest (inl (inl none)) =
     subst (λ (done : List ℕ). IsFront (script_text define (first ++ LINE_FEED ∷ done)) (script_text define ((first ++ LINE_FEED ∷ done) ++ rest))) (sym none)
     (subst (λ (input : List ℕ). IsFront (script_text define (first ++ LINE_FEED ∷ [])) (script_text define input)) (sym (append_assoc first (LINE_FEED ∷ []) rest)) (script_text_grows define first rest))

@@ -20,7 +20,7 @@ use Rattle.hpb_rules.proofs.Runs.{next_is_shown}
 use Rattle.hpb_rules.proofs.ValueTexts.{text_is_shown}
 use Rattle.hpb_server.specs.declared.input.TheConstants.{LINE_FEED}
 use Rattle.hpb_server.specs.Desk.{rules_in, RepliesIn, ShowsItself}
-use Rattle.hpb_server.specs.Serving.{IsWhole, shown_by, AnswersRequest, AnswersLines}
+use Rattle.hpb_server.specs.Serving.{AreLines, shown_by, AnswersRequest, AnswersLines}
 use Rattle.hpb_server.specs.ScriptLaws.{InputIsText, SessionIsText}
 
 -- ---- one request
@@ -99,8 +99,8 @@ input_is_text old new history input text shows h =
 
 -- ---- sessions
 -- the text of whole lines is a front of the text of these and more
-whole_front : (rules : Rules) (history : List Command) (done rest : List ℕ) → IsWhole done → IsFront (lines_text rules history done) (lines_text rules history (done ++ rest))
-whole_front rules history done rest whole = ⊎_elim
+lines_front : (rules : Rules) (history : List Command) (done rest : List ℕ) → AreLines done → IsFront (lines_text rules history done) (lines_text rules history (done ++ rest))
+lines_front rules history done rest whole = ⊎_elim
     (λ none. subst (λ (xs : List ℕ). IsFront (lines_text rules history xs) (lines_text rules history (xs ++ rest))) (sym none) (lines_text rules history rest, refl))
     (λ some. subst (λ (xs : List ℕ). IsFront (lines_text rules history xs) (lines_text rules history (xs ++ rest))) (sym some.1)
     (subst (λ (xs : List ℕ). IsFront (lines_text rules history (some.0 ++ LINE_FEED ∷ [])) (lines_text rules history xs)) (sym (append_assoc some.0 (LINE_FEED ∷ []) rest)) (lines_text_grows rules history some.0 rest)))
@@ -112,7 +112,7 @@ session_is_text budget r0 r1 w0 w1 old new history (Ok done) shows s =
 session_is_text budget r0 r1 w0 w1 old new history (Err fault) shows s =
     let text : IsFront s.sent (lines_text old.rules history s.done) = subst (IsFront s.sent) (input_is_text old new history s.done s.text shows s.answers).0 s.front in
     let all : IsFront (lines_text old.rules history s.done) (lines_text old.rules history (s.done ++ s.rest)) = ⊎_elim
-    (λ whole. whole_front old.rules history s.done s.rest whole)
+    (λ whole. lines_front old.rules history s.done s.rest whole)
     (λ end. ([], ap (lines_text old.rules history) (ap (λ xs. s.done ++ xs) end.0 ∙ append-nil s.done) ∙ sym (append-nil (lines_text old.rules history s.done))))
     s.whole in
     (s.taken, s.sent, s.read, s.written, subst (λ (xs : List ℕ). IsFront s.sent (lines_text old.rules history xs)) (sym s.parts) (front_trans s.sent (lines_text old.rules history s.done) (lines_text old.rules history (s.done ++ s.rest)) text all))

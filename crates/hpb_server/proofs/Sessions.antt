@@ -22,7 +22,7 @@ use Rattle.hpb_server.specs.declared.input.TheConstants.{LINE_FEED}
 use Rattle.hpb_server.specs.declared.line.TheConstants.{KEPT_BYTES}
 use Rattle.hpb_server.specs.Reading.{Pending, HasNoEnd, TakesPart}
 use Rattle.hpb_server.specs.Writing.{Sends}
-use Rattle.hpb_server.specs.Serving.{IsWhole, AnswersRequest, AnswersLine, AnswersLines, AnswersInput, Serves}
+use Rattle.hpb_server.specs.Serving.{AreLines, AnswersRequest, AnswersLine, AnswersLines, AnswersInput, Serves}
 use Rattle.hpb_server.specs.Session.{Passes, Ends, Leads, Session, Broken}
 use Rattle.hpb_server.proofs.Definitions.{take-take-append}
 
@@ -60,15 +60,15 @@ split_filled p (x ∷ xs) = by (p x) (slice_split p xs) (split_filled p xs)
     by true parts h = filled [] parts
     by false parts (filled y ys) = filled (x ∷ y) ys
 
-none_whole : IsWhole []
+none_whole : AreLines []
 none_whole = inl refl
 
-pub line_whole : (line : List ℕ) → IsWhole (line ++ LINE_FEED ∷ [])
+pub line_whole : (line : List ℕ) → AreLines (line ++ LINE_FEED ∷ [])
 line_whole line = inr (line, refl)
 
-whole_append : (a b : List ℕ) → IsWhole a → IsWhole b → IsWhole (a ++ b)
+whole_append : (a b : List ℕ) → AreLines a → AreLines b → AreLines (a ++ b)
 whole_append a b p q = ⊎_elim
-    (λ none. subst IsWhole (sym (ap (λ ys. a ++ ys) none ∙ append-nil a)) p)
+    (λ none. subst AreLines (sym (ap (λ ys. a ++ ys) none ∙ append-nil a)) p)
     (λ some. inr (a ++ some.0, ap (λ ys. a ++ ys) some.1 ∙ sym (append_assoc a some.0 (LINE_FEED ∷ []))))
     q
 

@@ -2,6 +2,7 @@
 use Rattle.std.specs.Prelude.{◌≡◌, ℕ, ◌+◌, ◌<◌, ◌==◌, Bool, true, false, List, [], ◌∷◌, ◌++◌, length, take, slice_index, Option, Some, None, Result, Ok, Err, ◌⊎◌}
 use Rattle.std.specs.List.{All}
 use Rattle.std.specs.Io.KnownBytes.{Consumes, IsAtEnd}
+use Rattle.hpb_rules.specs.Lines.{is_line_feed}
 use Rattle.hpb_server.specs.declared.fault.Fault.{Fault}
 use Rattle.hpb_server.specs.declared.input.TheConstants.{LINE_FEED, KEPT_DEFINITION_BYTES}
 use Rattle.hpb_define.specs.declared.reading.TheConstants.{MOST_BYTES}
@@ -11,10 +12,6 @@ use Rattle.hpb_server.specs.declared.input.DefinitionText.{DefinitionText}
 pub record Pending : Type 0 where
   pub unread : List ℕ
   pub budget : ℕ
-
--- The byte at the end of a line.
-abbrev pub is_line_feed : ℕ → Bool
-is_line_feed b = b == LINE_FEED
 
 -- no line ends in these bytes
 abbrev pub HasNoEnd : List ℕ → Type 0

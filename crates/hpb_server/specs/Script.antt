@@ -19,7 +19,7 @@ use Rattle.hpb_server.specs.declared.script.ScriptEnd.{ScriptEnd}
 use Rattle.hpb_server.specs.declared.script.ScriptEnd.TheVariants.{Answered, Refused}
 use Rattle.hpb_server.specs.Desk.{rules_in, RepliesIn, ShowsItself}
 use Rattle.hpb_server.specs.Reading.{Pending, HasNoEnd, ReadsInVain}
-use Rattle.hpb_server.specs.Serving.{IsWhole, Serves}
+use Rattle.hpb_server.specs.Serving.{AreLines, Serves}
 
 -- The number of a refusal. Want of memory is no refusal.
 abbrev pub IsTold : DefineFault → ℕ → Type 0
@@ -70,7 +70,7 @@ module _ (reader_old reader_new writer_old writer_new : Option (List ℕ)) where
     pub read : Consumes reader_old reader_new taken
     pub line : HasNoEnd first
     pub parts : taken ≡ (first ++ LINE_FEED ∷ done) ++ rest
-    pub whole : IsWhole done ⊎ ((rest ≡ []) × IsAtEnd reader_new)
+    pub whole : AreLines done ⊎ ((rest ≡ []) × IsAtEnd reader_new)
     pub accepted : Answers first (Ok rules)
     pub written : Appends writer_old writer_new sent
     pub front : (define : List ℕ → Result Rules ℕ) → define first ≡ Ok rules → IsFront sent (script_text define (first ++ LINE_FEED ∷ done))

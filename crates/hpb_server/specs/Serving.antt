@@ -21,8 +21,8 @@ shown_by how None = refusal_text FAILED
 shown_by how (Some value) = how value
 
 -- Bytes that are whole lines: none, or the last of them ends a line.
-abbrev pub IsWhole : List ℕ → Type 0
-IsWhole bytes = (bytes ≡ []) ⊎ ((front : List ℕ) × (bytes ≡ front ++ LINE_FEED ∷ []))
+abbrev pub AreLines : List ℕ → Type 0
+AreLines bytes = (bytes ≡ []) ⊎ ((front : List ℕ) × (bytes ≡ front ++ LINE_FEED ∷ []))
 
 -- A question is answered by what the desk shows.
 abbrev pub AnswersLook : {Desk : Type 0} (looks : Desk → Option Quantities → Desk → Type 0) → (Quantities → List ℕ) → Desk → List ℕ → Desk → Type 0
@@ -73,7 +73,7 @@ module _ {Desk : Type 0} (rules : Desk → Rules) (asks : Desk → Command → R
       pub sent : List ℕ
       pub read : Consumes reader_old reader_new taken
       pub parts : unread ++ taken ≡ done ++ rest
-      pub whole : IsWhole done ⊎ ((rest ≡ []) × IsAtEnd reader_new)
+      pub whole : AreLines done ⊎ ((rest ≡ []) × IsAtEnd reader_new)
       pub answers : AnswersInput old done text new
       pub written : Appends writer_old writer_new sent
       pub front : IsFront sent text

@@ -12,7 +12,7 @@ use Rattle.hpb_server.specs.declared.fault.Fault.{Fault}
 use Rattle.hpb_server.specs.declared.line.TheConstants.{KEPT_BYTES}
 use Rattle.hpb_server.specs.Reading.{HasNoEnd}
 use Rattle.hpb_server.specs.Writing.{Adds, Sends}
-use Rattle.hpb_server.specs.Serving.{IsWhole, AnswersLook, AnswersRequest, AnswersInput}
+use Rattle.hpb_server.specs.Serving.{AreLines, AnswersLook, AnswersRequest, AnswersInput}
 
 -- A front of the bytes was written, and the rest is left; or a front was written.
 abbrev pub Passes : (writer_old writer_new : Option (List ℕ)) (bytes left : List ℕ) → Result ⊤ Fault → Type 0
@@ -38,7 +38,7 @@ module _ {Desk : Type 0} (rules : Desk → Rules) (asks : Desk → Command → R
 
   -- Whole lines were answered: whatever comes after them is answered from here on.
   pub record Leads (old : Desk) (done text : List ℕ) (now : Desk) : Type 0 where
-    pub whole : IsWhole done
+    pub whole : AreLines done
     pub goes_on : (more rest : List ℕ) (end : Desk) → AnswersInput rules asks looks now more rest end → AnswersInput rules asks looks old (done ++ more) (text ++ rest) end
 
   module _ (start : List ℕ) (old now : Desk) (writer_old writer_now : Option (List ℕ)) (output_old : List ℕ) where

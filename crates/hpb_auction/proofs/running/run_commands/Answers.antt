@@ -4,8 +4,9 @@ use Rattle.hpb_rules.specs.declared.command.Command.{Command}
 use Rattle.hpb_rules.specs.declared.reply.Reply.{Reply}
 use Rattle.hpb_rules.specs.Seen.{Quantities}
 use Rattle.hpb_rules.specs.Values.{first_value, next_value, reply_in, replies_in, value_after}
+use Rattle.hpb_rules.proofs.BestRuns.{run_is_best_choice}
 use Rattle.hpb_rules.proofs.Runs.{run_is_shown}
-use Rattle.hpb_auction.proofs.Choices.{best_run, value_more, replies_more}
+use Rattle.hpb_auction.proofs.Choices.{value_more, replies_more}
 use Rattle.hpb_auction.proofs.running.run_commands.Goals as goal
 
 pub loop-command-preserved : goal.loop-command-preserved
@@ -27,4 +28,4 @@ returns-clause-history c =
     ∙ (run_is_shown c.args.definition.now c.args.commands.now).1
 
 pub returns-clause-best : goal.returns-clause-best
-returns-clause-best c front rest split = best_run c.args.definition.now front c.node_count-nodes.ensures.tree
+returns-clause-best c front rest split = run_is_best_choice c.args.definition.now front c.is_accepted_draft.ensures

@@ -1,6 +1,6 @@
 use Rattle.std.proofs.Common.{Some, ap, ◌∙◌}
 use Rattle.hpb_rules.specs.Seen.{Quantities}
-use Rattle.hpb_auction.specs.Machine.{closed_value}
+use Rattle.hpb_rules.specs.Values.{closed_value}
 use Rattle.hpb_auction.specs.View.{sender_view}
 use Rattle.hpb_auction.proofs.CloseTables.{close_counted}
 use Rattle.hpb_auction.proofs.auction.Auction.accept_close.Goals as goal

@@ -8,7 +8,7 @@ use Rattle.hpb_bids.specs.View.{bid_of}
 use Rattle.hpb_winners.specs.Outcome.{IsOutcome}
 use Rattle.hpb_prices.specs.View.{HasPrices, HasMinima}
 use Rattle.hpb_auction.specs.declared.sender.BidderRow.{BidderRow}
-use Rattle.hpb_auction.specs.Machine.{closed_value}
+use Rattle.hpb_rules.specs.Values.{closed_value}
 use Rattle.hpb_auction.specs.Rows.{renewed}
 use Rattle.hpb_auction.specs.View.{quantities_of, row_at}
 use Rattle.hpb_auction.proofs.Quiet.{quiet_seen}

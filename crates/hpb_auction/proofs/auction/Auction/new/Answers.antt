@@ -1,6 +1,7 @@
 use Rattle.std.proofs.Common.{◌≡◌, List, length, sym, ap, ◌∙◌, arith, subst}
 use Rattle.hpb_rules.specs.Tree.{TreeRules}
 use Rattle.hpb_rules.specs.Values.{first_value}
+use Rattle.hpb_rules.proofs.Accepted.{accepted_is_definition}
 use Rattle.hpb_winners.specs.Outcome.{IsOutcome, no_bid}
 use Rattle.hpb_prices.specs.View.{HasPrices, HasMinima, IsSized}
 use Rattle.hpb_auction.specs.View.{row_at, IsNumbered}
@@ -17,7 +18,7 @@ invariant_of-result c =
     let rules = c.in_ok-definition.definition in
     let count : length c.in_ok-bidders.bidders.items ≡ length rules.bidders = ap length c.in_ok-bidders.ensures.rows ∙ rows_count rules in
     record {
-      tree = c.node_count-nodes.ensures.tree;
+      tree = (accepted_is_definition rules c.is_accepted_draft.ensures).tree;
       rows = count;
       most_rows = omega (arith, count, c.in_ok-bidders.ensures.most);
       bids = empty_kept rules c.in_ok-books.books c.in_ok-books.ensures.empty;
