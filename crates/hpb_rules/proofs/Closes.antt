@@ -17,6 +17,7 @@ use Rattle.hpb_rules.specs.Answer.{IsPast}
 use Rattle.hpb_rules.specs.Seen.{NodeView, BidderView, Quantities, node_view, bidder_view, quantities}
 use Rattle.hpb_rules.specs.Values.{no_node, node_at, bidder_at, activity_of, bid_of, has_bid, closed_bid, closed_node, closed_bidder, changed}
 use Rattle.hpb_rules.proofs.NewCommands.{known_names, accepted_new}
+use Rattle.hpb_rules.proofs.Pasts.{closed_past}
 use Rattle.hpb_rules.proofs.Bids.{greatest_is_greater}
 use Rattle.hpb_rules.proofs.Percentages.{stage_more}
 use Rattle.hpb_rules.proofs.Ranges.{map_same, found_in, finds_in, list_any_map}
@@ -38,13 +39,6 @@ module _ (rules : Rules) where
       ∙ none_beyond past is.1 node h
   none_beyond (Close ticket ∷ past) is node h = none_beyond past is.1 node h
   none_beyond (Stage ticket ∷ past) is node h = none_beyond past is.1 node h
-
-  -- what came before the last close is a past
-  pub closed_past : (past : List Command) → IsPast rules past → IsPast rules (History.before_close past)
-  closed_past [] is = is
-  closed_past (Bid from ticket on amount ∷ past) is = closed_past past is.1
-  closed_past (Close ticket ∷ past) is = is.1
-  closed_past (Stage ticket ∷ past) is = closed_past past is.1
 
   -- where somebody bid in the open round, a bidder bid on a node
   open_bid : (past : List Command) → IsPast rules past → list_any History.is_bid (History.open_round past) ≡ true
@@ -78,7 +72,7 @@ module _ (rules : Rules) where
         at : (node : ℕ) → bid_of shown node ≡ History.high_bid past node
         at node = ⊎_elim
             (λ less. ap (λ (v : NodeView). History.amount_of v.high) (node_read rules past node less))
-            (λ more. ap (λ (v : NodeView). History.amount_of v.high) (beyond node more) ∙ sym (ap History.amount_of (none_beyond (History.before_close past) (closed_past past is) node more)))
+            (λ more. ap (λ (v : NodeView). History.amount_of v.high) (beyond node more) ∙ sym (ap History.amount_of (none_beyond (History.before_close past) (closed_past rules past is) node more)))
             (cases_lt node (length rules.nodes))
 
     -- the high bids after a close

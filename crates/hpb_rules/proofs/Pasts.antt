@@ -1,7 +1,7 @@
 -- Histories grow at their end, and a repeat changes nothing.
 use Rattle.std.proofs.Common.{◌≡◌, ℕ, suc, ◌+◌, ◌<◌, Bool, true, false, cond, eqb, List, [], ◌∷◌, ◌++◌, reverse, Option, Some, None, length, refl, sym, ap, ◌∙◌, arith, subst}
 use Rattle.std.specs.Prelude.{if◌then◌else◌}
-use Rattle.std.proofs.lemmas.Bool.{both_ways, eq-eqb, eqb-true, ne_eqb, le-ltb}
+use Rattle.std.proofs.lemmas.Bool.{and_parts, both_ways, eq-eqb, eqb-true, ne_eqb, le-ltb}
 use Rattle.std.proofs.lemmas.List.{reverse-append, length-reverse}
 use Rattle.std.proofs.lemmas.List.Sums.{sum_by-cons}
 use Rattle.hpb_rules.specs.declared.command.Command.{Command}
@@ -14,7 +14,7 @@ use Rattle.hpb_rules.specs.History
 use Rattle.hpb_rules.specs.History.{Sender, bidder, auctioneer, sender_of, same_sender, ticket_of, same_command, is_from, last_ticket, last_of}
 use Rattle.hpb_rules.specs.Answer.{repeated, is_reply_new, reply_by, unknown, fault, answer_after, IsPast, after}
 use Rattle.hpb_rules.proofs.NewCommands.{pair_is, last_number, accepted_new}
-use Rattle.hpb_rules.specs.HistoryLaws.{IsNew, HistoryGrows, FrontIsHistory, RepeatChangesNothing}
+use Rattle.hpb_rules.specs.HistoryLaws.{IsNew, HistoryGrows, FrontIsHistory, RepeatChangesNothing, SameIsEqual}
 
 pub reverse_push : (history : List Command) (command : Command) → reverse (history ++ command ∷ []) ≡ command ∷ reverse history
 reverse_push history command = reverse-append history (command ∷ [])
@@ -24,15 +24,26 @@ history_grows rules history command is ok =
     subst (IsPast rules) (sym (reverse_push history command)) (ok ∙ ap (λ n. replies.Ok (suc n)) (sym (length-reverse history)), is)
 
 -- what is older than a part of a past is a past
-older : (rules : Rules) (newer past : List Command) → IsPast rules (newer ++ past) → IsPast rules past
+pub older : (rules : Rules) (newer past : List Command) → IsPast rules (newer ++ past) → IsPast rules past
 older rules [] past is = is
 older rules (command ∷ newer) past is = older rules newer past is.1
+
+-- each command of a past is new after the older ones
+pub new_after : (rules : Rules) (newer past : List Command) (command : Command) → IsPast rules (newer ++ command ∷ past) → IsNew rules past command
+new_after rules newer past command is = accepted_new rules past command (older rules newer (command ∷ past) is).0
+
+-- what came before the last close is a past
+pub closed_past : (rules : Rules) (past : List Command) → IsPast rules past → IsPast rules (History.before_close past)
+closed_past rules [] is = is
+closed_past rules (Bid from ticket node amount ∷ past) is = closed_past rules past is.1
+closed_past rules (Close ticket ∷ past) is = is.1
+closed_past rules (Stage ticket ∷ past) is = closed_past rules past is.1
 
 pub front_is_history : FrontIsHistory
 front_is_history rules front rest is = older rules (reverse rest) (reverse front) (subst (IsPast rules) (reverse-append front rest) is)
 
 -- ---- senders and commands that are the same
-same_sender_is : (one other : Sender) → same_sender one other ≡ true → one ≡ other
+pub same_sender_is : (one other : Sender) → same_sender one other ≡ true → one ≡ other
 same_sender_is (bidder one) (bidder other) e = ap bidder (eqb-true one other e)
 same_sender_is (bidder one) auctioneer e = absurd (both_ways false refl e)
 same_sender_is auctioneer (bidder other) e = absurd (both_ways false refl e)
@@ -45,6 +56,35 @@ pub same_command_self : (command : Command) → same_command command command ≡
 same_command_self (Bid from ticket node amount) = rw (eq_self from, eq_self ticket, eq_self node, eq_self amount) refl
 same_command_self (Close ticket) = eq_self ticket
 same_command_self (Stage ticket) = eq_self ticket
+
+same_command_is : (one other : Command) → same_command one other ≡ true → one ≡ other
+same_command_is (Bid from ticket node amount) (Bid from' ticket' node' amount') e =
+    let amounts = and_parts _ _ e in
+    let nodes = and_parts _ _ amounts.0 in
+    let tickets = and_parts _ _ nodes.0 in
+    let a : from ≡ from' = eqb-true from from' tickets.0 in
+    let b : ticket ≡ ticket' = eqb-true ticket ticket' tickets.1 in
+    let c : node ≡ node' = eqb-true node node' nodes.1 in
+    let d : amount ≡ amount' = eqb-true amount amount' amounts.1 in
+    cc
+same_command_is (Bid from ticket node amount) (Close ticket') e = absurd (both_ways false refl e)
+same_command_is (Bid from ticket node amount) (Stage ticket') e = absurd (both_ways false refl e)
+same_command_is (Close ticket) (Bid from ticket' node amount) e = absurd (both_ways false refl e)
+same_command_is (Close ticket) (Close ticket') e = ap Close (eqb-true ticket ticket' e)
+same_command_is (Close ticket) (Stage ticket') e = absurd (both_ways false refl e)
+same_command_is (Stage ticket) (Bid from ticket' node amount) e = absurd (both_ways false refl e)
+same_command_is (Stage ticket) (Close ticket') e = absurd (both_ways false refl e)
+same_command_is (Stage ticket) (Stage ticket') e = ap Stage (eqb-true ticket ticket' e)
+
+same_sender_self : (sender : Sender) → same_sender sender sender ≡ true
+same_sender_self (bidder from) = eq_self from
+same_sender_self auctioneer = refl
+
+pub same_is_equal : SameIsEqual
+same_is_equal = (
+  λ one other. (same_command_is one other, λ e. subst (λ command. same_command one command ≡ true) e (same_command_self one)),
+  λ one other. (same_sender_is one other, λ e. subst (λ sender. same_sender one sender ≡ true) e (same_sender_self one)),
+)
 
 module _ (rules : Rules) where
   -- a sender's last command bears its last ticket
