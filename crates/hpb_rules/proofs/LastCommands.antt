@@ -8,7 +8,7 @@ use Rattle.hpb_rules.specs.declared.command.Command.{Command}
 use Rattle.hpb_rules.specs.History.{Sender, sender_of, is_from, last_of}
 use Rattle.hpb_rules.specs.HistoryLaws.{IsLast, LastStands}
 use Rattle.hpb_rules.proofs.Lists.{get_front, get_seam, get_push}
-use Rattle.hpb_rules.proofs.Pasts.{same_is_equal}
+use Rattle.hpb_rules.proofs.Sameness.{same_is_equal}
 
 module _ (sender : Sender) where
   abbrev SentNothing : List Command → Type 0

@@ -1,7 +1,7 @@
--- Histories grow at their end, and a repeat changes nothing.
-use Rattle.std.proofs.Common.{◌≡◌, ℕ, suc, ◌+◌, ◌<◌, Bool, true, false, cond, eqb, List, [], ◌∷◌, ◌++◌, reverse, Option, Some, None, length, refl, sym, ap, ◌∙◌, arith, subst}
+-- Parts of pasts are pasts, histories grow at their end, and a repeat changes nothing.
+use Rattle.std.proofs.Common.{◌≡◌, ℕ, suc, ◌+◌, ◌<◌, Bool, true, false, cond, List, [], ◌∷◌, ◌++◌, reverse, Option, Some, None, length, refl, sym, ap, ◌∙◌, arith, subst}
 use Rattle.std.specs.Prelude.{if◌then◌else◌}
-use Rattle.std.proofs.lemmas.Bool.{and_parts, both_ways, eq-eqb, eqb-true, ne_eqb, le-ltb}
+use Rattle.std.proofs.lemmas.Bool.{eq-eqb, ne_eqb, le-ltb}
 use Rattle.std.proofs.lemmas.List.{reverse-append, length-reverse}
 use Rattle.std.proofs.lemmas.List.Sums.{sum_by-cons}
 use Rattle.hpb_rules.specs.declared.command.Command.{Command}
@@ -13,8 +13,9 @@ use Rattle.hpb_rules.specs.Tree.{Rules}
 use Rattle.hpb_rules.specs.History
 use Rattle.hpb_rules.specs.History.{Sender, bidder, auctioneer, sender_of, same_sender, ticket_of, same_command, is_from, last_ticket, last_of}
 use Rattle.hpb_rules.specs.Answer.{repeated, is_reply_new, reply_by, unknown, fault, answer_after, IsPast, after}
+use Rattle.hpb_rules.proofs.Sameness.{same_sender_is, same_command_self}
 use Rattle.hpb_rules.proofs.NewCommands.{pair_is, last_number, accepted_new}
-use Rattle.hpb_rules.specs.HistoryLaws.{IsNew, HistoryGrows, FrontIsHistory, RepeatChangesNothing, SameIsEqual}
+use Rattle.hpb_rules.specs.HistoryLaws.{IsNew, HistoryGrows, FrontIsHistory, RepeatChangesNothing}
 
 pub reverse_push : (history : List Command) (command : Command) → reverse (history ++ command ∷ []) ≡ command ∷ reverse history
 reverse_push history command = reverse-append history (command ∷ [])
@@ -42,49 +43,9 @@ closed_past rules (Stage ticket ∷ past) is = closed_past rules past is.1
 pub front_is_history : FrontIsHistory
 front_is_history rules front rest is = older rules (reverse rest) (reverse front) (subst (IsPast rules) (reverse-append front rest) is)
 
--- ---- senders and commands that are the same
-pub same_sender_is : (one other : Sender) → same_sender one other ≡ true → one ≡ other
-same_sender_is (bidder one) (bidder other) e = ap bidder (eqb-true one other e)
-same_sender_is (bidder one) auctioneer e = absurd (both_ways false refl e)
-same_sender_is auctioneer (bidder other) e = absurd (both_ways false refl e)
-same_sender_is auctioneer auctioneer e = refl
-
-eq_self : (n : ℕ) → eqb n n ≡ true
-eq_self n = eq-eqb n n refl
-
-pub same_command_self : (command : Command) → same_command command command ≡ true
-same_command_self (Bid from ticket node amount) = rw (eq_self from, eq_self ticket, eq_self node, eq_self amount) refl
-same_command_self (Close ticket) = eq_self ticket
-same_command_self (Stage ticket) = eq_self ticket
-
-same_command_is : (one other : Command) → same_command one other ≡ true → one ≡ other
-same_command_is (Bid from ticket node amount) (Bid from' ticket' node' amount') e =
-    let amounts = and_parts _ _ e in
-    let nodes = and_parts _ _ amounts.0 in
-    let tickets = and_parts _ _ nodes.0 in
-    let a : from ≡ from' = eqb-true from from' tickets.0 in
-    let b : ticket ≡ ticket' = eqb-true ticket ticket' tickets.1 in
-    let c : node ≡ node' = eqb-true node node' nodes.1 in
-    let d : amount ≡ amount' = eqb-true amount amount' amounts.1 in
-    cc
-same_command_is (Bid from ticket node amount) (Close ticket') e = absurd (both_ways false refl e)
-same_command_is (Bid from ticket node amount) (Stage ticket') e = absurd (both_ways false refl e)
-same_command_is (Close ticket) (Bid from ticket' node amount) e = absurd (both_ways false refl e)
-same_command_is (Close ticket) (Close ticket') e = ap Close (eqb-true ticket ticket' e)
-same_command_is (Close ticket) (Stage ticket') e = absurd (both_ways false refl e)
-same_command_is (Stage ticket) (Bid from ticket' node amount) e = absurd (both_ways false refl e)
-same_command_is (Stage ticket) (Close ticket') e = absurd (both_ways false refl e)
-same_command_is (Stage ticket) (Stage ticket') e = ap Stage (eqb-true ticket ticket' e)
-
-same_sender_self : (sender : Sender) → same_sender sender sender ≡ true
-same_sender_self (bidder from) = eq_self from
-same_sender_self auctioneer = refl
-
-pub same_is_equal : SameIsEqual
-same_is_equal = (
-  λ one other. (same_command_is one other, λ e. subst (λ command. same_command one command ≡ true) e (same_command_self one)),
-  λ one other. (same_sender_is one other, λ e. subst (λ sender. same_sender one sender ≡ true) e (same_sender_self one)),
-)
+-- a newer command adds a ticket where it is the sender's
+pub ticket_more : (newest : Command) (past : List Command) (sender : Sender) → last_ticket (newest ∷ past) sender ≡ cond (is_from sender newest) 1 0 + last_ticket past sender
+ticket_more newest past sender = sum_by-cons (λ command. cond (is_from sender command) 1 0) newest past
 
 module _ (rules : Rules) where
   -- a sender's last command bears its last ticket
@@ -94,7 +55,7 @@ module _ (rules : Rules) where
   last_is (newest ∷ past) sender command number is e = by (last_is past sender command number is.1) (is_from sender newest) refl e
     where
       count : last_ticket (newest ∷ past) sender ≡ cond (is_from sender newest) 1 0 + last_ticket past sender
-      count = sum_by-cons (λ x. cond (is_from sender x) 1 0) newest past
+      count = ticket_more newest past sender
 
       by : (last_of past sender ≡ Some (command, number) → (unknown rules command ≡ None) × (ticket_of command ≡ last_ticket past sender) × (0 < ticket_of command)) → (b : Bool) → is_from sender newest ≡ b → cond b (Some (newest, suc (length past))) (last_of past sender) ≡ Some (command, number)
           → (unknown rules command ≡ None) × (ticket_of command ≡ last_ticket (newest ∷ past) sender) × (0 < ticket_of command)

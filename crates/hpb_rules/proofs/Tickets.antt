@@ -1,17 +1,12 @@
 -- A sender's last ticket is the ticket of its last command.
 use Rattle.std.proofs.Common.{◌≡◌, ℕ, suc, ◌+◌, Bool, true, false, cond, List, [], ◌∷◌, ◌++◌, take, drop, reverse, Option, Some, None, length, refl, ap, sym, ◌∙◌, arith, subst}
-use Rattle.std.proofs.lemmas.List.Sums.{sum_by-cons}
 use Rattle.hpb_rules.specs.declared.command.Command.{Command}
 use Rattle.hpb_rules.specs.Tree.{Rules}
 use Rattle.hpb_rules.specs.History.{Sender, is_from, last_ticket, last_of, ticket_of_last}
 use Rattle.hpb_rules.specs.Answer.{IsPast}
 use Rattle.hpb_rules.specs.HistoryLaws.{TicketsCount}
-use Rattle.hpb_rules.proofs.Pasts.{new_after, last_is}
+use Rattle.hpb_rules.proofs.Pasts.{ticket_more, new_after, last_is}
 use Rattle.hpb_rules.proofs.Lists.{split_at, reverse_seam}
-
--- a newer command counts where it is the sender's
-pub ticket_more : (newest : Command) (past : List Command) (sender : Sender) → last_ticket (newest ∷ past) sender ≡ cond (is_from sender newest) 1 0 + last_ticket past sender
-ticket_more newest past sender = sum_by-cons (λ command. cond (is_from sender command) 1 0) newest past
 
 -- who has no last command has no ticket
 pub no_ticket : (past : List Command) (sender : Sender) → last_of past sender ≡ None → last_ticket past sender ≡ 0

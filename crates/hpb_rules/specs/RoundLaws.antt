@@ -37,7 +37,8 @@ abbrev pub HighIsGreatest : Type 0
 HighIsGreatest = (rules : Rules) (past : List Command) (node : ℕ) → draft_refusal rules ≡ None → IsPast rules past
     → MatchOption (History.high past node) (HasNoBid (History.before_close past) node) (IsGreatest (History.before_close past) node)
 
--- A node's incoming bid is the same of the open round.
+-- In a past of a definition that is not refused a node's incoming bid is the greatest of the open round and the earliest such,
+-- and there is none exactly where nothing was bid on it there.
 abbrev pub IncomingIsGreatest : Type 0
 IncomingIsGreatest = (rules : Rules) (past : List Command) (node : ℕ) → draft_refusal rules ≡ None → IsPast rules past
     → MatchOption (History.incoming past node) (HasNoBid (History.open_round past) node) (IsGreatest (History.open_round past) node)
