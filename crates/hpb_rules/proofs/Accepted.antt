@@ -4,6 +4,7 @@ use Rattle.std.specs.Prelude.{if◌then◌else◌, is_some, is_none, slice_index
 use Rattle.std.specs.List.{list_any, range_with_len}
 use Rattle.std.proofs.lemmas.Bool.{cases_eq, cases_lt, both_ways, eqb-true, leb-true, leb-false, ltb-false, lt-ltb, and_parts}
 use Rattle.std.proofs.lemmas.List.Sums.{sum_by-cons}
+use Rattle.hpb_rules.specs.declared.refusal.Refusal.{Refusal}
 use Rattle.hpb_rules.specs.declared.licence.Terms.{Terms}
 use Rattle.hpb_rules.specs.Tree.{Node, parent_of, terms_of, IsTree}
 use Rattle.hpb_rules.specs.Choices.{is_node}
@@ -27,13 +28,13 @@ holds true e = refl
 holds false e = absurd (both_ways _ e refl)
 
 -- the test at a place in a table of faults
-abbrev pub fault_at : List (Bool × ℕ) → ℕ → Bool
+abbrev pub fault_at : List (Bool × Refusal) → ℕ → Bool
 fault_at [] place = false
 fault_at (fault ∷ faults) zero = fault.0
 fault_at (fault ∷ faults) (suc place) = fault_at faults place
 
 -- where no fault is found each test fails
-pub no_fault : (faults : List (Bool × ℕ)) → first_fault faults ≡ None → (place : ℕ) → fault_at faults place ≡ false
+pub no_fault : (faults : List (Bool × Refusal)) → first_fault faults ≡ None → (place : ℕ) → fault_at faults place ≡ false
 no_fault [] e place = refl
 no_fault (fault ∷ faults) e place = by (no_fault faults) fault.0 refl e place
   where

@@ -18,7 +18,7 @@ use Rattle.hpb_rules.proofs.Pasts.{history_grows}
 
 pub new_reply : (n : ℕ) (reply : Reply) → is_reply_new n reply ≡ true → reply ≡ replies.Ok (suc n)
 new_reply n (replies.Ok m) e = ap replies.Ok (eqb-true m (suc n) e)
-new_reply n (replies.Refused code) e = absurd (cc)
+new_reply n (replies.Refused refusal) e = absurd (cc)
 
 module _ (rules : Rules) where
   -- an answer that fits a front fits the whole

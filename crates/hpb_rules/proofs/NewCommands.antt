@@ -8,7 +8,8 @@ use Rattle.hpb_rules.specs.declared.command.Command.TheVariants.{Bid}
 use Rattle.hpb_rules.specs.declared.reply.Reply.{Reply}
 use Rattle.hpb_rules.specs.declared.reply.Reply.TheVariants as replies
 use Rattle.hpb_rules.specs.declared.reply.TheConstants.{MOST_COMMANDS}
-use Rattle.hpb_rules.specs.declared.refusal.TheConstants.{BIDDER, NODE, OLD, TICKET, GAP, LIMIT, CLOSED}
+use Rattle.hpb_rules.specs.declared.refusal.Refusal.{Refusal}
+use Rattle.hpb_rules.specs.declared.refusal.Refusal.TheVariants as refusals
 use Rattle.hpb_rules.specs.Tree.{Rules}
 use Rattle.hpb_rules.specs.History
 use Rattle.hpb_rules.specs.History.{Sender, bidder, auctioneer, sender_of, same_sender, ticket_of, same_command, is_from, last_ticket, last_of}
@@ -35,7 +36,7 @@ not_repeated past sender command e = by (last_of past sender) refl e
     by None f g = cc
     by (Some last) f g = at (same_command command last.0) g
       where
-        at : (b : Bool) → (if b then replies.Ok last.1 else replies.Refused TICKET) ≡ replies.Ok (suc (length past)) → ⊥
+        at : (b : Bool) → (if b then replies.Ok last.1 else replies.Refused refusals.Ticket) ≡ replies.Ok (suc (length past)) → ⊥
         at true h = let z : last.1 ≡ suc (length past) = cc in omega (arith, last_number past sender last.0 last.1 f)
         at false h = cc
 
@@ -43,32 +44,32 @@ not_repeated past sender command e = by (last_of past sender) refl e
 pub known_names : (rules : Rules) (from ticket on amount : ℕ) → unknown rules (Bid from ticket on amount) ≡ None → (from < length rules.bidders) × (on < length rules.nodes)
 known_names rules from ticket on amount known = by (leb (length rules.bidders) from) refl (leb (length rules.nodes) on) refl known
   where
-    by : (a : Bool) → leb (length rules.bidders) from ≡ a → (b : Bool) → leb (length rules.nodes) on ≡ b → (if a then Some BIDDER else (if b then Some NODE else None)) ≡ None → (from < length rules.bidders) × (on < length rules.nodes)
+    by : (a : Bool) → leb (length rules.bidders) from ≡ a → (b : Bool) → leb (length rules.nodes) on ≡ b → (if a then Some refusals.Bidder else (if b then Some refusals.Node else None)) ≡ None → (from < length rules.bidders) × (on < length rules.nodes)
     by true p b q e = absurd (cc)
     by false p true q e = absurd (cc)
     by false p false q e = (leb-false _ _ p, leb-false _ _ q)
 
 -- the parts of a reply that accepts
-record Accepts (u : Option ℕ) (t l n : ℕ) (o : Bool) (f : Option ℕ) : Type 0 where
+record Accepts (u : Option Refusal) (t l n : ℕ) (o : Bool) (f : Option Refusal) : Type 0 where
   known : u ≡ None
   next : t ≡ suc l
   room : n < MOST_COMMANDS
   goes_on : o ≡ false
   faultless : f ≡ None
 
-accepted_by : (u : Option ℕ) (t l : ℕ) (r : Reply) (n : ℕ) (o : Bool) (f : Option ℕ) → (r ≡ replies.Ok (suc n) → ⊥) → reply_by u t l r n o f ≡ replies.Ok (suc n) → Accepts u t l n o f
-accepted_by (Some code) t l r n o f other e = absurd (cc)
+accepted_by : (u : Option Refusal) (t l : ℕ) (r : Reply) (n : ℕ) (o : Bool) (f : Option Refusal) → (r ≡ replies.Ok (suc n) → ⊥) → reply_by u t l r n o f ≡ replies.Ok (suc n) → Accepts u t l n o f
+accepted_by (Some refusal) t l r n o f other e = absurd (cc)
 accepted_by None t l r n o f other e = by (eqb t 0 || ltb t l) refl (eqb t l) refl (ltb (suc l) t) refl (leb MOST_COMMANDS n) refl o refl f refl e
   where
-    by : (a : Bool) → (eqb t 0 || ltb t l) ≡ a → (b : Bool) → eqb t l ≡ b → (c : Bool) → ltb (suc l) t ≡ c → (full : Bool) → leb MOST_COMMANDS n ≡ full → (over : Bool) → o ≡ over → (fault : Option ℕ) → f ≡ fault
-        → (if a then replies.Refused OLD else (if b then r else (if c then replies.Refused GAP else (if full then replies.Refused LIMIT else (if over then replies.Refused CLOSED else ok_or_fault (suc n) fault))))) ≡ replies.Ok (suc n)
+    by : (a : Bool) → (eqb t 0 || ltb t l) ≡ a → (b : Bool) → eqb t l ≡ b → (c : Bool) → ltb (suc l) t ≡ c → (full : Bool) → leb MOST_COMMANDS n ≡ full → (over : Bool) → o ≡ over → (fault : Option Refusal) → f ≡ fault
+        → (if a then replies.Refused refusals.Old else (if b then r else (if c then replies.Refused refusals.Gap else (if full then replies.Refused refusals.Limit else (if over then replies.Refused refusals.Closed else ok_or_fault (suc n) fault))))) ≡ replies.Ok (suc n)
         → Accepts None t l n o f
     by true p b q c s full u over v fault w g = absurd (cc)
     by false p true q c s full u over v fault w g = absurd (other g)
     by false p false q true s full u over v fault w g = absurd (cc)
     by false p false q false s true u over v fault w g = absurd (cc)
     by false p false q false s false u true v fault w g = absurd (cc)
-    by false p false q false s false u false v (Some code) w g = absurd (cc)
+    by false p false q false s false u false v (Some refusal) w g = absurd (cc)
     by false p false q false s false u false v None w g = record {
       known = refl;
       next = omega (arith, ltb-false t l (right p), eqb-false t l q, ltb-false (suc l) t s);
@@ -102,7 +103,7 @@ module _ (rules : Rules) (past : List Command) (command : Command) where
       same (unknown rules command) None (History.is_over past) false (fault rules past command) None new.known new.goes_on new.faultless
       ∙ accepts (ticket_of command) (last_ticket past sender) (repeated command (last_of past sender)) (length past) new.next new.room
     where
-      same : (u u' : Option ℕ) (o o' : Bool) (f f' : Option ℕ) → u ≡ u' → o ≡ o' → f ≡ f'
+      same : (u u' : Option Refusal) (o o' : Bool) (f f' : Option Refusal) → u ≡ u' → o ≡ o' → f ≡ f'
           → reply_by u (ticket_of command) (last_ticket past (sender_of command)) (repeated command (last_of past (sender_of command))) (length past) o f ≡ reply_by u' (ticket_of command) (last_ticket past (sender_of command)) (repeated command (last_of past (sender_of command))) (length past) o' f'
       same u u' o o' f f' a b c = cc
 

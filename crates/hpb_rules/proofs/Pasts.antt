@@ -8,7 +8,8 @@ use Rattle.hpb_rules.specs.declared.command.Command.{Command}
 use Rattle.hpb_rules.specs.declared.command.Command.TheVariants.{Bid, Close, Stage}
 use Rattle.hpb_rules.specs.declared.reply.Reply.{Reply}
 use Rattle.hpb_rules.specs.declared.reply.Reply.TheVariants as replies
-use Rattle.hpb_rules.specs.declared.refusal.TheConstants.{TICKET}
+use Rattle.hpb_rules.specs.declared.refusal.Refusal.{Refusal}
+use Rattle.hpb_rules.specs.declared.refusal.Refusal.TheVariants as refusals
 use Rattle.hpb_rules.specs.Tree.{Rules}
 use Rattle.hpb_rules.specs.History
 use Rattle.hpb_rules.specs.History.{Sender, bidder, auctioneer, sender_of, same_sender, ticket_of, same_command, is_from, last_ticket, last_of}
@@ -72,7 +73,7 @@ module _ (rules : Rules) where
           (r.0, omega (arith, r.1, more), r.2)
 
   -- the reply to a command under its sender's last ticket
-  reply_at_last : (t l : ℕ) (r : Reply) (n : ℕ) (o : Bool) (f : Option ℕ) → t ≡ l → 0 < t → reply_by None t l r n o f ≡ r
+  reply_at_last : (t l : ℕ) (r : Reply) (n : ℕ) (o : Bool) (f : Option Refusal) → t ≡ l → 0 < t → reply_by None t l r n o f ≡ r
   reply_at_last t l r n o f e h = rw (ne_eqb t 0 (λ z. omega (arith, z)), le-ltb t l (omega (arith, e)), eq-eqb t l e) refl
 
   pub repeat_after : (past : List Command) (command : Command) (number : ℕ) → IsPast rules past → last_of past (sender_of command) ≡ Some (command, number)
@@ -80,7 +81,7 @@ module _ (rules : Rules) where
   repeat_after past command number is e =
       let sender : Sender = sender_of command in
       let r : (unknown rules command ≡ None) × (ticket_of command ≡ last_ticket past sender) × (0 < ticket_of command) = last_is past sender command number is e in
-      let again : repeated command (last_of past sender) ≡ replies.Ok number = ap (repeated command) e ∙ ap (λ b. if b then replies.Ok number else replies.Refused TICKET) (same_command_self command) in
+      let again : repeated command (last_of past sender) ≡ replies.Ok number = ap (repeated command) e ∙ ap (λ b. if b then replies.Ok number else replies.Refused refusals.Ticket) (same_command_self command) in
       let reply : answer_after rules past command ≡ replies.Ok number =
       ap (λ u. reply_by u (ticket_of command) (last_ticket past sender) (repeated command (last_of past sender)) (length past) (History.is_over past) (fault rules past command)) r.0
       ∙ reply_at_last (ticket_of command) (last_ticket past sender) (repeated command (last_of past sender)) (length past) (History.is_over past) (fault rules past command) r.1 r.2

@@ -5,7 +5,7 @@ use Rattle.std.proofs.lemmas.Bool.{leb-false, both_ways}
 use Rattle.std.proofs.lemmas.List.Sums.{sum_by-cons}
 use Rattle.hpb_rules.specs.declared.command.Command.{Command}
 use Rattle.hpb_rules.specs.declared.command.Command.TheVariants.{Bid, Close, Stage}
-use Rattle.hpb_rules.specs.declared.refusal.TheConstants.{STAGE}
+use Rattle.hpb_rules.specs.declared.refusal.Refusal.TheVariants as refusals
 use Rattle.hpb_rules.specs.Tree.{Rules}
 use Rattle.hpb_rules.specs.Drafts.{draft_faults, is_empty, lacks_something}
 use Rattle.hpb_rules.specs.History
@@ -27,7 +27,7 @@ module _ (rules : Rules) (some : 0 < length rules.stages) where
   stage_is (Close ticket ∷ past) is = omega (arith, stage_is past is.1, stage_more (Close ticket) past)
   stage_is (Stage ticket ∷ past) is = omega (arith, less (leb (length rules.stages) (History.stage past)) refl (accepted_new rules past (Stage ticket) is.0).faultless, stage_more (Stage ticket) past)
     where
-      less : (b : Bool) → leb (length rules.stages) (History.stage past) ≡ b → (if b then Some STAGE else None) ≡ None → History.stage past < length rules.stages
+      less : (b : Bool) → leb (length rules.stages) (History.stage past) ≡ b → (if b then Some refusals.Stage else None) ≡ None → History.stage past < length rules.stages
       less true e f = absurd (cc)
       less false e f = leb-false _ _ e
 

@@ -6,7 +6,8 @@ use Rattle.std.proofs.lemmas.List.FromFn.{get_or-map-range_with_len}
 use Rattle.hpb_rules.specs.declared.command.Command.{Command}
 use Rattle.hpb_rules.specs.declared.command.Command.TheVariants.{Bid, Close, Stage}
 use Rattle.hpb_rules.specs.declared.reply.TheConstants.{MOST_AMOUNT}
-use Rattle.hpb_rules.specs.declared.refusal.TheConstants.{STEP, LOW, HIGH, AGAIN, ELIGIBILITY}
+use Rattle.hpb_rules.specs.declared.refusal.Refusal.{Refusal}
+use Rattle.hpb_rules.specs.declared.refusal.Refusal.TheVariants as refusals
 use Rattle.hpb_rules.specs.Tree.{Rules, sum_over, at_or_under, units_at}
 use Rattle.hpb_rules.specs.Choices.{is_in}
 use Rattle.hpb_rules.specs.History
@@ -65,8 +66,8 @@ module _ (rules : Rules) (past : List Command) where
       (both _ _ _ _ (ap (λ (v : BidderView). v.eligibility) (bidder_read from names.0)) (activity_with_read from ticket on amount names.0))
     where
       first_fault : (step most low low' again again' over over' : Bool) → low ≡ low' → again ≡ again' → over ≡ over'
-          → ◌≡◌ {A = Option ℕ} (if step then Some STEP else (if low then Some LOW else (if most then Some HIGH else (if again then Some AGAIN else (if over then Some ELIGIBILITY else None)))))
-          (if step then Some STEP else (if low' then Some LOW else (if most then Some HIGH else (if again' then Some AGAIN else (if over' then Some ELIGIBILITY else None)))))
+          → ◌≡◌ {A = Option Refusal} (if step then Some refusals.Step else (if low then Some refusals.Low else (if most then Some refusals.High else (if again then Some refusals.Again else (if over then Some refusals.Eligibility else None)))))
+          (if step then Some refusals.Step else (if low' then Some refusals.Low else (if most then Some refusals.High else (if again' then Some refusals.Again else (if over' then Some refusals.Eligibility else None)))))
       first_fault step most low low' again again' over over' e f g = cc
 
       both : (x y v w : ℕ) → x ≡ y → v ≡ w → ltb x v ≡ ltb y w
@@ -83,8 +84,8 @@ module _ (rules : Rules) (past : List Command) where
   pub reply_read : (command : Command) → reply_in (quantities rules past) command ≡ answer_after rules past command
   reply_read command = by (unknown rules command) refl
     where
-      by : (u : Option ℕ) → unknown rules command ≡ u → reply_in (quantities rules past) command ≡ answer_after rules past command
-      by (Some code) e =
+      by : (u : Option Refusal) → unknown rules command ≡ u → reply_in (quantities rules past) command ≡ answer_after rules past command
+      by (Some refusal) e =
           let sender : SenderView = sender_at (quantities rules past) (sender_of command) in
           ap (λ u. reply_by u (ticket_of command) sender.ticket (repeated command sender.last) (length past) (History.is_over past) (fault_in (quantities rules past) command)) e
           ∙ sym (ap (λ u. reply_by u (ticket_of command) (History.last_ticket past (sender_of command)) (repeated command (History.last_of past (sender_of command))) (length past) (History.is_over past) (fault rules past command)) e)

@@ -5,6 +5,7 @@ use Rattle.std.specs.List.{slice_split, onto_first, list_any}
 use Rattle.std.proofs.lemmas.List.{length-take}
 use Rattle.std.proofs.lemmas.Bool.{cases_lt, lt-ltb}
 use Rattle.std.proofs.lemmas.List.Splits.{slice_split_at, slice_split_none}
+use Rattle.hpb_rules.specs.declared.refusal.Refusal.{Refusal}
 use Rattle.hpb_rules.specs.declared.command.Command.{Command}
 use Rattle.hpb_rules.specs.Tree.{Rules}
 use Rattle.hpb_rules.specs.Fronts.{IsFront}
@@ -83,11 +84,11 @@ lines_text_grows rules history front rest =
     (more.0, ap (lines_after rules (reverse history)) (split_at_end front rest) ∙ more.1 ∙ ap (λ text. text ++ more.0) (sym (ap (lines_after rules (reverse history)) (split_at_end front []))))
 
 -- what a first line that was read as a definition, or refused, leads to
-text_front : (read : Result Rules ℕ) (lines more : List (List ℕ)) → IsFilled more → IsFront (text_by read (lines ++ [] ∷ [])) (text_by read (lines ++ more))
-text_front (Err code) lines more h = front_self (line_of (refusal_text code))
+text_front : (read : Result Rules Refusal) (lines more : List (List ℕ)) → IsFilled more → IsFront (text_by read (lines ++ [] ∷ [])) (text_by read (lines ++ more))
+text_front (Err refusal) lines more h = front_self (line_of (refusal_text refusal))
 text_front (Ok rules) lines more h = front_after rules [] lines more h
 
-script_front : (define : List ℕ → Result Rules ℕ) (lines more : List (List ℕ)) → IsFilled lines → IsFilled more → IsFront (text_of_lines define (lines ++ [] ∷ [])) (text_of_lines define (lines ++ more))
+script_front : (define : List ℕ → Result Rules Refusal) (lines more : List (List ℕ)) → IsFilled lines → IsFilled more → IsFront (text_of_lines define (lines ++ [] ∷ [])) (text_of_lines define (lines ++ more))
 script_front define lines more (filled first others) h = text_front (define first) others more h
 
 pub script_text_grows : ScriptTextGrows

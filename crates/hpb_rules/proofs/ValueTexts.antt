@@ -4,9 +4,10 @@ use Rattle.std.specs.Prelude.{Result, Ok, Err}
 use Rattle.std.specs.List.{slice_split}
 use Rattle.std.specs.Str.{bytes_eq}
 use Rattle.std.proofs.lemmas.List.Quantifiers.{position-Some}
+use Rattle.hpb_rules.specs.declared.refusal.Refusal.{Refusal}
 use Rattle.hpb_rules.specs.declared.command.Command.{Command}
 use Rattle.hpb_rules.specs.declared.command.Command.TheVariants.{Bid}
-use Rattle.hpb_rules.specs.declared.refusal.TheConstants.{BIDDER, NODE}
+use Rattle.hpb_rules.specs.declared.refusal.Refusal.TheVariants as refusals
 use Rattle.hpb_rules.specs.Tree.{Rules, Node, Bidder}
 use Rattle.hpb_rules.specs.Answer.{IsPast}
 use Rattle.hpb_rules.specs.Seen.{BidderView, SenderView, Quantities, quantities}
@@ -21,7 +22,7 @@ use Rattle.hpb_rules.proofs.Runs.{next_is}
 -- ---- what is asked for is there
 
 -- a request asks for a node and a bidder of the definition
-abbrev IsThere : Rules → Result Request ℕ → Type 0
+abbrev IsThere : Rules → Result Request Refusal → Type 0
 IsThere rules (Ok (node place)) = place < length rules.nodes
 IsThere rules (Ok (who from)) = from < length rules.bidders
 IsThere rules other = Unit {0}
@@ -32,11 +33,11 @@ no_node_name = record { name = []; parent = None; terms = None }
 no_bidder_name : Bidder
 no_bidder_name = record { name = []; units = 0 }
 
-node_there : (rules : Rules) (place : Option ℕ) → ((n : ℕ) → place ≡ Some n → n < length rules.nodes) → IsThere rules (found NODE place (λ n. Ok (node n)))
+node_there : (rules : Rules) (place : Option ℕ) → ((n : ℕ) → place ≡ Some n → n < length rules.nodes) → IsThere rules (found refusals.Node place (λ n. Ok (node n)))
 node_there rules None h = tt
 node_there rules (Some n) h = h n refl
 
-bidder_there : (rules : Rules) (place : Option ℕ) → ((n : ℕ) → place ≡ Some n → n < length rules.bidders) → IsThere rules (found BIDDER place (λ n. Ok (who n)))
+bidder_there : (rules : Rules) (place : Option ℕ) → ((n : ℕ) → place ≡ Some n → n < length rules.bidders) → IsThere rules (found refusals.Bidder place (λ n. Ok (who n)))
 bidder_there rules None h = tt
 bidder_there rules (Some n) h = h n refl
 
@@ -44,11 +45,11 @@ asked_there : (rules : Rules) (what : Option Spelled) → IsThere rules (looked_
 asked_there rules None = tt
 asked_there rules (Some (bid_line from ticket on amount)) = by (bidder_named rules from)
   where
-    inner : (place : ℕ) (on : Option ℕ) → IsThere rules (found NODE on (λ n. Ok (command (Bid place ticket n amount))))
+    inner : (place : ℕ) (on : Option ℕ) → IsThere rules (found refusals.Node on (λ n. Ok (command (Bid place ticket n amount))))
     inner place None = tt
     inner place (Some n) = tt
 
-    by : (place : Option ℕ) → IsThere rules (found BIDDER place (λ from. found NODE (node_named rules on) (λ n. Ok (command (Bid from ticket n amount)))))
+    by : (place : Option ℕ) → IsThere rules (found refusals.Bidder place (λ from. found refusals.Node (node_named rules on) (λ n. Ok (command (Bid from ticket n amount)))))
     by None = tt
     by (Some place) = inner place (node_named rules on)
 asked_there rules (Some (close_line ticket)) = tt
@@ -59,8 +60,8 @@ asked_there rules (Some (who_line name)) = bidder_there rules (bidder_named rule
 
 -- ---- one request
 module _ (rules : Rules) (past : List Command) where
-  response_shown : (request : Result Request ℕ) → IsThere rules request → response_in (quantities rules past) request ≡ response rules past request
-  response_shown (Err code) h = refl
+  response_shown : (request : Result Request Refusal) → IsThere rules request → response_in (quantities rules past) request ≡ response rules past request
+  response_shown (Err refusal) h = refl
   response_shown (Ok (command asked)) h = ap reply_text (reply_read rules past asked)
   response_shown (Ok show) h = refl
   response_shown (Ok (node place)) h = ap (text_of_view rules place) (node_read rules past place h)
@@ -72,9 +73,9 @@ module _ (rules : Rules) (past : List Command) where
       same : (e e' a a' t t' : ℕ) → e ≡ e' → a ≡ a' → t ≡ t' → who_text (bidder_name rules.bidders from) e a t ≡ who_text (bidder_name rules.bidders from) e' a' t'
       same e e' a a' t t' p q r = ap (λ x. who_text (bidder_name rules.bidders from) x a t) p ∙ ap (λ x. who_text (bidder_name rules.bidders from) e' x t) q ∙ ap (λ x. who_text (bidder_name rules.bidders from) e' a' x) r
 
-  after_shown : IsPast rules past → (request : Result Request ℕ)
+  after_shown : IsPast rules past → (request : Result Request Refusal)
       → (value_after_request (quantities rules past) request ≡ quantities rules (past_after rules past request)) × IsPast rules (past_after rules past request)
-  after_shown is (Err code) = (refl, is)
+  after_shown is (Err refusal) = (refl, is)
   after_shown is (Ok (command asked)) = next_is rules past is asked
   after_shown is (Ok show) = (refl, is)
   after_shown is (Ok (node place)) = (refl, is)

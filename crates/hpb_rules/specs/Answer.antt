@@ -6,56 +6,57 @@ use Rattle.hpb_rules.specs.declared.command.Command.TheVariants.{Bid, Close, Sta
 use Rattle.hpb_rules.specs.declared.reply.Reply.{Reply}
 use Rattle.hpb_rules.specs.declared.reply.Reply.TheVariants as replies
 use Rattle.hpb_rules.specs.declared.reply.TheConstants.{MOST_AMOUNT, MOST_COMMANDS}
-use Rattle.hpb_rules.specs.declared.refusal.TheConstants.{BIDDER, NODE, OLD, TICKET, GAP, CLOSED, STEP, LOW, HIGH, AGAIN, ELIGIBILITY, LIMIT, STAGE}
+use Rattle.hpb_rules.specs.declared.refusal.Refusal.{Refusal}
+use Rattle.hpb_rules.specs.declared.refusal.Refusal.TheVariants as refusals
 use Rattle.hpb_rules.specs.Tree.{Rules}
 use Rattle.hpb_rules.specs.Prices.{minimum}
 use Rattle.hpb_rules.specs.History
 
 -- Accepted under a number, where nothing is wrong.
-abbrev pub ok_or_fault : ℕ → Option ℕ → Reply
+abbrev pub ok_or_fault : ℕ → Option Refusal → Reply
 ok_or_fault number None = replies.Ok number
-ok_or_fault number (Some code) = replies.Refused code
+ok_or_fault number (Some refusal) = replies.Refused refusal
 
 -- Under its sender's last ticket a command gets that command's number again where it is the same, and is refused where it is another.
 abbrev pub repeated : Command → Option (Command × ℕ) → Reply
-repeated command None = replies.Refused OLD
-repeated command (Some last) = if History.same_command command last.0 then replies.Ok last.1 else replies.Refused TICKET
+repeated command None = replies.Refused refusals.Old
+repeated command (Some last) = if History.same_command command last.0 then replies.Ok last.1 else replies.Refused refusals.Ticket
 
 -- Whether a reply accepts a command as the next after so many.
 abbrev pub is_reply_new : ℕ → Reply → Bool
 is_reply_new count (replies.Ok number) = number == suc count
-is_reply_new count (replies.Refused code) = false
+is_reply_new count (replies.Refused refusal) = false
 
 -- The reply by what holds of a command: the first of these that applies.
-abbrev pub reply_by : (unknown : Option ℕ) (ticket last : ℕ) (repeat : Reply) (count : ℕ) (over : Bool) (fault : Option ℕ) → Reply
-reply_by (Some code) ticket last repeat count over fault = replies.Refused code
+abbrev pub reply_by : (unknown : Option Refusal) (ticket last : ℕ) (repeat : Reply) (count : ℕ) (over : Bool) (fault : Option Refusal) → Reply
+reply_by (Some refusal) ticket last repeat count over fault = replies.Refused refusal
 reply_by None ticket last repeat count over fault =
-    if (ticket == 0) || nat_lt ticket last then replies.Refused OLD else
+    if (ticket == 0) || nat_lt ticket last then replies.Refused refusals.Old else
     (if ticket == last then repeat else
-    (if nat_lt (suc last) ticket then replies.Refused GAP else
-    (if nat_le MOST_COMMANDS count then replies.Refused LIMIT else
-    (if over then replies.Refused CLOSED else
+    (if nat_lt (suc last) ticket then replies.Refused refusals.Gap else
+    (if nat_le MOST_COMMANDS count then replies.Refused refusals.Limit else
+    (if over then replies.Refused refusals.Closed else
     ok_or_fault (suc count) fault))))
 
 module _ (rules : Rules) where
   -- A sender or a node that the definition has not.
-  abbrev pub unknown : Command → Option ℕ
+  abbrev pub unknown : Command → Option Refusal
   unknown (Bid from ticket node amount) =
-      if nat_le (length rules.bidders) from then Some BIDDER else
-      (if nat_le (length rules.nodes) node then Some NODE else None)
+      if nat_le (length rules.bidders) from then Some refusals.Bidder else
+      (if nat_le (length rules.nodes) node then Some refusals.Node else None)
   unknown (Close ticket) = None
   unknown (Stage ticket) = None
 
   -- What is wrong with a new command while the auction is not over.
-  abbrev pub fault : List Command → Command → Option ℕ
+  abbrev pub fault : List Command → Command → Option Refusal
   fault past (Bid from ticket node amount) =
-      if not (amount % rules.step == 0) then Some STEP else
-      (if nat_lt amount (minimum rules (History.high_bid past) node) then Some LOW else
-      (if nat_lt MOST_AMOUNT amount then Some HIGH else
-      (if History.bid_on past from node then Some AGAIN else
-      (if nat_lt (History.eligibility rules past from) (History.activity rules (Bid from ticket node amount ∷ past) from) then Some ELIGIBILITY else None))))
+      if not (amount % rules.step == 0) then Some refusals.Step else
+      (if nat_lt amount (minimum rules (History.high_bid past) node) then Some refusals.Low else
+      (if nat_lt MOST_AMOUNT amount then Some refusals.High else
+      (if History.bid_on past from node then Some refusals.Again else
+      (if nat_lt (History.eligibility rules past from) (History.activity rules (Bid from ticket node amount ∷ past) from) then Some refusals.Eligibility else None))))
   fault past (Close ticket) = None
-  fault past (Stage ticket) = if nat_le (length rules.stages) (History.stage past) then Some STAGE else None
+  fault past (Stage ticket) = if nat_le (length rules.stages) (History.stage past) then Some refusals.Stage else None
 
   -- What a command is answered after a past.
   abbrev pub answer_after : List Command → Command → Reply

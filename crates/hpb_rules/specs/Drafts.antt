@@ -5,7 +5,8 @@ use Rattle.std.specs.List.{list_any, list_all}
 use Rattle.std.specs.Str.{bytes_eq}
 use Rattle.hpb_rules.specs.declared.id.TheConstants.{MOST_NODES, MOST_BIDDERS}
 use Rattle.hpb_rules.specs.declared.licence.Terms.{Terms}
-use Rattle.hpb_rules.specs.declared.refusal.TheConstants.{NUMBER, EMPTY, NAME, DUPLICATE, PARENT, CHILDREN, LEAF, LIMITS, TERMS}
+use Rattle.hpb_rules.specs.declared.refusal.Refusal.{Refusal}
+use Rattle.hpb_rules.specs.declared.refusal.Refusal.TheVariants as refusals
 use Rattle.hpb_rules.specs.Tree.{Rules, Node, parent_of, terms_of, places}
 use Rattle.hpb_rules.specs.Prices.{of_parent, children_among}
 
@@ -101,24 +102,24 @@ are_bad_terms step (Some terms) =
 abbrev pub has_bad_terms : Rules → Bool
 has_bad_terms rules = list_any (λ node. are_bad_terms rules.step node.terms) rules.nodes
 
--- The faults that a draft may have with their numbers, in the order in which they are told.
-abbrev pub draft_faults : Rules → List (Bool × ℕ)
+-- The faults that a draft may have with the refusals, in the order in which they are told.
+abbrev pub draft_faults : Rules → List (Bool × Refusal)
 draft_faults rules =
-    (has_bad_number rules, NUMBER)
-    ∷ (lacks_something rules, EMPTY)
-    ∷ (has_bad_name rules, NAME)
-    ∷ (has_duplicate rules, DUPLICATE)
-    ∷ (has_late_parent rules.nodes, PARENT)
-    ∷ (has_thin_package rules.nodes, CHILDREN)
-    ∷ (has_licence_with_child rules.nodes, LEAF)
-    ∷ (is_over_limits rules, LIMITS)
-    ∷ (has_bad_terms rules, TERMS) ∷ []
+    (has_bad_number rules, refusals.Number)
+    ∷ (lacks_something rules, refusals.Empty)
+    ∷ (has_bad_name rules, refusals.Name)
+    ∷ (has_duplicate rules, refusals.Duplicate)
+    ∷ (has_late_parent rules.nodes, refusals.Parent)
+    ∷ (has_thin_package rules.nodes, refusals.Children)
+    ∷ (has_licence_with_child rules.nodes, refusals.Leaf)
+    ∷ (is_over_limits rules, refusals.Limits)
+    ∷ (has_bad_terms rules, refusals.Terms) ∷ []
 
--- The number of the first fault that there is.
-abbrev pub first_fault : List (Bool × ℕ) → Option ℕ
+-- The refusal of the first fault that there is.
+abbrev pub first_fault : List (Bool × Refusal) → Option Refusal
 first_fault [] = None
 first_fault (fault ∷ faults) = if fault.0 then Some fault.1 else first_fault faults
 
 -- Why a draft is refused. One that is not refused is a definition.
-abbrev pub draft_refusal : Rules → Option ℕ
+abbrev pub draft_refusal : Rules → Option Refusal
 draft_refusal rules = first_fault (draft_faults rules)

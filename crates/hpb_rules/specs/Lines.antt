@@ -7,7 +7,8 @@ use Rattle.std.specs.Str.{bytes_eq, all_ascii_digits}
 use Rattle.std.specs.Str.Parse.{digits_value}
 use Rattle.hpb_rules.specs.declared.command.Command.{Command}
 use Rattle.hpb_rules.specs.declared.command.Command.TheVariants.{Bid, Close, Stage}
-use Rattle.hpb_rules.specs.declared.refusal.TheConstants.{LINE, BIDDER, NODE}
+use Rattle.hpb_rules.specs.declared.refusal.Refusal.{Refusal}
+use Rattle.hpb_rules.specs.declared.refusal.Refusal.TheVariants as refusals
 use Rattle.hpb_rules.specs.Tree.{Rules}
 
 -- A request is a command, or asks to see the auction, a node or a bidder.
@@ -100,23 +101,23 @@ abbrev pub node_named : Rules → List ℕ → Option ℕ
 node_named rules name = position (λ node. bytes_eq node.name name) rules.nodes
 
 -- What is found under a name, or a refusal.
-abbrev pub found : {A : Type 0} → ℕ → Option ℕ → (ℕ → Result A ℕ) → Result A ℕ
-found code None next = Err code
-found code (Some place) next = next place
+abbrev pub found : {A : Type 0} → Refusal → Option ℕ → (ℕ → Result A Refusal) → Result A Refusal
+found refusal None next = Err refusal
+found refusal (Some place) next = next place
 
 -- What is asked for by what a line spells: the bidder is looked up first, then the node.
-abbrev pub looked_up : Rules → Option Spelled → Result Request ℕ
-looked_up rules None = Err LINE
+abbrev pub looked_up : Rules → Option Spelled → Result Request Refusal
+looked_up rules None = Err refusals.Line
 looked_up rules (Some (bid_line from ticket on amount)) =
-    found BIDDER (bidder_named rules from) (λ from. found NODE (node_named rules on) (λ on. Ok (command (Bid from ticket on amount))))
+    found refusals.Bidder (bidder_named rules from) (λ from. found refusals.Node (node_named rules on) (λ on. Ok (command (Bid from ticket on amount))))
 looked_up rules (Some (close_line ticket)) = Ok (command (Close ticket))
 looked_up rules (Some (stage_line ticket)) = Ok (command (Stage ticket))
 looked_up rules (Some show_line) = Ok show
-looked_up rules (Some (node_line name)) = found NODE (node_named rules name) (λ place. Ok (node place))
-looked_up rules (Some (who_line name)) = found BIDDER (bidder_named rules name) (λ place. Ok (who place))
+looked_up rules (Some (node_line name)) = found refusals.Node (node_named rules name) (λ place. Ok (node place))
+looked_up rules (Some (who_line name)) = found refusals.Bidder (bidder_named rules name) (λ place. Ok (who place))
 
 -- The request that a line spells under a definition, or why it is refused.
-abbrev pub request_of : Rules → List ℕ → Result Request ℕ
+abbrev pub request_of : Rules → List ℕ → Result Request Refusal
 request_of rules line = looked_up rules (spelled line)
 
 -- Words with a space between each two.

@@ -1,45 +1,44 @@
--- The word of each refusal.
+-- The number and the word of each refusal.
 -- Source: this project's own.
-use Rattle.std.specs.Prelude.{ℕ, List, [], ◌∷◌, ◌==◌, codes, if◌then◌else◌}
-use Rattle.hpb_rules.specs.declared.refusal.TheConstants.{LINE, BIDDER, NODE, OLD, TICKET, GAP, CLOSED, STEP, LOW, HIGH, AGAIN, ELIGIBILITY, LIMIT, STAGE, EMPTY, NAME, DUPLICATE, PARENT, CHILDREN, LEAF, LIMITS, TERMS, JSON, FIELD, NUMBER, MEMORY, STREAM, FAILED}
+use Rattle.std.specs.Prelude.{ℕ, List, codes}
+use Rattle.hpb_rules.specs.declared.refusal.Refusal.{Refusal}
+use Rattle.hpb_rules.specs.declared.refusal.Refusal.TheVariants as refusals
 
--- The numbers of the refusals with their words.
-abbrev pub words : List (ℕ × List ℕ)
-words =
-    (LINE, codes "line")
-    ∷ (BIDDER, codes "bidder")
-    ∷ (NODE, codes "node")
-    ∷ (OLD, codes "old")
-    ∷ (TICKET, codes "ticket")
-    ∷ (GAP, codes "gap")
-    ∷ (CLOSED, codes "closed")
-    ∷ (STEP, codes "step")
-    ∷ (LOW, codes "low")
-    ∷ (HIGH, codes "high")
-    ∷ (AGAIN, codes "again")
-    ∷ (ELIGIBILITY, codes "eligibility")
-    ∷ (LIMIT, codes "limit")
-    ∷ (STAGE, codes "stage")
-    ∷ (EMPTY, codes "empty")
-    ∷ (NAME, codes "name")
-    ∷ (DUPLICATE, codes "duplicate")
-    ∷ (PARENT, codes "parent")
-    ∷ (CHILDREN, codes "children")
-    ∷ (LEAF, codes "leaf")
-    ∷ (LIMITS, codes "limits")
-    ∷ (TERMS, codes "terms")
-    ∷ (JSON, codes "json")
-    ∷ (FIELD, codes "field")
-    ∷ (NUMBER, codes "number")
-    ∷ (MEMORY, codes "memory")
-    ∷ (STREAM, codes "stream")
-    ∷ (FAILED, codes "failed") ∷ []
+-- The number of a refusal, with its word: what stands behind `ERR` in a line.
+abbrev pub told : Refusal → ℕ × List ℕ
+told refusals.Line = (10, codes "line")
+told refusals.Bidder = (11, codes "bidder")
+told refusals.Node = (12, codes "node")
+told refusals.Old = (13, codes "old")
+told refusals.Ticket = (14, codes "ticket")
+told refusals.Gap = (15, codes "gap")
+told refusals.Closed = (20, codes "closed")
+told refusals.Step = (21, codes "step")
+told refusals.Low = (22, codes "low")
+told refusals.High = (23, codes "high")
+told refusals.Again = (24, codes "again")
+told refusals.Eligibility = (25, codes "eligibility")
+told refusals.Limit = (26, codes "limit")
+told refusals.Stage = (27, codes "stage")
+told refusals.Empty = (50, codes "empty")
+told refusals.Name = (51, codes "name")
+told refusals.Duplicate = (52, codes "duplicate")
+told refusals.Parent = (53, codes "parent")
+told refusals.Children = (54, codes "children")
+told refusals.Leaf = (55, codes "leaf")
+told refusals.Limits = (56, codes "limits")
+told refusals.Terms = (57, codes "terms")
+told refusals.Json = (60, codes "json")
+told refusals.Field = (61, codes "field")
+told refusals.Number = (62, codes "number")
+told refusals.Memory = (90, codes "memory")
+told refusals.Stream = (92, codes "stream")
+told refusals.Failed = (93, codes "failed")
 
--- The word beside a number in a table, and `unknown` where it is not there.
-abbrev pub word_in : List (ℕ × List ℕ) → ℕ → List ℕ
-word_in [] code = codes "unknown"
-word_in (row ∷ rows) code = if row.0 == code then row.1 else word_in rows code
+-- The number of a refusal.
+abbrev pub number_of : Refusal → ℕ
+number_of refusal = (told refusal).0
 
--- The word that stands behind a number in an `ERR` line.
-abbrev pub word_of : ℕ → List ℕ
-word_of code = word_in words code
+-- The word of a refusal.
+abbrev pub word_of : Refusal → List ℕ
+word_of refusal = (told refusal).1

@@ -3,16 +3,17 @@
 use Rattle.std.specs.Prelude.{ℕ, Bool, List, ◌++◌, Option, Some, None, codes, decimal, if◌then◌else◌}
 use Rattle.hpb_rules.specs.declared.reply.Reply.{Reply}
 use Rattle.hpb_rules.specs.declared.reply.Reply.TheVariants as replies
-use Rattle.hpb_rules.specs.Refusals.{word_of}
+use Rattle.hpb_rules.specs.declared.refusal.Refusal.{Refusal}
+use Rattle.hpb_rules.specs.Refusals.{number_of, word_of}
 
--- A refusal: `ERR code word`.
-abbrev pub refusal_text : ℕ → List ℕ
-refusal_text code = codes "ERR " ++ decimal code ++ codes " " ++ word_of code
+-- A refusal: `ERR number word`.
+abbrev pub refusal_text : Refusal → List ℕ
+refusal_text refusal = codes "ERR " ++ decimal (number_of refusal) ++ codes " " ++ word_of refusal
 
 -- A reply: `OK number`, or a refusal.
 abbrev pub reply_text : Reply → List ℕ
 reply_text (replies.Ok number) = codes "OK " ++ decimal number
-reply_text (replies.Refused code) = refusal_text code
+reply_text (replies.Refused refusal) = refusal_text refusal
 
 -- Whether the auction goes on.
 abbrev pub closed_text : Bool → List ℕ

@@ -3,7 +3,8 @@
 use Rattle.std.specs.Prelude.{ℕ, zero, suc, List, [], ◌∷◌, ◌++◌, ◌==◌, length, reverse, codes, option_map, Result, Ok, Err, if◌then◌else◌}
 use Rattle.std.specs.List.{slice_split}
 use Rattle.hpb_rules.specs.declared.command.Command.{Command}
-use Rattle.hpb_rules.specs.declared.refusal.TheConstants.{LINE}
+use Rattle.hpb_rules.specs.declared.refusal.Refusal.{Refusal}
+use Rattle.hpb_rules.specs.declared.refusal.Refusal.TheVariants as refusals
 use Rattle.hpb_rules.specs.Tree.{Rules, Node, Bidder}
 use Rattle.hpb_rules.specs.Choices.{is_in, revenue}
 use Rattle.hpb_rules.specs.Prices.{price, minimum}
@@ -26,7 +27,7 @@ transcript answer next unfinished state (line ∷ following ∷ more) =
 
 -- The answer to a last line without its end, whatever it says.
 abbrev pub unfinished_text : List ℕ
-unfinished_text = line_of (refusal_text LINE)
+unfinished_text = line_of (refusal_text refusals.Line)
 
 -- The name of the node at a place.
 abbrev pub node_name : List Node → ℕ → List ℕ
@@ -62,15 +63,15 @@ module _ (rules : Rules) where
       (History.activity rules past from) (History.last_ticket past (History.bidder from))
 
   -- The answer to a request, or to a line that is refused.
-  abbrev pub response : List Command → Result Request ℕ → List ℕ
-  response past (Err code) = refusal_text code
+  abbrev pub response : List Command → Result Request Refusal → List ℕ
+  response past (Err refusal) = refusal_text refusal
   response past (Ok (command asked)) = reply_text (answer_after rules past asked)
   response past (Ok show) = shown past
   response past (Ok (node place)) = shown_node past place
   response past (Ok (who from)) = shown_bidder past from
 
   -- The past after a request: only a newly accepted command changes it.
-  abbrev pub past_after : List Command → Result Request ℕ → List Command
+  abbrev pub past_after : List Command → Result Request Refusal → List Command
   past_after past (Ok (command asked)) = after rules past asked
   past_after past other = past
 
@@ -95,15 +96,15 @@ module _ (rules : Rules) where
   lines_text history input = text_after (reverse history) input
 
 -- The text of a script whose first line was read as a definition, or refused.
-abbrev pub text_by : Result Rules ℕ → List (List ℕ) → List ℕ
-text_by (Err code) lines = line_of (refusal_text code)
+abbrev pub text_by : Result Rules Refusal → List (List ℕ) → List ℕ
+text_by (Err refusal) lines = line_of (refusal_text refusal)
 text_by (Ok rules) lines = lines_after rules [] lines
 
 -- The first line of a script defines the auction, and has no answer where it is accepted.
-abbrev pub text_of_lines : (List ℕ → Result Rules ℕ) → List (List ℕ) → List ℕ
+abbrev pub text_of_lines : (List ℕ → Result Rules Refusal) → List (List ℕ) → List ℕ
 text_of_lines define [] = []
 text_of_lines define (first ∷ lines) = text_by (define first) lines
 
 -- The text of a script, by a reading of definitions.
-abbrev pub script_text : (List ℕ → Result Rules ℕ) → List ℕ → List ℕ
+abbrev pub script_text : (List ℕ → Result Rules Refusal) → List ℕ → List ℕ
 script_text define input = text_of_lines define (slice_split is_line_feed input)

@@ -1,6 +1,7 @@
 -- The laws of lines and of texts.
 use Rattle.std.specs.Prelude.{◌≡◌, ℕ, List, [], ◌∷◌, ◌++◌, Some, Result}
 use Rattle.hpb_rules.specs.declared.command.Command.{Command}
+use Rattle.hpb_rules.specs.declared.refusal.Refusal.{Refusal}
 use Rattle.hpb_rules.specs.Tree.{Rules}
 use Rattle.hpb_rules.specs.Fronts.{IsFront}
 use Rattle.hpb_rules.specs.Lines.{Spelled, spelled, spelling_of}
@@ -17,7 +18,7 @@ LinesTextGrows = (rules : Rules) (history : List Command) (front rest : List ℕ
 
 -- The same of scripts, by any reading of definitions.
 abbrev pub ScriptTextGrows : Type 0
-ScriptTextGrows = (define : List ℕ → Result Rules ℕ) (front rest : List ℕ)
+ScriptTextGrows = (define : List ℕ → Result Rules Refusal) (front rest : List ℕ)
     → IsFront (script_text define (front ++ line_feed ∷ [])) (script_text define (front ++ line_feed ∷ rest))
 
 -- A line that spells something is the one line that spells it.

@@ -3,6 +3,7 @@
 use Rattle.std.specs.Prelude.{ℕ, List, Option, option_map, Result, Ok, Err}
 use Rattle.std.specs.List.{slice_split}
 use Rattle.hpb_rules.specs.declared.command.Offer.{Offer}
+use Rattle.hpb_rules.specs.declared.refusal.Refusal.{Refusal}
 use Rattle.hpb_rules.specs.Tree.{Rules}
 use Rattle.hpb_rules.specs.Rounds.{bidder}
 use Rattle.hpb_rules.specs.Seen.{NodeView, Quantities}
@@ -34,15 +35,15 @@ bidder_shown_in value from =
     (activity_of value from) (sender_at value (bidder from)).ticket
 
 -- The answer to a request, or to a line that is refused.
-abbrev pub response_in : Quantities → Result Request ℕ → List ℕ
-response_in value (Err code) = refusal_text code
+abbrev pub response_in : Quantities → Result Request Refusal → List ℕ
+response_in value (Err refusal) = refusal_text refusal
 response_in value (Ok (command asked)) = reply_text (reply_in value asked)
 response_in value (Ok show) = shown_in value
 response_in value (Ok (node place)) = node_shown_in value place
 response_in value (Ok (who from)) = bidder_shown_in value from
 
 -- The value after a request: only a newly accepted command changes it.
-abbrev pub value_after_request : Quantities → Result Request ℕ → Quantities
+abbrev pub value_after_request : Quantities → Result Request Refusal → Quantities
 value_after_request value (Ok (command asked)) = next_value value asked
 value_after_request value other = value
 

@@ -6,7 +6,8 @@ use Rattle.hpb_rules.specs.declared.command.Command.{Command}
 use Rattle.hpb_rules.specs.declared.command.Command.TheVariants.{Bid, Close, Stage}
 use Rattle.hpb_rules.specs.declared.reply.Reply.{Reply}
 use Rattle.hpb_rules.specs.declared.reply.TheConstants.{MOST_AMOUNT}
-use Rattle.hpb_rules.specs.declared.refusal.TheConstants.{STEP, LOW, HIGH, AGAIN, ELIGIBILITY, STAGE}
+use Rattle.hpb_rules.specs.declared.refusal.Refusal.{Refusal}
+use Rattle.hpb_rules.specs.declared.refusal.Refusal.TheVariants as refusals
 use Rattle.hpb_rules.specs.Tree.{Rules, places, sum_over, at_or_under, units_at}
 use Rattle.hpb_rules.specs.Choices.{is_in, winners, revenue}
 use Rattle.hpb_rules.specs.Prices.{price, minimum}
@@ -69,15 +70,15 @@ abbrev pub activity_with : Quantities → ℕ → ℕ → ℕ
 activity_with value from on = units_under value.rules (λ node. (on == node) || is_active value from node)
 
 -- What is wrong with a new command.
-abbrev pub fault_in : Quantities → Command → Option ℕ
+abbrev pub fault_in : Quantities → Command → Option Refusal
 fault_in value (Bid from ticket on amount) =
-    if not (amount % value.rules.step == 0) then Some STEP else
-    (if nat_lt amount (node_at value on).minimum then Some LOW else
-    (if nat_lt MOST_AMOUNT amount then Some HIGH else
-    (if slice_index_or (bidder_at value from).bid_on on false then Some AGAIN else
-    (if nat_lt (bidder_at value from).eligibility (activity_with value from on) then Some ELIGIBILITY else None))))
+    if not (amount % value.rules.step == 0) then Some refusals.Step else
+    (if nat_lt amount (node_at value on).minimum then Some refusals.Low else
+    (if nat_lt MOST_AMOUNT amount then Some refusals.High else
+    (if slice_index_or (bidder_at value from).bid_on on false then Some refusals.Again else
+    (if nat_lt (bidder_at value from).eligibility (activity_with value from on) then Some refusals.Eligibility else None))))
 fault_in value (Close ticket) = None
-fault_in value (Stage ticket) = if nat_le (length value.rules.stages) value.stage then Some STAGE else None
+fault_in value (Stage ticket) = if nat_le (length value.rules.stages) value.stage then Some refusals.Stage else None
 
 -- What a value answers to a command.
 abbrev pub reply_in : Quantities → Command → Reply

@@ -14,8 +14,7 @@ mod laws_of_rounds;
 mod laws_of_text;
 mod laws_of_values;
 mod licence;
-/// The numbers of refusals, and their words.
-pub mod refusal;
+mod refusal;
 mod reply;
 
 pub use command::{Command, Offer};
@@ -40,4 +39,5 @@ pub use laws_of_values::{
     next_is_shown, reply_is_answer, run_is_best_choice, run_is_shown, text_is_shown,
 };
 pub use licence::Terms;
+pub use refusal::Refusal;
 pub use reply::{MOST_AMOUNT, MOST_COMMANDS, Reply};

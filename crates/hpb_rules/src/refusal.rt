@@ -1,97 +1,137 @@
 ghost use Rattle.std.specs.Prelude.{◌≡◌};
-ghost use Rattle.hpb_rules.specs.Refusals.{word_of};
+ghost use Rattle.hpb_rules.specs.Refusals.{number_of, word_of};
 
-/// A line that spells no request.
-pub const LINE: u8 = 10;
-/// A bidder that the definition hasn't.
-pub const BIDDER: u8 = 11;
-/// A node that the definition hasn't.
-pub const NODE: u8 = 12;
-/// A ticket of 0, or below its sender's last.
-pub const OLD: u8 = 13;
-/// Another command than the sender's last, under its ticket.
-pub const TICKET: u8 = 14;
-/// A ticket beyond the next.
-pub const GAP: u8 = 15;
-/// The auction is over.
-pub const CLOSED: u8 = 20;
-/// An amount that is no multiple of the step.
-pub const STEP: u8 = 21;
-/// An amount below the node's minimum.
-pub const LOW: u8 = 22;
-/// An amount above the greatest.
-pub const HIGH: u8 = 23;
-/// A second bid of a bidder on a node in one round.
-pub const AGAIN: u8 = 24;
-/// A bid that would take its bidder's activity above its eligibility.
-pub const ELIGIBILITY: u8 = 25;
-/// As many commands have been accepted as may be.
-pub const LIMIT: u8 = 26;
-/// There is no further stage.
-pub const STAGE: u8 = 27;
-/// A definition without a node, a bidder or a stage.
-pub const EMPTY: u8 = 50;
-/// A name that isn't 1 to 16 bytes of `a-z0-9_`.
-pub const NAME: u8 = 51;
-/// A name that two nodes or two bidders bear.
-pub const DUPLICATE: u8 = 52;
-/// A parent that doesn't stand before its node.
-pub const PARENT: u8 = 53;
-/// A package with fewer than two children.
-pub const CHILDREN: u8 = 54;
-/// A licence with a child.
-pub const LEAF: u8 = 55;
-/// More nodes, licences, bidders, stages or levels than a definition may have.
-pub const LIMITS: u8 = 56;
-/// A licence's units or opening out of range.
-pub const TERMS: u8 = 57;
-/// Bytes that are no JSON.
-pub const JSON: u8 = 60;
-/// A field that is missing, unknown or of another type.
-pub const FIELD: u8 = 61;
-/// A number that isn't whole or is out of range.
-pub const NUMBER: u8 = 62;
-/// Memory was refused.
-pub const MEMORY: u8 = 90;
-/// A reader or a writer failed, or too much was read.
-pub const STREAM: u8 = 92;
-/// What was asked can't be shown or done any more until the auction is opened anew.
-pub const FAILED: u8 = 93;
+/// Why a command, a line or a definition is refused. Each has a number and a word, which stand in an `ERR` line.
+#[derive(Clone, Copy, Debug, PartialEq, Eq)]
+pub enum Refusal {
+    /// 10 `line`: a line that spells no request.
+    Line,
+    /// 11 `bidder`: a bidder that the definition hasn't.
+    Bidder,
+    /// 12 `node`: a node that the definition hasn't.
+    Node,
+    /// 13 `old`: a ticket of 0, or below its sender's last.
+    Old,
+    /// 14 `ticket`: another command than the sender's last, under its ticket.
+    Ticket,
+    /// 15 `gap`: a ticket beyond the next.
+    Gap,
+    /// 20 `closed`: the auction is over.
+    Closed,
+    /// 21 `step`: an amount that is no multiple of the step.
+    Step,
+    /// 22 `low`: an amount below the node's minimum.
+    Low,
+    /// 23 `high`: an amount above the greatest.
+    High,
+    /// 24 `again`: a second bid of a bidder on a node in one round.
+    Again,
+    /// 25 `eligibility`: a bid that would take its bidder's activity above its eligibility.
+    Eligibility,
+    /// 26 `limit`: as many commands have been accepted as may be.
+    Limit,
+    /// 27 `stage`: there is no further stage.
+    Stage,
+    /// 50 `empty`: a definition without a node, a bidder or a stage.
+    Empty,
+    /// 51 `name`: a name that isn't 1 to 16 bytes of `a-z0-9_`.
+    Name,
+    /// 52 `duplicate`: a name that two nodes or two bidders bear.
+    Duplicate,
+    /// 53 `parent`: a parent that doesn't stand before its node.
+    Parent,
+    /// 54 `children`: a package with fewer than two children.
+    Children,
+    /// 55 `leaf`: a licence with a child.
+    Leaf,
+    /// 56 `limits`: more nodes, licences, bidders, stages or levels than a definition may have.
+    Limits,
+    /// 57 `terms`: a licence's units or opening out of range.
+    Terms,
+    /// 60 `json`: bytes that are no JSON.
+    Json,
+    /// 61 `field`: a field that is missing, unknown or of another type.
+    Field,
+    /// 62 `number`: a number that isn't whole or is out of range.
+    Number,
+    /// 90 `memory`: memory was refused.
+    Memory,
+    /// 92 `stream`: a reader or a writer failed, or too much was read.
+    Stream,
+    /// 93 `failed`: what was asked can't be shown or done any more until the auction is opened anew.
+    Failed,
+}
 
-/// The word that stands behind a refusal's number in an `ERR` line. A number that is no refusal's has
-/// the word `unknown`.
-pub fn word(code: u8) -> &'static str
-    ensures { result.now ≡ word_of code }
-{
-    match code {
-        LINE => "line",
-        BIDDER => "bidder",
-        NODE => "node",
-        OLD => "old",
-        TICKET => "ticket",
-        GAP => "gap",
-        CLOSED => "closed",
-        STEP => "step",
-        LOW => "low",
-        HIGH => "high",
-        AGAIN => "again",
-        ELIGIBILITY => "eligibility",
-        LIMIT => "limit",
-        STAGE => "stage",
-        EMPTY => "empty",
-        NAME => "name",
-        DUPLICATE => "duplicate",
-        PARENT => "parent",
-        CHILDREN => "children",
-        LEAF => "leaf",
-        LIMITS => "limits",
-        TERMS => "terms",
-        JSON => "json",
-        FIELD => "field",
-        NUMBER => "number",
-        MEMORY => "memory",
-        STREAM => "stream",
-        FAILED => "failed",
-        _ => "unknown",
+impl Refusal {
+    /// Its number in an `ERR` line.
+    pub fn number(self) -> u8
+        ensures { result ≡ number_of self }
+    {
+        match self {
+            Refusal::Line => 10,
+            Refusal::Bidder => 11,
+            Refusal::Node => 12,
+            Refusal::Old => 13,
+            Refusal::Ticket => 14,
+            Refusal::Gap => 15,
+            Refusal::Closed => 20,
+            Refusal::Step => 21,
+            Refusal::Low => 22,
+            Refusal::High => 23,
+            Refusal::Again => 24,
+            Refusal::Eligibility => 25,
+            Refusal::Limit => 26,
+            Refusal::Stage => 27,
+            Refusal::Empty => 50,
+            Refusal::Name => 51,
+            Refusal::Duplicate => 52,
+            Refusal::Parent => 53,
+            Refusal::Children => 54,
+            Refusal::Leaf => 55,
+            Refusal::Limits => 56,
+            Refusal::Terms => 57,
+            Refusal::Json => 60,
+            Refusal::Field => 61,
+            Refusal::Number => 62,
+            Refusal::Memory => 90,
+            Refusal::Stream => 92,
+            Refusal::Failed => 93,
+        }
+    }
+
+    /// The word that stands behind its number in an `ERR` line.
+    pub fn word(self) -> &'static str
+        ensures { result.now ≡ word_of self }
+    {
+        match self {
+            Refusal::Line => "line",
+            Refusal::Bidder => "bidder",
+            Refusal::Node => "node",
+            Refusal::Old => "old",
+            Refusal::Ticket => "ticket",
+            Refusal::Gap => "gap",
+            Refusal::Closed => "closed",
+            Refusal::Step => "step",
+            Refusal::Low => "low",
+            Refusal::High => "high",
+            Refusal::Again => "again",
+            Refusal::Eligibility => "eligibility",
+            Refusal::Limit => "limit",
+            Refusal::Stage => "stage",
+            Refusal::Empty => "empty",
+            Refusal::Name => "name",
+            Refusal::Duplicate => "duplicate",
+            Refusal::Parent => "parent",
+            Refusal::Children => "children",
+            Refusal::Leaf => "leaf",
+            Refusal::Limits => "limits",
+            Refusal::Terms => "terms",
+            Refusal::Json => "json",
+            Refusal::Field => "field",
+            Refusal::Number => "number",
+            Refusal::Memory => "memory",
+            Refusal::Stream => "stream",
+            Refusal::Failed => "failed",
+        }
     }
 }

@@ -1,3 +1,5 @@
+use crate::refusal::Refusal;
+
 /// How many commands an auction accepts at most.
 pub const MOST_COMMANDS: u32 = 1_000_000;
 
@@ -9,6 +11,6 @@ pub const MOST_AMOUNT: u64 = 1_000_000_000_000;
 pub enum Reply {
     /// Accepted: the number of commands accepted so far, this one with them.
     Ok(u32),
-    /// Refused, by one of the numbers of this crate's table of refusals. Nothing has changed.
-    Refused(u8),
+    /// Refused. Nothing has changed.
+    Refused(Refusal),
 }
