@@ -1,6 +1,6 @@
 -- Each accepted bid meets the rules.
-use Rattle.std.proofs.Common.{◌≡◌, ℕ, zero, suc, ◌<◌, ◌≤◌, Bool, true, false, List, [], ◌∷◌, Option, Some, None, length, refl, arith, subst}
-use Rattle.std.specs.Prelude.{if◌then◌else◌, slice_get}
+use Rattle.std.proofs.Common.{◌≡◌, ℕ, zero, suc, ◌<◌, ◌≤◌, List, [], ◌∷◌, Some, None, length, arith, subst}
+use Rattle.std.specs.Prelude.{slice_get}
 use Rattle.std.proofs.lemmas.Bool.{eqb-true, ltb-false, not-false}
 use Rattle.hpb_rules.specs.declared.command.Command.{Command}
 use Rattle.hpb_rules.specs.declared.command.Command.TheVariants.{Bid}
@@ -11,14 +11,9 @@ use Rattle.hpb_rules.specs.History
 use Rattle.hpb_rules.specs.Answer.{IsPast}
 use Rattle.hpb_rules.specs.HistoryLaws.{IsNew, MeetsRules, BidsMeetRules}
 use Rattle.hpb_rules.proofs.Money
-use Rattle.hpb_rules.proofs.NewCommands.{known_names, accepted_new}
+use Rattle.hpb_rules.proofs.NewCommands.{next_test, known_names, accepted_new}
 use Rattle.hpb_rules.proofs.Accepted.{accepted_is_definition}
 use Rattle.hpb_rules.proofs.Openings.{opening_positive}
-
--- where no fault is found the first test fails and the others find none
-next_test : {A : Type 0} (test : Bool) (found : A) (rest : Option A) → (if test then Some found else rest) ≡ None → (test ≡ false) × (rest ≡ None)
-next_test true found rest e = absurd (cc)
-next_test false found rest e = (refl, e)
 
 module _ (rules : Rules) (accepted : draft_refusal rules ≡ None) where
   -- a bid that is new meets the rules
