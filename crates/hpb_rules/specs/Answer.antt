@@ -81,6 +81,10 @@ module _ (rules : Rules) where
   abbrev pub after : List Command → Command → List Command
   after past command = if is_reply_new (length past) (answer_after past command) then command ∷ past else past
 
+  -- The history after a command: the same in the order in which commands came.
+  abbrev pub history_after : List Command → Command → List Command
+  history_after history command = reverse (after (reverse history) command)
+
   -- The replies to commands one after another.
   abbrev pub replies_from : List Command → List Command → List Reply
   replies_from past [] = []

@@ -9,10 +9,12 @@ mod command;
 mod id;
 mod laws;
 mod laws_of_history;
+mod laws_of_letters;
 mod laws_of_machine;
 mod laws_of_rounds;
 mod laws_of_text;
 mod laws_of_values;
+mod letter;
 mod licence;
 /// The numbers of refusals, and their words.
 pub mod refusal;
@@ -29,11 +31,13 @@ pub use laws_of_history::{
     accepted_is_new, answer_is_shown, front_is_history, history_grows, percentage_is_known,
     repeat_changes_nothing, shown_is_one,
 };
-pub use laws_of_machine::machine_keeps;
+pub use laws_of_letters::{fits_grow, history_after_appends, judged_is_answered, judged_join};
+pub use laws_of_machine::{machine_keeps, run_is_moves, run_joins, stops};
 pub use laws_of_rounds::{close_takes_greater, eligibility_is_greatest, greatest_is_first};
 pub use laws_of_text::{lines_text_grows, script_text_grows, spelling_is_one};
 pub use laws_of_values::{
     next_is_shown, reply_is_answer, run_is_best_choice, run_is_shown, text_is_shown,
 };
+pub use letter::{Answer, Letter};
 pub use licence::Terms;
 pub use reply::{MOST_AMOUNT, MOST_COMMANDS, Reply};
