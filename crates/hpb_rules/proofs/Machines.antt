@@ -11,7 +11,7 @@ use Rattle.hpb_rules.specs.Answer.{IsHistory}
 use Rattle.hpb_rules.specs.Fronts.{IsFront}
 use Rattle.hpb_rules.specs.Letters.{Fits, judged, new_commands}
 use Rattle.hpb_rules.specs.Machine.{Flight, Machine, Event, offer, commit, failed_commit, Effect, landed, at_rest, in_flight, offered, turned, turn, take_letters, effect_of, run, MayStand, Moves, event, stop, Reaches, here, further}
-use Rattle.hpb_rules.specs.MachineLaws.{IsSoundFlight, IsSound, MachineKeeps, RunIsMoves, RunJoins}
+use Rattle.hpb_rules.specs.MachineLaws.{IsSoundFlight, IsSound, RestIsSound, MachineKeeps, RunIsMoves, RunJoins}
 use Rattle.hpb_rules.proofs.Lists.{append_nil, front_self, front_trans}
 use Rattle.hpb_rules.proofs.Letters.{all_fit_more, judged_history, judged_fit}
 
@@ -158,6 +158,9 @@ module _ (rules : Rules) where
       let first : Effect = effect_of rules machine what in
       ap (λ answers. first.leaving ++ answers) (joined_leaving events more first.machine)
       ∙ sym (append_assoc first.leaving (run rules first.machine events).leaving (run rules (run rules first.machine events).machine more).leaving)
+
+pub rest_is_sound : RestIsSound
+rest_is_sound rules history is = resting rules history is
 
 pub machine_keeps : MachineKeeps
 machine_keeps rules before after leaving is moves =

@@ -76,8 +76,8 @@ effect_of rules machine failed_commit = turn false machine
 -- The effect of events one after another, with all answers that leave.
 abbrev pub run : Rules → Machine → List Event → Effect
 run rules machine [] = record { leaving = []; machine = machine }
-run rules machine (event ∷ events) =
-    let first = effect_of rules machine event in
+run rules machine (what ∷ events) =
+    let first = effect_of rules machine what in
     let rest = run rules first.machine events in
     record { leaving = first.leaving ++ rest.leaving; machine = rest.machine }
 

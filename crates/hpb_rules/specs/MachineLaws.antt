@@ -7,7 +7,7 @@ use Rattle.hpb_rules.specs.Tree.{Rules}
 use Rattle.hpb_rules.specs.Answer.{IsHistory}
 use Rattle.hpb_rules.specs.Fronts.{IsFront}
 use Rattle.hpb_rules.specs.Letters.{Fits, judged, new_commands}
-use Rattle.hpb_rules.specs.Machine.{Flight, Machine, Event, landed, run, MayStand, Reaches}
+use Rattle.hpb_rules.specs.Machine.{Flight, Machine, Event, landed, at_rest, run, MayStand, Reaches}
 
 -- A flight is sound after acknowledged commands where its answers are those of letters judged after these, at least one of them newly accepts a command,
 -- and it has had at most three turns.
@@ -21,6 +21,10 @@ pub record IsSoundFlight (rules : Rules) (acknowledged : List Command) (flight :
 pub record IsSound (rules : Rules) (machine : Machine) : Type 0 where
   pub history : IsHistory rules machine.acknowledged
   pub flying : (flight : Flight) → machine.flight ≡ Some flight → IsSoundFlight rules machine.acknowledged flight
+
+-- At rest with a history a machine is sound.
+abbrev pub RestIsSound : Type 0
+RestIsSound = (rules : Rules) (history : List Command) → IsHistory rules history → IsSound rules (at_rest history)
 
 -- What leads from one machine to another is durable where the machine is sound afterwards, the acknowledged commands have only grown,
 -- what may stand after a stop is a history that begins with them, and each answer that has left fits them.

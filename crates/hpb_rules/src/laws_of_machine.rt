@@ -1,5 +1,10 @@
-ghost use Rattle.hpb_rules.specs.MachineLaws.{MachineKeeps, RunIsMoves, RunJoins};
+ghost use Rattle.hpb_rules.specs.MachineLaws.{RestIsSound, MachineKeeps, RunIsMoves, RunJoins};
 ghost use Rattle.hpb_rules.specs.MachineRows.{Stops};
+
+/// At rest with a history a machine is sound.
+pub fn rest_is_sound()
+    ensures { RestIsSound }
+{}
 
 /// Over moves one after another, events and stops, from a sound machine on, the acknowledged commands are a history and
 /// only grow, what may stand after a stop is a history that begins with them, and each answer that has left fits them.

@@ -32,7 +32,7 @@ pub use laws_of_history::{
     repeat_changes_nothing, shown_is_one,
 };
 pub use laws_of_letters::{fits_grow, history_after_appends, judged_is_answered, judged_join};
-pub use laws_of_machine::{machine_keeps, run_is_moves, run_joins, stops};
+pub use laws_of_machine::{machine_keeps, rest_is_sound, run_is_moves, run_joins, stops};
 pub use laws_of_rounds::{close_takes_greater, eligibility_is_greatest, greatest_is_first};
 pub use laws_of_text::{lines_text_grows, script_text_grows, spelling_is_one};
 pub use laws_of_values::{
