@@ -15,7 +15,8 @@ pub fn judged_join()
     ensures { JudgedJoin }
 {}
 
-/// Letters get the replies that their commands get one after another, and accept what makes the history after these.
+/// Letters get the replies that their commands get one after another, and the history with what their answers accept
+/// is the history after these commands.
 pub fn judged_is_answered()
     ensures { JudgedIsAnswered }
 {}
