@@ -16,7 +16,7 @@ use Rattle.hpb_rules.proofs.Bids.{greatest_is_greater}
 use Rattle.hpb_rules.proofs.Percentages.{stage_more}
 use Rattle.hpb_rules.proofs.Ranges.{map_same, found_in, finds_in, list_any_map}
 use Rattle.hpb_rules.proofs.Readings.{node_read, bidder_read, activity_read}
-use Rattle.hpb_rules.proofs.Changes.{parts_of, same_value, same_state}
+use Rattle.hpb_rules.proofs.ValueParts.{parts_of, same_value, same_state}
 
 same_answer : (a b : Bool) → (a ≡ true → b ≡ true) → (b ≡ true → a ≡ true) → a ≡ b
 same_answer true b f g = sym (f refl)

@@ -1,20 +1,18 @@
 -- What the value by a past has at each place, and that it answers as the past.
-use Rattle.std.proofs.Common.{◌≡◌, ℕ, ◌<◌, ◌≤◌, Bool, true, false, not, ◌&&◌, ◌||◌, ltb, List, ◌∷◌, map, get_or, Option, Some, None, length, refl, sym, ap, ◌∙◌, ⊎_elim, arith, subst}
-use Rattle.std.specs.Prelude.{if◌then◌else◌, ◌%◌, ◌==◌, slice_index_or}
+use Rattle.std.proofs.Common.{◌≡◌, ℕ, ◌<◌, ◌≤◌, Bool, true, false, ◌&&◌, ◌||◌, List, ◌∷◌, map, get_or, Option, Some, None, length, refl, sym, ap, ◌∙◌, ⊎_elim, arith, subst}
+use Rattle.std.specs.Prelude.{◌==◌, slice_index_or}
 use Rattle.std.proofs.lemmas.Bool.{eq-eqb, cases_lt}
 use Rattle.std.proofs.lemmas.List.{get_or_past}
 use Rattle.std.proofs.lemmas.List.FromFn.{get_or-map-range_with_len, length-map-range_with_len}
 use Rattle.hpb_rules.specs.declared.command.Command.{Command}
 use Rattle.hpb_rules.specs.declared.command.Command.TheVariants.{Bid, Close, Stage}
-use Rattle.hpb_rules.specs.declared.reply.TheConstants.{MOST_AMOUNT}
 use Rattle.hpb_rules.specs.declared.refusal.Refusal.{Refusal}
-use Rattle.hpb_rules.specs.declared.refusal.Refusal.TheVariants as refusals
 use Rattle.hpb_rules.specs.Tree.{Rules, places, sum_over, at_or_under, units_at}
 use Rattle.hpb_rules.specs.Choices.{is_in, winners}
 use Rattle.hpb_rules.specs.Prices.{minimum}
 use Rattle.hpb_rules.specs.History
 use Rattle.hpb_rules.specs.History.{bidder, auctioneer, sender_of, ticket_of, ticket_of_last, last_of, last_ticket}
-use Rattle.hpb_rules.specs.Answer.{unknown, repeated, reply_by, fault, answer_after, IsPast}
+use Rattle.hpb_rules.specs.Answer.{unknown, repeated, reply_by, bid_fault, fault, answer_after, IsPast}
 use Rattle.hpb_rules.specs.AuctionValue.{NodeBids, BidderState, AuctionValue, node_bids, bidder_state, value_of}
 use Rattle.hpb_rules.specs.Values.{no_bids, no_bidder, node_at, bidder_at, last_at, high_bid_in, wins_in, is_active, units_under, activity_in, activity_with_bid, fault_in, reply_in}
 use Rattle.hpb_rules.specs.ValueLaws.{ReplyIsAnswer}
@@ -92,18 +90,15 @@ module _ (rules : Rules) (past : List Command) (is : IsPast rules past) where
   pub fault_read : (command : Command) → unknown rules command ≡ None → fault_in (value_of rules past) command ≡ fault rules past command
   fault_read (Bid from ticket on amount) known =
       let names : (from < length rules.bidders) × (on < length rules.nodes) = known_names rules from ticket on amount known in
-      first_fault (not (amount % rules.step == 0)) (ltb MOST_AMOUNT amount) _ _ _ _ _ _
-      (ap (λ bid. ltb amount (minimum rules bid on)) high_bids_read)
+      same
+      (ap (λ bid. minimum rules bid on) high_bids_read)
       (flag_read rules past from on names.0 names.1)
-      (both _ _ _ _ (ap (λ (state : BidderState). state.eligibility) (bidder_read rules past from names.0)) (activity_with_read from ticket on amount names.0))
+      (ap (λ (state : BidderState). state.eligibility) (bidder_read rules past from names.0))
+      (activity_with_read from ticket on amount names.0)
     where
-      first_fault : (step most low low' again again' over over' : Bool) → low ≡ low' → again ≡ again' → over ≡ over'
-          → ◌≡◌ {A = Option Refusal} (if step then Some refusals.Step else (if low then Some refusals.Low else (if most then Some refusals.High else (if again then Some refusals.Again else (if over then Some refusals.Eligibility else None)))))
-          (if step then Some refusals.Step else (if low' then Some refusals.Low else (if most then Some refusals.High else (if again' then Some refusals.Again else (if over' then Some refusals.Eligibility else None)))))
-      first_fault step most low low' again again' over over' e f g = cc
-
-      both : (x y v w : ℕ) → x ≡ y → v ≡ w → ltb x v ≡ ltb y w
-      both x y v w e f = cc
+      same : {least least' eligibility eligibility' activity activity' : ℕ} {again again' : Bool} → least ≡ least' → again ≡ again' → eligibility ≡ eligibility' → activity ≡ activity'
+          → bid_fault rules.step amount least again eligibility activity ≡ bid_fault rules.step amount least' again' eligibility' activity'
+      same l a e u = cc
   fault_read (Close ticket) known = refl
   fault_read (Stage ticket) known = refl
 

@@ -11,7 +11,7 @@ use Rattle.hpb_rules.specs.AuctionValue.{AuctionValue, ShowsPast, value_of}
 use Rattle.hpb_rules.specs.Values.{reply_in, changed, next_value, value_after, replies_in}
 use Rattle.hpb_rules.specs.ValueLaws.{NextIsShown, RunIsShown}
 use Rattle.hpb_rules.proofs.NewCommands.{accepted_new}
-use Rattle.hpb_rules.proofs.Machines.{new_reply}
+use Rattle.hpb_rules.proofs.Letters.{new_reply}
 use Rattle.hpb_rules.proofs.Readings.{reply_read}
 use Rattle.hpb_rules.proofs.Changes.{bid_changed, stage_changed}
 use Rattle.hpb_rules.proofs.Closes.{close_changed}

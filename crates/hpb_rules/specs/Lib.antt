@@ -16,6 +16,7 @@ pub mod Values
 pub mod ValueText
 pub mod ValueLaws
 pub mod Letters
+pub mod LetterLaws
 pub mod Machine
 pub mod Refusals
 pub mod Drafts
@@ -26,4 +27,5 @@ pub mod RowRules
 pub mod Rows
 pub mod RowsOfSixtyFour
 pub mod CertificateRow
+pub mod MachineRows
 pub mod DraftRows

@@ -1,18 +1,16 @@
 -- What follows from a value: its winners, prices, minima and revenue, what it answers, and what it becomes. No history is asked.
 -- Source: this project's own. The laws say that it is what the history says.
-use Rattle.std.specs.Prelude.{ℕ, suc, ◌+◌, ◌-◌, ◌*◌, ◌/◌, ◌%◌, Bool, true, false, cond, not, ◌||◌, ◌&&◌, ◌==◌, nat_lt, nat_le, List, [], ◌∷◌, map, min, Option, Some, None, length, slice_index, slice_index_or, slice_set, if◌then◌else◌}
+use Rattle.std.specs.Prelude.{ℕ, suc, ◌+◌, ◌-◌, ◌*◌, ◌/◌, Bool, true, false, cond, not, ◌||◌, ◌&&◌, ◌==◌, List, [], ◌∷◌, map, min, Option, Some, None, length, slice_index, slice_index_or, slice_set, if◌then◌else◌}
 use Rattle.std.specs.List.{list_any, range_with_len}
 use Rattle.hpb_rules.specs.declared.command.Command.{Command}
 use Rattle.hpb_rules.specs.declared.command.Command.TheVariants.{Bid, Close, Stage}
 use Rattle.hpb_rules.specs.declared.reply.Reply.{Reply}
-use Rattle.hpb_rules.specs.declared.reply.TheConstants.{MOST_AMOUNT}
 use Rattle.hpb_rules.specs.declared.refusal.Refusal.{Refusal}
-use Rattle.hpb_rules.specs.declared.refusal.Refusal.TheVariants as refusals
 use Rattle.hpb_rules.specs.Tree.{Rules, places, sum_over, at_or_under, units_at}
 use Rattle.hpb_rules.specs.Choices.{is_in, winners, revenue}
 use Rattle.hpb_rules.specs.Prices.{price, minimum}
 use Rattle.hpb_rules.specs.Rounds.{Sender, bidder, auctioneer, sender_of, ticket_of, ticket_of_last, amount_of, is_of, greater}
-use Rattle.hpb_rules.specs.Answer.{unknown, repeated, reply_by, is_reply_new}
+use Rattle.hpb_rules.specs.Answer.{unknown, repeated, reply_by, bid_fault, stage_fault, is_reply_new}
 use Rattle.hpb_rules.specs.AuctionValue.{NodeBids, BidderState, AuctionValue, value_of}
 
 -- A node without a bid.
@@ -80,13 +78,10 @@ activity_with_bid value from on = units_under value.rules (λ node. (on == node)
 -- What is wrong with a new command.
 abbrev pub fault_in : AuctionValue → Command → Option Refusal
 fault_in value (Bid from ticket on amount) =
-    if not (amount % value.rules.step == 0) then Some refusals.Step else
-    (if nat_lt amount (minimum_in value on) then Some refusals.Low else
-    (if nat_lt MOST_AMOUNT amount then Some refusals.High else
-    (if slice_index_or (bidder_at value from).bid_on on false then Some refusals.Again else
-    (if nat_lt (bidder_at value from).eligibility (activity_with_bid value from on) then Some refusals.Eligibility else None))))
+    bid_fault value.rules.step amount (minimum_in value on) (slice_index_or (bidder_at value from).bid_on on false)
+    (bidder_at value from).eligibility (activity_with_bid value from on)
 fault_in value (Close ticket) = None
-fault_in value (Stage ticket) = if nat_le (length value.rules.stages) value.stage then Some refusals.Stage else None
+fault_in value (Stage ticket) = stage_fault (length value.rules.stages) value.stage
 
 -- What a value answers to a command.
 abbrev pub reply_in : AuctionValue → Command → Reply
