@@ -7,7 +7,7 @@ use Rattle.hpb_rules.specs.Tree.{Rules}
 use Rattle.hpb_rules.specs.Drafts.{draft_refusal}
 use Rattle.hpb_rules.specs.History
 use Rattle.hpb_rules.specs.Answer.{unknown, fault, answer, after, IsHistory}
-use Rattle.hpb_rules.specs.Seen.{Quantities, quantities, Shows}
+use Rattle.hpb_rules.specs.AuctionValue.{AuctionValue, value_of, Shows}
 
 -- A command is new after a past where its names are known, it bears its sender's next ticket, there is room for it, the auction is not over,
 -- and nothing is wrong with it.
@@ -43,12 +43,12 @@ RepeatChangesNothing = (rules : Rules) (history : List Command) (command : Comma
     → History.last_of (reverse history) (History.sender_of command) ≡ Some (command, number)
     → (answer rules history command ≡ replies.Ok number) × (after rules (reverse history) command ≡ reverse history)
 
--- An answer depends on nothing but what a history says: where two say the same, each command is answered alike.
+-- An answer depends on nothing but the value: where two histories lead to one value, each command is answered alike.
 abbrev pub AnswerIsShown : Type 0
-AnswerIsShown = (rules : Rules) (one other : List Command) (command : Command)
-    → quantities rules (reverse one) ≡ quantities rules (reverse other) → answer rules one command ≡ answer rules other command
+AnswerIsShown = (rules : Rules) (one other : List Command) (command : Command) → IsHistory rules one → IsHistory rules other
+    → value_of rules (reverse one) ≡ value_of rules (reverse other) → answer rules one command ≡ answer rules other command
 
 -- Two values of one definition that show one history are equal.
 abbrev pub ShownIsOne : Type 0
-ShownIsOne = (one other : Quantities) (history : List Command)
+ShownIsOne = (one other : AuctionValue) (history : List Command)
     → one.rules ≡ other.rules → Shows one history → Shows other history → one ≡ other

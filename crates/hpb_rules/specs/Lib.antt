@@ -11,7 +11,7 @@ pub mod HistoryLaws
 pub mod Fronts
 pub mod MachineLaws
 pub mod TextLaws
-pub mod Seen
+pub mod AuctionValue
 pub mod Values
 pub mod ValueText
 pub mod ValueLaws

@@ -51,6 +51,11 @@ abbrev pub last_of : List Command → Sender → Option (Command × ℕ)
 last_of [] sender = None
 last_of (command ∷ past) sender = cond (is_from sender command) (Some (command, suc (length past))) (last_of past sender)
 
+-- The ticket of a sender's last command, and 0 where it has none.
+abbrev pub ticket_of_last : Option (Command × ℕ) → ℕ
+ticket_of_last None = 0
+ticket_of_last (Some last) = ticket_of last.0
+
 -- The open round is what came after the last close.
 abbrev pub open_round : List Command → List Command
 open_round [] = []
