@@ -19,10 +19,3 @@ module _ (rules : Rules) where
       ∙ none_beyond past is.1 node h
   none_beyond (Close ticket ∷ past) is node h = none_beyond past is.1 node h
   none_beyond (Stage ticket ∷ past) is node h = none_beyond past is.1 node h
-
-  -- what came before the last close is a past
-  pub closed_past : (past : List Command) → IsPast rules past → IsPast rules (History.before_close past)
-  closed_past [] is = is
-  closed_past (Bid from ticket on amount ∷ past) is = closed_past past is.1
-  closed_past (Close ticket ∷ past) is = is.1
-  closed_past (Stage ticket ∷ past) is = closed_past past is.1

@@ -20,7 +20,8 @@ use Rattle.hpb_rules.specs.Values.{no_bids, no_bidder, node_at, bidder_at, last_
 use Rattle.hpb_rules.specs.ValueLaws.{ReplyIsAnswer}
 use Rattle.hpb_rules.proofs.NewCommands.{known_names}
 use Rattle.hpb_rules.proofs.Ranges.{list_any_same}
-use Rattle.hpb_rules.proofs.Beyond.{none_beyond, closed_past}
+use Rattle.hpb_rules.proofs.Beyond.{none_beyond}
+use Rattle.hpb_rules.proofs.Pasts.{closed_past}
 use Rattle.hpb_rules.proofs.Tickets.{ticket_is_last}
 
 -- units under nodes that pass one of two tests that agree

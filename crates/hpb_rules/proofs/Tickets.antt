@@ -1,15 +1,12 @@
 -- A sender's last ticket is the ticket of its last command.
-use Rattle.std.proofs.Common.{◌≡◌, ℕ, suc, ◌+◌, Bool, true, false, cond, List, [], ◌∷◌, Option, Some, None, length, refl, sym, ◌∙◌, arith}
-use Rattle.std.proofs.lemmas.List.Sums.{sum_by-cons}
+use Rattle.std.proofs.Common.{◌≡◌, ℕ, suc, ◌+◌, Bool, true, false, cond, List, [], ◌∷◌, ◌++◌, take, drop, reverse, Option, Some, None, length, refl, ap, sym, ◌∙◌, arith, subst}
 use Rattle.hpb_rules.specs.declared.command.Command.{Command}
 use Rattle.hpb_rules.specs.Tree.{Rules}
 use Rattle.hpb_rules.specs.History.{Sender, is_from, last_ticket, last_of, ticket_of_last}
 use Rattle.hpb_rules.specs.Answer.{IsPast}
-use Rattle.hpb_rules.proofs.Pasts.{last_is}
-
--- a newer command counts where it is the sender's
-pub ticket_more : (newest : Command) (past : List Command) (sender : Sender) → last_ticket (newest ∷ past) sender ≡ cond (is_from sender newest) 1 0 + last_ticket past sender
-ticket_more newest past sender = sum_by-cons (λ command. cond (is_from sender command) 1 0) newest past
+use Rattle.hpb_rules.specs.HistoryLaws.{TicketsCount}
+use Rattle.hpb_rules.proofs.Pasts.{ticket_more, new_after, last_is}
+use Rattle.hpb_rules.proofs.Lists.{split_at, reverse_seam}
 
 -- who has no last command has no ticket
 pub no_ticket : (past : List Command) (sender : Sender) → last_of past sender ≡ None → last_ticket past sender ≡ 0
@@ -26,3 +23,9 @@ ticket_is_last rules past is sender = by (last_of past sender) refl
     by : (last : Option (Command × ℕ)) → last_of past sender ≡ last → last_ticket past sender ≡ ticket_of_last last
     by None e = no_ticket past sender e
     by (Some last) e = sym (last_is rules past sender last.0 last.1 is e).1
+
+pub tickets_count : TicketsCount
+tickets_count rules history place command is e =
+    let cut : reverse history ≡ reverse (drop (suc place) history) ++ command ∷ reverse (take place history)
+    = ap reverse (split_at history place command e) ∙ reverse_seam (take place history) (drop (suc place) history) command in
+    (new_after rules (reverse (drop (suc place) history)) (reverse (take place history)) command (subst (IsPast rules) cut is)).next

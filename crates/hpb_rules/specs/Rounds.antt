@@ -76,6 +76,12 @@ is_bid (Bid from ticket node amount) = true
 is_bid (Close ticket) = false
 is_bid (Stage ticket) = false
 
+-- Whether a command closes a round.
+abbrev pub is_close : Command → Bool
+is_close (Bid from ticket node amount) = false
+is_close (Close ticket) = true
+is_close (Stage ticket) = false
+
 -- Whether a command moves to the next stage.
 abbrev pub is_stage : Command → Bool
 is_stage (Bid from ticket node amount) = false

@@ -25,11 +25,15 @@ pub use laws::{
     test_decides, winners_are_one,
 };
 pub use laws_of_history::{
-    accepted_is_new, answer_is_shown, front_is_history, history_grows, percentage_is_known,
-    repeat_changes_nothing, shown_is_one,
+    accepted_is_new, answer_is_shown, bids_meet_rules, front_is_history, history_grows,
+    last_stands, percentage_is_known, repeat_changes_nothing, same_is_equal, shown_is_one,
+    tickets_count,
 };
 pub use laws_of_machine::machine_keeps;
-pub use laws_of_rounds::{close_takes_greater, eligibility_is_greatest, greatest_is_first};
+pub use laws_of_rounds::{
+    close_takes_greater, eligibility_is_greatest, greatest_is_first, high_is_greatest,
+    incoming_is_greatest, over_is_quiet_round, rounds_are_cut,
+};
 pub use laws_of_text::{lines_text_grows, script_text_grows, spelling_is_one};
 pub use laws_of_values::{
     next_is_shown, reply_is_answer, run_is_shown, text_is_shown, value_is_best_choice,
