@@ -1,8 +1,8 @@
 -- A draft that is not refused is a definition with a tree.
-use Rattle.std.proofs.Common.{◌≡◌, ℕ, zero, suc, ◌+◌, ◌<◌, ◌≤◌, Bool, true, false, not, cond, ◌&&◌, ◌||◌, ltb, leb, List, [], ◌∷◌, Option, Some, None, length, refl, ap, ⊎_elim, arith, subst}
+use Rattle.std.proofs.Common.{◌≡◌, ℕ, zero, suc, ◌+◌, ◌<◌, ◌≤◌, Bool, true, false, not, cond, ◌&&◌, ltb, leb, List, [], ◌∷◌, Option, Some, None, length, refl, ap, arith}
 use Rattle.std.specs.Prelude.{if◌then◌else◌, is_some, is_none, slice_index_or, All}
 use Rattle.std.specs.List.{list_any, range_with_len}
-use Rattle.std.proofs.lemmas.Bool.{cases_eq, cases_lt, both_ways, eqb-true, leb-true, leb-false, ltb-false, lt-ltb, and_parts}
+use Rattle.std.proofs.lemmas.Bool.{both_ways, eqb-true, leb-true, leb-false, ltb-false, lt-ltb, and_parts, or_parts, not-false}
 use Rattle.std.proofs.lemmas.List.Sums.{sum_by-cons}
 use Rattle.hpb_rules.specs.declared.refusal.Refusal.{Refusal}
 use Rattle.hpb_rules.specs.declared.licence.Terms.{Terms}
@@ -12,21 +12,10 @@ use Rattle.hpb_rules.specs.Prices.{children_among}
 use Rattle.hpb_rules.specs.Drafts.{is_within, has_bad_number, is_late, has_late_parent, children_of, has_thin_package, has_licence_with_child, draft_faults, first_fault}
 use Rattle.hpb_rules.specs.Laws.{AcceptedIsDefinition}
 use Rattle.hpb_rules.proofs.Under.{parent_in}
+use Rattle.hpb_rules.proofs.Ranges.{fails_at}
 use Rattle.hpb_rules.proofs.Ranks.{rank_lt}
 
 -- ---- tests that fail
-left_fails : (a b : Bool) → (a || b) ≡ false → a ≡ false
-left_fails true b e = absurd (both_ways _ e refl)
-left_fails false b e = refl
-
-pub right_fails : (a b : Bool) → (a || b) ≡ false → b ≡ false
-right_fails true b e = absurd (both_ways _ e refl)
-right_fails false b e = e
-
-holds : (a : Bool) → not a ≡ false → a ≡ true
-holds true e = refl
-holds false e = absurd (both_ways _ e refl)
-
 -- the test at a place in a table of faults
 abbrev pub fault_at : List (Bool × Refusal) → ℕ → Bool
 fault_at [] place = false
@@ -43,20 +32,10 @@ no_fault (fault ∷ faults) e place = by (no_fault faults) fault.0 refl e place
     by rec false p f zero = p
     by rec false p f (suc place) = rec f place
 
-fails_at : (test : ℕ → Bool) (a k : ℕ) → list_any test (range_with_len a k) ≡ false → (m : ℕ) → a ≤ m → m < a + k → test m ≡ false
-fails_at test a zero e m l h = absurd (omega arith)
-fails_at test a (suc k) e m l h = ⊎_elim
-    (λ same. subst (λ n. test n ≡ false) same (left_fails _ _ e))
-    (λ other. fails_at test (a + 1) k (right_fails (test a) _ e) m (later other) (omega arith))
-    (cases_eq a m)
-  where
-    later : (a ≡ m → ⊥) → a + 1 ≤ m
-    later other = ⊎_elim (λ less. omega arith) (λ le. absurd (other (omega arith))) (cases_lt a m)
-
 passes_all : {A : Type 0} (test : A → Bool) (xs : List A) → list_any (λ x. not (test x)) xs ≡ false → All (λ x. test x ≡ true) xs
 passes_all test [] e k d h = absurd (omega arith)
-passes_all test (x ∷ xs) e zero d h = holds (test x) (left_fails _ _ e)
-passes_all test (x ∷ xs) e (suc k) d h = passes_all test xs (right_fails (not (test x)) _ e) k d (omega arith)
+passes_all test (x ∷ xs) e zero d h = not-false (test x) (or_parts _ _ e).0
+passes_all test (x ∷ xs) e (suc k) d h = passes_all test xs (or_parts (not (test x)) _ e).1 k d (omega arith)
 
 within : (least most number : ℕ) → is_within least most number ≡ true → (least ≤ number) × (number ≤ most)
 within least most number e = let both : (leb least number ≡ true) × (leb number most ≡ true) = and_parts _ _ e in (leb-true _ _ both.0, leb-true _ _ both.1)
@@ -111,8 +90,8 @@ module _ (nodes : List Node) where
 pub accepted_is_definition : AcceptedIsDefinition
 accepted_is_definition rules e =
     let number : has_bad_number rules ≡ false = no_fault (draft_faults rules) e 0 in
-    let step : is_within 1 1000000 rules.step ≡ true = holds _ (left_fails _ _ (left_fails _ _ (left_fails _ _ number))) in
-    let stages : list_any (λ percentage. not (is_within 50 100 percentage)) rules.stages ≡ false = right_fails _ _ (left_fails _ _ number) in
+    let step : is_within 1 1000000 rules.step ≡ true = not-false _ (or_parts _ _ (or_parts _ _ (or_parts _ _ number).0).0).0 in
+    let stages : list_any (λ percentage. not (is_within 50 100 percentage)) rules.stages ≡ false = (or_parts _ _ (or_parts _ _ number).0).1 in
     record {
       tree = tree_is rules.nodes (no_fault (draft_faults rules) e 4) (no_fault (draft_faults rules) e 5) (no_fault (draft_faults rules) e 6);
       step = (within 1 1000000 rules.step step).0;

@@ -1,5 +1,5 @@
 -- What a value becomes by a newly accepted command is the value by the longer past.
-use Rattle.std.proofs.Common.{◌≡◌, ℕ, suc, ◌+◌, ◌<◌, Bool, true, false, cond, ◌&&◌, ◌||◌, eqb, List, ◌∷◌, map, set, Option, Some, None, length, refl, sym, ap, ◌∙◌, arith, subst}
+use Rattle.std.proofs.Common.{◌≡◌, ℕ, suc, ◌+◌, ◌<◌, Bool, true, false, cond, ◌&&◌, ◌||◌, List, ◌∷◌, map, set, Option, Some, None, length, refl, sym, ap, ◌∙◌, arith, subst}
 use Rattle.std.specs.Prelude.{if◌then◌else◌, ◌==◌, nat_lt, slice_set}
 use Rattle.std.specs.List.{range_with_len}
 use Rattle.std.proofs.lemmas.Bool.{eq-eqb, ne_eqb}
@@ -17,9 +17,6 @@ use Rattle.hpb_rules.proofs.Percentages.{stage_more}
 use Rattle.hpb_rules.proofs.Ranges.{map_same, map_set}
 use Rattle.hpb_rules.proofs.ValueParts.{parts_of, same_value, same_state}
 use Rattle.hpb_rules.proofs.Readings.{node_read, bidder_read}
-
-eq_self : (n : ℕ) → eqb n n ≡ true
-eq_self n = eq-eqb n n refl
 
 module _ (rules : Rules) (past : List Command) where
   abbrev value : AuctionValue
@@ -45,7 +42,7 @@ module _ (rules : Rules) (past : List Command) where
 
         at : (node : ℕ) → node ≡ on → node_bids (Bid from ticket on amount ∷ past) node ≡ with_bid (node_bids past on) from amount
         at node e = ap (node_bids (Bid from ticket on amount ∷ past)) e
-            ∙ with_incoming on _ _ (ap (λ b. if b && nat_lt (History.amount_of (History.incoming past on)) amount then Some (record { amount = amount; bidder = from }) else History.incoming past on) (eq_self on))
+            ∙ with_incoming on _ _ (ap (λ b. if b && nat_lt (History.amount_of (History.incoming past on)) amount then Some (record { amount = amount; bidder = from }) else History.incoming past on) (eq-eqb on on refl))
 
     bid_flags : (who : ℕ) → who ≡ from → on < length rules.nodes → set (map (History.bid_on past from) (places rules.nodes)) on true ≡ map (History.bid_on (Bid from ticket on amount ∷ past) who) (places rules.nodes)
     bid_flags who e h = map_set (History.bid_on past from) (History.bid_on (Bid from ticket on amount ∷ past) who) true 0 (length rules.nodes) on h
@@ -67,7 +64,7 @@ module _ (rules : Rules) (past : List Command) where
     bid_state : (who : ℕ) → who ≡ from → on < length rules.nodes → from < length rules.bidders → bidder_state rules (own ∷ past) who ≡ after_bid (bidder_at value from) on (numbered value own)
     bid_state who e n b =
         ap (bidder_state rules (own ∷ past)) e
-        ∙ same_state (bidder_state rules (own ∷ past) from) (after_bid (bidder_state rules past from) on (numbered value own)) refl (sym (bid_flags from refl n)) (own_sender own (bidder from) (eq_self from))
+        ∙ same_state (bidder_state rules (own ∷ past) from) (after_bid (bidder_state rules past from) on (numbered value own)) refl (sym (bid_flags from refl n)) (own_sender own (bidder from) (eq-eqb from from refl))
         ∙ sym (ap (λ (state : BidderState). after_bid state on (numbered value own)) (bidder_read rules past from b))
 
     bid_bidders : on < length rules.nodes → from < length rules.bidders

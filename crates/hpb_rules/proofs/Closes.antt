@@ -11,17 +11,13 @@ use Rattle.hpb_rules.specs.History.{bidder, auctioneer}
 use Rattle.hpb_rules.specs.Answer.{IsPast}
 use Rattle.hpb_rules.specs.AuctionValue.{NodeBids, BidderState, AuctionValue, node_bids, bidder_state, value_of}
 use Rattle.hpb_rules.specs.Values.{has_open_bid, numbered, closed_node, closed_bidder, closed_value, changed}
+use Rattle.hpb_rules.proofs.Tests.{same_answer}
 use Rattle.hpb_rules.proofs.NewCommands.{known_names, accepted_new}
 use Rattle.hpb_rules.proofs.Bids.{greatest_is_greater}
 use Rattle.hpb_rules.proofs.Percentages.{stage_more}
 use Rattle.hpb_rules.proofs.Ranges.{map_same, found_in, finds_in, list_any_map}
 use Rattle.hpb_rules.proofs.Readings.{node_read, bidder_read, activity_read}
 use Rattle.hpb_rules.proofs.ValueParts.{parts_of, same_value, same_state}
-
-same_answer : (a b : Bool) → (a ≡ true → b ≡ true) → (b ≡ true → a ≡ true) → a ≡ b
-same_answer true b f g = sym (f refl)
-same_answer false true f g = g refl
-same_answer false false f g = refl
 
 module _ (rules : Rules) where
   -- where somebody bid in the open round, a bidder bid on a node

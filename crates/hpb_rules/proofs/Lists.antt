@@ -1,5 +1,5 @@
--- Lists and their fronts.
-use Rattle.std.proofs.Common.{◌≡◌, ◌⊎◌, inl, inr, ℕ, zero, suc, List, [], ◌∷◌, ◌++◌, take, drop, reverse, Some, length, refl, ap, ◌∙◌, arith, append_assoc}
+-- Lists and their fronts: steps that other crates' proofs cite too.
+use Rattle.std.proofs.Common.{◌≡◌, ◌⊎◌, inl, inr, ℕ, zero, suc, List, [], ◌∷◌, ◌++◌, get_or, replicate, take, drop, reverse, Some, length, refl, ap, ◌∙◌, arith, append_assoc}
 use Rattle.std.specs.Prelude.{slice_get, All}
 use Rattle.std.proofs.lemmas.List.{take-append-le, reverse-append}
 use Rattle.hpb_rules.specs.Fronts.{IsFront}
@@ -7,6 +7,12 @@ use Rattle.hpb_rules.specs.Fronts.{IsFront}
 pub all_cons : {A : Type 0} (P : A → Type 0) (x : A) (xs : List A) → P x → All P xs → All P (x ∷ xs)
 all_cons P x xs p all zero d h = p
 all_cons P x xs p all (suc k) d h = all k d (omega arith)
+
+-- a list of one item reads as that item within and beyond it
+pub get_or-replicate_same : {A : Type 0} (count place : ℕ) (item : A) → get_or (replicate count item) place item ≡ item
+get_or-replicate_same zero place item = refl
+get_or-replicate_same (suc count) zero item = refl
+get_or-replicate_same (suc count) (suc place) item = get_or-replicate_same count place item
 
 pub append_nil : {A : Type 0} (xs : List A) → xs ≡ xs ++ []
 append_nil [] = refl

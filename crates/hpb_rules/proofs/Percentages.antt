@@ -1,6 +1,6 @@
 -- The stage in force has a percentage.
 use Rattle.std.proofs.Common.{◌≡◌, ℕ, ◌+◌, ◌-◌, ◌<◌, ◌≤◌, ◌||◌, false, cond, List, [], ◌∷◌, reverse, length, refl, arith}
-use Rattle.std.proofs.lemmas.Bool.{leb-false, both_ways}
+use Rattle.std.proofs.lemmas.Bool.{leb-false, both_ways, or_parts}
 use Rattle.std.proofs.lemmas.List.Sums.{sum_by-cons}
 use Rattle.hpb_rules.specs.declared.command.Command.{Command}
 use Rattle.hpb_rules.specs.declared.command.Command.TheVariants.{Bid, Close, Stage}
@@ -11,7 +11,7 @@ use Rattle.hpb_rules.specs.Answer.{IsPast}
 use Rattle.hpb_rules.specs.Laws.{IsDefinition}
 use Rattle.hpb_rules.specs.HistoryLaws.{PercentageIsKnown}
 use Rattle.hpb_rules.proofs.NewCommands.{next_test, accepted_new}
-use Rattle.hpb_rules.proofs.Accepted.{no_fault, right_fails, accepted_is_definition}
+use Rattle.hpb_rules.proofs.Accepted.{no_fault, accepted_is_definition}
 
 -- a stage command adds a stage, and no other does
 pub stage_more : (command : Command) (past : List Command) → History.stage (command ∷ past) ≡ cond (History.is_stage command) 1 0 + History.stage past
@@ -34,7 +34,7 @@ filled (stage ∷ stages) e = omega arith
 pub percentage_is_known : PercentageIsKnown
 percentage_is_known rules history accepted is =
     let lacks : lacks_something rules ≡ false = no_fault (draft_faults rules) accepted 1 in
-    let some : 0 < length rules.stages = filled rules.stages (right_fails (is_empty rules.nodes || is_empty rules.bidders) (is_empty rules.stages) lacks) in
+    let some : 0 < length rules.stages = filled rules.stages (or_parts (is_empty rules.nodes || is_empty rules.bidders) (is_empty rules.stages) lacks).1 in
     let stage : History.stage (reverse history) ≤ length rules.stages = stage_is rules some (reverse history) is in
     let definition : IsDefinition rules = accepted_is_definition rules accepted in
     let place : History.stage (reverse history) - 1 < length rules.stages = omega (arith, stage, some) in

@@ -16,6 +16,7 @@ use Rattle.hpb_rules.specs.Answer.{unknown, repeated, reply_by, bid_fault, fault
 use Rattle.hpb_rules.specs.AuctionValue.{NodeBids, BidderState, AuctionValue, node_bids, bidder_state, value_of}
 use Rattle.hpb_rules.specs.Values.{no_bids, no_bidder, node_at, bidder_at, last_at, high_bid_in, wins_in, is_active, units_under, activity_in, activity_with_bid, fault_in, reply_in}
 use Rattle.hpb_rules.specs.ValueLaws.{ReplyIsAnswer}
+use Rattle.hpb_rules.proofs.Tests.{or_same}
 use Rattle.hpb_rules.proofs.NewCommands.{known_names}
 use Rattle.hpb_rules.proofs.Ranges.{list_any_same}
 use Rattle.hpb_rules.proofs.Beyond.{none_beyond}
@@ -68,12 +69,9 @@ module _ (rules : Rules) (past : List Command) (is : IsPast rules past) where
 
   pub active_read : (from node : ℕ) → from < length rules.bidders → node < length rules.nodes
       → is_active (value_of rules past) from node ≡ (History.bid_on past from node || (is_in (History.won rules past) node && History.is_of from (History.high past node)))
-  active_read from node b n = both _ _ _ _ (flag_read rules past from node b n)
+  active_read from node b n = or_same _ _ _ _ (flag_read rules past from node b n)
       (ap (λ set. is_in set node && History.is_of from (node_at (value_of rules past) node).high) wins_read
       ∙ ap (λ (bids : NodeBids). is_in (History.won rules past) node && History.is_of from bids.high) (node_read rules past node n))
-    where
-      both : (x y v w : Bool) → x ≡ y → v ≡ w → (x || v) ≡ (y || w)
-      both x y v w e f = cc
 
   pub activity_read : (from : ℕ) → from < length rules.bidders → activity_in (value_of rules past) from ≡ History.activity rules past from
   activity_read from b = units_same rules (is_active (value_of rules past) from) _ (λ node n. active_read from node b n)

@@ -1,5 +1,5 @@
 -- Two commands, and two senders, are the same exactly where they are equal.
-use Rattle.std.proofs.Common.{◌≡◌, ℕ, true, false, eqb, refl, ap, subst}
+use Rattle.std.proofs.Common.{◌≡◌, true, false, refl, ap, subst}
 use Rattle.std.proofs.lemmas.Bool.{and_parts, both_ways, eq-eqb, eqb-true}
 use Rattle.hpb_rules.specs.declared.command.Command.{Command}
 use Rattle.hpb_rules.specs.declared.command.Command.TheVariants.{Bid, Close, Stage}
@@ -12,13 +12,10 @@ same_sender_is (bidder one) auctioneer e = absurd (both_ways false refl e)
 same_sender_is auctioneer (bidder other) e = absurd (both_ways false refl e)
 same_sender_is auctioneer auctioneer e = refl
 
-eq_self : (n : ℕ) → eqb n n ≡ true
-eq_self n = eq-eqb n n refl
-
 pub same_command_self : (command : Command) → same_command command command ≡ true
-same_command_self (Bid from ticket node amount) = rw (eq_self from, eq_self ticket, eq_self node, eq_self amount) refl
-same_command_self (Close ticket) = eq_self ticket
-same_command_self (Stage ticket) = eq_self ticket
+same_command_self (Bid from ticket node amount) = rw (eq-eqb from from refl, eq-eqb ticket ticket refl, eq-eqb node node refl, eq-eqb amount amount refl) refl
+same_command_self (Close ticket) = eq-eqb ticket ticket refl
+same_command_self (Stage ticket) = eq-eqb ticket ticket refl
 
 same_command_is : (one other : Command) → same_command one other ≡ true → one ≡ other
 same_command_is (Bid from ticket node amount) (Bid from' ticket' node' amount') e =
@@ -40,7 +37,7 @@ same_command_is (Stage ticket) (Close ticket') e = absurd (both_ways false refl 
 same_command_is (Stage ticket) (Stage ticket') e = ap Stage (eqb-true ticket ticket' e)
 
 same_sender_self : (sender : Sender) → same_sender sender sender ≡ true
-same_sender_self (bidder from) = eq_self from
+same_sender_self (bidder from) = eq-eqb from from refl
 same_sender_self auctioneer = refl
 
 pub same_is_equal : SameIsEqual
