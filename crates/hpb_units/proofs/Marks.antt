@@ -8,7 +8,7 @@ use Rattle.std.proofs.lemmas.List.Folds.{list_any-append}
 use Rattle.std.proofs.lemmas.Nat.Bits.{bit_at_or, bit_at-lt}
 use Rattle.hpb_rules.specs.Tree.{Node, terms_of, at_or_under}
 use Rattle.hpb_tree.specs.Licences.{licence_number, IsMask}
-use Rattle.hpb_tree.proofs.Places.{range_more}
+use Rattle.hpb_rules.proofs.Places.{range_more}
 use Rattle.hpb_units.specs.Activity.{is_marked}
 
 or_false : (b : Bool) → (b || false) ≡ b
