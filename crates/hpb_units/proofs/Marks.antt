@@ -10,7 +10,7 @@ use Rattle.std.proofs.lemmas.Nat.Bits.{bit_at_or, bit_at-lt}
 use Rattle.hpb_rules.specs.Tree.{Node, terms_of, at_or_under}
 use Rattle.hpb_rules.proofs.Tests.{bit_of_test}
 use Rattle.hpb_tree.specs.Licences.{licence_number, IsMask}
-use Rattle.hpb_tree.proofs.Places.{range_more}
+use Rattle.hpb_rules.proofs.Places.{range_more}
 use Rattle.hpb_units.specs.Activity.{is_marked}
 
 any_more : (test : ℕ → Bool) (i : ℕ) → list_any test (range_with_len 0 (i + 1)) ≡ (list_any test (range_with_len 0 i) || test i)
