@@ -24,6 +24,7 @@ pub mod Rendering
 pub mod Text
 pub mod RowRules
 pub mod Rows
+pub mod LineRows
 pub mod RowsOfSixtyFour
 pub mod CertificateRow
 pub mod DraftRows
