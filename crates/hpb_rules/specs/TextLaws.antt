@@ -3,16 +3,28 @@ use Rattle.std.specs.Prelude.{◌≡◌, ℕ, ◌↔◌, List, [], ◌∷◌, �
 use Rattle.hpb_rules.specs.declared.command.Command.{Command}
 use Rattle.hpb_rules.specs.declared.refusal.Refusal.{Refusal}
 use Rattle.hpb_rules.specs.Tree.{Rules}
+use Rattle.hpb_rules.specs.Answer.{IsHistory}
+use Rattle.hpb_rules.specs.Laws.{HoldsAlone}
 use Rattle.hpb_rules.specs.Fronts.{IsFront}
 use Rattle.hpb_rules.specs.Lines.{Spelled, spelled, line_spelling, IsSpellable, line_feed}
-use Rattle.hpb_rules.specs.Text.{lines_text, script_text}
+use Rattle.hpb_rules.specs.Text.{lines_text, history_after_lines, IsText, script_text}
 
--- The text of whole lines is a front of the text of these lines with more behind them.
-abbrev pub LinesTextGrows : Type 0
-LinesTextGrows = (rules : Rules) (history : List Command) (front rest : List ℕ)
-    → IsFront (lines_text rules history (front ++ line_feed ∷ [])) (lines_text rules history (front ++ line_feed ∷ rest))
+-- The text of whole lines with more behind them is the text of the lines, and then that of the rest after the history that the lines lead to.
+abbrev pub LinesTextJoins : Type 0
+LinesTextJoins = (rules : Rules) (history : List Command) (front rest : List ℕ)
+    → let lines = front ++ line_feed ∷ [] in
+    lines_text rules history (lines ++ rest) ≡ lines_text rules history lines ++ lines_text rules (history_after_lines rules history lines) rest
 
--- The same of scripts, by any reading of definitions.
+-- Lines lead from a history to a history that goes on from it.
+abbrev pub LinesKeepHistory : Type 0
+LinesKeepHistory = (rules : Rules) (history : List Command) (input : List ℕ) → IsHistory rules history
+    → IsHistory rules (history_after_lines rules history input) × IsFront history (history_after_lines rules history input)
+
+-- By a reading that is a function a script has exactly one text, and it is the computed one.
+abbrev pub ScriptTextIsOne : Type 0
+ScriptTextIsOne = (define : List ℕ → Result Rules Refusal) (input : List ℕ) → HoldsAlone (IsText (λ line reading. define line ≡ reading) input) (script_text define input)
+
+-- The text of whole lines of a script is a front of the text of these lines with more behind them.
 abbrev pub ScriptTextGrows : Type 0
 ScriptTextGrows = (define : List ℕ → Result Rules Refusal) (front rest : List ℕ)
     → IsFront (script_text define (front ++ line_feed ∷ [])) (script_text define (front ++ line_feed ∷ rest))

@@ -30,7 +30,9 @@ pub use laws_of_history::{
 };
 pub use laws_of_machine::machine_keeps;
 pub use laws_of_rounds::{close_takes_greater, eligibility_is_greatest, greatest_is_first};
-pub use laws_of_text::{lines_text_grows, script_text_grows, spelling_is_one};
+pub use laws_of_text::{
+    lines_keep_history, lines_text_joins, script_text_grows, script_text_is_one, spelling_is_one,
+};
 pub use laws_of_values::{
     next_is_shown, reply_is_answer, run_is_best_choice, run_is_shown, text_is_shown,
 };
