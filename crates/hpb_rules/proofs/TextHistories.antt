@@ -5,9 +5,11 @@ use Rattle.std.specs.List.{slice_split}
 use Rattle.std.proofs.lemmas.List.{reverse-append, reverse-reverse}
 use Rattle.hpb_rules.specs.declared.refusal.Refusal.{Refusal}
 use Rattle.hpb_rules.specs.declared.command.Command.{Command}
+use Rattle.hpb_rules.specs.declared.request.Request.{Request}
+use Rattle.hpb_rules.specs.declared.request.Request.TheVariants as requests
 use Rattle.hpb_rules.specs.Tree.{Rules}
 use Rattle.hpb_rules.specs.Answer.{is_reply_new, answer_after, after, IsPast}
-use Rattle.hpb_rules.specs.Lines.{Request, command, show, node, who, line_feed, is_line_feed, request_of}
+use Rattle.hpb_rules.specs.Lines.{line_feed, is_line_feed, request_of}
 use Rattle.hpb_rules.specs.Text.{state_after, past_after, next_past, text_after, lines_text, history_after_lines}
 use Rattle.hpb_rules.specs.TextLaws.{LinesTextJoins, LinesKeepHistory}
 use Rattle.hpb_rules.proofs.Lists.{append_nil}
@@ -51,10 +53,10 @@ module _ (rules : Rules) where
 
   request_goes_on : (past : List Command) (request : Result Request Refusal) → IsPast rules past → GoesOn past (past_after rules past request)
   request_goes_on past (Err refusal) is = (is, ([], refl))
-  request_goes_on past (Ok (command asked)) is = command_goes_on past asked is
-  request_goes_on past (Ok show) is = (is, ([], refl))
-  request_goes_on past (Ok (node place)) is = (is, ([], refl))
-  request_goes_on past (Ok (who from)) is = (is, ([], refl))
+  request_goes_on past (Ok (requests.Command asked)) is = command_goes_on past asked is
+  request_goes_on past (Ok requests.Show) is = (is, ([], refl))
+  request_goes_on past (Ok (requests.Node place)) is = (is, ([], refl))
+  request_goes_on past (Ok (requests.Who from)) is = (is, ([], refl))
 
   goes_on_further : (past middle longer : List Command) → GoesOn past middle → GoesOn middle longer → GoesOn past longer
   goes_on_further past middle longer one two = (two.0, (two.1.0 ++ one.1.0, two.1.1 ∙ ap (λ older. two.1.0 ++ older) one.1.1 ∙ sym (append_assoc two.1.0 one.1.0 past)))

@@ -8,11 +8,13 @@ use Rattle.hpb_rules.specs.declared.refusal.Refusal.{Refusal}
 use Rattle.hpb_rules.specs.declared.command.Command.{Command}
 use Rattle.hpb_rules.specs.declared.command.Command.TheVariants.{Bid}
 use Rattle.hpb_rules.specs.declared.refusal.Refusal.TheVariants as refusals
+use Rattle.hpb_rules.specs.declared.request.Request.{Request}
+use Rattle.hpb_rules.specs.declared.request.Request.TheVariants as requests
 use Rattle.hpb_rules.specs.Tree.{Rules, Node, Bidder}
 use Rattle.hpb_rules.specs.Answer.{IsPast}
 use Rattle.hpb_rules.specs.Seen.{BidderView, SenderView, Quantities, quantities}
 use Rattle.hpb_rules.specs.Rendering.{reply_text, who_text}
-use Rattle.hpb_rules.specs.Lines.{Request, command, show, node, who, Spelled, bid_line, close_line, stage_line, show_line, node_line, who_line, spelled, looked_up, found, bidder_named, node_named, request_of, is_line_feed}
+use Rattle.hpb_rules.specs.Lines.{Spelled, bid_line, close_line, stage_line, show_line, node_line, who_line, spelled, looked_up, found, bidder_named, node_named, request_of, is_line_feed}
 use Rattle.hpb_rules.specs.Text.{line_of, bidder_name, response, past_after, next_past, lines_after}
 use Rattle.hpb_rules.specs.ValueText.{text_of_view, response_in, value_after_request, value_after_line, lines_in}
 use Rattle.hpb_rules.specs.ValueLaws.{TextIsShown}
@@ -23,8 +25,8 @@ use Rattle.hpb_rules.proofs.Runs.{next_is}
 
 -- a request asks for a node and a bidder of the definition
 abbrev IsThere : Rules → Result Request Refusal → Type 0
-IsThere rules (Ok (node place)) = place < length rules.nodes
-IsThere rules (Ok (who from)) = from < length rules.bidders
+IsThere rules (Ok (requests.Node place)) = place < length rules.nodes
+IsThere rules (Ok (requests.Who from)) = from < length rules.bidders
 IsThere rules other = Unit {0}
 
 no_node_name : Node
@@ -33,11 +35,11 @@ no_node_name = record { name = []; parent = None; terms = None }
 no_bidder_name : Bidder
 no_bidder_name = record { name = []; units = 0 }
 
-node_there : (rules : Rules) (place : Option ℕ) → ((n : ℕ) → place ≡ Some n → n < length rules.nodes) → IsThere rules (found refusals.Node place (λ n. Ok (node n)))
+node_there : (rules : Rules) (place : Option ℕ) → ((n : ℕ) → place ≡ Some n → n < length rules.nodes) → IsThere rules (found refusals.Node place (λ n. Ok (requests.Node n)))
 node_there rules None h = tt
 node_there rules (Some n) h = h n refl
 
-bidder_there : (rules : Rules) (place : Option ℕ) → ((n : ℕ) → place ≡ Some n → n < length rules.bidders) → IsThere rules (found refusals.Bidder place (λ n. Ok (who n)))
+bidder_there : (rules : Rules) (place : Option ℕ) → ((n : ℕ) → place ≡ Some n → n < length rules.bidders) → IsThere rules (found refusals.Bidder place (λ n. Ok (requests.Who n)))
 bidder_there rules None h = tt
 bidder_there rules (Some n) h = h n refl
 
@@ -45,11 +47,11 @@ asked_there : (rules : Rules) (what : Option Spelled) → IsThere rules (looked_
 asked_there rules None = tt
 asked_there rules (Some (bid_line from ticket on amount)) = by (bidder_named rules from)
   where
-    inner : (place : ℕ) (on : Option ℕ) → IsThere rules (found refusals.Node on (λ n. Ok (command (Bid place ticket n amount))))
+    inner : (place : ℕ) (on : Option ℕ) → IsThere rules (found refusals.Node on (λ n. Ok (requests.Command (Bid place ticket n amount))))
     inner place None = tt
     inner place (Some n) = tt
 
-    by : (place : Option ℕ) → IsThere rules (found refusals.Bidder place (λ from. found refusals.Node (node_named rules on) (λ n. Ok (command (Bid from ticket n amount)))))
+    by : (place : Option ℕ) → IsThere rules (found refusals.Bidder place (λ from. found refusals.Node (node_named rules on) (λ n. Ok (requests.Command (Bid from ticket n amount)))))
     by None = tt
     by (Some place) = inner place (node_named rules on)
 asked_there rules (Some (close_line ticket)) = tt
@@ -62,10 +64,10 @@ asked_there rules (Some (who_line name)) = bidder_there rules (bidder_named rule
 module _ (rules : Rules) (past : List Command) where
   response_shown : (request : Result Request Refusal) → IsThere rules request → response_in (quantities rules past) request ≡ response rules past request
   response_shown (Err refusal) h = refl
-  response_shown (Ok (command asked)) h = ap reply_text (reply_read rules past asked)
-  response_shown (Ok show) h = refl
-  response_shown (Ok (node place)) h = ap (text_of_view rules place) (node_read rules past place h)
-  response_shown (Ok (who from)) h = same _ _ _ _ _ _
+  response_shown (Ok (requests.Command asked)) h = ap reply_text (reply_read rules past asked)
+  response_shown (Ok requests.Show) h = refl
+  response_shown (Ok (requests.Node place)) h = ap (text_of_view rules place) (node_read rules past place h)
+  response_shown (Ok (requests.Who from)) h = same _ _ _ _ _ _
       (ap (λ (v : BidderView). v.eligibility) (bidder_read rules past from h))
       (activity_read rules past from h)
       (ap (λ (v : SenderView). v.ticket) (sender_read rules past from h))
@@ -76,10 +78,10 @@ module _ (rules : Rules) (past : List Command) where
   after_shown : IsPast rules past → (request : Result Request Refusal)
       → (value_after_request (quantities rules past) request ≡ quantities rules (past_after rules past request)) × IsPast rules (past_after rules past request)
   after_shown is (Err refusal) = (refl, is)
-  after_shown is (Ok (command asked)) = next_is rules past is asked
-  after_shown is (Ok show) = (refl, is)
-  after_shown is (Ok (node place)) = (refl, is)
-  after_shown is (Ok (who from)) = (refl, is)
+  after_shown is (Ok (requests.Command asked)) = next_is rules past is asked
+  after_shown is (Ok requests.Show) = (refl, is)
+  after_shown is (Ok (requests.Node place)) = (refl, is)
+  after_shown is (Ok (requests.Who from)) = (refl, is)
 
 -- ---- lines one after another
 module _ (rules : Rules) where

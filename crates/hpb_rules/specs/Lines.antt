@@ -5,18 +5,12 @@ use Rattle.std.specs.List.{slice_split, join_with_byte, list_any, position}
 use Rattle.std.specs.Option.{option_and_then}
 use Rattle.std.specs.Str.{bytes_eq, all_ascii_digits}
 use Rattle.std.specs.Str.Parse.{digits_value}
-use Rattle.hpb_rules.specs.declared.command.Command.{Command}
 use Rattle.hpb_rules.specs.declared.command.Command.TheVariants.{Bid, Close, Stage}
 use Rattle.hpb_rules.specs.declared.refusal.Refusal.{Refusal}
 use Rattle.hpb_rules.specs.declared.refusal.Refusal.TheVariants as refusals
+use Rattle.hpb_rules.specs.declared.request.Request.{Request}
+use Rattle.hpb_rules.specs.declared.request.Request.TheVariants as requests
 use Rattle.hpb_rules.specs.Tree.{Rules}
-
--- A request is a command, or asks to see the auction, a node or a bidder.
-pub data Request : Type 0 where
-  command : Command → Request
-  show : Request
-  node : ℕ → Request
-  who : ℕ → Request
 
 -- What a line spells, before its names are looked up.
 pub data Spelled : Type 0 where
@@ -117,12 +111,12 @@ found refusal (Some place) next = next place
 abbrev pub looked_up : Rules → Option Spelled → Result Request Refusal
 looked_up rules None = Err refusals.Line
 looked_up rules (Some (bid_line from ticket on amount)) =
-    found refusals.Bidder (bidder_named rules from) (λ from. found refusals.Node (node_named rules on) (λ on. Ok (command (Bid from ticket on amount))))
-looked_up rules (Some (close_line ticket)) = Ok (command (Close ticket))
-looked_up rules (Some (stage_line ticket)) = Ok (command (Stage ticket))
-looked_up rules (Some show_line) = Ok show
-looked_up rules (Some (node_line name)) = found refusals.Node (node_named rules name) (λ place. Ok (node place))
-looked_up rules (Some (who_line name)) = found refusals.Bidder (bidder_named rules name) (λ place. Ok (who place))
+    found refusals.Bidder (bidder_named rules from) (λ from. found refusals.Node (node_named rules on) (λ on. Ok (requests.Command (Bid from ticket on amount))))
+looked_up rules (Some (close_line ticket)) = Ok (requests.Command (Close ticket))
+looked_up rules (Some (stage_line ticket)) = Ok (requests.Command (Stage ticket))
+looked_up rules (Some show_line) = Ok requests.Show
+looked_up rules (Some (node_line name)) = found refusals.Node (node_named rules name) (λ place. Ok (requests.Node place))
+looked_up rules (Some (who_line name)) = found refusals.Bidder (bidder_named rules name) (λ place. Ok (requests.Who place))
 
 -- The request that a line spells under a definition, or why it is refused.
 abbrev pub request_of : Rules → List ℕ → Result Request Refusal

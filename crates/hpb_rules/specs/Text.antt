@@ -5,12 +5,14 @@ use Rattle.std.specs.List.{slice_split}
 use Rattle.hpb_rules.specs.declared.command.Command.{Command}
 use Rattle.hpb_rules.specs.declared.refusal.Refusal.{Refusal}
 use Rattle.hpb_rules.specs.declared.refusal.Refusal.TheVariants as refusals
+use Rattle.hpb_rules.specs.declared.request.Request.{Request}
+use Rattle.hpb_rules.specs.declared.request.Request.TheVariants as requests
 use Rattle.hpb_rules.specs.Tree.{Rules, Node, Bidder}
 use Rattle.hpb_rules.specs.Choices.{is_in, revenue}
 use Rattle.hpb_rules.specs.Prices.{price, minimum}
 use Rattle.hpb_rules.specs.History
 use Rattle.hpb_rules.specs.Answer.{answer_after, after}
-use Rattle.hpb_rules.specs.Lines.{Request, command, show, node, who, request_of, line_feed, is_line_feed}
+use Rattle.hpb_rules.specs.Lines.{request_of, line_feed, is_line_feed}
 use Rattle.hpb_rules.specs.Rendering.{refusal_text, reply_text, show_text, node_text, who_text}
 
 -- A text with the line feed at its end.
@@ -71,14 +73,14 @@ module _ (rules : Rules) where
   -- The answer to a request, or to a line that is refused.
   abbrev pub response : List Command → Result Request Refusal → List ℕ
   response past (Err refusal) = refusal_text refusal
-  response past (Ok (command asked)) = reply_text (answer_after rules past asked)
-  response past (Ok show) = shown past
-  response past (Ok (node place)) = shown_node past place
-  response past (Ok (who from)) = shown_bidder past from
+  response past (Ok (requests.Command asked)) = reply_text (answer_after rules past asked)
+  response past (Ok requests.Show) = shown past
+  response past (Ok (requests.Node place)) = shown_node past place
+  response past (Ok (requests.Who from)) = shown_bidder past from
 
   -- The past after a request: only a newly accepted command changes it.
   abbrev pub past_after : List Command → Result Request Refusal → List Command
-  past_after past (Ok (command asked)) = after rules past asked
+  past_after past (Ok (requests.Command asked)) = after rules past asked
   past_after past other = past
 
   -- What a line is answered, with its line feed.

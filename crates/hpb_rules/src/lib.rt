@@ -16,6 +16,7 @@ mod laws_of_values;
 mod licence;
 mod refusal;
 mod reply;
+mod request;
 
 pub use command::{Command, Offer};
 pub use id::{BidderId, MOST_BIDDERS, MOST_NODES, NodeId};
@@ -39,3 +40,4 @@ pub use laws_of_values::{
 pub use licence::Terms;
 pub use refusal::Refusal;
 pub use reply::{MOST_AMOUNT, MOST_COMMANDS, Reply};
+pub use request::Request;
