@@ -19,6 +19,7 @@ pub mod Letters
 pub mod Machine
 pub mod Refusals
 pub mod Drafts
+pub mod Definitions
 pub mod Lines
 pub mod Rendering
 pub mod Text

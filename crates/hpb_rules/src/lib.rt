@@ -21,9 +21,9 @@ mod request;
 pub use command::{Command, Offer};
 pub use id::{BidderId, MOST_BIDDERS, MOST_NODES, NodeId};
 pub use laws::{
-    accepted_is_definition, best_is_one, certificates, cover_proves, disjoint_is_apart,
-    minimum_is_one, price_is_value, prices_prove, revenue_is_greatest, shares_are_one,
-    test_decides, winners_are_one,
+    accepted_is_definition, best_is_one, carried_is_share, certificates, cover_proves,
+    depth_is_one_more, disjoint_is_apart, minimum_is_one, price_is_value, prices_prove,
+    revenue_is_greatest, shares_are_one, test_decides, winners_are_one,
 };
 pub use laws_of_history::{
     accepted_is_new, answer_is_shown, front_is_history, history_grows, percentage_is_known,
