@@ -4,12 +4,13 @@ use Rattle.std.specs.Prelude.{◌==◌, nat_lt, if◌then◌else◌, bit_or}
 use Rattle.std.specs.Int.{bit_at}
 use Rattle.std.proofs.lemmas.Bool.{cases_eq, cases_lt, ne_eqb, lt-ltb, le-ltb}
 use Rattle.std.proofs.lemmas.List.{get_or-set_same, get_or-set_other}
-use Rattle.std.proofs.lemmas.Nat.Bits.{bit_at_or, bit_at-pow_same, bit_at-pow_other, bit_at-zero, bit_at-lt}
+use Rattle.std.proofs.lemmas.Nat.Bits.{bit_at_or, bit_at-pow_same, bit_at-pow_other, bit_at-lt}
 use Rattle.hpb_rules.specs.declared.command.Offer.{Offer}
 use Rattle.hpb_rules.specs.declared.command.Command.{Command}
 use Rattle.hpb_rules.specs.declared.command.Command.TheVariants.{Bid, Close, Stage}
 use Rattle.hpb_rules.specs.declared.id.TheConstants.{MOST_BIDDERS, MOST_NODES}
 use Rattle.hpb_rules.specs.History.{amount_of, greater, greatest_bid, high, incoming, bid_on}
+use Rattle.hpb_rules.proofs.Tests.{no_bit}
 use Rattle.hpb_bids.specs.View.{BooksView, IsBooks, IsQuiet, IsEmpty, offer_at, has_bid, merged, placed, folded}
 use Rattle.hpb_bids.specs.Holds.{Holds}
 
@@ -54,9 +55,6 @@ none_left : (offers : List (Option Offer)) (n : ℕ) → offer_at (map (λ (o : 
 none_left [] n = refl
 none_left (o ∷ offers) zero = refl
 none_left (o ∷ offers) (suc n) = none_left offers n
-
-no_bit : (x n : ℕ) → x ≡ 0 → (bit_at x n == 1) ≡ false
-no_bit x n e = ap (λ k. bit_at k n == 1) e ∙ ap (λ k. k == 1) (bit_at-zero n)
 
 zero_left : (masks : List ℕ) (b : ℕ) → get_or {A = ℕ} (map (λ (x : ℕ). 0) masks) b 0 ≡ 0
 zero_left [] b = refl

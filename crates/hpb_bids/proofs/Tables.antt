@@ -19,11 +19,6 @@ none_at f a e zero n = refl
 none_at f a e (suc k) zero = e
 none_at f a e (suc k) (suc n) = none_at f a e k n
 
-pub zero_at : (k n : ℕ) → get_or {A = ℕ} (replicate k 0) n 0 ≡ 0
-zero_at zero n = refl
-zero_at (suc k) zero = refl
-zero_at (suc k) (suc n) = zero_at k n
-
 small_at : (most : ℕ) (o : Option Offer) → IfSome o (λ x. x.amount ≤ most) → amount_of o ≤ most
 small_at most None h = omega arith
 small_at most (Some o) h = h

@@ -20,6 +20,10 @@ offer_at offers n = slice_index_or offers n None
 abbrev pub bid_of : BooksView → ℕ → ℕ
 bid_of books n = amount_of (offer_at books.standing n)
 
+-- no node has a high bid
+abbrev pub no_bid : ℕ → ℕ
+no_bid node = 0
+
 -- whether the bidder bid on the node in the open round
 abbrev pub has_bid : BooksView → ℕ → ℕ → Bool
 has_bid books b n = bit_at (slice_index books.bids b) n == 1

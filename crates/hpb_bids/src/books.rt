@@ -2,7 +2,7 @@ ghost use Rattle.std.specs.Prelude.{ℕ, List, [], ◌∷◌, ◌≡◌, ◌≤�
 ghost use Rattle.hpb_rules.specs.declared.command.Command.{Command};
 ghost use Rattle.hpb_rules.specs.declared.command.Command.TheVariants.{Bid, Close};
 ghost use Rattle.hpb_rules.specs.History.{amount_of, greater};
-ghost use Rattle.hpb_bids.specs.View.{offer_at, has_bid, placed, folded, IsBooks, IsQuiet, IsEmpty};
+ghost use Rattle.hpb_bids.specs.View.{offer_at, bid_of, no_bid, has_bid, placed, folded, IsBooks, IsQuiet, IsEmpty};
 ghost use Rattle.hpb_bids.specs.Holds.{Holds};
 
 use hpb_rules::{BidderId, MOST_AMOUNT, MOST_BIDDERS, MOST_NODES, NodeId, Offer};
@@ -64,6 +64,7 @@ impl Books {
     /// Books without a bid, for any auction on the tree. Fails only where memory is refused.
     pub fn new(alloc: Global, _tree: &Tree) -> Result<Books, AllocError>
         ensures empty { IfOk result IsEmpty }
+        ensures high { IfOk result (λ books. bid_of books ≡ no_bid) }
         ensures history { IfOk result (λ books. Holds books []) }
     {
         let none = NodeBids {

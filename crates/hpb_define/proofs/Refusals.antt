@@ -2,22 +2,22 @@
 use Rattle.std.proofs.Common.{◌≡◌, ◌≢◌, ℕ, List, Some, Err}
 use Rattle.hpb_rules.specs.Drafts.{draft_refusal}
 use Rattle.hpb_rules.specs.Tree.{Rules}
-use Rattle.hpb_tree.specs.Fault.{code_of}
-use Rattle.hpb_tree.specs.Refusal.{refusal_of}
+use Rattle.hpb_tree.specs.Fault.{refusal_of}
 use Rattle.hpb_tree.specs.declared.fault.DefinitionFault.{DefinitionFault}
-use Rattle.hpb_tree.specs.declared.fault.DefinitionFault.TheVariants.{Memory, Number, Empty, Name, Duplicate, Parent, Children, Leaf, Limits, Terms}
+use Rattle.hpb_tree.specs.declared.fault.DefinitionFault.TheVariants as faults
 use Rattle.hpb_define.specs.Fault.{refused}
 use Rattle.hpb_define.specs.Text.{Answers, Spells}
 
 module _ (bytes : List ℕ) (rules : Rules) (spelled : Spells bytes rules) where
-  pub answers_refused : (fault : DefinitionFault) → (fault ≢ Memory → refusal_of rules ≡ Some fault) → (fault ≢ Memory → draft_refusal rules ≡ Some (code_of fault)) → Answers bytes (Err (refused fault))
-  answers_refused Memory why drafted = tt
-  answers_refused Number why drafted = (rules, spelled, why (λ e. cc), drafted (λ e. cc))
-  answers_refused Empty why drafted = (rules, spelled, why (λ e. cc), drafted (λ e. cc))
-  answers_refused Name why drafted = (rules, spelled, why (λ e. cc), drafted (λ e. cc))
-  answers_refused Duplicate why drafted = (rules, spelled, why (λ e. cc), drafted (λ e. cc))
-  answers_refused Parent why drafted = (rules, spelled, why (λ e. cc), drafted (λ e. cc))
-  answers_refused Children why drafted = (rules, spelled, why (λ e. cc), drafted (λ e. cc))
-  answers_refused Leaf why drafted = (rules, spelled, why (λ e. cc), drafted (λ e. cc))
-  answers_refused Limits why drafted = (rules, spelled, why (λ e. cc), drafted (λ e. cc))
-  answers_refused Terms why drafted = (rules, spelled, why (λ e. cc), drafted (λ e. cc))
+  -- want of memory says nothing; each other fault is the draft's
+  pub answers_refused : (fault : DefinitionFault) → (fault ≢ faults.Memory → draft_refusal rules ≡ Some (refusal_of fault)) → Answers bytes (Err (refused fault))
+  answers_refused faults.Memory why = tt
+  answers_refused faults.Number why = (rules, spelled, why (λ e. cc))
+  answers_refused faults.Empty why = (rules, spelled, why (λ e. cc))
+  answers_refused faults.Name why = (rules, spelled, why (λ e. cc))
+  answers_refused faults.Duplicate why = (rules, spelled, why (λ e. cc))
+  answers_refused faults.Parent why = (rules, spelled, why (λ e. cc))
+  answers_refused faults.Children why = (rules, spelled, why (λ e. cc))
+  answers_refused faults.Leaf why = (rules, spelled, why (λ e. cc))
+  answers_refused faults.Limits why = (rules, spelled, why (λ e. cc))
+  answers_refused faults.Terms why = (rules, spelled, why (λ e. cc))

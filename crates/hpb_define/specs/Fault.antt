@@ -1,9 +1,9 @@
--- The numbers of faults, and the faults that others become.
-use Rattle.std.specs.Prelude.{ℕ}
-use Rattle.hpb_rules.specs.declared.refusal.TheConstants.{MEMORY, JSON, FIELD, NUMBER}
+-- The refusals that faults are told by, and the faults that others become.
+use Rattle.hpb_rules.specs.declared.refusal.Refusal.{Refusal}
+use Rattle.hpb_rules.specs.declared.refusal.Refusal.TheVariants as refusals
 use Rattle.hpb_tree.specs.Fault as tree
 use Rattle.hpb_tree.specs.declared.fault.DefinitionFault.{DefinitionFault}
-use Rattle.hpb_tree.specs.declared.fault.DefinitionFault.TheVariants as refusals
+use Rattle.hpb_tree.specs.declared.fault.DefinitionFault.TheVariants as faults
 use Rattle.serde_json.specs.Errors.{category}
 use Rattle.serde_json.specs.declared.error.Category.{Category}
 use Rattle.serde_json.specs.declared.error.Category.TheVariants as categories
@@ -11,17 +11,17 @@ use Rattle.serde_json.specs.declared.error.Error.{Error}
 use Rattle.hpb_define.specs.declared.fault.DefineFault.{DefineFault}
 use Rattle.hpb_define.specs.declared.fault.DefineFault.TheVariants.{Memory, Json, Field, Number, Refused}
 
--- A fault's number in the table of refusals.
-abbrev pub code_of : DefineFault → ℕ
-code_of Memory = MEMORY
-code_of Json = JSON
-code_of Field = FIELD
-code_of Number = NUMBER
-code_of (Refused fault) = tree.code_of fault
+-- The refusal that a fault is told by.
+abbrev pub refusal_of : DefineFault → Refusal
+refusal_of Memory = refusals.Memory
+refusal_of Json = refusals.Json
+refusal_of Field = refusals.Field
+refusal_of Number = refusals.Number
+refusal_of (Refused fault) = tree.refusal_of fault
 
--- What becomes of a refusal of the tree's: want of memory has one name.
+-- What becomes of a fault of the tree's: want of memory has one name.
 abbrev pub refused : DefinitionFault → DefineFault
-refused refusals.Memory = Memory
+refused faults.Memory = Memory
 refused fault = Refused fault
 
 -- What becomes of a failed read, by its category.

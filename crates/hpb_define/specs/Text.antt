@@ -5,8 +5,7 @@ use Rattle.serde_json.specs.Data.{Data}
 use Rattle.serde_json.specs.Read.{read}
 use Rattle.hpb_rules.specs.Drafts.{draft_refusal}
 use Rattle.hpb_rules.specs.Tree.{Rules}
-use Rattle.hpb_tree.specs.Fault.{code_of}
-use Rattle.hpb_tree.specs.Refusal.{refusal_of}
+use Rattle.hpb_tree.specs.Fault.{refusal_of}
 use Rattle.hpb_define.specs.declared.fault.DefineFault.{DefineFault}
 use Rattle.hpb_define.specs.declared.fault.DefineFault.TheVariants.{Memory, Json, Field, Number, Refused}
 use Rattle.hpb_define.specs.declared.reading.TheConstants.{MOST_BYTES}
@@ -33,11 +32,11 @@ HasOtherFields bytes = (value : Data) × IsJson bytes value × (has_shape value 
 abbrev pub HasOtherNumbers : List ℕ → Type 0
 HasOtherNumbers bytes = (value : Data) × IsJson bytes value × IsTrue (has_shape value) × (rules_in value ≡ None)
 
--- What is answered to bytes: the first fault of their text, or else of the rules that they spell. Its number is that of the definition of a draft.
+-- What is answered to bytes: the first fault of their text, or else that of the rules that they spell.
 abbrev pub Answers : List ℕ → Result Rules DefineFault → Type 0
-Answers bytes (Ok rules) = Spells bytes rules × (refusal_of rules ≡ None) × (draft_refusal rules ≡ None)
+Answers bytes (Ok rules) = Spells bytes rules × (draft_refusal rules ≡ None)
 Answers bytes (Err Memory) = Unit {0}
 Answers bytes (Err Json) = IsNoJson bytes
 Answers bytes (Err Field) = HasOtherFields bytes
 Answers bytes (Err Number) = HasOtherNumbers bytes
-Answers bytes (Err (Refused fault)) = (rules : Rules) × Spells bytes rules × (refusal_of rules ≡ Some fault) × (draft_refusal rules ≡ Some (code_of fault))
+Answers bytes (Err (Refused fault)) = (rules : Rules) × Spells bytes rules × (draft_refusal rules ≡ Some (refusal_of fault))

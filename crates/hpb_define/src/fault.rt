@@ -1,8 +1,8 @@
 ghost use Rattle.std.specs.Prelude.{◌≡◌};
 ghost use Rattle.hpb_define.specs.declared.fault.DefineFault.TheVariants.{Memory};
-ghost use Rattle.hpb_define.specs.Fault.{code_of, refused, unread};
+ghost use Rattle.hpb_define.specs.Fault.{refusal_of, refused, unread};
 
-use hpb_rules::refusal;
+use hpb_rules::Refusal;
 use hpb_tree::DefinitionFault;
 use serde_json::Category;
 use std::alloc::{AllocError, AllocFailed};
@@ -29,16 +29,16 @@ pub enum DefineFault {
 }
 
 impl DefineFault {
-    /// Its number in the table of refusals.
-    pub fn code(self) -> u8
-        ensures { result ≡ code_of self }
+    /// The refusal that it is told by.
+    pub fn refusal(self) -> Refusal
+        ensures { result ≡ refusal_of self }
     {
         match self {
-            DefineFault::Memory => refusal::MEMORY,
-            DefineFault::Json => refusal::JSON,
-            DefineFault::Field => refusal::FIELD,
-            DefineFault::Number => refusal::NUMBER,
-            DefineFault::Refused(fault) => fault.code(),
+            DefineFault::Memory => Refusal::Memory,
+            DefineFault::Json => Refusal::Json,
+            DefineFault::Field => Refusal::Field,
+            DefineFault::Number => Refusal::Number,
+            DefineFault::Refused(fault) => fault.refusal(),
         }
     }
 }

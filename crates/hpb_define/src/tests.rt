@@ -1,4 +1,6 @@
 use super::*;
+use Refusal::{Children, Duplicate, Empty, Field, Json, Leaf, Limits, Name, Number, Parent, Terms};
+use hpb_rules::Refusal;
 use hpb_tree::{Definition, NodeId};
 use std::alloc::{AllocError, Global};
 use std::test::Fail;
@@ -6,103 +8,123 @@ use std::test::Fail;
 const WORKED: &str =
     r#"{"step":10,"percent":10,"stages":[80,95],"nodes":[{"name":"all","parent":null},{"name":"east","parent":"all"},{"name":"a","parent":"east","units":10,"opening":100},{"name":"b","parent":"east","units":10,"opening":100},{"name":"c","parent":"all","units":20,"opening":100},{"name":"d","parent":null,"units":5,"opening":100}],"bidders":[{"name":"x","units":10},{"name":"y","units":10},{"name":"z","units":40},{"name":"w","units":25}]}"#;
 
-static REFUSED: [(&str, u8); 12] = [
-    ("", 60),
-    (" ", 60),
-    ("{", 60),
-    ("\u{feff}{}", 60),
-    ("\u{a0}{}", 60),
-    ("\u{c}{}", 60),
-    ("{}\0", 60),
-    ("{}{}", 60),
-    ("{}", 61),
-    ("[]", 61),
-    ("null", 61),
-    ("10.0", 61),
+static REFUSED: [(&str, Refusal); 12] = [
+    ("", Json),
+    (" ", Json),
+    ("{", Json),
+    ("\u{feff}{}", Json),
+    ("\u{a0}{}", Json),
+    ("\u{c}{}", Json),
+    ("{}\0", Json),
+    ("{}{}", Json),
+    ("{}", Field),
+    ("[]", Field),
+    ("null", Field),
+    ("10.0", Field),
 ];
 
-static CHANGED: [(&str, &str, u8); 46] = [
+static CHANGED: [(&str, &str, Refusal); 46] = [
     // No number that JSON has, also beside and inside fields that are unknown.
-    (r#""percent":10"#, r#""percent":010"#, 60),
-    (r#""percent":10"#, r#""percent":+1"#, 60),
-    (r#""percent":10"#, r#""percent":.5"#, 60),
-    (r#""percent":10"#, r#""percent":1e999"#, 60),
-    (r#""step":10"#, r#""note":[1e999]"#, 60),
+    (r#""percent":10"#, r#""percent":010"#, Json),
+    (r#""percent":10"#, r#""percent":+1"#, Json),
+    (r#""percent":10"#, r#""percent":.5"#, Json),
+    (r#""percent":10"#, r#""percent":1e999"#, Json),
+    (r#""step":10"#, r#""note":[1e999]"#, Json),
     // Fields.
-    (r#""step":10"#, r#""step":10,"note":1"#, 61),
-    (r#""step":10"#, r#""step":"10""#, 61),
-    (r#""step":10,"percent":10"#, r#""percent":10.0"#, 61),
-    ("[80,95]", r#"[80,"95"]"#, 61),
-    ("[80,95]", "80", 61),
-    (r#"{"name":"all","parent":null}"#, "null", 61),
-    (r#"{"name":"all","parent":null}"#, r#"{"name":"all"}"#, 61),
-    (r#""parent":"all""#, r#""parent":0"#, 61),
-    (r#""parent":"all""#, r#""parent":"all","units":10"#, 61),
-    (r#""parent":"all""#, r#""parent":"all","opening":100"#, 61),
+    (r#""step":10"#, r#""step":10,"note":1"#, Field),
+    (r#""step":10"#, r#""step":"10""#, Field),
+    (r#""step":10,"percent":10"#, r#""percent":10.0"#, Field),
+    ("[80,95]", r#"[80,"95"]"#, Field),
+    ("[80,95]", "80", Field),
+    (r#"{"name":"all","parent":null}"#, "null", Field),
+    (
+        r#"{"name":"all","parent":null}"#,
+        r#"{"name":"all"}"#,
+        Field,
+    ),
+    (r#""parent":"all""#, r#""parent":0"#, Field),
+    (r#""parent":"all""#, r#""parent":"all","units":10"#, Field),
+    (
+        r#""parent":"all""#,
+        r#""parent":"all","opening":100"#,
+        Field,
+    ),
     (
         r#""parent":"all""#,
         r#""parent":"all","units":null,"opening":null"#,
-        61,
+        Field,
     ),
-    (r#"{"name":"x","units":10}"#, r#"{"name":"x"}"#, 61),
+    (r#"{"name":"x","units":10}"#, r#"{"name":"x"}"#, Field),
     (
         r#"{"name":"x","units":10}"#,
         r#"{"name":"x","units":10,"parent":null}"#,
-        61,
+        Field,
     ),
     // Numbers.
-    (r#""percent":10"#, r#""percent":-0"#, 62),
-    (r#""percent":10"#, r#""percent":-1"#, 62),
-    (r#""percent":10"#, r#""percent":10.0"#, 62),
-    (r#""percent":10"#, r#""percent":1e1"#, 62),
-    (r#""percent":10"#, r#""percent":0e999"#, 62),
-    (r#""percent":10"#, r#""percent":1e-400"#, 62),
-    (r#""percent":10"#, r#""percent":18446744073709551616"#, 62),
-    (r#""percent":10"#, r#""percent":18446744073709551615"#, 62),
-    (r#""units":5"#, r#""units":18446744073709551616"#, 62),
+    (r#""percent":10"#, r#""percent":-0"#, Number),
+    (r#""percent":10"#, r#""percent":-1"#, Number),
+    (r#""percent":10"#, r#""percent":10.0"#, Number),
+    (r#""percent":10"#, r#""percent":1e1"#, Number),
+    (r#""percent":10"#, r#""percent":0e999"#, Number),
+    (r#""percent":10"#, r#""percent":1e-400"#, Number),
+    (
+        r#""percent":10"#,
+        r#""percent":18446744073709551616"#,
+        Number,
+    ),
+    (
+        r#""percent":10"#,
+        r#""percent":18446744073709551615"#,
+        Number,
+    ),
+    (r#""units":5"#, r#""units":18446744073709551616"#, Number),
     (
         r#""units":5,"opening":100"#,
         r#""units":5,"opening":100.0"#,
-        62,
+        Number,
     ),
-    (r#""name":"w","units":25"#, r#""name":"w","units":25e0"#, 62),
-    ("[80,95]", "[49]", 62),
-    ("[80,95]", "[80,80,80,80,101]", 62),
+    (
+        r#""name":"w","units":25"#,
+        r#""name":"w","units":25e0"#,
+        Number,
+    ),
+    ("[80,95]", "[49]", Number),
+    ("[80,95]", "[80,80,80,80,101]", Number),
     // Rules of definitions.
-    ("[80,95]", "[]", 50),
-    (r#""name":"d""#, r#""name":"D""#, 51),
-    (r#""name":"d""#, r#""name":"seventeen_bytes__""#, 51),
-    (r#""name":"d""#, r#""name":"""#, 51),
-    (r#""name":"d""#, r#""name":"a""#, 52),
-    (r#""parent":"all""#, r#""parent":"al""#, 53),
-    (r#""parent":"all""#, r#""parent":"east""#, 53),
-    (r#""parent":"all""#, r#""parent":"d""#, 53),
-    (r#""parent":"all""#, r#""parent":"""#, 53),
+    ("[80,95]", "[]", Empty),
+    (r#""name":"d""#, r#""name":"D""#, Name),
+    (r#""name":"d""#, r#""name":"seventeen_bytes__""#, Name),
+    (r#""name":"d""#, r#""name":"""#, Name),
+    (r#""name":"d""#, r#""name":"a""#, Duplicate),
+    (r#""parent":"all""#, r#""parent":"al""#, Parent),
+    (r#""parent":"all""#, r#""parent":"east""#, Parent),
+    (r#""parent":"all""#, r#""parent":"d""#, Parent),
+    (r#""parent":"all""#, r#""parent":"""#, Parent),
     (
         r#""units":5,"opening":100"#,
         r#""units":5,"opening":100},{"name":"e","parent":null"#,
-        54,
+        Children,
     ),
     (
         r#""name":"all","parent":null"#,
         r#""name":"all","parent":null,"units":1,"opening":100"#,
-        55,
+        Leaf,
     ),
-    ("[80,95]", "[80,80,80,80,80]", 56),
+    ("[80,95]", "[80,80,80,80,80]", Limits),
     (
         r#""units":5,"opening":100"#,
         r#""units":0,"opening":100"#,
-        57,
+        Terms,
     ),
     (
         r#""units":5,"opening":100"#,
         r#""units":5,"opening":105"#,
-        57,
+        Terms,
     ),
     (
         r#""units":5,"opening":100"#,
         r#""units":18446744073709551615,"opening":100"#,
-        57,
+        Terms,
     ),
 ];
 
@@ -113,10 +135,10 @@ static SPELLED: [(&str, &str); 4] = [
     (r#""step":10,"percent":10"#, r#""percent":10,"step":10"#),
 ];
 
-fn refusal(alloc: Global, text: &str) -> Option<u8> {
+fn refusal(alloc: Global, text: &str) -> Option<Refusal> {
     read_definition(alloc, text.as_bytes())
         .err()
-        .map(DefineFault::code)
+        .map(DefineFault::refusal)
 }
 
 fn padded(alloc: Global, text: &str, length: usize) -> Result<String, AllocError> {
@@ -144,11 +166,11 @@ fn hostile_definitions(rt: HostRuntime) -> Result<(), Fail> {
     let most = padded(alloc, WORKED, MOST_BYTES)?;
     assert_eq!(rt; refusal(alloc, most.as_str()), None);
     let long = padded(alloc, WORKED, MOST_BYTES + 1)?;
-    assert_eq!(rt; refusal(alloc, long.as_str()), Some(60));
+    assert_eq!(rt; refusal(alloc, long.as_str()), Some(Json));
     let deepest = nested(alloc, 127)?;
-    assert_eq!(rt; refusal(alloc, deepest.as_str()), Some(61));
+    assert_eq!(rt; refusal(alloc, deepest.as_str()), Some(Field));
     let deep = nested(alloc, 128)?;
-    assert_eq!(rt; refusal(alloc, deep.as_str()), Some(60));
+    assert_eq!(rt; refusal(alloc, deep.as_str()), Some(Json));
     let refused = read_definition(alloc, b"{\"step\":\"\xff\"}").err();
     assert_eq!(rt; refused, Some(DefineFault::Json));
     Ok(())
@@ -157,8 +179,8 @@ fn hostile_definitions(rt: HostRuntime) -> Result<(), Fail> {
 #[test]
 fn refused_definitions(rt: HostRuntime) {
     let alloc = rt.alloc();
-    for (text, code) in &REFUSED {
-        assert_eq!(rt; refusal(alloc, text), Some(*code), "{text}");
+    for (text, refused) in &REFUSED {
+        assert_eq!(rt; refusal(alloc, text), Some(*refused), "{text}");
     }
 }
 
@@ -166,9 +188,9 @@ fn refused_definitions(rt: HostRuntime) {
 #[test]
 fn refused_definitions_one_change(rt: HostRuntime) -> Result<(), Fail> {
     let alloc = rt.alloc();
-    for (old, new, code) in &CHANGED {
+    for (old, new, refused) in &CHANGED {
         let text = WORKED.replacen(alloc, *old, new, 1)?;
-        assert_eq!(rt; refusal(alloc, text.as_str()), Some(*code), "{new}");
+        assert_eq!(rt; refusal(alloc, text.as_str()), Some(*refused), "{new}");
     }
     Ok(())
 }
@@ -204,12 +226,13 @@ static BIDDERS: [(&str, (usize, u32)); 4] = [
 
 fn node_row(definition: &Definition, name: &str) -> Option<NodeRow> {
     let node = definition.find_node(name.as_bytes())?;
+    let tree = definition.tree();
     Some((
         node.place(),
-        definition.parent(node).map(NodeId::place),
-        definition.units(node),
-        definition.opening(node),
-        definition.licences(node),
+        tree.parent(node).map(NodeId::place),
+        tree.units(node),
+        tree.opening(node),
+        tree.licences(node),
     ))
 }
 
@@ -221,7 +244,7 @@ fn bidder_row(definition: &Definition, name: &str) -> Option<(usize, u32)> {
 #[test]
 fn worked_definition(rt: HostRuntime) -> Result<(), Fail> {
     let definition = read_definition(rt.alloc(), WORKED.as_bytes())?;
-    assert_eq!(rt; (definition.step(), definition.percent()), (10, 10));
+    assert_eq!(rt; (definition.step(), definition.tree().percent()), (10, 10));
     assert_eq!(rt; definition.stages(), [80, 95].as_slice());
     assert_eq!(rt;
         (definition.node_count(), definition.bidder_count()),

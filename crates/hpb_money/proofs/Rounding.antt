@@ -6,7 +6,8 @@ use Rattle.std.proofs.lemmas.Grind.{div_ceil_times}
 use Rattle.std.proofs.Math.Nat.{mul-le-mul, mul_assoc, mul_comm, add-mul}
 use Rattle.std.specs.Int.{div_ceil}
 use Rattle.hpb_rules.specs.Prices.{IsShares, share}
-use Rattle.hpb_rules.proofs.Money.{shares_are_one, share_at}
+use Rattle.hpb_rules.proofs.TreeLaws.{shares_are_one}
+use Rattle.hpb_rules.proofs.Loops.{share_at}
 
 -- a percentage in two parts: of the hundreds, and of the rest
 parts : (a p : ℕ) → a * p ≡ 100 * (a / 100 * p) + a % 100 * p

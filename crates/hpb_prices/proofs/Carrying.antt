@@ -8,8 +8,8 @@ use Rattle.hpb_rules.specs.declared.reply.TheConstants.{MOST_AMOUNT}
 use Rattle.hpb_rules.specs.Tree.{Node, parent_of, places, IsTree}
 use Rattle.hpb_rules.specs.Choices.{best}
 use Rattle.hpb_rules.specs.Prices.{share, children_among, of_package, surplus, carried as carried_of, price}
-use Rattle.hpb_rules.proofs.Carried.{carried_child, carried_top}
-use Rattle.hpb_rules.proofs.NodePrices.{price_is, passed_bound}
+use Rattle.hpb_rules.proofs.TreeLaws.{price_is_value}
+use Rattle.hpb_rules.proofs.Loops.{carried_child, carried_top, passed_bound}
 use Rattle.hpb_prices.specs.View.{IsCarried}
 use Rattle.hpb_winners.specs.declared.outcome.TheConstants.{MOST_VALUE}
 
@@ -63,7 +63,7 @@ module _ (nodes : List Node) (bid : ℕ → ℕ) where
       prices_count = length-set prices i (value + from_above) ∙ s.prices_count;
       prices_are = λ n l. ⊎_elim
           (λ earlier. get_or-set_other prices i n (value + from_above) 0 (λ e. omega (arith, e)) ∙ s.prices_are n earlier)
-          (λ le. let same : n ≡ i = omega arith in get_or-set_at prices i n (value + from_above) 0 same (omega (arith, s.prices_count)) ∙ ap (λ x. x + from_above) v ∙ ap (λ x. max (bid i) (best nodes bid i) + x) c ∙ sym (price_is nodes bid tree i h) ∙ ap (price nodes bid) (sym same))
+          (λ le. let same : n ≡ i = omega arith in get_or-set_at prices i n (value + from_above) 0 same (omega (arith, s.prices_count)) ∙ ap (λ x. x + from_above) v ∙ ap (λ x. max (bid i) (best nodes bid i) + x) c ∙ sym (price_is_value nodes bid i tree h) ∙ ap (price nodes bid) (sym same))
           (cases_lt n i);
       small = λ n l. ⊎_elim
           (λ earlier. omega (arith, get_or-set_other prices i n (value + from_above) 0 (λ e. omega (arith, e)), s.small n earlier))

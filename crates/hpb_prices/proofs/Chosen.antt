@@ -7,7 +7,7 @@ use Rattle.std.proofs.lemmas.List.FromFn.{length-map-range_with_len, get_or-map-
 use Rattle.std.proofs.lemmas.Nat.Bits.{shr_and_one, bit_at-lt}
 use Rattle.hpb_rules.specs.Tree.{Node, IsTree}
 use Rattle.hpb_rules.specs.Choices.{is_in, IsChoice}
-use Rattle.hpb_rules.proofs.Under.{under_le, not_under, disjoint_from}
+use Rattle.hpb_rules.proofs.Above.{under_le, not_under, disjoint_from}
 use Rattle.hpb_prices.specs.Certificate.{bid_in, set_of, IsBelowWinner}
 
 bit_from : (n i : ℕ) → (bit_and (n / 2 ^ i) 1 ≡ 0 → ⊥) → bit_at n i ≡ 1

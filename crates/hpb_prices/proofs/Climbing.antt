@@ -4,6 +4,7 @@ use Rattle.std.specs.Prelude.{IfSome}
 use Rattle.std.specs.Int.{bit_at}
 use Rattle.std.proofs.lemmas.Nat.Bits.{shr_and_one}
 use Rattle.hpb_rules.specs.Tree.{Node, parent_of, IsAtOrUnder, itself, child, IsInside}
+use Rattle.hpb_rules.proofs.Above.{under_trans}
 use Rattle.hpb_prices.specs.Certificate.{IsBelowWinner}
 
 -- how far it is to the top at most
@@ -12,10 +13,6 @@ steps_up None = 0
 steps_up (Some p) = suc p
 
 module _ (nodes : List Node) where
-  trans : {a b c : ℕ} → IsAtOrUnder nodes a b → IsAtOrUnder nodes b c → IsAtOrUnder nodes a c
-  trans u itself = u
-  trans u (child e v) = child e (trans u v)
-
   up : {m n : ℕ} → IsAtOrUnder nodes m n → (n ≡ m → ⊥) → (p : ℕ) × (parent_of nodes n ≡ Some p) × IsAtOrUnder nodes m p
   up itself other = absurd (other refl)
   up (child {parent = p} e u) other = (p, e, u)
@@ -44,7 +41,7 @@ module _ (nodes : List Node) (winners node : ℕ) where
 
     pub climbed_more : (q : ℕ) → q ≡ p → (bit_and (winners / 2 ^ q) 1 ≡ 1 → ⊥) → (next : Option ℕ) → next ≡ parent_of nodes p → IfSome next (λ r. r < p) → Climbed next
     climbed_more k at missed next e before = record {
-      reached = λ q here. let less : q < p = before_of p next q here before in (trans nodes (child (sym e ∙ here) itself) (so_far.reached p some).0, omega (arith, within));
+      reached = λ q here. let less : q < p = before_of p next q here before in (under_trans nodes (child (sym e ∙ here) itself) (so_far.reached p some).0, omega (arith, within));
       left = λ m bit inside.
           let last : (r : ℕ) × (above ≡ Some r) × IsAtOrUnder nodes m r = so_far.left m bit inside in
           let same : last.0 ≡ p = let both : Some last.0 ≡ Some p = sym last.1 ∙ some in cc in

@@ -11,13 +11,11 @@ use Rattle.hpb_rules.specs.declared.licence.Terms.{Terms}
 use Rattle.hpb_rules.specs.Tree.{Node, terms_of, sum_over, at_or_under}
 use Rattle.hpb_rules.specs.Choices.{revenue_from, revenue}
 use Rattle.hpb_rules.specs.Prices.{price_of_all}
+use Rattle.hpb_rules.proofs.Ranges.{range_more}
+use Rattle.hpb_rules.proofs.Tests.{bit_of_test}
 use Rattle.hpb_tree.specs.Licences.{licences_among, licence_count, licence_number, part_over, IsMask}
 use Rattle.hpb_prices.specs.Certificate.{sum_where, bid_in, price_in, set_of}
 use Rattle.hpb_prices.proofs.MaskedSums.{sum_next}
-
-range_more : (a n : ℕ) → range_with_len a (suc n) ≡ range_with_len a n ++ (a + n) ∷ []
-range_more a zero = ap (λ x. x ∷ []) (omega arith)
-range_more a (suc n) = ap (λ xs. a ∷ xs) (range_more (a + 1) n ∙ ap (λ x. range_with_len (a + 1) n ++ x ∷ []) (omega arith))
 
 module _ (nodes : List Node) where
   -- one place more
@@ -55,10 +53,6 @@ module _ (nodes : List Node) where
       one false = omega arith
 
   module _ (mask : ℕ) (test : ℕ → Bool) (prices : List ℕ) (counted : length prices ≡ licence_count nodes) (bits : (l : ℕ) → l < length nodes → IsSome (terms_of nodes l) → bit_at mask (licence_number nodes l) ≡ cond (test l) 1 0) where
-    tested : (t : Bool) (x : ℕ) → cond (eqb (cond t 1 0) 1) x 0 ≡ cond t x 0
-    tested true x = refl
-    tested false x = refl
-
     walk : (m i : ℕ) → i + m ≡ length nodes → sum_by (part_over nodes test (price_in nodes prices)) (range_with_len i m) ≡ sum_where mask (licence_number nodes i) (drop (licence_number nodes i) prices)
     walk zero i e = let all : i ≡ length nodes = omega arith in
         sym (at_drop_all (sum_where mask (licence_number nodes i)) prices (licence_number nodes i) (omega (arith, counted, ap (licence_number nodes) all)))
@@ -72,7 +66,7 @@ module _ (nodes : List Node) where
         by rest (Some t) some =
             let here : part_over nodes test (price_in nodes prices) i ≡ cond (test i) (price_in nodes prices i) 0 = ap (λ t. elim t [ None ↦ 0 | Some x ↦ cond (test i) (price_in nodes prices i) 0 ]) some in
             let bit : bit_at mask (licence_number nodes i) ≡ cond (test i) 1 0 = bits i (omega arith) (ap is_some some) in
-            let same : cond (eqb (bit_at mask (licence_number nodes i)) 1) (price_in nodes prices i) 0 ≡ cond (test i) (price_in nodes prices i) 0 = ap (λ b. cond (eqb b 1) (price_in nodes prices i) 0) bit ∙ tested (test i) (price_in nodes prices i) in
+            let same : cond (eqb (bit_at mask (licence_number nodes i)) 1) (price_in nodes prices i) 0 ≡ cond (test i) (price_in nodes prices i) 0 = ap (λ b. cond (eqb b 1) (price_in nodes prices i) 0) bit ∙ ap (λ b. cond b (price_in nodes prices i) 0) (bit_of_test (test i)) in
             omega (
               arith,
               sum_by-cons (part_over nodes test (price_in nodes prices)) i (range_with_len (i + 1) m),

@@ -3,7 +3,7 @@ use Rattle.std.proofs.Common.{◌≡◌, ℕ, ◌<◌, List, length, get_or, rep
 use Rattle.std.proofs.lemmas.List.{get_or-replicate}
 use Rattle.hpb_rules.specs.Tree.{Node, IsTree, opening}
 use Rattle.hpb_rules.specs.Prices.{price, minimum_of}
-use Rattle.hpb_rules.proofs.NodePrices.{price_bound}
+use Rattle.hpb_rules.proofs.Loops.{price_bound}
 use Rattle.hpb_winners.specs.Outcome.{no_bid}
 
 price_none : (nodes : List Node) (n : ℕ) → IsTree nodes → price nodes no_bid n ≡ 0

@@ -1,19 +1,18 @@
 -- A draft is not refused exactly where it is a definition.
 use Rattle.std.proofs.Common.{◌≡◌, ℕ, zero, suc, ◌<◌, ◌≤◌, Bool, true, false, ◌||◌, ltb, List, [], ◌∷◌, Some, None, length, ap, ◌∙◌, arith, refl}
 use Rattle.std.specs.Prelude.{if◌then◌else◌}
-use Rattle.std.proofs.lemmas.Bool.{ltb-false, le-ltb}
+use Rattle.std.proofs.lemmas.Bool.{ltb-false, le-ltb, or_parts, or_from}
 use Rattle.hpb_rules.specs.declared.refusal.Refusal.{Refusal}
 use Rattle.hpb_rules.specs.Tree.{Rules}
 use Rattle.hpb_rules.specs.Definitions.{IsDefinition}
 use Rattle.hpb_rules.specs.Drafts.{depth, licence_count, is_over_limits, draft_faults, first_fault, draft_refusal}
 use Rattle.hpb_rules.specs.Laws.{AcceptedIsDefinition}
-use Rattle.hpb_rules.proofs.Tests.{left_fails, neither, fails_at, none_at}
+use Rattle.hpb_rules.proofs.Places.{none_at, none_here}
 use Rattle.hpb_rules.proofs.DraftNumbers.{HasNumbers, numbers_of, no_bad_number, HasAll, all_of, lacks_nothing}
 use Rattle.hpb_rules.proofs.DraftNames.{HasNames, names_are, no_bad_name, no_duplicate}
 use Rattle.hpb_rules.proofs.DraftTrees.{IsFullTree, full_tree, tree_passes, no_thin_package}
 use Rattle.hpb_rules.proofs.DraftTerms.{counted, count_is, all_terms, no_bad_terms}
 use Rattle.hpb_rules.proofs.Depths.{level_is, on_level}
-pub use Rattle.hpb_rules.proofs.Tests.{right_fails}
 
 -- ---- a table of faults
 -- the test at a place
@@ -51,25 +50,25 @@ pub record IsInLimits (rules : Rules) : Type 0 where
 
 in_limits : (rules : Rules) → is_over_limits rules ≡ false → IsInLimits rules
 in_limits rules e =
-    let four : (ltb 127 (length rules.nodes) || ltb 64 (licence_count rules.nodes) || ltb 64 (length rules.bidders) || ltb 4 (length rules.stages)) ≡ false = left_fails _ _ e in
-    let three : (ltb 127 (length rules.nodes) || ltb 64 (licence_count rules.nodes) || ltb 64 (length rules.bidders)) ≡ false = left_fails _ _ four in
-    let two : (ltb 127 (length rules.nodes) || ltb 64 (licence_count rules.nodes)) ≡ false = left_fails _ _ three in
+    let four : (ltb 127 (length rules.nodes) || ltb 64 (licence_count rules.nodes) || ltb 64 (length rules.bidders) || ltb 4 (length rules.stages)) ≡ false = (or_parts _ _ e).0 in
+    let three : (ltb 127 (length rules.nodes) || ltb 64 (licence_count rules.nodes) || ltb 64 (length rules.bidders)) ≡ false = (or_parts _ _ four).0 in
+    let two : (ltb 127 (length rules.nodes) || ltb 64 (licence_count rules.nodes)) ≡ false = (or_parts _ _ three).0 in
     record {
-      nodes = ltb-false 127 (length rules.nodes) (left_fails _ _ two);
-      licences = ltb-false 64 (licence_count rules.nodes) (right_fails (ltb 127 (length rules.nodes)) _ two);
-      bidders = ltb-false 64 (length rules.bidders) (right_fails _ _ three);
-      stages = ltb-false 4 (length rules.stages) (right_fails _ _ four);
-      depths = λ node h. ltb-false 8 (depth rules.nodes node) (fails_at (λ n. ltb 8 (depth rules.nodes n)) 0 (length rules.nodes) (right_fails _ _ e) node (omega arith) (omega arith));
+      nodes = ltb-false 127 (length rules.nodes) (or_parts _ _ two).0;
+      licences = ltb-false 64 (licence_count rules.nodes) (or_parts (ltb 127 (length rules.nodes)) _ two).1;
+      bidders = ltb-false 64 (length rules.bidders) (or_parts _ _ three).1;
+      stages = ltb-false 4 (length rules.stages) (or_parts _ _ four).1;
+      depths = λ node h. ltb-false 8 (depth rules.nodes node) (none_at (λ n. ltb 8 (depth rules.nodes n)) (length rules.nodes) node (or_parts _ _ e).1 (omega arith));
     }
 
 not_over : (rules : Rules) → IsInLimits rules → is_over_limits rules ≡ false
-not_over rules h = neither _ _
-    (neither _ _
-    (neither _ _
-    (neither _ _ (le-ltb 127 (length rules.nodes) h.nodes) (le-ltb 64 (licence_count rules.nodes) h.licences))
+not_over rules h = or_from _ _
+    (or_from _ _
+    (or_from _ _
+    (or_from _ _ (le-ltb 127 (length rules.nodes) h.nodes) (le-ltb 64 (licence_count rules.nodes) h.licences))
     (le-ltb 64 (length rules.bidders) h.bidders))
     (le-ltb 4 (length rules.stages) h.stages))
-    (none_at (λ n. ltb 8 (depth rules.nodes n)) 0 (length rules.nodes) (λ node l r. le-ltb 8 (depth rules.nodes node) (h.depths node (omega arith))))
+    (none_here (λ n. ltb 8 (depth rules.nodes n)) (length rules.nodes) (λ node within. le-ltb 8 (depth rules.nodes node) (h.depths node within)))
 
 -- ---- a draft that is not refused is a definition
 pub accepted_is_definition : (rules : Rules) → draft_refusal rules ≡ None → IsDefinition rules

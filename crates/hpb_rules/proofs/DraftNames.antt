@@ -3,7 +3,7 @@ use Rattle.std.proofs.Common.{◌≡◌, ◌≢◌, ℕ, zero, suc, ◌<◌, Boo
 use Rattle.std.specs.Prelude.{All, slice_get}
 use Rattle.std.specs.List.{list_any, list_all}
 use Rattle.std.specs.Str.{bytes_eq}
-use Rattle.std.proofs.lemmas.Bool.{both_ways, and_parts, cases_Bool, eqb-true, eq-eqb}
+use Rattle.std.proofs.lemmas.Bool.{both_ways, and_parts, cases_Bool, eqb-true, eq-eqb, or_parts, or_from, and_from}
 use Rattle.std.proofs.lemmas.List.Elements.{All-weaker}
 use Rattle.std.proofs.lemmas.List.Folds.{list_any_none, list_any_at}
 use Rattle.std.proofs.lemmas.List.Sums.{AllPass-from_list_all, list_all-from_AllPass}
@@ -13,7 +13,7 @@ use Rattle.hpb_rules.specs.Tree.{Rules, Node, Bidder}
 use Rattle.hpb_rules.specs.Lines.{space, line_feed, IsSpellableName}
 use Rattle.hpb_rules.specs.Definitions.{IsNameByte, IsName, AreDistinct, AreNames}
 use Rattle.hpb_rules.specs.Drafts.{is_within, is_name_byte, is_name, has_bad_name, has_twice, has_duplicate}
-use Rattle.hpb_rules.proofs.Tests.{left_fails, right_fails, neither, both, within, is_within_true}
+use Rattle.hpb_rules.proofs.DraftTests.{within, is_within_true}
 
 -- ---- one name
 byte_is : (byte : ℕ) → is_name_byte byte ≡ true → IsNameByte byte
@@ -43,7 +43,7 @@ name_is name e =
     (within 1 16 (length name) parts.0, All-weaker (λ byte. is_name_byte byte ≡ true) IsNameByte byte_is name (AllPass-from_list_all is_name_byte name parts.1))
 
 name_passes : (name : List ℕ) → IsName name → is_name name ≡ true
-name_passes name h = both _ _ (is_within_true 1 16 (length name) h.0) (list_all-from_AllPass is_name_byte name (All-weaker IsNameByte (λ byte. is_name_byte byte ≡ true) byte_passes name h.1))
+name_passes name h = and_from _ _ (is_within_true 1 16 (length name) h.0) (list_all-from_AllPass is_name_byte name (All-weaker IsNameByte (λ byte. is_name_byte byte ≡ true) byte_passes name h.1))
 
 -- a name of a definition can stand in a line
 pub spellable : (name : List ℕ) → IsName name → IsSpellableName name
@@ -68,13 +68,13 @@ met first names other name none same too =
 distinct : (names : List (List ℕ)) → has_twice names ≡ false → AreDistinct names
 distinct [] e one other name at too = absurd (cc)
 distinct (first ∷ names) e zero zero name at too = refl
-distinct (first ∷ names) e zero (suc other) name at too = absurd (met first names other name (left_fails _ _ e) (cc) too)
-distinct (first ∷ names) e (suc one) zero name at too = absurd (met first names one name (left_fails _ _ e) (cc) at)
-distinct (first ∷ names) e (suc one) (suc other) name at too = ap suc (distinct names (right_fails (list_any (bytes_eq first) names) _ e) one other name at too)
+distinct (first ∷ names) e zero (suc other) name at too = absurd (met first names other name (or_parts _ _ e).0 (cc) too)
+distinct (first ∷ names) e (suc one) zero name at too = absurd (met first names one name (or_parts _ _ e).0 (cc) at)
+distinct (first ∷ names) e (suc one) (suc other) name at too = ap suc (distinct names (or_parts (list_any (bytes_eq first) names) _ e).1 one other name at too)
 
 not_twice : (names : List (List ℕ)) → AreDistinct names → has_twice names ≡ false
 not_twice [] h = refl
-not_twice (first ∷ names) h = neither _ _
+not_twice (first ∷ names) h = or_from _ _
     (list_any_none (bytes_eq first) names (λ k d l. elim (cases_Bool (bytes_eq first (get_or names k d))) [ inl passes ↦ absurd (met k d l passes) | inr fails ↦ fails ]))
     (not_twice names (λ one other name at too. let same : suc one ≡ suc other = h (suc one) (suc other) name at too in omega arith))
   where
@@ -92,28 +92,28 @@ pub record HasNames (rules : Rules) : Type 0 where
 module _ {A : Type 0} (named : A → List ℕ) where
   names_of : (some : List A) → list_any (λ x. not (is_name (named x))) some ≡ false → All IsName (map named some)
   names_of [] e k d h = absurd (omega arith)
-  names_of (x ∷ some) e zero d h = let passes : not (is_name (named x)) ≡ false = left_fails _ _ e in name_is (named x) (yes (is_name (named x)) passes)
+  names_of (x ∷ some) e zero d h = let passes : not (is_name (named x)) ≡ false = (or_parts _ _ e).0 in name_is (named x) (yes (is_name (named x)) passes)
     where
       yes : (b : Bool) → not b ≡ false → b ≡ true
       yes true e = refl
       yes false e = absurd (both_ways _ e refl)
-  names_of (x ∷ some) e (suc k) d h = names_of some (right_fails (not (is_name (named x))) _ e) k d (omega arith)
+  names_of (x ∷ some) e (suc k) d h = names_of some (or_parts (not (is_name (named x))) _ e).1 k d (omega arith)
 
   names_pass : (some : List A) → All IsName (map named some) → list_any (λ x. not (is_name (named x))) some ≡ false
   names_pass [] all = refl
-  names_pass (x ∷ some) all = neither _ _ (ap not (name_passes (named x) (all zero [] (omega arith)))) (names_pass some (λ k d h. all (suc k) d (omega arith)))
+  names_pass (x ∷ some) all = or_from _ _ (ap not (name_passes (named x) (all zero [] (omega arith)))) (names_pass some (λ k d h. all (suc k) d (omega arith)))
 
 pub names_are : (rules : Rules) → has_bad_name rules ≡ false → has_duplicate rules ≡ false → HasNames rules
 names_are rules bad duplicate =
-    let nodes : list_any (λ (node : Node). not (is_name node.name)) rules.nodes ≡ false = left_fails _ _ bad in
-    let bidders : list_any (λ (bidder : Bidder). not (is_name bidder.name)) rules.bidders ≡ false = right_fails _ _ bad in
+    let nodes : list_any (λ (node : Node). not (is_name node.name)) rules.nodes ≡ false = (or_parts _ _ bad).0 in
+    let bidders : list_any (λ (bidder : Bidder). not (is_name bidder.name)) rules.bidders ≡ false = (or_parts _ _ bad).1 in
     record {
-      nodes = (names_of (λ (node : Node). node.name) rules.nodes nodes, distinct (map (λ (node : Node). node.name) rules.nodes) (left_fails _ _ duplicate));
-      bidders = (names_of (λ (bidder : Bidder). bidder.name) rules.bidders bidders, distinct (map (λ (bidder : Bidder). bidder.name) rules.bidders) (right_fails _ _ duplicate));
+      nodes = (names_of (λ (node : Node). node.name) rules.nodes nodes, distinct (map (λ (node : Node). node.name) rules.nodes) (or_parts _ _ duplicate).0);
+      bidders = (names_of (λ (bidder : Bidder). bidder.name) rules.bidders bidders, distinct (map (λ (bidder : Bidder). bidder.name) rules.bidders) (or_parts _ _ duplicate).1);
     }
 
 pub no_bad_name : (rules : Rules) → HasNames rules → has_bad_name rules ≡ false
-no_bad_name rules h = neither _ _ (names_pass (λ (node : Node). node.name) rules.nodes h.nodes.0) (names_pass (λ (bidder : Bidder). bidder.name) rules.bidders h.bidders.0)
+no_bad_name rules h = or_from _ _ (names_pass (λ (node : Node). node.name) rules.nodes h.nodes.0) (names_pass (λ (bidder : Bidder). bidder.name) rules.bidders h.bidders.0)
 
 pub no_duplicate : (rules : Rules) → HasNames rules → has_duplicate rules ≡ false
-no_duplicate rules h = neither _ _ (not_twice (map (λ (node : Node). node.name) rules.nodes) h.nodes.1) (not_twice (map (λ (bidder : Bidder). bidder.name) rules.bidders) h.bidders.1)
+no_duplicate rules h = or_from _ _ (not_twice (map (λ (node : Node). node.name) rules.nodes) h.nodes.1) (not_twice (map (λ (bidder : Bidder). bidder.name) rules.bidders) h.bidders.1)

@@ -3,14 +3,14 @@ use Rattle.std.proofs.Common.{◌≡◌, ℕ, zero, suc, ◌+◌, ◌*◌, ◌/�
 use Rattle.std.specs.Prelude.{is_some}
 use Rattle.std.specs.List.{list_any}
 use Rattle.std.proofs.Math.Nat.{mul-mod_left, mul_comm}
-use Rattle.std.proofs.lemmas.Bool.{not-false, eqb-true, eq-eqb}
+use Rattle.std.proofs.lemmas.Bool.{not-false, eqb-true, eq-eqb, or_parts, or_from}
 use Rattle.std.proofs.lemmas.List.Sums.{sum_by-cons}
 use Rattle.std.proofs.lemmas.Nat.{div-add-mod'}
 use Rattle.hpb_rules.specs.declared.licence.Terms.{Terms}
 use Rattle.hpb_rules.specs.Tree.{Node, terms_of}
 use Rattle.hpb_rules.specs.Definitions.{HasLicences, of_none, with_licence, with_package, AreTerms}
 use Rattle.hpb_rules.specs.Drafts.{is_within, licence_count, are_bad_terms}
-use Rattle.hpb_rules.proofs.Tests.{left_fails, right_fails, neither, within, is_within_true}
+use Rattle.hpb_rules.proofs.DraftTests.{within, is_within_true}
 
 -- ---- how many licences
 count_first : (node : Node) (nodes : List Node) → licence_count (node ∷ nodes) ≡ cond (is_some node.terms) 1 0 + licence_count nodes
@@ -44,10 +44,10 @@ module _ (step : ℕ) where
 
   terms_are : (terms : Terms) → are_bad_terms step (Some terms) ≡ false → AreTerms step terms
   terms_are terms e =
-      let two : (not (is_within 1 1000000 terms.units) || not (is_within 1 10000000000 terms.opening)) ≡ false = left_fails _ _ e in
-      let units : not (is_within 1 1000000 terms.units) ≡ false = left_fails _ _ two in
-      let opening : not (is_within 1 10000000000 terms.opening) ≡ false = right_fails _ _ two in
-      let multiple : not (eqb (terms.opening % step) 0) ≡ false = right_fails _ _ e in
+      let two : (not (is_within 1 1000000 terms.units) || not (is_within 1 10000000000 terms.opening)) ≡ false = (or_parts _ _ e).0 in
+      let units : not (is_within 1 1000000 terms.units) ≡ false = (or_parts _ _ two).0 in
+      let opening : not (is_within 1 10000000000 terms.opening) ≡ false = (or_parts _ _ two).1 in
+      let multiple : not (eqb (terms.opening % step) 0) ≡ false = (or_parts _ _ e).1 in
       record {
         units = within 1 1000000 terms.units (not-false _ units);
         opening = within 1 10000000000 terms.opening (not-false _ opening);
@@ -55,18 +55,18 @@ module _ (step : ℕ) where
       }
 
   terms_pass : (terms : Terms) → AreTerms step terms → are_bad_terms step (Some terms) ≡ false
-  terms_pass terms h = neither _ _
-      (neither _ _ (ap not (is_within_true 1 1000000 terms.units h.units)) (ap not (is_within_true 1 10000000000 terms.opening h.opening)))
+  terms_pass terms h = or_from _ _
+      (or_from _ _ (ap not (is_within_true 1 1000000 terms.units h.units)) (ap not (is_within_true 1 10000000000 terms.opening h.opening)))
       (ap not (eq-eqb (terms.opening % step) 0 (ap (λ n. n % step) h.multiple.1 ∙ mul-mod_left h.multiple.0 step)))
 
   pub all_terms : (nodes : List Node) → list_any (λ (node : Node). are_bad_terms step node.terms) nodes ≡ false → (place : ℕ) (terms : Terms) → terms_of nodes place ≡ Some terms → AreTerms step terms
   all_terms [] e place terms f = absurd (cc)
-  all_terms (node ∷ nodes) e zero terms f = terms_are terms (ap (are_bad_terms step) (sym f) ∙ left_fails _ _ e)
-  all_terms (node ∷ nodes) e (suc place) terms f = all_terms nodes (right_fails (are_bad_terms step node.terms) _ e) place terms f
+  all_terms (node ∷ nodes) e zero terms f = terms_are terms (ap (are_bad_terms step) (sym f) ∙ (or_parts _ _ e).0)
+  all_terms (node ∷ nodes) e (suc place) terms f = all_terms nodes (or_parts (are_bad_terms step node.terms) _ e).1 place terms f
 
   pub no_bad_terms : (nodes : List Node) → ((place : ℕ) (terms : Terms) → terms_of nodes place ≡ Some terms → AreTerms step terms) → list_any (λ (node : Node). are_bad_terms step node.terms) nodes ≡ false
   no_bad_terms [] h = refl
-  no_bad_terms (node ∷ nodes) h = neither _ _ (by node.terms refl) (no_bad_terms nodes (λ place. h (suc place)))
+  no_bad_terms (node ∷ nodes) h = or_from _ _ (by node.terms refl) (no_bad_terms nodes (λ place. h (suc place)))
     where
       by : (t : Option Terms) → node.terms ≡ t → are_bad_terms step t ≡ false
       by None e = refl

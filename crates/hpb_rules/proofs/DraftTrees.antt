@@ -10,8 +10,8 @@ use Rattle.hpb_rules.specs.Choices.{is_node}
 use Rattle.hpb_rules.specs.Prices.{children_among}
 use Rattle.hpb_rules.specs.Definitions.{HasTwoChildren}
 use Rattle.hpb_rules.specs.Drafts.{is_late, has_late_parent, children_of, has_thin_package, has_licence_with_child}
+use Rattle.hpb_rules.proofs.Places.{none_at, none_here}
 use Rattle.hpb_rules.proofs.Ranks.{before, before_child, before_grows, rank_lt}
-use Rattle.hpb_rules.proofs.Tests.{fails_at, none_at}
 use Rattle.hpb_rules.proofs.Under.{parent_in}
 
 -- ---- children that are counted
@@ -66,10 +66,10 @@ module _ (nodes : List Node) where
 
   before_node : has_late_parent nodes ≡ false → (node parent : ℕ) → parent_of nodes node ≡ Some parent → parent < node
   before_node late node parent e = let l : node < length nodes = parent_in nodes node parent e in
-      not_late node parent (parent_of nodes node) e (fails_at (λ n. is_late n (parent_of nodes n)) 0 (length nodes) late node (omega arith) (omega arith))
+      not_late node parent (parent_of nodes node) e (none_at (λ n. is_late n (parent_of nodes n)) (length nodes) node late (omega arith))
 
   no_late_parent : IsTree nodes → has_late_parent nodes ≡ false
-  no_late_parent tree = none_at (λ n. is_late n (parent_of nodes n)) 0 (length nodes) (λ node l h. by node (parent_of nodes node) refl)
+  no_late_parent tree = none_here (λ n. is_late n (parent_of nodes n)) (length nodes) (λ node h. by node (parent_of nodes node) refl)
     where
       by : (node : ℕ) (c : Option ℕ) → parent_of nodes node ≡ c → is_late node c ≡ false
       by node None e = refl
@@ -86,17 +86,17 @@ module _ (nodes : List Node) where
 
   two_inside : has_thin_package nodes ≡ false → (parent : ℕ) → parent < length nodes → terms_of nodes parent ≡ None → HasTwoChildren nodes parent
   two_inside thin parent h e = two_children parent 0 (length nodes)
-      (not_thin (terms_of nodes parent) (children_of nodes parent) e (fails_at (λ n. is_none (terms_of nodes n) && ltb (children_of nodes n) 2) 0 (length nodes) thin parent (omega arith) (omega arith)))
+      (not_thin (terms_of nodes parent) (children_of nodes parent) e (none_at (λ n. is_none (terms_of nodes n) && ltb (children_of nodes n) 2) (length nodes) parent thin (omega arith)))
 
   pub no_thin_package : ((parent : ℕ) → parent < length nodes → terms_of nodes parent ≡ None → HasTwoChildren nodes parent) → has_thin_package nodes ≡ false
-  no_thin_package two = none_at (λ n. is_none (terms_of nodes n) && ltb (children_of nodes n) 2) 0 (length nodes) (λ node l h. by node (omega arith) (terms_of nodes node) refl)
+  no_thin_package two = none_here (λ n. is_none (terms_of nodes n) && ltb (children_of nodes n) 2) (length nodes) (λ node h. by node h (terms_of nodes node) refl)
     where
       by : (node : ℕ) → node < length nodes → (t : Option Terms) → terms_of nodes node ≡ t → (is_none t && ltb (children_of nodes node) 2) ≡ false
       by node h None e = le-ltb (children_of nodes node) 2 (two_counted node (two node h e))
       by node h (Some t) e = refl
 
   no_licence_with_child : IsTree nodes → has_licence_with_child nodes ≡ false
-  no_licence_with_child tree = none_at (λ n. is_some (terms_of nodes n) && ltb 0 (children_of nodes n)) 0 (length nodes) (λ node l h. by node (terms_of nodes node) refl)
+  no_licence_with_child tree = none_here (λ n. is_some (terms_of nodes n) && ltb 0 (children_of nodes n)) (length nodes) (λ node h. by node (terms_of nodes node) refl)
     where
       by : (node : ℕ) (t : Option Terms) → terms_of nodes node ≡ t → (is_some t && ltb 0 (children_of nodes node)) ≡ false
       by node None e = refl
@@ -121,7 +121,7 @@ module _ (nodes : List Node) where
           let h : parent < node = before_node late node parent e in
           let l : node < length nodes = parent_in nodes node parent e in
           no_terms (terms_of nodes parent) (children_of nodes parent) (omega (arith, rank_lt nodes parent node e))
-          (fails_at (λ n. is_some (terms_of nodes n) && ltb 0 (children_of nodes n)) 0 (length nodes) licence parent (omega arith) (omega arith));
+          (none_at (λ n. is_some (terms_of nodes n) && ltb 0 (children_of nodes n)) (length nodes) parent licence (omega arith));
       children = λ parent h e. let two : HasTwoChildren nodes parent = two_inside thin parent h e in (two.0, two.3);
     };
     children = two_inside thin;

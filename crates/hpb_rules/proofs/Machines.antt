@@ -1,183 +1,179 @@
--- What the machine without a disk keeps over every list of events.
-use Rattle.std.proofs.Common.{◌≡◌, ℕ, suc, Bool, true, false, ◌||◌, eqb, List, [], ◌∷◌, ◌++◌, Option, Some, None, length, refl, sym, ap, ◌∙◌, ⊎_elim, arith, subst, append_assoc}
-use Rattle.std.specs.Prelude.{if◌then◌else◌, slice_get, slice_index_or, All}
-use Rattle.std.proofs.lemmas.Bool.{eqb-true}
-use Rattle.std.proofs.lemmas.List.{take-append-le, length-append}
+-- What the machine without a disk keeps over moves, and how events join.
+use Rattle.std.proofs.Common.{◌≡◌, ℕ, suc, ◌≤◌, Bool, true, false, ◌||◌, eqb, List, [], ◌∷◌, ◌++◌, Option, Some, None, length, refl, sym, ap, ◌∙◌, ⊎_elim, arith, subst, append_assoc}
+use Rattle.std.specs.Prelude.{if◌then◌else◌, All}
+use Rattle.std.proofs.lemmas.Bool.{eqb-false}
 use Rattle.std.proofs.lemmas.List.Elements.{All-append, All-nil}
 use Rattle.hpb_rules.specs.declared.command.Command.{Command}
-use Rattle.hpb_rules.specs.declared.reply.Reply.{Reply}
-use Rattle.hpb_rules.specs.declared.reply.Reply.TheVariants as replies
+use Rattle.hpb_rules.specs.declared.letter.Answer.{Answer}
+use Rattle.hpb_rules.specs.declared.letter.Letter.{Letter}
 use Rattle.hpb_rules.specs.Tree.{Rules}
-use Rattle.hpb_rules.specs.Answer.{answer, is_reply_new, IsHistory}
+use Rattle.hpb_rules.specs.Answer.{IsHistory}
 use Rattle.hpb_rules.specs.Fronts.{IsFront}
-use Rattle.hpb_rules.specs.Letters.{Letter, Answered, Fits, new_command, judged, new_commands}
-use Rattle.hpb_rules.specs.Machine.{Batch, Machine, Event, offer, commit, failed_commit, Outcome, landed, at_rest, in_flight, offered, turned, turn, take_letters, step, run, MayStand}
-use Rattle.hpb_rules.specs.MachineLaws.{IsSound, MachineKeeps}
-use Rattle.hpb_rules.proofs.Lists.{all_cons, append_nil, take_seam, get_seam, get_front, front_self, front_trans}
-use Rattle.hpb_rules.proofs.Pasts.{history_grows}
-
-pub new_reply : (n : ℕ) (reply : Reply) → is_reply_new n reply ≡ true → reply ≡ replies.Ok (suc n)
-new_reply n (replies.Ok m) e = ap replies.Ok (eqb-true m (suc n) e)
-new_reply n (replies.Refused refusal) e = absurd (cc)
+use Rattle.hpb_rules.specs.Letters.{Fits, judged, new_commands}
+use Rattle.hpb_rules.specs.Machine.{Flight, Machine, Event, offer, commit, failed_commit, Effect, landed, at_rest, in_flight, offered, turned, turn, take_letters, effect_of, run, MayStand, Moves, event, stop, Reaches, here, further}
+use Rattle.hpb_rules.specs.MachineLaws.{IsSoundFlight, IsSound, RestIsSound, MachineKeeps, RunIsMoves, RunJoins}
+use Rattle.hpb_rules.proofs.Lists.{append_nil, front_self, front_trans}
+use Rattle.hpb_rules.proofs.Letters.{all_fit_more, judged_history, judged_fit}
 
 module _ (rules : Rules) where
-  -- an answer that fits a front fits the whole
-  pub fits_more : (seen more : List Command) (answered : Answered) → Fits rules seen answered → Fits rules (seen ++ more) answered
-  fits_more seen more answered fits = record {
-    within = omega (arith, fits.within, length-append seen more);
-    reply = fits.reply ∙ ap (λ h. answer rules h answered.letter.command) (sym (take-append-le answered.at seen more fits.within));
-    stands = λ new. get_front seen more answered.at answered.letter.command (fits.stands new);
-  }
+  -- what a move keeps, and that what left fits what is acknowledged then
+  record Kept (before : Machine) (leaving : List Answer) (after : Machine) : Type 0 where
+    sound : IsSound rules after
+    grows : IsFront before.acknowledged after.acknowledged
+    fits : All (Fits rules after.acknowledged) leaving
 
-  pub all_fit_more : (seen more : List Command) (answers : List Answered) → All (Fits rules seen) answers → All (Fits rules (seen ++ more)) answers
-  all_fit_more seen more answers all k d h = fits_more seen more (slice_index_or answers k d) (all k d h)
+  -- ---- sound machines
+  resting : (history : List Command) → IsHistory rules history → IsSound rules (at_rest history)
+  resting history is = record { history = is; flying = λ flight e. absurd (cc) }
 
-  -- one letter's command keeps a history one
-  one_more : (history : List Command) (letter : Letter) (reply : Reply) → answer rules history letter.command ≡ reply → IsHistory rules history → IsHistory rules (history ++ new_command letter (length history) reply)
-  one_more history letter reply e is = by (is_reply_new (length history) reply) refl
-    where
-      by : (b : Bool) → is_reply_new (length history) reply ≡ b → IsHistory rules (history ++ (if b then letter.command ∷ [] else []))
-      by true p = history_grows rules history letter.command is (e ∙ new_reply (length history) reply p)
-      by false p = subst (IsHistory rules) (append_nil history) is
+  flying : (history : List Command) (flight : Flight) → IsHistory rules history → IsSoundFlight rules history flight → IsSound rules (record { acknowledged = history; flight = Some flight })
+  flying history flight is sound = record { history = is; flying = λ other e. let same : flight ≡ other = cc in subst (IsSoundFlight rules history) same sound }
 
-  one_fits : (history more : List Command) (letter : Letter) (reply : Reply) → answer rules history letter.command ≡ reply
-      → Fits rules (history ++ (new_command letter (length history) reply ++ more)) (record { letter = letter; at = length history; reply = reply })
-  one_fits history more letter reply e = record {
-    within = omega (arith, length-append history (new_command letter (length history) reply ++ more));
-    reply = sym e ∙ ap (λ h. answer rules h letter.command) (sym (take_seam history (new_command letter (length history) reply ++ more)));
-    stands = λ new. ap (λ b. slice_get (history ++ ((if b then letter.command ∷ [] else []) ++ more)) (length history)) new ∙ get_seam history more letter.command;
-  }
+  -- a flight's commands stand behind the acknowledged ones
+  flight_history : (history : List Command) (flight : Flight) → IsHistory rules history → IsSoundFlight rules history flight → IsHistory rules (history ++ new_commands flight.answers)
+  flight_history history flight is sound = subst (λ answers. IsHistory rules (history ++ new_commands answers)) (sym sound.answers) (judged_history rules sound.letters history is)
 
-  -- letters judged one after another
-  pub judged_history : (letters : List Letter) (history : List Command) → IsHistory rules history → IsHistory rules (history ++ new_commands (judged rules history letters))
-  judged_history [] history is = subst (IsHistory rules) (append_nil history) is
-  judged_history (letter ∷ letters) history is =
-      let reply : Reply = answer rules history letter.command in
-      let new : List Command = new_command letter (length history) reply in
-      subst (IsHistory rules) (append_assoc history new (new_commands (judged rules (history ++ new) letters)))
-      (judged_history letters (history ++ new) (one_more history letter reply refl is))
-
-  pub judged_fit : (letters : List Letter) (history : List Command) → All (Fits rules (history ++ new_commands (judged rules history letters))) (judged rules history letters)
-  judged_fit [] history = All-nil (Fits rules (history ++ []))
-  judged_fit (letter ∷ letters) history =
-      let reply : Reply = answer rules history letter.command in
-      let new : List Command = new_command letter (length history) reply in
-      let rest : List Answered = judged rules (history ++ new) letters in
-      all_cons (Fits rules (history ++ (new ++ new_commands rest))) (record { letter = letter; at = length history; reply = reply }) rest
-      (one_fits history (new_commands rest) letter reply refl)
-      (subst (λ seen. All (Fits rules seen) rest) (append_assoc history new (new_commands rest)) (judged_fit letters (history ++ new)))
+  flight_fits : (history : List Command) (flight : Flight) → IsSoundFlight rules history flight → All (Fits rules (history ++ new_commands flight.answers)) flight.answers
+  flight_fits history flight sound = subst (λ answers. All (Fits rules (history ++ new_commands answers)) answers) (sym sound.answers) (judged_fit rules sound.letters history)
 
   -- ---- one event
-  -- what one event keeps, and that what left fits what is acknowledged then
-  record Kept (before : Machine) (after : Outcome) : Type 0 where
-    sound : IsSound rules after.machine
-    grows : IsFront before.acknowledged after.machine.acknowledged
-    fits : All (Fits rules after.machine.acknowledged) after.leaving
+  same_kept : (machine : Machine) → IsSound rules machine → Kept machine [] machine
+  same_kept machine is = record { sound = is; grows = front_self machine.acknowledged; fits = All-nil (Fits rules machine.acknowledged) }
 
-  resting : (history : List Command) → IsHistory rules history → IsSound rules (at_rest history)
-  resting history is = record { history = is; answers = λ batch e. absurd (cc) }
-
-  -- answers to letters, offered
-  offered_kept : (history : List Command) (letters : List Letter) (new : List Command) → new_commands (judged rules history letters) ≡ new → IsHistory rules history → Kept (at_rest history) (offered history (judged rules history letters) new)
+  offered_kept : (history : List Command) (letters : List Letter) (new : List Command) → new_commands (judged rules history letters) ≡ new → IsHistory rules history
+      → let effect = offered history (judged rules history letters) new in Kept (at_rest history) effect.leaving effect.machine
   offered_kept history letters [] e is = record {
     sound = resting history is;
     grows = front_self history;
-    fits = subst (λ seen. All (Fits rules seen) (judged rules history letters)) (ap (λ l. history ++ l) e ∙ sym (append_nil history)) (judged_fit letters history);
+    fits = subst (λ seen. All (Fits rules seen) (judged rules history letters)) (ap (λ l. history ++ l) e ∙ sym (append_nil history)) (judged_fit rules letters history);
   }
   offered_kept history letters (command ∷ more) e is = record {
-    sound = record { history = is; answers = λ batch f. (letters, answers_of batch f) };
+    sound = flying history (record { answers = judged rules history letters; turns = 0 }) is (record {
+      letters = letters;
+      answers = refl;
+      accepts = let count : length (new_commands (judged rules history letters)) ≡ suc (length more) = ap length e in omega arith;
+      turns = omega arith;
+    });
     grows = front_self history;
     fits = All-nil (Fits rules history);
   }
+
+  turned_kept : (works : Bool) (history : List Command) (flight : Flight) → IsHistory rules history → IsSoundFlight rules history flight
+      → let effect = turned works history flight in Kept (record { acknowledged = history; flight = Some flight }) effect.leaving effect.machine
+  turned_kept works history flight is sound = by (eqb flight.turns landed) refl works (works || eqb (suc flight.turns) landed)
     where
-      answers_of : (batch : Batch) → Some (record { answers = judged rules history letters; turns = 0 }) ≡ Some batch → batch.answers ≡ judged rules history letters
-      answers_of batch f = let g : record { answers = judged rules history letters; turns = 0 } ≡ batch = cc in sym (ap (λ (b : Batch). b.answers) g)
+      before : Machine
+      before = record { acknowledged = history; flight = Some flight }
 
-  -- a batch in flight whose turns change
-  flying : (history : List Command) (batch : Batch) (turns : ℕ) → IsSound rules (record { acknowledged = history; batch = Some batch }) → IsSound rules (in_flight history batch.answers turns)
-  flying history batch turns is = record { history = is.history; answers = λ other f. ((is.answers batch refl).0, sym (same other f) ∙ (is.answers batch refl).1) }
-    where
-      same : (other : Batch) → Some (record { answers = batch.answers; turns = turns }) ≡ Some other → batch.answers ≡ other.answers
-      same other f = let g : record { answers = batch.answers; turns = turns } ≡ other = cc in ap (λ (b : Batch). b.answers) g
+      flies_on : (turns : ℕ) → turns ≤ landed → Kept before [] (in_flight history flight.answers turns)
+      flies_on turns few = record {
+        sound = flying history (record { answers = flight.answers; turns = turns }) is (record { letters = sound.letters; answers = sound.answers; accepts = sound.accepts; turns = few });
+        grows = front_self history;
+        fits = All-nil (Fits rules history);
+      }
 
-  turned_kept : (works : Bool) (history : List Command) (batch : Batch) → IsSound rules (record { acknowledged = history; batch = Some batch }) → Kept (record { acknowledged = history; batch = Some batch }) (turned works history batch)
-  turned_kept works history batch is = by (eqb batch.turns landed) works (works || eqb (suc batch.turns) landed)
-    where
-      letters : List Letter
-      letters = (is.answers batch refl).0
-
-      new_same : new_commands (judged rules history letters) ≡ new_commands batch.answers
-      new_same = ap new_commands (sym (is.answers batch refl).1)
-
-      stays : (turns : ℕ) → Kept (record { acknowledged = history; batch = Some batch }) (record { leaving = []; machine = in_flight history batch.answers turns })
-      stays turns = record { sound = flying history batch turns is; grows = front_self history; fits = All-nil (Fits rules history) }
-
-      acknowledged : Kept (record { acknowledged = history; batch = Some batch }) (record { leaving = batch.answers; machine = at_rest (history ++ new_commands batch.answers) })
+      acknowledged : Kept before flight.answers (at_rest (history ++ new_commands flight.answers))
       acknowledged = record {
-        sound = resting (history ++ new_commands batch.answers) (subst (λ l. IsHistory rules (history ++ l)) new_same (judged_history letters history is.history));
-        grows = (new_commands batch.answers, refl);
-        fits = subst (λ answers. All (Fits rules (history ++ new_commands answers)) answers) (sym (is.answers batch refl).1) (judged_fit letters history);
+        sound = resting (history ++ new_commands flight.answers) (flight_history history flight is sound);
+        grows = (new_commands flight.answers, refl);
+        fits = flight_fits history flight sound;
       }
 
-      by : (a b c : Bool) → Kept (record { acknowledged = history; batch = Some batch })
-          (if a then
-          (if b then record { leaving = batch.answers; machine = at_rest (history ++ new_commands batch.answers) }
-          else record { leaving = []; machine = in_flight history batch.answers landed })
+      by : (a : Bool) → eqb flight.turns landed ≡ a → (b c : Bool)
+          → let effect : Effect =
+          if a then
+          (if b then record { leaving = flight.answers; machine = at_rest (history ++ new_commands flight.answers) }
+          else record { leaving = []; machine = in_flight history flight.answers landed })
           else
-          (if c then record { leaving = []; machine = in_flight history batch.answers (suc batch.turns) }
-          else record { leaving = []; machine = in_flight history batch.answers batch.turns }))
-      by true true c = acknowledged
-      by true false c = stays landed
-      by false b true = stays (suc batch.turns)
-      by false b false = stays batch.turns
+          (if c then record { leaving = []; machine = in_flight history flight.answers (suc flight.turns) }
+          else record { leaving = []; machine = in_flight history flight.answers flight.turns })
+          in Kept before effect.leaving effect.machine
+      by true e true c = acknowledged
+      by true e false c = flies_on landed (omega arith)
+      by false e b true = flies_on (suc flight.turns) (omega (arith, sound.turns, eqb-false flight.turns landed e))
+      by false e b false = flies_on flight.turns sound.turns
 
-  same_kept : (machine : Machine) → IsSound rules machine → Kept machine (record { leaving = []; machine = machine })
-  same_kept machine is = record { sound = is; grows = front_self machine.acknowledged; fits = All-nil (Fits rules machine.acknowledged) }
+  turn_kept : (works : Bool) (history : List Command) (flight : Option Flight) → IsSound rules (record { acknowledged = history; flight = flight })
+      → let effect = turn works (record { acknowledged = history; flight = flight }) in Kept (record { acknowledged = history; flight = flight }) effect.leaving effect.machine
+  turn_kept works history None is = same_kept (at_rest history) is
+  turn_kept works history (Some flight) is = turned_kept works history flight is.history (is.flying flight refl)
 
-  turn_kept : (works : Bool) (history : List Command) (batch : Option Batch) → IsSound rules (record { acknowledged = history; batch = batch }) → Kept (record { acknowledged = history; batch = batch }) (turn works (record { acknowledged = history; batch = batch }))
-  turn_kept works history None is = same_kept _ is
-  turn_kept works history (Some batch) is = turned_kept works history batch is
-
-  letters_kept : (history : List Command) (batch : Option Batch) (letters : List Letter) → IsSound rules (record { acknowledged = history; batch = batch }) → Kept (record { acknowledged = history; batch = batch }) (take_letters rules (record { acknowledged = history; batch = batch }) letters)
+  letters_kept : (history : List Command) (flight : Option Flight) (letters : List Letter) → IsSound rules (record { acknowledged = history; flight = flight })
+      → let effect = take_letters rules (record { acknowledged = history; flight = flight }) letters in Kept (record { acknowledged = history; flight = flight }) effect.leaving effect.machine
   letters_kept history None letters is = offered_kept history letters (new_commands (judged rules history letters)) refl is.history
-  letters_kept history (Some batch) letters is = same_kept _ is
+  letters_kept history (Some flight) letters is = same_kept (record { acknowledged = history; flight = Some flight }) is
 
-  step_kept : (machine : Machine) (event : Event) → IsSound rules machine → Kept machine (step rules machine event)
-  step_kept machine (offer letters) is = letters_kept machine.acknowledged machine.batch letters is
-  step_kept machine commit is = turn_kept true machine.acknowledged machine.batch is
-  step_kept machine failed_commit is = turn_kept false machine.acknowledged machine.batch is
-
-  -- ---- events one after another
-  run_kept : (events : List Event) (machine : Machine) → IsSound rules machine → Kept machine (run rules machine events)
-  run_kept [] machine is = same_kept machine is
-  run_kept (event ∷ events) machine is =
-      let first : Kept machine (step rules machine event) = step_kept machine event is in
-      let rest : Kept (step rules machine event).machine (run rules (step rules machine event).machine events) = run_kept events (step rules machine event).machine first.sound in
-      let seen : List Command = (run rules (step rules machine event).machine events).machine.acknowledged in
-      record {
-        sound = rest.sound;
-        grows = front_trans machine.acknowledged (step rules machine event).machine.acknowledged seen first.grows rest.grows;
-        fits = All-append (Fits rules seen) (step rules machine event).leaving (run rules (step rules machine event).machine events).leaving
-            (subst (λ l. All (Fits rules l) (step rules machine event).leaving) (sym rest.grows.1) (all_fit_more (step rules machine event).machine.acknowledged rest.grows.0 (step rules machine event).leaving first.fits))
-            rest.fits;
-      }
+  event_kept : (machine : Machine) (what : Event) → IsSound rules machine → Kept machine (effect_of rules machine what).leaving (effect_of rules machine what).machine
+  event_kept machine (offer letters) is = letters_kept machine.acknowledged machine.flight letters is
+  event_kept machine commit is = turn_kept true machine.acknowledged machine.flight is
+  event_kept machine failed_commit is = turn_kept false machine.acknowledged machine.flight is
 
   -- ---- a stop
-  stands_after : (acknowledged : List Command) (batch : Option Batch) → IsSound rules (record { acknowledged = acknowledged; batch = batch }) → (history : List Command) → MayStand (record { acknowledged = acknowledged; batch = batch }) history → IsHistory rules history × IsFront acknowledged history
+  stands_after : (acknowledged : List Command) (flight : Option Flight) → IsSound rules (record { acknowledged = acknowledged; flight = flight })
+      → (history : List Command) → MayStand (record { acknowledged = acknowledged; flight = flight }) history → IsHistory rules history × IsFront acknowledged history
   stands_after acknowledged None is history may = (subst (IsHistory rules) (sym may) is.history, subst (IsFront acknowledged) (sym may) (front_self acknowledged))
-  stands_after acknowledged (Some batch) is history may = ⊎_elim
+  stands_after acknowledged (Some flight) is history may = ⊎_elim
       (λ same. (subst (IsHistory rules) (sym same) is.history, subst (IsFront acknowledged) (sym same) (front_self acknowledged)))
-      (λ more.
-      let whole : IsHistory rules (acknowledged ++ new_commands batch.answers) = subst (λ answers. IsHistory rules (acknowledged ++ new_commands answers)) (sym (is.answers batch refl).1) (judged_history (is.answers batch refl).0 acknowledged is.history) in
-      (subst (IsHistory rules) (sym more.1) whole, (new_commands batch.answers, more.1)))
+      (λ more. (subst (IsHistory rules) (sym more.1) (flight_history acknowledged flight is.history (is.flying flight refl)), (new_commands flight.answers, more.1)))
       may
 
+  stop_kept : (machine : Machine) (history : List Command) → MayStand machine history → IsSound rules machine → Kept machine [] (at_rest history)
+  stop_kept machine history may is =
+      let stands : IsHistory rules history × IsFront machine.acknowledged history = stands_after machine.acknowledged machine.flight is history may in
+      record { sound = resting history stands.0; grows = stands.1; fits = All-nil (Fits rules history) }
+
+  -- ---- moves one after another
+  move_kept : {before after : Machine} {leaving : List Answer} → Moves rules before leaving after → IsSound rules before → Kept before leaving after
+  move_kept (event {before = before} what) is = event_kept before what is
+  move_kept (stop {before = before} {history = history} may) is = stop_kept before history may is
+
+  joined_kept : (before between after : Machine) (leaving more : List Answer) → Kept before leaving between → Kept between more after → Kept before (leaving ++ more) after
+  joined_kept before between after leaving more first rest = record {
+    sound = rest.sound;
+    grows = front_trans before.acknowledged between.acknowledged after.acknowledged first.grows rest.grows;
+    fits = All-append (Fits rules after.acknowledged) leaving more
+        (subst (λ seen. All (Fits rules seen) leaving) (sym rest.grows.1) (all_fit_more rules between.acknowledged rest.grows.0 leaving first.fits))
+        rest.fits;
+  }
+
+  moves_kept : {before after : Machine} {leaving : List Answer} → Reaches rules before leaving after → IsSound rules before → Kept before leaving after
+  moves_kept (here {machine = machine}) is = same_kept machine is
+  moves_kept (further {before = before} {between = between} {after = after} {leaving = leaving} {more = more} move moves) is =
+      let first : Kept before leaving between = move_kept move is in
+      joined_kept before between after leaving more first (moves_kept moves first.sound)
+
+  -- ---- events one after another
+  reached : (events : List Event) (before : Machine) → Reaches rules before (run rules before events).leaving (run rules before events).machine
+  reached [] before = here
+  reached (what ∷ events) before = further (event what) (reached events (effect_of rules before what).machine)
+
+  joined_machine : (events more : List Event) (machine : Machine) → (run rules machine (events ++ more)).machine ≡ (run rules (run rules machine events).machine more).machine
+  joined_machine [] more machine = refl
+  joined_machine (what ∷ events) more machine = joined_machine events more (effect_of rules machine what).machine
+
+  joined_leaving : (events more : List Event) (machine : Machine)
+      → (run rules machine (events ++ more)).leaving ≡ (run rules machine events).leaving ++ (run rules (run rules machine events).machine more).leaving
+  joined_leaving [] more machine = refl
+  joined_leaving (what ∷ events) more machine =
+      let first : Effect = effect_of rules machine what in
+      ap (λ answers. first.leaving ++ answers) (joined_leaving events more first.machine)
+      ∙ sym (append_assoc first.leaving (run rules first.machine events).leaving (run rules (run rules first.machine events).machine more).leaving)
+
+pub rest_is_sound : RestIsSound
+rest_is_sound rules history is = resting rules history is
+
 pub machine_keeps : MachineKeeps
-machine_keeps rules before events is =
-    let kept : Kept rules before (run rules before events) = run_kept rules events before is in
+machine_keeps rules before after leaving is moves =
+    let kept : Kept rules before leaving after = moves_kept rules moves is in
     record {
       sound = kept.sound;
       grows = kept.grows;
-      stands = λ history may. stands_after rules (run rules before events).machine.acknowledged (run rules before events).machine.batch kept.sound history may;
+      stands = λ history may. stands_after rules after.acknowledged after.flight kept.sound history may;
       fits = kept.fits;
     }
+
+pub run_is_moves : RunIsMoves
+run_is_moves rules before events = reached rules events before
+
+pub run_joins : RunJoins
+run_joins rules machine events more = (joined_leaving rules events more machine, joined_machine rules events more machine)

@@ -40,14 +40,17 @@ not_repeated past sender command e = by (last_of past sender) refl e
         at true h = let z : last.1 ≡ suc (length past) = cc in omega (arith, last_number past sender last.0 last.1 f)
         at false h = cc
 
+-- where a row of tests finds nothing the first test fails and the others find nothing
+pub next_test : {A : Type 0} (test : Bool) (found : A) (rest : Option A) → (if test then Some found else rest) ≡ None → (test ≡ false) × (rest ≡ None)
+next_test true found rest e = absurd (cc)
+next_test false found rest e = (refl, e)
+
 -- the bid's bidder and node are known
 pub known_names : (rules : Rules) (from ticket on amount : ℕ) → unknown rules (Bid from ticket on amount) ≡ None → (from < length rules.bidders) × (on < length rules.nodes)
-known_names rules from ticket on amount known = by (leb (length rules.bidders) from) refl (leb (length rules.nodes) on) refl known
-  where
-    by : (a : Bool) → leb (length rules.bidders) from ≡ a → (b : Bool) → leb (length rules.nodes) on ≡ b → (if a then Some refusals.Bidder else (if b then Some refusals.Node else None)) ≡ None → (from < length rules.bidders) × (on < length rules.nodes)
-    by true p b q e = absurd (cc)
-    by false p true q e = absurd (cc)
-    by false p false q e = (leb-false _ _ p, leb-false _ _ q)
+known_names rules from ticket on amount known =
+    let bidder_known = next_test _ _ _ known in
+    let node_known = next_test _ _ _ bidder_known.1 in
+    (leb-false _ _ bidder_known.0, leb-false _ _ node_known.0)
 
 -- the parts of a reply that accepts
 record Accepts (u : Option Refusal) (t l n : ℕ) (o : Bool) (f : Option Refusal) : Type 0 where

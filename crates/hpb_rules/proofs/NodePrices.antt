@@ -1,5 +1,5 @@
 -- A node's price is its value and what is carried down to it, so the licences' prices cover every high bid and sum to the revenue.
-use Rattle.std.proofs.Common.{◌≡◌, ℕ, zero, suc, ◌+◌, ◌-◌, ◌*◌, ◌<◌, ◌≤◌, Bool, true, false, cond, List, Option, Some, None, length, drop, max, refl, sym, ap, ◌∙◌, arith}
+use Rattle.std.proofs.Common.{◌≡◌, ℕ, zero, suc, ◌+◌, ◌-◌, ◌*◌, ◌<◌, ◌≤◌, cond, List, Option, Some, None, length, drop, max, refl, sym, ap, ◌∙◌, arith}
 use Rattle.std.specs.List.{sum_by, range_with_len}
 use Rattle.std.proofs.Math.Numerals.{add-one}
 use Rattle.std.proofs.lemmas.List.Sums.{sum_by-cons}
@@ -12,15 +12,11 @@ use Rattle.hpb_rules.proofs.Sums.{member, below_is}
 use Rattle.hpb_rules.proofs.Under.{From, from_all, parent_in, inside_from_member, member_from_inside}
 use Rattle.hpb_rules.proofs.Winners.{best_is, from_drop, top_all, winners_all}
 use Rattle.hpb_rules.proofs.Upward.{total_bound}
+use Rattle.hpb_rules.proofs.Tests.{same_answer}
 use Rattle.hpb_rules.proofs.Cover.{sum_le}
 use Rattle.hpb_rules.proofs.Carried.{carry_from, passed_all}
 use Rattle.hpb_rules.proofs.GoingUp.{under_sound, under_complete, not_under_earlier}
 use Rattle.hpb_rules.proofs.PriceSums.{flags, term, total_none, length_flags, part_eq, all_eq, range_split, prices_sum, total_carried}
-
-same_answer : (a b : Bool) → (a ≡ true → b ≡ true) → (b ≡ true → a ≡ true) → a ≡ b
-same_answer true b f g = sym (f refl)
-same_answer false true f g = g refl
-same_answer false false f g = refl
 
 module _ (nodes : List Node) (bid : ℕ → ℕ) (tree : IsTree nodes) where
   -- what a licence adds to the price of node n

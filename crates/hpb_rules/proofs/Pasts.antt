@@ -1,7 +1,7 @@
--- Histories grow at their end, and a repeat changes nothing.
-use Rattle.std.proofs.Common.{◌≡◌, ℕ, suc, ◌+◌, ◌<◌, Bool, true, false, cond, eqb, List, [], ◌∷◌, ◌++◌, reverse, Option, Some, None, length, refl, sym, ap, ◌∙◌, arith, subst}
+-- Parts of pasts are pasts, histories grow at their end, and a repeat changes nothing.
+use Rattle.std.proofs.Common.{◌≡◌, ℕ, suc, ◌+◌, ◌<◌, Bool, true, false, cond, List, [], ◌∷◌, ◌++◌, reverse, Option, Some, None, length, refl, sym, ap, ◌∙◌, arith, subst}
 use Rattle.std.specs.Prelude.{if◌then◌else◌}
-use Rattle.std.proofs.lemmas.Bool.{both_ways, eq-eqb, eqb-true, ne_eqb, le-ltb}
+use Rattle.std.proofs.lemmas.Bool.{eq-eqb, ne_eqb, le-ltb}
 use Rattle.std.proofs.lemmas.List.{reverse-append, length-reverse}
 use Rattle.std.proofs.lemmas.List.Sums.{sum_by-cons}
 use Rattle.hpb_rules.specs.declared.command.Command.{Command}
@@ -14,6 +14,7 @@ use Rattle.hpb_rules.specs.Tree.{Rules}
 use Rattle.hpb_rules.specs.History
 use Rattle.hpb_rules.specs.History.{Sender, bidder, auctioneer, sender_of, same_sender, ticket_of, same_command, is_from, last_ticket, last_of}
 use Rattle.hpb_rules.specs.Answer.{repeated, is_reply_new, reply_by, unknown, fault, answer_after, IsPast, after}
+use Rattle.hpb_rules.proofs.Sameness.{same_sender_is, same_command_self}
 use Rattle.hpb_rules.proofs.NewCommands.{pair_is, last_number, accepted_new}
 use Rattle.hpb_rules.specs.HistoryLaws.{IsNew, HistoryGrows, FrontIsHistory, RepeatChangesNothing}
 
@@ -25,27 +26,27 @@ history_grows rules history command is ok =
     subst (IsPast rules) (sym (reverse_push history command)) (ok ∙ ap (λ n. replies.Ok (suc n)) (sym (length-reverse history)), is)
 
 -- what is older than a part of a past is a past
-older : (rules : Rules) (newer past : List Command) → IsPast rules (newer ++ past) → IsPast rules past
+pub older : (rules : Rules) (newer past : List Command) → IsPast rules (newer ++ past) → IsPast rules past
 older rules [] past is = is
 older rules (command ∷ newer) past is = older rules newer past is.1
+
+-- each command of a past is new after the older ones
+pub new_after : (rules : Rules) (newer past : List Command) (command : Command) → IsPast rules (newer ++ command ∷ past) → IsNew rules past command
+new_after rules newer past command is = accepted_new rules past command (older rules newer (command ∷ past) is).0
+
+-- what came before the last close is a past
+pub closed_past : (rules : Rules) (past : List Command) → IsPast rules past → IsPast rules (History.before_close past)
+closed_past rules [] is = is
+closed_past rules (Bid from ticket node amount ∷ past) is = closed_past rules past is.1
+closed_past rules (Close ticket ∷ past) is = is.1
+closed_past rules (Stage ticket ∷ past) is = closed_past rules past is.1
 
 pub front_is_history : FrontIsHistory
 front_is_history rules front rest is = older rules (reverse rest) (reverse front) (subst (IsPast rules) (reverse-append front rest) is)
 
--- ---- senders and commands that are the same
-same_sender_is : (one other : Sender) → same_sender one other ≡ true → one ≡ other
-same_sender_is (bidder one) (bidder other) e = ap bidder (eqb-true one other e)
-same_sender_is (bidder one) auctioneer e = absurd (both_ways false refl e)
-same_sender_is auctioneer (bidder other) e = absurd (both_ways false refl e)
-same_sender_is auctioneer auctioneer e = refl
-
-eq_self : (n : ℕ) → eqb n n ≡ true
-eq_self n = eq-eqb n n refl
-
-pub same_command_self : (command : Command) → same_command command command ≡ true
-same_command_self (Bid from ticket node amount) = rw (eq_self from, eq_self ticket, eq_self node, eq_self amount) refl
-same_command_self (Close ticket) = eq_self ticket
-same_command_self (Stage ticket) = eq_self ticket
+-- a newer command adds a ticket where it is the sender's
+pub ticket_more : (newest : Command) (past : List Command) (sender : Sender) → last_ticket (newest ∷ past) sender ≡ cond (is_from sender newest) 1 0 + last_ticket past sender
+ticket_more newest past sender = sum_by-cons (λ command. cond (is_from sender command) 1 0) newest past
 
 module _ (rules : Rules) where
   -- a sender's last command bears its last ticket
@@ -55,7 +56,7 @@ module _ (rules : Rules) where
   last_is (newest ∷ past) sender command number is e = by (last_is past sender command number is.1) (is_from sender newest) refl e
     where
       count : last_ticket (newest ∷ past) sender ≡ cond (is_from sender newest) 1 0 + last_ticket past sender
-      count = sum_by-cons (λ x. cond (is_from sender x) 1 0) newest past
+      count = ticket_more newest past sender
 
       by : (last_of past sender ≡ Some (command, number) → (unknown rules command ≡ None) × (ticket_of command ≡ last_ticket past sender) × (0 < ticket_of command)) → (b : Bool) → is_from sender newest ≡ b → cond b (Some (newest, suc (length past))) (last_of past sender) ≡ Some (command, number)
           → (unknown rules command ≡ None) × (ticket_of command ≡ last_ticket (newest ∷ past) sender) × (0 < ticket_of command)

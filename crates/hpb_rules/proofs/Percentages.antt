@@ -1,19 +1,17 @@
 -- The stage in force has a percentage.
-use Rattle.std.proofs.Common.{◌≡◌, ℕ, ◌+◌, ◌-◌, ◌<◌, ◌≤◌, ◌||◌, Bool, true, false, cond, leb, List, [], ◌∷◌, reverse, Some, None, length, refl, arith}
-use Rattle.std.specs.Prelude.{if◌then◌else◌}
-use Rattle.std.proofs.lemmas.Bool.{leb-false, both_ways}
+use Rattle.std.proofs.Common.{◌≡◌, ℕ, ◌+◌, ◌-◌, ◌<◌, ◌≤◌, ◌||◌, false, cond, List, [], ◌∷◌, reverse, length, refl, arith}
+use Rattle.std.proofs.lemmas.Bool.{leb-false, both_ways, or_parts}
 use Rattle.std.proofs.lemmas.List.Sums.{sum_by-cons}
 use Rattle.hpb_rules.specs.declared.command.Command.{Command}
 use Rattle.hpb_rules.specs.declared.command.Command.TheVariants.{Bid, Close, Stage}
-use Rattle.hpb_rules.specs.declared.refusal.Refusal.TheVariants as refusals
 use Rattle.hpb_rules.specs.Tree.{Rules}
 use Rattle.hpb_rules.specs.Drafts.{draft_faults, is_empty, lacks_something}
 use Rattle.hpb_rules.specs.History
 use Rattle.hpb_rules.specs.Answer.{IsPast}
 use Rattle.hpb_rules.specs.Definitions.{IsDefinition}
 use Rattle.hpb_rules.specs.HistoryLaws.{PercentageIsKnown}
-use Rattle.hpb_rules.proofs.NewCommands.{accepted_new}
-use Rattle.hpb_rules.proofs.Accepted.{no_fault, right_fails, accepted_is_definition}
+use Rattle.hpb_rules.proofs.NewCommands.{next_test, accepted_new}
+use Rattle.hpb_rules.proofs.Accepted.{no_fault, accepted_is_definition}
 
 -- a stage command adds a stage, and no other does
 pub stage_more : (command : Command) (past : List Command) → History.stage (command ∷ past) ≡ cond (History.is_stage command) 1 0 + History.stage past
@@ -25,11 +23,9 @@ module _ (rules : Rules) (some : 0 < length rules.stages) where
   stage_is [] is = omega arith
   stage_is (Bid from ticket node amount ∷ past) is = omega (arith, stage_is past is.1, stage_more (Bid from ticket node amount) past)
   stage_is (Close ticket ∷ past) is = omega (arith, stage_is past is.1, stage_more (Close ticket) past)
-  stage_is (Stage ticket ∷ past) is = omega (arith, less (leb (length rules.stages) (History.stage past)) refl (accepted_new rules past (Stage ticket) is.0).faultless, stage_more (Stage ticket) past)
-    where
-      less : (b : Bool) → leb (length rules.stages) (History.stage past) ≡ b → (if b then Some refusals.Stage else None) ≡ None → History.stage past < length rules.stages
-      less true e f = absurd (cc)
-      less false e f = leb-false _ _ e
+  stage_is (Stage ticket ∷ past) is =
+      let less : History.stage past < length rules.stages = leb-false _ _ (next_test _ _ _ (accepted_new rules past (Stage ticket) is.0).faultless).0 in
+      omega (arith, stage_more (Stage ticket) past)
 
 filled : (stages : List ℕ) → is_empty stages ≡ false → 0 < length stages
 filled [] e = absurd (both_ways _ e refl)
@@ -38,7 +34,7 @@ filled (stage ∷ stages) e = omega arith
 pub percentage_is_known : PercentageIsKnown
 percentage_is_known rules history accepted is =
     let lacks : lacks_something rules ≡ false = no_fault (draft_faults rules) accepted 1 in
-    let some : 0 < length rules.stages = filled rules.stages (right_fails (is_empty rules.nodes || is_empty rules.bidders) (is_empty rules.stages) lacks) in
+    let some : 0 < length rules.stages = filled rules.stages (or_parts (is_empty rules.nodes || is_empty rules.bidders) (is_empty rules.stages) lacks).1 in
     let stage : History.stage (reverse history) ≤ length rules.stages = stage_is rules some (reverse history) is in
     let definition : IsDefinition rules = accepted_is_definition rules accepted in
     let place : History.stage (reverse history) - 1 < length rules.stages = omega (arith, stage, some) in

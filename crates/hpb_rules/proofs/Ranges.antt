@@ -1,7 +1,13 @@
--- Lists that are made from the places of a range.
-use Rattle.std.proofs.Common.{◌≡◌, ℕ, zero, suc, ◌+◌, ◌<◌, ◌≤◌, Bool, true, false, ◌||◌, List, [], ◌∷◌, map, set, refl, sym, ap, ◌∙◌, ⊎_elim, arith}
+-- Lists that are made from the places of a range, and tests over them: steps that other crates' proofs cite too.
+use Rattle.std.proofs.Common.{◌≡◌, ℕ, zero, suc, ◌+◌, ◌<◌, ◌≤◌, Bool, true, false, ◌||◌, List, [], ◌∷◌, ◌++◌, map, set, refl, sym, ap, ◌∙◌, ⊎_elim, arith}
 use Rattle.std.specs.List.{list_any, range_with_len}
-use Rattle.std.proofs.lemmas.Bool.{cases_eq, cases_lt, both_ways}
+use Rattle.std.proofs.lemmas.Bool.{cases_eq, cases_lt, both_ways, or_left, or_right, false_from_ne_true}
+use Rattle.hpb_rules.proofs.Tests.{or_same}
+
+-- one place more
+pub range_more : (a n : ℕ) → range_with_len a (suc n) ≡ range_with_len a n ++ (a + n) ∷ []
+range_more a zero = ap (λ x. x ∷ []) (omega arith)
+range_more a (suc n) = ap (λ xs. a ∷ xs) (range_more (a + 1) n ∙ ap (λ x. range_with_len (a + 1) n ++ x ∷ []) (omega arith))
 
 -- the first place or a later one
 pub later : (a b : ℕ) → a ≤ b → (a ≡ b → ⊥) → a + 1 ≤ b
@@ -42,17 +48,13 @@ found_in test a (suc k) e = by (found_in test (a + 1) k) (test a) refl e
 pub finds_in : (test : ℕ → Bool) (a k n : ℕ) → a ≤ n → n < a + k → test n ≡ true → list_any test (range_with_len a k) ≡ true
 finds_in test a zero n l h e = absurd (omega arith)
 finds_in test a (suc k) n l h e = ⊎_elim
-    (λ same. left (test a) _ (ap test same ∙ e))
-    (λ other. right (test a) _ (finds_in test (a + 1) k n (later a n l other) (omega arith) e))
+    (λ same. or_left (test a) _ (ap test same ∙ e))
+    (λ other. or_right (test a) _ (finds_in test (a + 1) k n (later a n l other) (omega arith) e))
     (cases_eq a n)
-  where
-    left : (x y : Bool) → x ≡ true → (x || y) ≡ true
-    left true y e = refl
-    left false y e = absurd (both_ways false refl e)
 
-    right : (x y : Bool) → y ≡ true → (x || y) ≡ true
-    right true y e = refl
-    right false y e = e
+-- what fails over a range fails at each of its places
+pub fails_at : (test : ℕ → Bool) (a k : ℕ) → list_any test (range_with_len a k) ≡ false → (n : ℕ) → a ≤ n → n < a + k → test n ≡ false
+fails_at test a k none n l h = false_from_ne_true (test n) (λ some. both_ways _ none (finds_in test a k n l h some))
 
 pub list_any_map : {A : Type 0} (test : A → Bool) (f : ℕ → A) (xs : List ℕ) → list_any test (map f xs) ≡ list_any (λ n. test (f n)) xs
 list_any_map test f [] = refl
@@ -61,7 +63,4 @@ list_any_map test f (x ∷ xs) = ap (λ b. test (f x) || b) (list_any_map test f
 -- two tests that agree at each place of a range find alike
 pub list_any_same : (p q : ℕ → Bool) (a k : ℕ) → ((n : ℕ) → a ≤ n → n < a + k → p n ≡ q n) → list_any p (range_with_len a k) ≡ list_any q (range_with_len a k)
 list_any_same p q a zero h = refl
-list_any_same p q a (suc k) h = either (p a) (q a) _ _ (h a (omega arith) (omega arith)) (list_any_same p q (a + 1) k (λ n l m. h n (omega arith) (omega arith)))
-  where
-    either : (x y v w : Bool) → x ≡ y → v ≡ w → (x || v) ≡ (y || w)
-    either x y v w e f = cc
+list_any_same p q a (suc k) h = or_same (p a) (q a) _ _ (h a (omega arith) (omega arith)) (list_any_same p q (a + 1) k (λ n l m. h n (omega arith) (omega arith)))

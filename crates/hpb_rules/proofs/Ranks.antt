@@ -6,11 +6,8 @@ use Rattle.std.proofs.lemmas.List.Sums.{sum_by_push}
 use Rattle.hpb_rules.specs.Tree.{Node, parent_of, IsTree, places}
 use Rattle.hpb_rules.specs.Choices.{is_node}
 use Rattle.hpb_rules.specs.Prices.{children_among}
+use Rattle.hpb_rules.proofs.Ranges.{range_more}
 use Rattle.hpb_rules.proofs.Under.{parent_in}
-
-range_more : (a n : ℕ) → range_with_len a (suc n) ≡ range_with_len a n ++ (a + n) ∷ []
-range_more a zero = ap (λ x. x ∷ []) (omega arith)
-range_more a (suc n) = ap (λ xs. a ∷ xs) (range_more (a + 1) n ∙ ap (λ x. range_with_len (a + 1) n ++ x ∷ []) (omega arith))
 
 module _ (nodes : List Node) where
   -- how many children of p stand before place n

@@ -8,6 +8,7 @@ use Rattle.hpb_rules.specs.declared.reply.Reply.TheVariants as replies
 use Rattle.hpb_rules.specs.declared.reply.TheConstants.{MOST_AMOUNT, MOST_COMMANDS}
 use Rattle.hpb_rules.specs.declared.refusal.Refusal.{Refusal}
 use Rattle.hpb_rules.specs.declared.refusal.Refusal.TheVariants as refusals
+use Rattle.hpb_rules.specs.Refusals.{first_that_applies}
 use Rattle.hpb_rules.specs.Tree.{Rules}
 use Rattle.hpb_rules.specs.Prices.{minimum}
 use Rattle.hpb_rules.specs.History
@@ -38,6 +39,20 @@ reply_by None ticket last repeat count over fault =
     (if over then replies.Refused refusals.Closed else
     ok_or_fault (suc count) fault))))
 
+-- What is wrong with a new bid, by the step, the least amount that may be bid, whether its bidder bid on the node in this round already, its
+-- eligibility, and its activity with this bid.
+abbrev pub bid_fault : (step amount minimum : ℕ) (again : Bool) (eligibility activity : ℕ) → Option Refusal
+bid_fault step amount minimum again eligibility activity = first_that_applies (
+    (not (amount % step == 0), refusals.Step)
+    ∷ (nat_lt amount minimum, refusals.Low)
+    ∷ (nat_lt MOST_AMOUNT amount, refusals.High)
+    ∷ (again, refusals.Again)
+    ∷ (nat_lt eligibility activity, refusals.Eligibility) ∷ [])
+
+-- What is wrong with a new step to a next stage, by the stage in force.
+abbrev pub stage_fault : (stages stage : ℕ) → Option Refusal
+stage_fault stages stage = first_that_applies ((nat_le stages stage, refusals.Stage) ∷ [])
+
 module _ (rules : Rules) where
   -- A sender or a node that the definition has not.
   abbrev pub unknown : Command → Option Refusal
@@ -50,13 +65,10 @@ module _ (rules : Rules) where
   -- What is wrong with a new command while the auction is not over.
   abbrev pub fault : List Command → Command → Option Refusal
   fault past (Bid from ticket node amount) =
-      if not (amount % rules.step == 0) then Some refusals.Step else
-      (if nat_lt amount (minimum rules (History.high_bid past) node) then Some refusals.Low else
-      (if nat_lt MOST_AMOUNT amount then Some refusals.High else
-      (if History.bid_on past from node then Some refusals.Again else
-      (if nat_lt (History.eligibility rules past from) (History.activity rules (Bid from ticket node amount ∷ past) from) then Some refusals.Eligibility else None))))
+      bid_fault rules.step amount (minimum rules (History.high_bid past) node) (History.bid_on past from node)
+      (History.eligibility rules past from) (History.activity rules (Bid from ticket node amount ∷ past) from)
   fault past (Close ticket) = None
-  fault past (Stage ticket) = if nat_le (length rules.stages) (History.stage past) then Some refusals.Stage else None
+  fault past (Stage ticket) = stage_fault (length rules.stages) (History.stage past)
 
   -- What a command is answered after a past.
   abbrev pub answer_after : List Command → Command → Reply
@@ -81,6 +93,10 @@ module _ (rules : Rules) where
   -- The past with a command where it is newly accepted, and else as it was.
   abbrev pub after : List Command → Command → List Command
   after past command = if is_reply_new (length past) (answer_after past command) then command ∷ past else past
+
+  -- The history after a command: the same in the order in which commands came.
+  abbrev pub history_after : List Command → Command → List Command
+  history_after history command = reverse (after (reverse history) command)
 
   -- The replies to commands one after another.
   abbrev pub replies_from : List Command → List Command → List Reply

@@ -1,13 +1,15 @@
 -- The laws of answers, of histories and of what a value shows.
-use Rattle.std.specs.Prelude.{◌≡◌, ℕ, suc, ◌<◌, ◌≤◌, ◌↔◌, false, List, [], ◌∷◌, ◌++◌, reverse, Some, None, length}
+use Rattle.std.specs.Prelude.{◌≡◌, ◌≢◌, ◌↔◌, ℕ, suc, ◌-◌, ◌%◌, ◌<◌, ◌≤◌, false, List, [], ◌∷◌, ◌++◌, reverse, take, length, Some, None, MatchOption, slice_get}
+use Rattle.std.specs.Bool.{Decides}
 use Rattle.hpb_rules.specs.declared.command.Command.{Command}
+use Rattle.hpb_rules.specs.declared.command.Command.TheVariants.{Bid}
 use Rattle.hpb_rules.specs.declared.reply.Reply.TheVariants as replies
-use Rattle.hpb_rules.specs.declared.reply.TheConstants.{MOST_COMMANDS}
-use Rattle.hpb_rules.specs.Tree.{Rules}
+use Rattle.hpb_rules.specs.declared.reply.TheConstants.{MOST_AMOUNT, MOST_COMMANDS}
+use Rattle.hpb_rules.specs.Tree.{Rules, opening}
 use Rattle.hpb_rules.specs.Drafts.{draft_refusal}
 use Rattle.hpb_rules.specs.History
-use Rattle.hpb_rules.specs.Answer.{unknown, fault, answer, after, IsHistory}
-use Rattle.hpb_rules.specs.Seen.{Quantities, quantities, Shows}
+use Rattle.hpb_rules.specs.Answer.{unknown, fault, answer, after, IsPast, IsHistory}
+use Rattle.hpb_rules.specs.AuctionValue.{AuctionValue, value_of, Shows}
 
 -- A command is new after a past where its names are known, it bears its sender's next ticket, there is room for it, the auction is not over,
 -- and nothing is wrong with it.
@@ -22,6 +24,45 @@ pub record IsNew (rules : Rules) (past : List Command) (command : Command) : Typ
 abbrev pub AcceptedIsNew : Type 0
 AcceptedIsNew = (rules : Rules) (history : List Command) (command : Command)
     → (answer rules history command ≡ replies.Ok (suc (length history))) ↔ IsNew rules (reverse history) command
+
+-- A bid meets the rules where its bidder and its node are the definition's, and its amount is a multiple of the step, at least the node's opening,
+-- more than 0, and at most the greatest amount that there is.
+pub record MeetsRules (rules : Rules) (from node amount : ℕ) : Type 0 where
+  pub known_bidder : from < length rules.bidders
+  pub known_node : node < length rules.nodes
+  pub multiple : amount % rules.step ≡ 0
+  pub meets_opening : opening rules.nodes node ≤ amount
+  pub positive : 0 < amount
+  pub possible : amount ≤ MOST_AMOUNT
+
+-- In a past of a definition that is not refused each bid meets the rules.
+abbrev pub BidsMeetRules : Type 0
+BidsMeetRules = (rules : Rules) (past : List Command) (place from ticket node amount : ℕ) → draft_refusal rules ≡ None → IsPast rules past
+    → slice_get past place ≡ Some (Bid from ticket node amount) → MeetsRules rules from node amount
+
+-- A sender's tickets count its commands: each bears one more than the last ticket before it.
+abbrev pub TicketsCount : Type 0
+TicketsCount = (rules : Rules) (history : List Command) (place : ℕ) (command : Command) → IsHistory rules history → slice_get history place ≡ Some command
+    → History.ticket_of command ≡ suc (History.last_ticket (reverse (take place history)) (History.sender_of command))
+
+-- A sender's last command has a number: it is the sender's, it stands in the history under that number, and no later one is the sender's.
+pub record IsLast (history : List Command) (sender : History.Sender) (last : Command × ℕ) : Type 0 where
+  pub own : History.sender_of last.0 ≡ sender
+  pub numbered : 0 < last.1
+  pub stands : slice_get history (last.1 - 1) ≡ Some last.0
+  pub none_later : (place : ℕ) (later : Command) → last.1 ≤ place → slice_get history place ≡ Some later → History.sender_of later ≢ sender
+
+-- The last command of a sender is its last, and there is none exactly where it sent nothing.
+abbrev pub LastStands : Type 0
+LastStands = (history : List Command) (sender : History.Sender)
+    → MatchOption (History.last_of (reverse history) sender)
+    ((place : ℕ) (command : Command) → slice_get history place ≡ Some command → History.sender_of command ≢ sender)
+    (IsLast history sender)
+
+-- Two commands are the same exactly where they are equal, and so are two senders.
+abbrev pub SameIsEqual : Type 0
+SameIsEqual = ((one other : Command) → Decides (History.same_command one other) (one ≡ other))
+    × ((one other : History.Sender) → Decides (History.same_sender one other) (one ≡ other))
 
 -- In a history of a definition that is not refused the stage in force has a percentage from 50 to 100.
 abbrev pub PercentageIsKnown : Type 0
@@ -43,12 +84,12 @@ RepeatChangesNothing = (rules : Rules) (history : List Command) (command : Comma
     → History.last_of (reverse history) (History.sender_of command) ≡ Some (command, number)
     → (answer rules history command ≡ replies.Ok number) × (after rules (reverse history) command ≡ reverse history)
 
--- An answer depends on nothing but what a history says: where two say the same, each command is answered alike.
+-- An answer depends on nothing but the value: where two histories lead to one value, each command is answered alike.
 abbrev pub AnswerIsShown : Type 0
-AnswerIsShown = (rules : Rules) (one other : List Command) (command : Command)
-    → quantities rules (reverse one) ≡ quantities rules (reverse other) → answer rules one command ≡ answer rules other command
+AnswerIsShown = (rules : Rules) (one other : List Command) (command : Command) → IsHistory rules one → IsHistory rules other
+    → value_of rules (reverse one) ≡ value_of rules (reverse other) → answer rules one command ≡ answer rules other command
 
 -- Two values of one definition that show one history are equal.
 abbrev pub ShownIsOne : Type 0
-ShownIsOne = (one other : Quantities) (history : List Command)
+ShownIsOne = (one other : AuctionValue) (history : List Command)
     → one.rules ≡ other.rules → Shows one history → Shows other history → one ≡ other

@@ -11,11 +11,12 @@ pub mod HistoryLaws
 pub mod Fronts
 pub mod MachineLaws
 pub mod TextLaws
-pub mod Seen
+pub mod AuctionValue
 pub mod Values
 pub mod ValueText
 pub mod ValueLaws
 pub mod Letters
+pub mod LetterLaws
 pub mod Machine
 pub mod Refusals
 pub mod Drafts
@@ -28,4 +29,5 @@ pub mod Rows
 pub mod LineRows
 pub mod RowsOfSixtyFour
 pub mod CertificateRow
+pub mod MachineRows
 pub mod DraftRows

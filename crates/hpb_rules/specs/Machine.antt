@@ -1,19 +1,21 @@
--- The machine without a disk: how batches of letters come to be acknowledged, and what a stop may leave.
+-- The machine without a disk: how letters come to be acknowledged, and what a stop may leave.
 -- Source: this project's own.
 use Rattle.std.specs.Prelude.{◌≡◌, ℕ, suc, Bool, true, false, ◌||◌, ◌==◌, List, [], ◌∷◌, ◌++◌, Option, Some, None, if◌then◌else◌, ◌⊎◌}
 use Rattle.hpb_rules.specs.declared.command.Command.{Command}
+use Rattle.hpb_rules.specs.declared.letter.Answer.{Answer}
+use Rattle.hpb_rules.specs.declared.letter.Letter.{Letter}
 use Rattle.hpb_rules.specs.Tree.{Rules}
-use Rattle.hpb_rules.specs.Letters.{Letter, Answered, judged, new_commands}
+use Rattle.hpb_rules.specs.Letters.{judged, new_commands}
 
--- A batch in flight has its answers, at least one of which accepts a command, and the turns that it has had. At the third turn it lands.
-pub record Batch : Type 0 where
-  pub answers : List Answered
+-- What is in flight: answers, at least one of which newly accepts a command, with the turns that they have had. At the third turn they land.
+pub record Flight : Type 0 where
+  pub answers : List Answer
   pub turns : ℕ
 
--- The machine has the acknowledged commands, and a batch in flight or none.
+-- The machine has the acknowledged commands, and a flight or none.
 pub record Machine : Type 0 where
   pub acknowledged : List Command
-  pub batch : Option Batch
+  pub flight : Option Flight
 
 -- Letters are offered, or a turn is made. The device call of a turn may fail.
 pub data Event : Type 0 where
@@ -21,68 +23,78 @@ pub data Event : Type 0 where
   commit : Event
   failed_commit : Event
 
--- What an event leads to: the answers that leave, and the machine afterwards.
-pub record Outcome : Type 0 where
-  pub leaving : List Answered
+-- The effect of events: the answers that leave, and the machine afterwards.
+pub record Effect : Type 0 where
+  pub leaving : List Answer
   pub machine : Machine
 
--- The turns at which a batch has landed.
+-- The turns at which a flight has landed.
 abbrev pub landed : ℕ
 landed = 3
 
 -- The machine with nothing in flight.
 abbrev pub at_rest : List Command → Machine
-at_rest acknowledged = record { acknowledged = acknowledged; batch = None }
+at_rest acknowledged = record { acknowledged = acknowledged; flight = None }
 
--- The machine with a batch in flight.
-abbrev pub in_flight : List Command → List Answered → ℕ → Machine
-in_flight acknowledged answers turns = record { acknowledged = acknowledged; batch = Some (record { answers = answers; turns = turns }) }
+-- The machine with answers in flight that have had so many turns.
+abbrev pub in_flight : List Command → List Answer → ℕ → Machine
+in_flight acknowledged answers turns = record { acknowledged = acknowledged; flight = Some (record { answers = answers; turns = turns }) }
 
--- Where no letter is newly accepted the answers leave at once; else they are a batch.
-abbrev pub offered : List Command → List Answered → List Command → Outcome
+-- Where no letter is newly accepted the answers leave at once; else they are in flight.
+abbrev pub offered : List Command → List Answer → List Command → Effect
 offered acknowledged answers [] = record { leaving = answers; machine = at_rest acknowledged }
 offered acknowledged answers (command ∷ more) = record { leaving = []; machine = in_flight acknowledged answers 0 }
 
--- A turn of a batch. The turn after landing acknowledges it: its commands count, and all its answers leave.
--- A turn whose device call fails changes nothing, but the third one lands the batch all the same.
-abbrev pub turned : Bool → List Command → Batch → Outcome
-turned works acknowledged batch =
-    if batch.turns == landed then
-    (if works then record { leaving = batch.answers; machine = at_rest (acknowledged ++ new_commands batch.answers) }
-    else record { leaving = []; machine = in_flight acknowledged batch.answers landed })
+-- A turn of a flight. The turn after landing acknowledges it: its commands count, and all its answers leave.
+-- A turn whose device call fails changes nothing, but the third one lands the flight all the same.
+abbrev pub turned : Bool → List Command → Flight → Effect
+turned works acknowledged flight =
+    if flight.turns == landed then
+    (if works then record { leaving = flight.answers; machine = at_rest (acknowledged ++ new_commands flight.answers) }
+    else record { leaving = []; machine = in_flight acknowledged flight.answers landed })
     else
-    (if works || (suc batch.turns == landed) then record { leaving = []; machine = in_flight acknowledged batch.answers (suc batch.turns) }
-    else record { leaving = []; machine = in_flight acknowledged batch.answers batch.turns })
+    (if works || (suc flight.turns == landed) then record { leaving = []; machine = in_flight acknowledged flight.answers (suc flight.turns) }
+    else record { leaving = []; machine = in_flight acknowledged flight.answers flight.turns })
 
--- A turn where a batch is in flight. Without one nothing happens.
-abbrev pub turn : Bool → Machine → Outcome
-turn works machine = elim machine.batch [ None ↦ record { leaving = []; machine = machine } | Some batch ↦ turned works machine.acknowledged batch ]
+-- A turn of the machine. With nothing in flight nothing happens.
+abbrev pub turn : Bool → Machine → Effect
+turn works machine = elim machine.flight [ None ↦ record { leaving = []; machine = machine } | Some flight ↦ turned works machine.acknowledged flight ]
 
--- Letters where nothing is in flight. With a batch in flight nothing happens.
-abbrev pub take_letters : Rules → Machine → List Letter → Outcome
-take_letters rules machine letters = elim machine.batch [
+-- Letters where nothing is in flight. During a flight nothing happens.
+abbrev pub take_letters : Rules → Machine → List Letter → Effect
+take_letters rules machine letters = elim machine.flight [
   | None ↦ (let answers = judged rules machine.acknowledged letters in offered machine.acknowledged answers (new_commands answers))
-  | Some batch ↦ record { leaving = []; machine = machine }
+  | Some flight ↦ record { leaving = []; machine = machine }
 ]
 
--- One event.
-abbrev pub step : Rules → Machine → Event → Outcome
-step rules machine (offer letters) = take_letters rules machine letters
-step rules machine commit = turn true machine
-step rules machine failed_commit = turn false machine
+-- The effect of one event.
+abbrev pub effect_of : Rules → Machine → Event → Effect
+effect_of rules machine (offer letters) = take_letters rules machine letters
+effect_of rules machine commit = turn true machine
+effect_of rules machine failed_commit = turn false machine
 
--- Events one after another, with all answers that leave.
-abbrev pub run : Rules → Machine → List Event → Outcome
+-- The effect of events one after another, with all answers that leave.
+abbrev pub run : Rules → Machine → List Event → Effect
 run rules machine [] = record { leaving = []; machine = machine }
-run rules machine (event ∷ events) =
-    let first = step rules machine event in
+run rules machine (what ∷ events) =
+    let first = effect_of rules machine what in
     let rest = run rules first.machine events in
     record { leaving = first.leaving ++ rest.leaving; machine = rest.machine }
 
--- What may stand after a stop: the acknowledged commands, or, once a batch has landed, these with its commands.
+-- What may stand after a stop: the acknowledged commands, or, once a flight has landed, these with its commands.
 abbrev pub MayStand : Machine → List Command → Type 0
-MayStand machine history = elim machine.batch [
+MayStand machine history = elim machine.flight [
   | None ↦ history ≡ machine.acknowledged
-  | Some batch ↦ (history ≡ machine.acknowledged)
-      ⊎ ((batch.turns ≡ landed) × (history ≡ machine.acknowledged ++ new_commands batch.answers))
+  | Some flight ↦ (history ≡ machine.acknowledged)
+      ⊎ ((flight.turns ≡ landed) × (history ≡ machine.acknowledged ++ new_commands flight.answers))
 ]
+
+-- One move of the machine, with the answers that leave: an event, or a stop, after which it is at rest with what may stand.
+pub data Moves (rules : Rules) : Machine → List Answer → Machine → Type 0 where
+  event : {before : Machine} (what : Event) → Moves rules before (effect_of rules before what).leaving (effect_of rules before what).machine
+  stop : {before : Machine} {history : List Command} → MayStand before history → Moves rules before [] (at_rest history)
+
+-- Moves one after another, with all answers that leave.
+pub data Reaches (rules : Rules) : Machine → List Answer → Machine → Type 0 where
+  here : {machine : Machine} → Reaches rules machine [] machine
+  further : {before between after : Machine} {leaving more : List Answer} → Moves rules before leaving between → Reaches rules between more after → Reaches rules before (leaving ++ more) after

@@ -1,27 +1,51 @@
--- The law of the machine without a disk.
-use Rattle.std.specs.Prelude.{◌≡◌, List, Some, All}
+-- The laws of the machine without a disk.
+use Rattle.std.specs.Prelude.{◌≡◌, ◌<◌, ◌≤◌, List, ◌++◌, Some, length, All}
 use Rattle.hpb_rules.specs.declared.command.Command.{Command}
+use Rattle.hpb_rules.specs.declared.letter.Answer.{Answer}
+use Rattle.hpb_rules.specs.declared.letter.Letter.{Letter}
 use Rattle.hpb_rules.specs.Tree.{Rules}
 use Rattle.hpb_rules.specs.Answer.{IsHistory}
 use Rattle.hpb_rules.specs.Fronts.{IsFront}
-use Rattle.hpb_rules.specs.Letters.{Letter, Fits, judged}
-use Rattle.hpb_rules.specs.Machine.{Batch, Machine, Event, run, MayStand}
+use Rattle.hpb_rules.specs.Letters.{Fits, judged, new_commands}
+use Rattle.hpb_rules.specs.Machine.{Flight, Machine, Event, landed, at_rest, run, MayStand, Reaches}
 
--- A machine is sound where its acknowledged commands are a history, and a batch in flight has the answers of letters judged after these.
+-- A flight is sound after acknowledged commands where its answers are those of letters judged after these, at least one of them newly accepts a command,
+-- and it has had at most three turns.
+pub record IsSoundFlight (rules : Rules) (acknowledged : List Command) (flight : Flight) : Type 0 where
+  pub letters : List Letter
+  pub answers : flight.answers ≡ judged rules acknowledged letters
+  pub accepts : 0 < length (new_commands flight.answers)
+  pub turns : flight.turns ≤ landed
+
+-- A machine is sound where its acknowledged commands are a history, and what is in flight is sound after these.
 pub record IsSound (rules : Rules) (machine : Machine) : Type 0 where
   pub history : IsHistory rules machine.acknowledged
-  pub answers : (batch : Batch) → machine.batch ≡ Some batch
-      → (letters : List Letter) × (batch.answers ≡ judged rules machine.acknowledged letters)
+  pub flying : (flight : Flight) → machine.flight ≡ Some flight → IsSoundFlight rules machine.acknowledged flight
 
--- What events keep: the machine stays sound, the acknowledged commands only grow, what may stand after a stop is a history that begins
--- with them, and each answer that has left fits them.
-pub record Keeps (rules : Rules) (before : Machine) (events : List Event) : Type 0 where
-  pub sound : IsSound rules (run rules before events).machine
-  pub grows : IsFront before.acknowledged (run rules before events).machine.acknowledged
-  pub stands : (history : List Command) → MayStand (run rules before events).machine history
-      → IsHistory rules history × IsFront (run rules before events).machine.acknowledged history
-  pub fits : All (Fits rules (run rules before events).machine.acknowledged) (run rules before events).leaving
+-- At rest with a history a machine is sound.
+abbrev pub RestIsSound : Type 0
+RestIsSound = (rules : Rules) (history : List Command) → IsHistory rules history → IsSound rules (at_rest history)
 
--- Every list of events keeps this, from every sound machine on.
+-- What leads from one machine to another is durable where the machine is sound afterwards, the acknowledged commands have only grown,
+-- what may stand after a stop is a history that begins with them, and each answer that has left fits them.
+pub record IsDurable (rules : Rules) (before : Machine) (leaving : List Answer) (after : Machine) : Type 0 where
+  pub sound : IsSound rules after
+  pub grows : IsFront before.acknowledged after.acknowledged
+  pub stands : (history : List Command) → MayStand after history → IsHistory rules history × IsFront after.acknowledged history
+  pub fits : All (Fits rules after.acknowledged) leaving
+
+-- Moves one after another, stops among them, are durable from every sound machine on.
 abbrev pub MachineKeeps : Type 0
-MachineKeeps = (rules : Rules) (before : Machine) (events : List Event) → IsSound rules before → Keeps rules before events
+MachineKeeps = (rules : Rules) (before after : Machine) (leaving : List Answer)
+    → IsSound rules before → Reaches rules before leaving after → IsDurable rules before leaving after
+
+-- Events one after another are moves.
+abbrev pub RunIsMoves : Type 0
+RunIsMoves = (rules : Rules) (before : Machine) (events : List Event) → Reaches rules before (run rules before events).leaving (run rules before events).machine
+
+-- Events and then more have the effect of the events, and then that of more from the machine after them.
+abbrev pub RunJoins : Type 0
+RunJoins = (rules : Rules) (machine : Machine) (events more : List Event)
+    → let first = run rules machine events in let rest = run rules first.machine more in
+    ((run rules machine (events ++ more)).leaving ≡ first.leaving ++ rest.leaving)
+    × ((run rules machine (events ++ more)).machine ≡ rest.machine)

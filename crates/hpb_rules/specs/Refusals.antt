@@ -1,6 +1,6 @@
 -- The number and the word of each refusal.
 -- Source: this project's own.
-use Rattle.std.specs.Prelude.{ℕ, List, codes}
+use Rattle.std.specs.Prelude.{ℕ, Bool, List, [], ◌∷◌, Option, Some, None, codes, if◌then◌else◌}
 use Rattle.hpb_rules.specs.declared.refusal.Refusal.{Refusal}
 use Rattle.hpb_rules.specs.declared.refusal.Refusal.TheVariants as refusals
 
@@ -42,3 +42,8 @@ number_of refusal = (told refusal).0
 -- The word of a refusal.
 abbrev pub word_of : Refusal → List ℕ
 word_of refusal = (told refusal).1
+
+-- Of tests with their refusals the refusal of the first that applies.
+abbrev pub first_that_applies : List (Bool × Refusal) → Option Refusal
+first_that_applies [] = None
+first_that_applies (test ∷ tests) = if test.0 then Some test.1 else first_that_applies tests

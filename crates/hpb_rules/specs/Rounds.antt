@@ -51,6 +51,11 @@ abbrev pub last_of : List Command → Sender → Option (Command × ℕ)
 last_of [] sender = None
 last_of (command ∷ past) sender = cond (is_from sender command) (Some (command, suc (length past))) (last_of past sender)
 
+-- The ticket of a sender's last command, and 0 where it has none.
+abbrev pub ticket_of_last : Option (Command × ℕ) → ℕ
+ticket_of_last None = 0
+ticket_of_last (Some last) = ticket_of last.0
+
 -- The open round is what came after the last close.
 abbrev pub open_round : List Command → List Command
 open_round [] = []
@@ -70,6 +75,12 @@ abbrev pub is_bid : Command → Bool
 is_bid (Bid from ticket node amount) = true
 is_bid (Close ticket) = false
 is_bid (Stage ticket) = false
+
+-- Whether a command closes a round.
+abbrev pub is_close : Command → Bool
+is_close (Bid from ticket node amount) = false
+is_close (Close ticket) = true
+is_close (Stage ticket) = false
 
 -- Whether a command moves to the next stage.
 abbrev pub is_stage : Command → Bool

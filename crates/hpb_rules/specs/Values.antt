@@ -1,60 +1,66 @@
--- What a value answers and becomes, by what it shows alone and without a history.
+-- What follows from a value: its winners, prices, minima and revenue, what it answers, and what it becomes. No history is asked.
 -- Source: this project's own. The laws say that it is what the history says.
-use Rattle.std.specs.Prelude.{ℕ, suc, ◌+◌, ◌-◌, ◌*◌, ◌/◌, ◌%◌, Bool, true, false, cond, not, ◌||◌, ◌&&◌, ◌==◌, nat_lt, nat_le, List, [], ◌∷◌, map, min, Option, Some, None, length, slice_index, slice_index_or, slice_set, if◌then◌else◌}
+use Rattle.std.specs.Prelude.{ℕ, suc, ◌+◌, ◌-◌, ◌*◌, ◌/◌, Bool, true, false, cond, not, ◌||◌, ◌&&◌, ◌==◌, List, [], ◌∷◌, map, min, Option, Some, None, length, slice_index, slice_index_or, slice_set, if◌then◌else◌}
 use Rattle.std.specs.List.{list_any, range_with_len}
 use Rattle.hpb_rules.specs.declared.command.Command.{Command}
 use Rattle.hpb_rules.specs.declared.command.Command.TheVariants.{Bid, Close, Stage}
 use Rattle.hpb_rules.specs.declared.reply.Reply.{Reply}
-use Rattle.hpb_rules.specs.declared.reply.TheConstants.{MOST_AMOUNT}
 use Rattle.hpb_rules.specs.declared.refusal.Refusal.{Refusal}
-use Rattle.hpb_rules.specs.declared.refusal.Refusal.TheVariants as refusals
 use Rattle.hpb_rules.specs.Tree.{Rules, places, sum_over, at_or_under, units_at}
 use Rattle.hpb_rules.specs.Choices.{is_in, winners, revenue}
 use Rattle.hpb_rules.specs.Prices.{price, minimum}
-use Rattle.hpb_rules.specs.Rounds.{Sender, bidder, auctioneer, sender_of, ticket_of, amount_of, is_of, greater}
-use Rattle.hpb_rules.specs.Answer.{unknown, repeated, reply_by, is_reply_new}
-use Rattle.hpb_rules.specs.Seen.{NodeView, BidderView, SenderView, Quantities, quantities}
+use Rattle.hpb_rules.specs.Rounds.{Sender, bidder, auctioneer, sender_of, ticket_of, ticket_of_last, amount_of, is_of, greater}
+use Rattle.hpb_rules.specs.Answer.{unknown, repeated, reply_by, bid_fault, stage_fault, is_reply_new}
+use Rattle.hpb_rules.specs.AuctionValue.{NodeBids, BidderState, AuctionValue, value_of}
 
--- A node of which nothing is known.
-abbrev pub no_node : NodeView
-no_node = record { high = None; incoming = None; wins = false; price = 0; minimum = 0 }
+-- A node without a bid.
+abbrev pub no_bids : NodeBids
+no_bids = record { high = None; incoming = None }
 
--- A bidder of which nothing is known.
-abbrev pub no_bidder : BidderView
-no_bidder = record { eligibility = 0; bid_on = [] }
+-- A bidder that may do nothing and has done nothing.
+abbrev pub no_bidder : BidderState
+no_bidder = record { eligibility = 0; bid_on = []; last = None }
 
--- A sender that has sent nothing.
-abbrev pub no_sender : SenderView
-no_sender = record { ticket = 0; last = None }
+-- The bids on a node.
+abbrev pub node_at : AuctionValue → ℕ → NodeBids
+node_at value node = slice_index_or value.nodes node no_bids
 
--- What a value shows of a node.
-abbrev pub node_at : Quantities → ℕ → NodeView
-node_at value node = slice_index_or value.nodes node no_node
-
--- What a value shows of a bidder.
-abbrev pub bidder_at : Quantities → ℕ → BidderView
+-- Where a bidder stands.
+abbrev pub bidder_at : AuctionValue → ℕ → BidderState
 bidder_at value from = slice_index_or value.bidders from no_bidder
 
--- What a value shows of a sender.
-abbrev pub sender_at : Quantities → Sender → SenderView
-sender_at value (bidder from) = slice_index_or value.senders from no_sender
-sender_at value auctioneer = value.auctioneer
+-- A sender's last command, with its number.
+abbrev pub last_at : AuctionValue → Sender → Option (Command × ℕ)
+last_at value (bidder from) = (bidder_at value from).last
+last_at value auctioneer = value.auctioneer
+
+-- A sender's last ticket: that of its last command.
+abbrev pub ticket_at : AuctionValue → Sender → ℕ
+ticket_at value sender = ticket_of_last (last_at value sender)
 
 -- The amount of a node's high bid, and 0 where it has none.
-abbrev pub bid_of : Quantities → ℕ → ℕ
-bid_of value node = amount_of (node_at value node).high
+abbrev pub high_bid_in : AuctionValue → ℕ → ℕ
+high_bid_in value node = amount_of (node_at value node).high
+
+-- The nodes that win by the high bids.
+abbrev pub wins_in : AuctionValue → List Bool
+wins_in value = winners value.rules.nodes (high_bid_in value)
+
+-- The sum of the winning bids.
+abbrev pub revenue_in : AuctionValue → ℕ
+revenue_in value = revenue (high_bid_in value) (wins_in value)
 
 -- The price of a node.
-abbrev pub price_of : Quantities → ℕ → ℕ
-price_of value node = (node_at value node).price
+abbrev pub price_in : AuctionValue → ℕ → ℕ
+price_in value node = price value.rules.nodes (high_bid_in value) node
 
--- The nodes that win.
-abbrev pub wins_of : Quantities → List Bool
-wins_of value = map (λ (node : NodeView). node.wins) value.nodes
+-- The least amount that may be bid on a node.
+abbrev pub minimum_in : AuctionValue → ℕ → ℕ
+minimum_in value node = minimum value.rules (high_bid_in value) node
 
 -- Whether a bidder is active on a node: it bid on it in the open round, or it won it at the last close.
-abbrev pub is_active : Quantities → ℕ → ℕ → Bool
-is_active value from node = slice_index_or (bidder_at value from).bid_on node false || ((node_at value node).wins && is_of from (node_at value node).high)
+abbrev pub is_active : AuctionValue → ℕ → ℕ → Bool
+is_active value from node = slice_index_or (bidder_at value from).bid_on node false || (is_in (wins_in value) node && is_of from (node_at value node).high)
 
 -- The units of the licences at or under the nodes that pass a test: each licence once.
 abbrev pub units_under : Rules → (ℕ → Bool) → ℕ
@@ -62,102 +68,87 @@ units_under rules test =
     sum_over rules.nodes (λ licence. list_any (λ node. at_or_under rules.nodes node licence && test node) (places rules.nodes)) (units_at rules.nodes)
 
 -- A bidder's activity.
-abbrev pub activity_of : Quantities → ℕ → ℕ
-activity_of value from = units_under value.rules (is_active value from)
+abbrev pub activity_in : AuctionValue → ℕ → ℕ
+activity_in value from = units_under value.rules (is_active value from)
 
 -- A bidder's activity with one node more.
-abbrev pub activity_with : Quantities → ℕ → ℕ → ℕ
-activity_with value from on = units_under value.rules (λ node. (on == node) || is_active value from node)
+abbrev pub activity_with_bid : AuctionValue → ℕ → ℕ → ℕ
+activity_with_bid value from on = units_under value.rules (λ node. (on == node) || is_active value from node)
 
 -- What is wrong with a new command.
-abbrev pub fault_in : Quantities → Command → Option Refusal
+abbrev pub fault_in : AuctionValue → Command → Option Refusal
 fault_in value (Bid from ticket on amount) =
-    if not (amount % value.rules.step == 0) then Some refusals.Step else
-    (if nat_lt amount (node_at value on).minimum then Some refusals.Low else
-    (if nat_lt MOST_AMOUNT amount then Some refusals.High else
-    (if slice_index_or (bidder_at value from).bid_on on false then Some refusals.Again else
-    (if nat_lt (bidder_at value from).eligibility (activity_with value from on) then Some refusals.Eligibility else None))))
+    bid_fault value.rules.step amount (minimum_in value on) (slice_index_or (bidder_at value from).bid_on on false)
+    (bidder_at value from).eligibility (activity_with_bid value from on)
 fault_in value (Close ticket) = None
-fault_in value (Stage ticket) = if nat_le (length value.rules.stages) value.stage then Some refusals.Stage else None
+fault_in value (Stage ticket) = stage_fault (length value.rules.stages) value.stage
 
 -- What a value answers to a command.
-abbrev pub reply_in : Quantities → Command → Reply
+abbrev pub reply_in : AuctionValue → Command → Reply
 reply_in value command =
-    let sender = sender_at value (sender_of command) in
-    reply_by (unknown value.rules command) (ticket_of command) sender.ticket (repeated command sender.last) value.count value.over (fault_in value command)
+    let last = last_at value (sender_of command) in
+    reply_by (unknown value.rules command) (ticket_of command) (ticket_of_last last) (repeated command last) value.count value.over (fault_in value command)
 
--- A sender with one command more.
-abbrev pub counted : Quantities → Command → SenderView
-counted value command = record { ticket = suc (sender_at value (sender_of command)).ticket; last = Some (command, suc value.count) }
+-- A command with the number that it gets where it is newly accepted.
+abbrev pub numbered : AuctionValue → Command → Command × ℕ
+numbered value command = (command, suc value.count)
 
--- A node with one bid more in the open round.
-abbrev pub bid_on_node : NodeView → ℕ → ℕ → NodeView
-bid_on_node node from amount = record node { incoming = greater node.incoming (Some (record { amount = amount; bidder = from })) }
+-- The bids on a node with one more in the open round.
+abbrev pub with_bid : NodeBids → ℕ → ℕ → NodeBids
+with_bid bids from amount = record bids { incoming = greater bids.incoming (Some (record { amount = amount; bidder = from })) }
 
--- A bidder with a bid on one node more.
-abbrev pub bid_of_bidder : BidderView → ℕ → BidderView
-bid_of_bidder view on = record view { bid_on = slice_set view.bid_on on true }
+-- Where a bidder stands after a bid on a node.
+abbrev pub after_bid : BidderState → ℕ → Command × ℕ → BidderState
+after_bid state on last = record state { bid_on = slice_set state.bid_on on true; last = Some last }
 
 -- Whether somebody bid in the open round.
-abbrev pub has_bid : Quantities → Bool
-has_bid value = list_any (λ (view : BidderView). list_any (λ flag. flag) view.bid_on) value.bidders
+abbrev pub has_open_bid : AuctionValue → Bool
+has_open_bid value = list_any (λ (state : BidderState). list_any (λ flag. flag) state.bid_on) value.bidders
 
--- The high bid of a node after a close.
-abbrev pub closed_bid : Quantities → ℕ → ℕ
-closed_bid value node = amount_of (greater (node_at value node).high (node_at value node).incoming)
+-- The bids on a node after a close: the greater of both is its high bid.
+abbrev pub closed_node : AuctionValue → ℕ → NodeBids
+closed_node value node = record { high = greater (node_at value node).high (node_at value node).incoming; incoming = None }
 
--- A node after a close.
-abbrev pub closed_node : Quantities → ℕ → NodeView
-closed_node value node = record {
-  high = greater (node_at value node).high (node_at value node).incoming;
-  incoming = None;
-  wins = is_in (winners value.rules.nodes (closed_bid value)) node;
-  price = price value.rules.nodes (closed_bid value) node;
-  minimum = minimum value.rules (closed_bid value) node;
-}
-
--- A bidder after a close.
-abbrev pub closed_bidder : Quantities → ℕ → BidderView
-closed_bidder value from = record {
-  eligibility = min (bidder_at value from).eligibility (activity_of value from * 100 / slice_index value.rules.stages (value.stage - 1));
+-- Where a bidder stands after a close: its eligibility is what its activity allows.
+abbrev pub closed_bidder : AuctionValue → ℕ → BidderState
+closed_bidder value from = record (bidder_at value from) {
+  eligibility = min (bidder_at value from).eligibility (activity_in value from * 100 / slice_index value.rules.stages (value.stage - 1));
   bid_on = map (λ node. false) (places value.rules.nodes);
 }
 
 -- A value after the end of its round, before the command that ends it is counted.
-abbrev pub closed_value : Quantities → Quantities
+abbrev pub closed_value : AuctionValue → AuctionValue
 closed_value value = record value {
   nodes = map (closed_node value) (places value.rules.nodes);
   bidders = map (closed_bidder value) (range_with_len 0 (length value.rules.bidders));
-  revenue = revenue (closed_bid value) (winners value.rules.nodes (closed_bid value));
-  round = cond (has_bid value) 1 0 + value.round;
-  over = not (has_bid value) || value.over;
+  round = cond (has_open_bid value) 1 0 + value.round;
+  over = not (has_open_bid value) || value.over;
 }
 
 -- What a value becomes by a command that it newly accepts.
-abbrev pub changed : Quantities → Command → Quantities
+abbrev pub changed : AuctionValue → Command → AuctionValue
 changed value (Bid from ticket on amount) = record value {
-  nodes = slice_set value.nodes on (bid_on_node (node_at value on) from amount);
-  bidders = slice_set value.bidders from (bid_of_bidder (bidder_at value from) on);
-  senders = slice_set value.senders from (counted value (Bid from ticket on amount));
+  nodes = slice_set value.nodes on (with_bid (node_at value on) from amount);
+  bidders = slice_set value.bidders from (after_bid (bidder_at value from) on (numbered value (Bid from ticket on amount)));
   count = suc value.count;
 }
-changed value (Close ticket) = record (closed_value value) { auctioneer = counted value (Close ticket); count = suc value.count }
-changed value (Stage ticket) = record value { auctioneer = counted value (Stage ticket); stage = suc value.stage; count = suc value.count }
+changed value (Close ticket) = record (closed_value value) { auctioneer = Some (numbered value (Close ticket)); count = suc value.count }
+changed value (Stage ticket) = record value { auctioneer = Some (numbered value (Stage ticket)); stage = suc value.stage; count = suc value.count }
 
 -- The value after a command: changed where the command is newly accepted, and else as it was.
-abbrev pub next_value : Quantities → Command → Quantities
+abbrev pub next_value : AuctionValue → Command → AuctionValue
 next_value value command = if is_reply_new value.count (reply_in value command) then changed value command else value
 
 -- The value at the beginning.
-abbrev pub first_value : Rules → Quantities
-first_value rules = quantities rules []
+abbrev pub first_value : Rules → AuctionValue
+first_value rules = value_of rules []
 
 -- The value after commands one after another.
-abbrev pub value_after : Quantities → List Command → Quantities
+abbrev pub value_after : AuctionValue → List Command → AuctionValue
 value_after value [] = value
 value_after value (command ∷ commands) = value_after (next_value value command) commands
 
 -- What a value answers to commands one after another.
-abbrev pub replies_in : Quantities → List Command → List Reply
+abbrev pub replies_in : AuctionValue → List Command → List Reply
 replies_in value [] = []
 replies_in value (command ∷ commands) = reply_in value command ∷ replies_in (next_value value command) commands

@@ -1,9 +1,30 @@
-ghost use Rattle.hpb_rules.specs.HistoryLaws.{AcceptedIsNew, PercentageIsKnown, HistoryGrows, FrontIsHistory, RepeatChangesNothing, AnswerIsShown, ShownIsOne};
+ghost use Rattle.hpb_rules.specs.HistoryLaws.{AcceptedIsNew, BidsMeetRules, TicketsCount, LastStands, SameIsEqual, PercentageIsKnown, HistoryGrows, FrontIsHistory, RepeatChangesNothing, AnswerIsShown, ShownIsOne};
 
 /// A command is accepted under the next number exactly where its names are known, it bears its sender's next ticket,
 /// there is room for it, the auction is not over, and nothing is wrong with it.
 pub fn accepted_is_new()
     ensures { AcceptedIsNew }
+{}
+
+/// Each bid's bidder and node are the definition's, and its amount is a multiple of the step, at least the node's
+/// opening, more than 0, and at most the greatest amount that there is.
+pub fn bids_meet_rules()
+    ensures { BidsMeetRules }
+{}
+
+/// A sender's tickets count its commands.
+pub fn tickets_count()
+    ensures { TicketsCount }
+{}
+
+/// The last command of a sender stands under its number, and no later one is the sender's.
+pub fn last_stands()
+    ensures { LastStands }
+{}
+
+/// Two commands are the same exactly where they are equal, and so are two senders.
+pub fn same_is_equal()
+    ensures { SameIsEqual }
 {}
 
 /// In a history of a definition that is not refused the stage in force has a percentage from 50 to 100.

@@ -1,4 +1,4 @@
-ghost use Rattle.hpb_rules.specs.ValueLaws.{ReplyIsAnswer, NextIsShown, RunIsShown, TextIsShown, RunIsBestChoice};
+ghost use Rattle.hpb_rules.specs.ValueLaws.{ReplyIsAnswer, NextIsShown, RunIsShown, TextIsShown, ValueIsBestChoice};
 
 /// A value that shows a history answers each command as the history does.
 pub fn reply_is_answer()
@@ -11,7 +11,8 @@ pub fn next_is_shown()
     ensures { NextIsShown }
 {}
 
-/// Over a whole run from the beginning the replies are those of the history, and the value shows it.
+/// Over a whole run from a value on the replies are those of the history that it shows, and the value at the end
+/// shows the longer history.
 pub fn run_is_shown()
     ensures { RunIsShown }
 {}
@@ -21,8 +22,8 @@ pub fn text_is_shown()
     ensures { TextIsShown }
 {}
 
-/// At each point of a run under a definition that is not refused, the winners that are shown are disjoint high
-/// bids of the greatest total, and the prices that are shown prove it.
-pub fn run_is_best_choice()
-    ensures { RunIsBestChoice }
+/// Of every value under a definition that is not refused, the winners are disjoint high bids of the greatest
+/// total, and the prices prove it.
+pub fn value_is_best_choice()
+    ensures { ValueIsBestChoice }
 {}

@@ -9,10 +9,12 @@ mod command;
 mod id;
 mod laws;
 mod laws_of_history;
+mod laws_of_letters;
 mod laws_of_machine;
 mod laws_of_rounds;
 mod laws_of_text;
 mod laws_of_values;
+mod letter;
 mod licence;
 mod refusal;
 mod reply;
@@ -26,17 +28,23 @@ pub use laws::{
     revenue_is_greatest, shares_are_one, test_decides, winners_are_one,
 };
 pub use laws_of_history::{
-    accepted_is_new, answer_is_shown, front_is_history, history_grows, percentage_is_known,
-    repeat_changes_nothing, shown_is_one,
+    accepted_is_new, answer_is_shown, bids_meet_rules, front_is_history, history_grows,
+    last_stands, percentage_is_known, repeat_changes_nothing, same_is_equal, shown_is_one,
+    tickets_count,
 };
-pub use laws_of_machine::machine_keeps;
-pub use laws_of_rounds::{close_takes_greater, eligibility_is_greatest, greatest_is_first};
+pub use laws_of_letters::{fits_grow, history_after_appends, judged_is_answered, judged_join};
+pub use laws_of_machine::{machine_keeps, rest_is_sound, run_is_moves, run_joins, stops};
+pub use laws_of_rounds::{
+    close_takes_greater, eligibility_is_greatest, greatest_is_first, high_is_greatest,
+    incoming_is_greatest, over_is_quiet_round, rounds_are_cut,
+};
 pub use laws_of_text::{
     lines_keep_history, lines_text_joins, script_text_grows, script_text_is_one, spelling_is_one,
 };
 pub use laws_of_values::{
-    next_is_shown, reply_is_answer, run_is_best_choice, run_is_shown, text_is_shown,
+    next_is_shown, reply_is_answer, run_is_shown, text_is_shown, value_is_best_choice,
 };
+pub use letter::{Answer, Letter};
 pub use licence::Terms;
 pub use refusal::Refusal;
 pub use reply::{MOST_AMOUNT, MOST_COMMANDS, Reply};

@@ -1,34 +1,33 @@
--- What follows for rules that aren't refused.
-use Rattle.std.proofs.Common.{zero, suc, ◌≡◌, ℕ, ◌<◌, ◌≤◌, Bool, true, false, cond, not, List, [], ◌∷◌, length, get_or, Option, Some, None, refl, ap, ◌∙◌, arith}
+-- What follows for rules that are not refused.
+use Rattle.std.proofs.Common.{zero, suc, ◌≡◌, ℕ, ◌<◌, ◌≤◌, Bool, true, false, not, List, [], ◌∷◌, length, get_or, Option, Some, None, refl, ap, ◌∙◌, arith}
 use Rattle.std.specs.List.{list_any, slice_get}
 use Rattle.std.proofs.lemmas.Bool.{or_parts, not-false, and_parts, leb-true, ltb-false, both_ways, false_from_ne_true}
 use Rattle.std.proofs.lemmas.List.{length-map, get_or-map}
 use Rattle.std.proofs.lemmas.List.Folds.{list_any_at}
 use Rattle.hpb_rules.specs.declared.id.TheConstants.{MOST_NODES, MOST_BIDDERS}
 use Rattle.hpb_rules.specs.declared.licence.Terms.{Terms}
-use Rattle.hpb_rules.specs.Drafts.{is_within, is_empty, is_name, has_bad_number, lacks_something, has_bad_name, has_late_parent, has_thin_package, has_licence_with_child, are_bad_terms}
+use Rattle.hpb_rules.specs.Drafts.{is_within, is_empty, is_name, has_bad_number, lacks_something, has_bad_name, has_duplicate, has_late_parent, has_thin_package, has_licence_with_child, is_over_limits, are_bad_terms, has_bad_terms, draft_faults, draft_refusal}
 use Rattle.hpb_rules.specs.Lines.{node_named, bidder_named}
 use Rattle.hpb_rules.specs.Text.{node_name, bidder_name}
-use Rattle.hpb_rules.specs.Tree.{Rules, Node, Bidder, terms_of, units_at, opening_at}
+use Rattle.hpb_rules.specs.Tree.{Rules, Node, Bidder, places, terms_of, units_at, opening_at}
+use Rattle.hpb_rules.proofs.Accepted.{fault_at, no_fault}
+use Rattle.hpb_rules.proofs.Places.{none_at, terms_in}
 use Rattle.hpb_tree.specs.declared.tree.TheConstants.{MOST_STEP, MOST_PERCENT, MOST_LICENCES, MOST_LICENCE_UNITS, MOST_LICENCE_OPENING}
 use Rattle.hpb_tree.specs.declared.definition.TheConstants.{MOST_STAGES, LEAST_PERCENTAGE, MOST_PERCENTAGE, MOST_BIDDER_UNITS}
 use Rattle.hpb_tree.specs.declared.tree.Tree.TheInside.{Inside}
 use Rattle.hpb_tree.specs.declared.tree.TreeNode.{TreeNode}
-use Rattle.hpb_tree.specs.declared.fault.DefinitionFault.{DefinitionFault}
-use Rattle.hpb_tree.specs.declared.fault.DefinitionFault.TheVariants.{Number, Empty, Name, Duplicate, Parent, Children, Leaf, Limits, Terms as BadTerms}
 use Rattle.hpb_tree.specs.declared.draft.Draft.{Draft}
 use Rattle.hpb_tree.specs.declared.draft.BidderDraft.{BidderDraft}
 use Rattle.hpb_tree.specs.Draft.{rules_of, bidder_said, bidders_said}
 use Rattle.hpb_tree.specs.Licences.{licence_count}
 use Rattle.hpb_tree.specs.View.{nodes_view, IsSummed, IsChecked}
-use Rattle.hpb_tree.specs.Refusal.{has_duplicate, is_over_limits, has_bad_terms, refusal_of, AreSound}
-use Rattle.hpb_tree.proofs.Masks.{terms_in}
-use Rattle.hpb_tree.proofs.Places.{none_at}
-use Rattle.hpb_tree.proofs.Seen.{found_at}
+use Rattle.hpb_tree.specs.Sound.{AreSound}
+use Rattle.hpb_tree.proofs.ByPlace.{count_is, any_over_terms}
+use Rattle.hpb_tree.proofs.Twice.{found_at}
 use Rattle.hpb_tree.proofs.Sound.{is_tree}
 use Rattle.hpb_tree.proofs.Views.{length-nodes_view}
 
--- no test speaks against the rules
+-- no test of a draft speaks against the rules
 pub record Accepted (d : Rules) : Type 0 where
   pub number : has_bad_number d ≡ false
   pub lacks : lacks_something d ≡ false
@@ -40,23 +39,10 @@ pub record Accepted (d : Rules) : Type 0 where
   pub limits : is_over_limits d ≡ false
   pub terms : has_bad_terms d ≡ false
 
-none_from : (b : Bool) (x : DefinitionFault) (o : Option DefinitionFault) → cond b (Some x) o ≡ None → (b ≡ false) × (o ≡ None)
-none_from true x o e = cc
-none_from false x o e = (refl, e)
-
-pub accepted : (d : Rules) → refusal_of d ≡ None → Accepted d
-unfolding refusal_of
+pub accepted : (d : Rules) → draft_refusal d ≡ None → Accepted d
 accepted d e =
-    let number = none_from (has_bad_number d) Number _ e in
-    let lacks = none_from (lacks_something d) Empty _ number.1 in
-    let name = none_from (has_bad_name d) Name _ lacks.1 in
-    let duplicate = none_from (has_duplicate d) Duplicate _ name.1 in
-    let parent = none_from (has_late_parent d.nodes) Parent _ duplicate.1 in
-    let children = none_from (has_thin_package d.nodes) Children _ parent.1 in
-    let leaf = none_from (has_licence_with_child d.nodes) Leaf _ children.1 in
-    let limits = none_from (is_over_limits d) Limits _ leaf.1 in
-    let terms = none_from (has_bad_terms d) BadTerms None limits.1 in
-    record { number = number.0; lacks = lacks.0; name = name.0; duplicate = duplicate.0; parent = parent.0; children = children.0; leaf = leaf.0; limits = limits.0; terms = terms.0 }
+    let fails : (place : ℕ) → fault_at (draft_faults d) place ≡ false = no_fault (draft_faults d) e in
+    record { number = fails 0; lacks = fails 1; name = fails 2; duplicate = fails 3; parent = fails 4; children = fails 5; leaf = fails 6; limits = fails 7; terms = fails 8 }
 
 within_from : (least most n : ℕ) → not (is_within least most n) ≡ false → (least ≤ n) × (n ≤ most)
 within_from least most n e =
@@ -97,7 +83,7 @@ module _ (d : Rules) (a : Accepted d) where
       let four = (or_parts _ _ a.limits).0 in
       let three = (or_parts _ _ four).0 in
       let two = or_parts _ _ (or_parts _ _ three).0 in
-      ((ltb-false _ _ two.0, ltb-false _ _ two.1), (ltb-false _ _ (or_parts _ _ three).1, ltb-false _ _ (or_parts _ _ four).1))
+      ((ltb-false _ _ two.0, omega (arith, count_is d.nodes, ltb-false _ _ two.1)), (ltb-false _ _ (or_parts _ _ three).1, ltb-false _ _ (or_parts _ _ four).1))
 
   pub most_bidders : length d.bidders ≤ MOST_BIDDERS
   most_bidders = few.1.0
@@ -111,7 +97,7 @@ module _ (d : Rules) (a : Accepted d) where
       by : (t : Option Terms) → terms_of d.nodes l ≡ t → (units_at d.nodes l ≤ MOST_LICENCE_UNITS) × (opening_at d.nodes l ≤ MOST_LICENCE_OPENING)
       by None e = rw e (omega arith, omega arith)
       by (Some t) e =
-          let here : are_bad_terms d.step (terms_of d.nodes l) ≡ false = none_at (λ n. are_bad_terms d.step (terms_of d.nodes n)) (length d.nodes) l a.terms (terms_in d.nodes l (rw e refl)) in
+          let here : are_bad_terms d.step (terms_of d.nodes l) ≡ false = none_at (λ n. are_bad_terms d.step (terms_of d.nodes n)) (length d.nodes) l (any_over_terms (are_bad_terms d.step) d.nodes ∙ a.terms) (terms_in d.nodes l (rw e refl)) in
           let parts = or_parts _ _ (or_parts _ _ (rw e at here)).0 in
           rw e ((within_from 1 MOST_LICENCE_UNITS t.units parts.0).1, (within_from 1 MOST_LICENCE_OPENING t.opening parts.1).1)
 
@@ -128,8 +114,8 @@ module _ (d : Rules) (a : Accepted d) where
   }
 
   pub checked : (t : Inside) → t.step ≡ d.step → t.percent ≡ d.percent → nodes_view t.nodes.items ≡ d.nodes
-      → ((i : ℕ) (n : TreeNode) → slice_get t.nodes.items i ≡ Some n → IsSummed d.nodes i n) → IsChecked t
-  checked t step percent seen sums = record {
+      → t.ids.items ≡ places d.nodes → ((i : ℕ) (n : TreeNode) → slice_get t.nodes.items i ≡ Some n → IsSummed d.nodes i n) → IsChecked t
+  checked t step percent seen ids sums = record {
     some_step = omega (arith, step_within);
     most_step = omega (arith, step_within);
     most_percent = omega (arith, percent_within);
@@ -137,6 +123,7 @@ module _ (d : Rules) (a : Accepted d) where
     most_nodes = omega (arith, ap length seen, length-nodes_view t.nodes.items, few.0.0);
     tree = rw seen (is_tree d.nodes sound);
     most_licences = rw seen few.0.1;
+    ids = rw seen ids;
     sums = λ i n e. rw seen (sums i n e);
   }
 

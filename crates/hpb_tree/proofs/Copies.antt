@@ -29,8 +29,8 @@ summed_known nodes i m n e s = record {
   rank = λ p up. ap (λ (k : Known). k.rank) e ∙ s.rank p up;
 }
 
-pub checked_copy : (old new : Inside) → new.step ≡ old.step → new.percent ≡ old.percent → AreCopies old.nodes.items new.nodes.items → IsChecked old → IsChecked new
-checked_copy old new step percent e c = record {
+pub checked_copy : (old new : Inside) → new.step ≡ old.step → new.percent ≡ old.percent → AreCopies old.nodes.items new.nodes.items → new.ids.items ≡ old.ids.items → IsChecked old → IsChecked new
+checked_copy old new step percent e ids c = record {
   some_step = omega (arith, c.some_step);
   most_step = omega (arith, c.most_step);
   most_percent = omega (arith, c.most_percent);
@@ -38,6 +38,7 @@ checked_copy old new step percent e c = record {
   most_nodes = omega (arith, count, c.most_nodes);
   tree = rw seen c.tree;
   most_licences = rw seen c.most_licences;
+  ids = rw seen (ids ∙ c.ids);
   sums = λ i n found. rw seen (one i n found);
 }
   where

@@ -3,12 +3,12 @@ use Rattle.std.proofs.Common.{◌≡◌, ℕ, ◌<◌, ◌≤◌, length, get_or
 use Rattle.std.specs.List.{All}
 use Rattle.std.proofs.lemmas.List.{length-map, get_or-map}
 use Rattle.hpb_rules.specs.declared.id.TheConstants.{MOST_BIDDERS}
+use Rattle.hpb_rules.specs.Drafts.{draft_refusal}
 use Rattle.hpb_rules.specs.Tree.{Rules, Bidder}
 use Rattle.hpb_tree.specs.declared.definition.TheConstants.{MOST_STAGES, LEAST_PERCENTAGE, MOST_PERCENTAGE, MOST_BIDDER_UNITS}
 use Rattle.hpb_tree.specs.declared.definition.Bidder.{Bidder as Entry}
 use Rattle.hpb_tree.specs.declared.definition.Definition.TheInside.{Inside}
 use Rattle.hpb_tree.specs.Definition.{bidder_view, bidders_view, rules_view, IsDefined}
-use Rattle.hpb_tree.specs.Refusal.{refusal_of}
 use Rattle.hpb_tree.proofs.Accepted.{Accepted, accepted, some_stage, most_stages, stage_within, some_bidder, most_bidders, units_within}
 
 pub record Kept (d : Inside) : Type 0 where
@@ -47,4 +47,4 @@ kept d e = record {
 
 -- what is known of the value of a definition
 pub accepted_value : (d : Inside) (rules : Rules) → IsDefined d → rules_view d ≡ rules → Accepted rules
-accepted_value d rules e seen = accepted rules (subst (λ (r : Rules). refusal_of r ≡ None) seen e)
+accepted_value d rules e seen = accepted rules (subst (λ (r : Rules). draft_refusal r ≡ None) seen e)

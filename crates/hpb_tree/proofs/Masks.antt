@@ -1,5 +1,5 @@
 -- A mask that is filled licence by licence.
-use Rattle.std.proofs.Common.{◌≡◌, ℕ, zero, suc, ◌+◌, ◌*◌, ◌%◌, ◌<◌, ◌≤◌, ◌^◌, true, false, cond, List, [], ◌∷◌, length, bit_or, w64, refl, sym, ap, ◌∙◌, ⊎_elim, subst, lit<, arith}
+use Rattle.std.proofs.Common.{◌≡◌, ℕ, ◌+◌, ◌*◌, ◌%◌, ◌<◌, ◌≤◌, ◌^◌, true, false, cond, List, length, bit_or, w64, refl, sym, ap, ◌∙◌, ⊎_elim, subst, lit<, arith}
 use mir.Val.{bits}
 use Rattle.std.proofs.Math.Nat.{mod-eq_of_lt}
 use Rattle.std.proofs.Math.Pow.{pow-lt}
@@ -10,19 +10,14 @@ use Rattle.std.proofs.lemmas.Bool.{cases_lt, both_ways}
 use Rattle.std.proofs.lemmas.Nat.{or_lt}
 use Rattle.std.proofs.lemmas.Nat.Bits.{bit_at_above, bit_at_set_same, bit_at_set_other}
 use Rattle.hpb_rules.specs.Tree.{Node, terms_of, at_or_under}
+use Rattle.hpb_rules.proofs.Places.{sum_has, count_yes, count_no, terms_in}
 use Rattle.hpb_tree.specs.Licences.{licences_among, licence_number, IsMask}
-use Rattle.hpb_tree.proofs.Places.{sum_has, count_yes, count_no}
 
 -- the mask says which of the licences before place i are at or under node n
 pub record Filled (nodes : List Node) (n i mask number : ℕ) : Type 0 where
   pub bits : (l : ℕ) → l < i → IsSome (terms_of nodes l) → bit_at mask (licence_number nodes l) ≡ cond (at_or_under nodes n l) 1 0
   pub most : mask < 2 ^ number
   pub counted : number ≡ licences_among nodes (range_with_len 0 i)
-
-pub terms_in : (nodes : List Node) (l : ℕ) → IsSome (terms_of nodes l) → l < length nodes
-terms_in [] l some = absurd (both_ways false refl some)
-terms_in (n ∷ nodes) zero some = omega arith
-terms_in (n ∷ nodes) (suc l) some = omega (arith, terms_in nodes l some)
 
 number_before : (nodes : List Node) (l i : ℕ) → IsSome (terms_of nodes l) → l < i → licence_number nodes l < licences_among nodes (range_with_len 0 i)
 number_before nodes l i some h =

@@ -7,7 +7,7 @@ use Rattle.hpb_rules.specs.declared.licence.Terms.{Terms}
 use Rattle.hpb_rules.specs.Tree.{parent_of, terms_of, places}
 use Rattle.hpb_tree.specs.Draft.{nodes_said, node_said, terms_said}
 use Rattle.hpb_tree.specs.declared.draft.NodeDraft.{NodeDraft}
-use Rattle.hpb_tree.proofs.Places.{any_here, none_here}
+use Rattle.hpb_rules.proofs.Places.{any_here, none_here}
 
 pub parent_of-nodes_said : (ns : List NodeDraft) (i : ℕ) (d : NodeDraft) → i < length ns → parent_of (nodes_said ns) i ≡ (get_or ns i d).parent
 parent_of-nodes_said [] i d h = absurd (omega arith)

@@ -5,7 +5,7 @@ use Rattle.hpb_rules.specs.Drafts.{is_late, has_late_parent, depth_within, depth
 use Rattle.hpb_rules.specs.Tree.{Node, parent_of, at_parent, at_or_under, at_or_under_within}
 use Rattle.hpb_rules.specs.Prices.{of_parent}
 use Rattle.hpb_rules.proofs.Under.{parent_in}
-use Rattle.hpb_tree.proofs.Places.{none_at}
+use Rattle.hpb_rules.proofs.Places.{none_at}
 
 -- each parent stands before its children
 pub record Ordered (nodes : List Node) : Type 0 where

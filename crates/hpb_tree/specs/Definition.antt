@@ -1,7 +1,7 @@
 -- What the code of a definition stands for.
 use Rattle.std.specs.Prelude.{◌≡◌, List, map, None, string_bytes}
+use Rattle.hpb_rules.specs.Drafts.{draft_refusal}
 use Rattle.hpb_rules.specs.Tree.{Rules, Bidder}
-use Rattle.hpb_tree.specs.Refusal.{refusal_of}
 use Rattle.hpb_tree.specs.declared.definition.Bidder.{Bidder as Entry}
 use Rattle.hpb_tree.specs.declared.definition.Definition.TheInside.{Inside}
 
@@ -25,4 +25,4 @@ rules_view d = record {
 
 -- A definition isn't refused.
 abbrev pub IsDefined : Inside → Type 0
-IsDefined d = refusal_of (rules_view d) ≡ None
+IsDefined d = draft_refusal (rules_view d) ≡ None

@@ -1,18 +1,18 @@
--- The numbers of faults.
-use Rattle.std.specs.Prelude.{ℕ}
-use Rattle.hpb_rules.specs.declared.refusal.TheConstants.{MEMORY, NUMBER, EMPTY, NAME, DUPLICATE, PARENT, CHILDREN, LEAF, LIMITS, TERMS}
+-- The refusals that faults are told by.
+use Rattle.hpb_rules.specs.declared.refusal.Refusal.{Refusal}
+use Rattle.hpb_rules.specs.declared.refusal.Refusal.TheVariants as refusals
 use Rattle.hpb_tree.specs.declared.fault.DefinitionFault.{DefinitionFault}
-use Rattle.hpb_tree.specs.declared.fault.DefinitionFault.TheVariants.{Memory, Number, Empty, Name, Duplicate, Parent, Children, Leaf, Limits, Terms}
+use Rattle.hpb_tree.specs.declared.fault.DefinitionFault.TheVariants as faults
 
--- a fault's number in the table of refusals
-abbrev pub code_of : DefinitionFault → ℕ
-code_of Memory = MEMORY
-code_of Number = NUMBER
-code_of Empty = EMPTY
-code_of Name = NAME
-code_of Duplicate = DUPLICATE
-code_of Parent = PARENT
-code_of Children = CHILDREN
-code_of Leaf = LEAF
-code_of Limits = LIMITS
-code_of Terms = TERMS
+-- The refusal that a fault is told by.
+abbrev pub refusal_of : DefinitionFault → Refusal
+refusal_of faults.Memory = refusals.Memory
+refusal_of faults.Number = refusals.Number
+refusal_of faults.Empty = refusals.Empty
+refusal_of faults.Name = refusals.Name
+refusal_of faults.Duplicate = refusals.Duplicate
+refusal_of faults.Parent = refusals.Parent
+refusal_of faults.Children = refusals.Children
+refusal_of faults.Leaf = refusals.Leaf
+refusal_of faults.Limits = refusals.Limits
+refusal_of faults.Terms = refusals.Terms

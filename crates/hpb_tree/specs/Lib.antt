@@ -2,6 +2,5 @@ pub mod Licences
 pub mod View
 pub mod Definition
 pub mod Draft
-pub mod Refusal
+pub mod Sound
 pub mod Fault
-pub mod Laws

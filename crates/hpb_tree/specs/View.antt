@@ -41,6 +41,7 @@ pub record IsChecked (t : Inside) : Type 0 where
   pub most_nodes : length t.nodes.items ≤ MOST_NODES
   pub tree : IsTree (nodes_view t.nodes.items)
   pub most_licences : licence_count (nodes_view t.nodes.items) ≤ MOST_LICENCES
+  pub ids : t.ids.items ≡ places (nodes_view t.nodes.items)
   pub sums : (place : ℕ) (node : TreeNode) → slice_get t.nodes.items place ≡ Some node → IsSummed (nodes_view t.nodes.items) place node
 
 -- All that is known of a node.

@@ -1,24 +1,25 @@
 ghost use Rattle.std.specs.Prelude.{◌≡◌, ◌≤◌, ◌<◌, ℕ, None, Some, length, slice_get, IfOk, All};
 ghost use Rattle.std.specs.List.{range_with_len};
+ghost use Rattle.hpb_rules.specs.Drafts.{draft_refusal};
 ghost use Rattle.hpb_rules.specs.Tree.{tree_of, parent_of, terms_of};
 ghost use Rattle.hpb_rules.specs.Prices.{children_among};
 ghost use Rattle.hpb_tree.specs.View.{node_view, nodes_view, IsSummed};
 ghost use Rattle.hpb_tree.specs.declared.tree.TreeNode.{TreeNode};
 ghost use Rattle.hpb_tree.specs.Definition.{bidders_view};
 ghost use Rattle.hpb_tree.specs.Draft.{rules_of, nodes_said, bidders_said};
-ghost use Rattle.hpb_tree.specs.Refusal.{refusal_of, AreSound};
+ghost use Rattle.hpb_tree.specs.Sound.{AreSound};
 
 use crate::definition::{Bidder, Definition, MOST_BIDDER_UNITS, MOST_PERCENTAGE};
 use crate::draft::{BidderDraft, Draft, NodeDraft};
 use crate::outline::{children_before, parent_at, terms_at};
-use crate::summing::{licences, opening, units};
+use crate::summing::{licences, sums};
 use crate::tree::{Tree, TreeNode};
-use hpb_rules::{NodeId, Terms};
+use hpb_rules::{MOST_NODES, NodeId, Terms};
 use std::alloc::{AllocError, Global};
 
 /// The definition that a draft spells.
 pub(crate) fn build(alloc: Global, draft: &Draft) -> Result<Definition, AllocError>
-    requires { refusal_of (rules_of draft.now) ≡ None }
+    requires { draft_refusal (rules_of draft.now) ≡ None }
     ensures { IfOk result (λ d. d ≡ rules_of draft.now) }
 {
     let tree = build_tree(alloc, draft)?;
@@ -32,15 +33,28 @@ pub(crate) fn build(alloc: Global, draft: &Draft) -> Result<Definition, AllocErr
 }
 
 fn build_tree(alloc: Global, draft: &Draft) -> Result<Tree, AllocError>
-    requires { refusal_of (rules_of draft.now) ≡ None }
+    requires { draft_refusal (rules_of draft.now) ≡ None }
     ensures { IfOk result (λ t. t ≡ tree_of (rules_of draft.now)) }
 {
     let nodes = build_nodes(alloc, draft.nodes.as_slice())?;
     Ok(Tree {
         step: draft.step as u32,
         percent: draft.percent as u8,
+        ids: first_nodes(alloc, draft.nodes.len())?,
         nodes,
     })
+}
+
+/// So many nodes, from the first on.
+fn first_nodes(alloc: Global, count: usize) -> Result<Vec<NodeId>, AllocError>
+    requires { count ≤ MOST_NODES }
+    ensures { IfOk result (λ v. v.items ≡ range_with_len 0 count) }
+{
+    let mut ids = Vec::with_capacity(alloc, count)?;
+    for place in 0..count {
+        ids.push(NodeId::new(place))?;
+    }
+    Ok(ids)
 }
 
 fn build_nodes(alloc: Global, nodes: &[NodeDraft]) -> Result<Vec<TreeNode>, AllocError>
@@ -62,12 +76,13 @@ fn build_node(alloc: Global, nodes: &[NodeDraft], place: usize) -> Result<TreeNo
     ensures sums { IfOk result (λ n. IsSummed (nodes_said nodes.now) place n) }
 {
     let name = String::from_str(alloc, nodes[place].name.as_str())?;
+    let sums = sums(nodes, place);
     Ok(TreeNode {
         name,
         parent: parent(nodes, place),
         terms: terms(nodes, place),
-        units: units(nodes, place) as u32,
-        opening: opening(nodes, place),
+        units: sums.units as u32,
+        opening: sums.opening,
         licences: licences(nodes, place),
         children: children_before(nodes, place, nodes.len()) as u8,
         rank: rank(nodes, place) as u8,

@@ -1,8 +1,7 @@
-ghost use Rattle.std.specs.Prelude.{◌≡◌, ◌≢◌, None, Some, IfOk, IfErr, OnOk};
+ghost use Rattle.std.specs.Prelude.{◌≡◌, ◌≢◌, None, Some, IfOk, IfErr, OnOk, option_map};
 ghost use Rattle.hpb_rules.specs.Drafts.{draft_refusal};
 ghost use Rattle.hpb_tree.specs.Draft.{rules_of};
-ghost use Rattle.hpb_tree.specs.Fault.{code_of};
-ghost use Rattle.hpb_tree.specs.Refusal.{refusal_of};
+ghost use Rattle.hpb_tree.specs.Fault.{refusal_of};
 ghost use Rattle.hpb_tree.specs.declared.fault.DefinitionFault.TheVariants.{Memory};
 
 mod limits;
@@ -27,12 +26,10 @@ impl Definition {
     /// fault of the smallest number (50 to 57). Want of memory (90) may come in place of any.
     pub fn check(alloc: Global, draft: &Draft) -> Result<Definition, DefinitionFault>
         ensures ok { IfOk result (λ d. d ≡ rules_of draft.now) }
-        ensures accepted { OnOk result (refusal_of (rules_of draft.now) ≡ None) }
-        ensures refused { IfErr result (λ e. e ≢ Memory → refusal_of (rules_of draft.now) ≡ Some e) }
-        ensures draft_accepted { OnOk result (draft_refusal (rules_of draft.now) ≡ None) }
-        ensures draft_refused { IfErr result (λ e. e ≢ Memory → draft_refusal (rules_of draft.now) ≡ Some (code_of e)) }
+        ensures accepted { OnOk result (draft_refusal (rules_of draft.now) ≡ None) }
+        ensures refused { IfErr result (λ e. e ≢ Memory → draft_refusal (rules_of draft.now) ≡ Some (refusal_of e)) }
     {
-        match refusal(alloc, draft)? {
+        match first_fault(alloc, draft)? {
             Some(fault) => Err(fault),
             None => Ok(build(alloc, draft)?),
         }
@@ -40,9 +37,8 @@ impl Definition {
 }
 
 /// Why a draft is refused, if it is.
-#[tactic(auto, unfolding(crate::specs::Refusal::refusal_of))]
-pub(crate) fn refusal(alloc: Global, draft: &Draft) -> Result<Option<DefinitionFault>, AllocError>
-    ensures { IfOk result (λ r. r ≡ refusal_of (rules_of draft.now)) }
+fn first_fault(alloc: Global, draft: &Draft) -> Result<Option<DefinitionFault>, AllocError>
+    ensures { IfOk result (λ fault. option_map refusal_of fault ≡ draft_refusal (rules_of draft.now)) }
 {
     let nodes = draft.nodes.as_slice();
     if has_bad_number(draft) {

@@ -9,8 +9,8 @@ ghost use Rattle.hpb_rules.specs.Lines.{node_named, bidder_named};
 ghost use Rattle.hpb_rules.specs.Units.{bidder_units};
 ghost use Rattle.hpb_tree.specs.Definition.{bidders_view};
 ghost use Rattle.hpb_tree.specs.Licences.{IsMask, licence_count};
-ghost use Rattle.hpb_tree.specs.Refusal.{refusal_of};
 
+use crate::named::place_named;
 use crate::tree::{
     MOST_LICENCE_OPENING, MOST_LICENCE_UNITS, MOST_LICENCES, MOST_PERCENT, MOST_STEP, Tree,
 };
@@ -65,7 +65,7 @@ impl Definition {
         ensures { IfOk result (λ d. d ≡ self.now) }
     {
         let tree = self.tree.copy(alloc)?;
-        let stages = copy_stages(alloc, self.stages.as_slice())?;
+        let stages = self.stages.as_slice().to_vec(alloc)?;
         let bidders = copy_bidders(alloc, self.bidders.as_slice())?;
         Ok(Definition {
             tree,
@@ -90,22 +90,11 @@ impl Definition {
         self.tree.step()
     }
 
-    /// The percent by which a minimum is above a price, 1 to 50.
-    pub fn percent(&self) -> u8
-        ensures value { result ≡ self.now.percent }
-        ensures most { result ≤ MOST_PERCENT }
-    {
-        self.tree.percent()
-    }
-
     /// How many nodes there are, 1 to 127.
     pub fn node_count(&self) -> usize
         ensures value { result ≡ length self.now.nodes }
         ensures some { 0 < result }
         ensures most { result ≤ MOST_NODES }
-        ensures tree { IsTree self.now.nodes }
-        ensures licences { licence_count self.now.nodes ≤ MOST_LICENCES }
-        ensures accepted { refusal_of self.now ≡ None }
     {
         self.tree.node_count()
     }
@@ -125,66 +114,6 @@ impl Definition {
         ensures found { node_named self.now result.now ≡ Some node }
     {
         self.tree.name(node)
-    }
-
-    /// A node's parent, which stands before it. A top node has none.
-    pub fn parent(&self, node: NodeId) -> Option<NodeId>
-        requires { node < length self.now.nodes }
-        ensures value { result ≡ parent_of self.now.nodes node }
-        ensures before { IfSome result (λ p. p < node) }
-    {
-        self.tree.parent(node)
-    }
-
-    /// A licence's terms. A package has none.
-    pub fn terms(&self, node: NodeId) -> Option<Terms>
-        requires { node < length self.now.nodes }
-        ensures { result ≡ terms_of self.now.nodes node }
-    {
-        self.tree.terms(node)
-    }
-
-    /// The bidding units of a node: of a package the sum over its licences.
-    pub fn units(&self, node: NodeId) -> u32
-        requires { node < length self.now.nodes }
-        ensures value { result ≡ units self.now.nodes node }
-        ensures most { result ≤ MOST_LICENCES * MOST_LICENCE_UNITS }
-    {
-        self.tree.units(node)
-    }
-
-    /// The opening of a node, in whole dollars: of a package the sum over its licences.
-    pub fn opening(&self, node: NodeId) -> u64
-        requires { node < length self.now.nodes }
-        ensures value { result ≡ opening self.now.nodes node }
-        ensures most { result ≤ MOST_LICENCES * MOST_LICENCE_OPENING }
-    {
-        self.tree.opening(node)
-    }
-
-    /// The licences of a node: bit i is for the i-th licence of the definition, from 0.
-    pub fn licences(&self, node: NodeId) -> u64
-        requires { node < length self.now.nodes }
-        ensures { IsMask self.now.nodes node result }
-    {
-        self.tree.licences(node)
-    }
-
-    /// How many children a node has. A licence has none.
-    pub fn children(&self, node: NodeId) -> u64
-        requires { node < length self.now.nodes }
-        ensures { result ≡ children_among self.now.nodes node (places self.now.nodes) }
-    {
-        self.tree.children(node)
-    }
-
-    /// A node's place among its parent's children, from 0.
-    pub fn rank(&self, node: NodeId) -> u64
-        requires { node < length self.now.nodes }
-        ensures value { (p : ℕ) → parent_of self.now.nodes node ≡ Some p → result ≡ children_among self.now.nodes p (range_with_len 0 node) }
-        ensures below { (p : ℕ) → parent_of self.now.nodes node ≡ Some p → result < children_among self.now.nodes p (places self.now.nodes) }
-    {
-        self.tree.rank(node)
     }
 
     /// The percentage of each stage, 50 to 100, the first stage's first. There are 1 to 4.
@@ -268,25 +197,6 @@ impl Definition {
             None => None,
         }
     }
-}
-
-fn place_named(bidders: &[Bidder], name: &[u8]) -> Option<usize>
-    ensures value { result ≡ position (λ b. bytes_eq (string_bytes b.name) name.now) bidders.now }
-    ensures within { IfSome result (λ i. i < length bidders.now) }
-{
-    bidders
-        .iter()
-        .position(|bidder| bidder.name.as_bytes() == name)
-}
-
-fn copy_stages(alloc: Global, stages: &[u8]) -> Result<Vec<u8>, AllocError>
-    ensures { IfOk result (λ v. v.items ≡ stages.now) }
-{
-    let mut copied = Vec::with_capacity(alloc, stages.len())?;
-    for stage in stages {
-        copied.push(*stage)?;
-    }
-    Ok(copied)
 }
 
 fn copy_bidders(alloc: Global, bidders: &[Bidder]) -> Result<Vec<Bidder>, AllocError>

@@ -1,8 +1,8 @@
 ghost use Rattle.std.specs.Prelude.{◌≡◌};
 ghost use Rattle.hpb_tree.specs.declared.fault.DefinitionFault.TheVariants.{Memory};
-ghost use Rattle.hpb_tree.specs.Fault.{code_of};
+ghost use Rattle.hpb_tree.specs.Fault.{refusal_of};
 
-use hpb_rules::refusal;
+use hpb_rules::Refusal;
 use std::alloc::{AllocError, AllocFailed};
 use thiserror::Error;
 
@@ -42,21 +42,21 @@ pub enum DefinitionFault {
 }
 
 impl DefinitionFault {
-    /// Its number in the table of refusals.
-    pub fn code(self) -> u8
-        ensures { result ≡ code_of self }
+    /// The refusal that it is told by.
+    pub fn refusal(self) -> Refusal
+        ensures { result ≡ refusal_of self }
     {
         match self {
-            DefinitionFault::Memory => refusal::MEMORY,
-            DefinitionFault::Number => refusal::NUMBER,
-            DefinitionFault::Empty => refusal::EMPTY,
-            DefinitionFault::Name => refusal::NAME,
-            DefinitionFault::Duplicate => refusal::DUPLICATE,
-            DefinitionFault::Parent => refusal::PARENT,
-            DefinitionFault::Children => refusal::CHILDREN,
-            DefinitionFault::Leaf => refusal::LEAF,
-            DefinitionFault::Limits => refusal::LIMITS,
-            DefinitionFault::Terms => refusal::TERMS,
+            DefinitionFault::Memory => Refusal::Memory,
+            DefinitionFault::Number => Refusal::Number,
+            DefinitionFault::Empty => Refusal::Empty,
+            DefinitionFault::Name => Refusal::Name,
+            DefinitionFault::Duplicate => Refusal::Duplicate,
+            DefinitionFault::Parent => Refusal::Parent,
+            DefinitionFault::Children => Refusal::Children,
+            DefinitionFault::Leaf => Refusal::Leaf,
+            DefinitionFault::Limits => Refusal::Limits,
+            DefinitionFault::Terms => Refusal::Terms,
         }
     }
 }

@@ -6,7 +6,7 @@ mod checking;
 mod definition;
 mod draft;
 mod fault;
-mod laws;
+mod named;
 mod outline;
 mod summing;
 mod tree;
@@ -19,7 +19,6 @@ pub use definition::{
 pub use draft::{BidderDraft, Draft, NodeDraft, TermsDraft};
 pub use fault::DefinitionFault;
 pub use hpb_rules::{BidderId, MOST_BIDDERS, MOST_NODES, NodeId, Terms};
-pub use laws::refusal_is_draft_refusal;
 pub use tree::{
     MOST_LICENCE_OPENING, MOST_LICENCE_UNITS, MOST_LICENCES, MOST_PERCENT, MOST_STEP, Tree,
 };

@@ -1,10 +1,10 @@
 ghost use Rattle.std.specs.Prelude.{◌≡◌, ◌<◌, ◌≤◌, length, is_some, option_map};
 ghost use Rattle.std.specs.List.{range_with_len};
+ghost use Rattle.hpb_rules.specs.Drafts.{licence_count};
 ghost use Rattle.hpb_rules.specs.Tree.{parent_of, terms_of};
 ghost use Rattle.hpb_rules.specs.Choices.{is_node};
 ghost use Rattle.hpb_rules.specs.Prices.{children_among};
 ghost use Rattle.hpb_tree.specs.Draft.{nodes_said, terms_said};
-ghost use Rattle.hpb_tree.specs.Licences.{licences_among};
 
 use crate::draft::{NodeDraft, TermsDraft};
 
@@ -49,14 +49,13 @@ fn is_child(nodes: &[NodeDraft], place: usize, parent: usize) -> bool
     }
 }
 
-/// How many of the nodes before a place are licences.
-pub(crate) fn licences_before(nodes: &[NodeDraft], end: usize) -> usize
-    requires { end ≤ length nodes.now }
-    ensures value { result ≡ licences_among (nodes_said nodes.now) (range_with_len 0 end) }
-    ensures most { result ≤ end }
+/// How many nodes are licences.
+pub(crate) fn licence_count(nodes: &[NodeDraft]) -> usize
+    ensures value { result ≡ licence_count (nodes_said nodes.now) }
+    ensures most { result ≤ length nodes.now }
 {
     let mut count = 0;
-    for place in 0..end {
+    for place in 0..nodes.len() {
         if is_licence(nodes, place) {
             count += 1;
         }

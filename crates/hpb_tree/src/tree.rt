@@ -7,6 +7,7 @@ ghost use Rattle.hpb_rules.specs.Text.{node_name};
 ghost use Rattle.hpb_tree.specs.View.{AreCopies};
 ghost use Rattle.hpb_tree.specs.Licences.{IsMask, licence_count};
 
+use crate::named::place_named;
 use hpb_rules::{MOST_NODES, NodeId, Terms};
 use std::alloc::{AllocError, Global};
 use std::marker::Model;
@@ -45,6 +46,8 @@ pub struct Tree {
     pub(crate) step: u32,
     pub(crate) percent: u8,
     pub(crate) nodes: Vec<TreeNode>,
+    /// Each node by its place, in their order.
+    pub(crate) ids: Vec<NodeId>,
 }
 
 impl Model for Tree {
@@ -78,7 +81,7 @@ impl Tree {
     }
 
     /// The same tree once more. Only want of memory refuses it.
-    pub fn copy(&self, alloc: Global) -> Result<Tree, AllocError>
+    pub(crate) fn copy(&self, alloc: Global) -> Result<Tree, AllocError>
         ensures { IfOk result (λ t. t ≡ self.now) }
     {
         let nodes = copy_nodes(alloc, self.nodes.as_slice())?;
@@ -86,7 +89,29 @@ impl Tree {
             step: self.step,
             percent: self.percent,
             nodes,
+            ids: self.ids.as_slice().to_vec(alloc)?,
         })
+    }
+
+    /// What is known of each tree: its numbers are in their ranges, and its nodes are not too many and in the
+    /// shape of a tree.
+    pub fn facts(&self)
+        ensures some_step { 0 < self.now.step }
+        ensures most_step { self.now.step ≤ MOST_STEP }
+        ensures most_percent { self.now.percent ≤ MOST_PERCENT }
+        ensures some_node { 0 < length self.now.nodes }
+        ensures most_nodes { length self.now.nodes ≤ MOST_NODES }
+        ensures most_licences { licence_count self.now.nodes ≤ MOST_LICENCES }
+        ensures tree { IsTree self.now.nodes }
+    {
+        let _ = &self.step;
+    }
+
+    /// The nodes, in their order: a parent stands before its children.
+    pub fn nodes(&self) -> &[NodeId]
+        ensures { result.now ≡ places self.now.nodes }
+    {
+        self.ids.as_slice()
     }
 
     /// How many nodes there are, 1 to 127.
@@ -101,7 +126,7 @@ impl Tree {
     }
 
     /// A node's name, 1 to 16 bytes of `a-z0-9_`.
-    pub fn name(&self, node: NodeId) -> &str
+    pub(crate) fn name(&self, node: NodeId) -> &str
         requires { node < length self.now.nodes }
         ensures { result.now ≡ node_name self.now.nodes node }
     {
@@ -110,7 +135,7 @@ impl Tree {
     }
 
     /// The node with a name, if one has it.
-    pub fn find_node(&self, name: &[u8]) -> Option<NodeId>
+    pub(crate) fn find_node(&self, name: &[u8]) -> Option<NodeId>
         ensures value { result ≡ position (λ n. bytes_eq n.name name.now) self.now.nodes }
         ensures within { IfSome result (λ n. n < length self.now.nodes) }
     {
@@ -215,11 +240,4 @@ fn copy_nodes(alloc: Global, nodes: &[TreeNode]) -> Result<Vec<TreeNode>, AllocE
         copied.push(node.copy(alloc)?)?;
     }
     Ok(copied)
-}
-
-fn place_named(nodes: &[TreeNode], name: &[u8]) -> Option<usize>
-    ensures value { result ≡ position (λ n. bytes_eq (string_bytes n.name) name.now) nodes.now }
-    ensures within { IfSome result (λ i. i < length nodes.now) }
-{
-    nodes.iter().position(|node| node.name.as_bytes() == name)
 }

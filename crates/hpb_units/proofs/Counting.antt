@@ -10,8 +10,7 @@ use Rattle.hpb_rules.specs.declared.licence.Terms.{Terms}
 use Rattle.hpb_rules.specs.Tree.{Node, IsTree, parent_of, terms_of, places, at_parent, at_or_under, at_or_under_within, sum_over, units, units_at}
 use Rattle.hpb_tree.specs.declared.tree.TheConstants.{MOST_LICENCES, MOST_LICENCE_UNITS}
 use Rattle.hpb_tree.specs.Licences.{licence_count, licence_number, part_over}
-use Rattle.hpb_tree.proofs.Masks.{terms_in}
-use Rattle.hpb_tree.proofs.Places.{sum_more, sum_has, count_yes, count_no}
+use Rattle.hpb_rules.proofs.Places.{sum_more, sum_has, count_yes, count_no, terms_in}
 use Rattle.hpb_units.specs.Activity.{is_marked}
 
 -- a sum to which no place adds

@@ -3,32 +3,26 @@ use Rattle.std.proofs.Common.{◌≡◌, ℕ, ◌+◌, ◌<◌, max, Bool, true,
 use Rattle.std.specs.Option.{IsSome}
 use Rattle.std.specs.Int.{bit_at}
 use Rattle.std.specs.List.{list_any, range_with_len}
+use Rattle.std.proofs.Math.Bool.{or-false}
 use Rattle.std.proofs.lemmas.Bool.Decides.{nat_tests}
 use Rattle.std.proofs.lemmas.List.Folds.{list_any-append}
 use Rattle.std.proofs.lemmas.Nat.Bits.{bit_at_or, bit_at-lt}
 use Rattle.hpb_rules.specs.Tree.{Node, terms_of, at_or_under}
+use Rattle.hpb_rules.proofs.Tests.{bit_of_test}
 use Rattle.hpb_tree.specs.Licences.{licence_number, IsMask}
-use Rattle.hpb_tree.proofs.Places.{range_more}
+use Rattle.hpb_rules.proofs.Places.{range_more}
 use Rattle.hpb_units.specs.Activity.{is_marked}
-
-or_false : (b : Bool) → (b || false) ≡ b
-or_false true = refl
-or_false false = refl
 
 any_more : (test : ℕ → Bool) (i : ℕ) → list_any test (range_with_len 0 (i + 1)) ≡ (list_any test (range_with_len 0 i) || test i)
 any_more test i =
     ap (list_any test) (range_more i)
     ∙ list_any-append test (range_with_len 0 i) (i ∷ [])
-    ∙ ap (λ b. list_any test (range_with_len 0 i) || b) (or_false (test i))
+    ∙ ap (λ b. list_any test (range_with_len 0 i) || b) (or-false (test i))
 
 module _ (nodes : List Node) where
   -- a node's mask marks the licences at or under it
   pub marked_node : (n mask l : ℕ) → IsMask nodes n mask → IsSome (terms_of nodes l) → is_marked nodes mask l ≡ at_or_under nodes n l
-  marked_node n mask l m some = ap (λ x. eqb x 1) (m.bits l some) ∙ same (at_or_under nodes n l)
-    where
-      same : (b : Bool) → eqb (cond b 1 0) 1 ≡ b
-      same true = refl
-      same false = refl
+  marked_node n mask l m some = ap (λ x. eqb x 1) (m.bits l some) ∙ bit_of_test (at_or_under nodes n l)
 
   -- two masks together mark what either does
   pub marked_or : (a b l : ℕ) → is_marked nodes (bit_or a b) l ≡ (is_marked nodes a l || is_marked nodes b l)

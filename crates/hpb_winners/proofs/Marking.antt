@@ -4,8 +4,8 @@ use Rattle.std.proofs.lemmas.Bool.{lt-ltb}
 use Rattle.std.proofs.lemmas.List.{length-set, take_all, take_more_set, append-nil}
 use Rattle.hpb_rules.specs.Tree.{Node, parent_of, IsTree}
 use Rattle.hpb_rules.specs.Choices.{IsWinners, best, mark, is_in, winners}
-use Rattle.hpb_rules.proofs.Winners.{winners_are_one}
-use Rattle.hpb_rules.proofs.Upward.{freed, freed_set, winners_after, winners_start, winners_step, winners_end}
+use Rattle.hpb_rules.proofs.TreeLaws.{winners_are_one}
+use Rattle.hpb_rules.proofs.Loops.{freed, freed_set, winners_after, winners_start, winners_step, winners_end}
 
 -- what `a && b` gives in either branch
 pub and_is : {a b w : Bool} → a ≡ true → w ≡ b → w ≡ (a && b)

@@ -7,9 +7,8 @@ use Rattle.std.proofs.lemmas.List.{get_or-set_same, get_or-set_other, get_or_pas
 use Rattle.hpb_rules.specs.declared.reply.TheConstants.{MOST_AMOUNT}
 use Rattle.hpb_rules.specs.Tree.{Node, parent_of, IsTree}
 use Rattle.hpb_rules.specs.Choices.{is_node, no_node, total, values_from, best, winners, revenue as revenue_of}
-use Rattle.hpb_rules.proofs.Sums.{Test, Below, below_is}
-use Rattle.hpb_rules.proofs.Winners.{winners_all}
-use Rattle.hpb_rules.proofs.Upward.{Swept, swept_start, swept_part, swept_top, sum_from, sum_is, sum_all, best_from, sum_bound}
+use Rattle.hpb_rules.proofs.Loops.{Test, Below, below_is, winners_all}
+use Rattle.hpb_rules.proofs.Loops.{Swept, swept_start, swept_part, swept_top, sum_from, sum_is, sum_all, best_from, sum_bound}
 
 -- the values of some nodes read the bids of these nodes alone
 values_same : (bid other : ℕ → ℕ) (i : ℕ) (ns : List Node) → ((k : ℕ) → k < length ns → bid (i + k) ≡ other (i + k)) → values_from i ns bid ≡ values_from i ns other

@@ -2,6 +2,7 @@
 use Rattle.std.specs.Prelude.{◌≡◌, ℕ, ◌<◌, List, Bool, length, slice_index, max}
 use Rattle.hpb_rules.specs.Tree.{Node}
 use Rattle.hpb_rules.specs.Choices.{best, winners, revenue}
+pub use Rattle.hpb_bids.specs.View.{no_bid}
 
 -- An outcome says of each node the best revenue inside it, its value and whether it wins, and the winners' revenue.
 pub record OutcomeView : Type 0 where
@@ -23,7 +24,3 @@ pub record IsOutcome (nodes : List Node) (bid : ℕ → ℕ) (outcome : OutcomeV
   pub values : (node : ℕ) → node < length nodes → slice_index outcome.values node ≡ max (bid node) (best nodes bid node)
   pub wins : outcome.wins ≡ winners nodes bid
   pub revenue : outcome.revenue ≡ revenue bid outcome.wins
-
--- No node has a bid.
-abbrev pub no_bid : ℕ → ℕ
-no_bid node = 0

@@ -1,13 +1,12 @@
 ghost use Rattle.std.specs.Prelude.{◌≡◌, ◌≤◌, ◌<◌, ◌+◌, false, length, nat_lt};
 ghost use Rattle.std.specs.List.{list_any};
-ghost use Rattle.hpb_rules.specs.Drafts.{has_late_parent, depth};
+ghost use Rattle.hpb_rules.specs.Drafts.{has_late_parent, is_over_limits, depth};
 ghost use Rattle.hpb_rules.specs.Tree.{places};
 ghost use Rattle.hpb_tree.specs.Draft.{rules_of, nodes_said};
-ghost use Rattle.hpb_tree.specs.Refusal.{is_over_limits};
 
 use crate::definition::{MOST_DEPTH, MOST_STAGES};
 use crate::draft::{Draft, NodeDraft};
-use crate::outline::licences_before;
+use crate::outline::licence_count;
 use crate::tree::MOST_LICENCES;
 use crate::walking::depth;
 use hpb_rules::{MOST_BIDDERS, MOST_NODES};
@@ -19,7 +18,7 @@ pub(crate) fn is_over_limits(draft: &Draft) -> bool
 {
     let nodes = draft.nodes.as_slice();
     MOST_NODES < nodes.len()
-        || MOST_LICENCES < licences_before(nodes, nodes.len())
+        || MOST_LICENCES < licence_count(nodes)
         || MOST_BIDDERS < draft.bidders.len()
         || MOST_STAGES < draft.stages.len()
         || is_too_deep(nodes)

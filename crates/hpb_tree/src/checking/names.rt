@@ -1,11 +1,11 @@
-ghost use Rattle.std.specs.Prelude.{◌≡◌, not, map, string_bytes, IfOk};
+ghost use Rattle.std.specs.Prelude.{◌≡◌, not, map, IfOk};
 ghost use Rattle.std.specs.List.{list_all, list_any};
-ghost use Rattle.hpb_rules.specs.Drafts.{is_name, is_name_byte, has_bad_name};
+ghost use Rattle.hpb_rules.specs.Drafts.{is_name, is_name_byte, has_bad_name, has_twice, has_duplicate};
 ghost use Rattle.hpb_tree.specs.Draft.{rules_of};
-ghost use Rattle.hpb_tree.specs.Refusal.{has_twice, has_duplicate};
 
 use crate::definition::MOST_NAME;
-use crate::draft::{BidderDraft, Draft, NodeDraft};
+use crate::draft::Draft;
+use crate::named::Named;
 use std::alloc::{AllocError, Global};
 use std::collections::HashSet;
 
@@ -13,19 +13,13 @@ use std::collections::HashSet;
 pub(crate) fn has_bad_name(draft: &Draft) -> bool
     ensures { result ≡ has_bad_name (rules_of draft.now) }
 {
-    has_bad_node_name(&draft.nodes) || has_bad_bidder_name(&draft.bidders)
+    has_bad_name_among(&draft.nodes) || has_bad_name_among(&draft.bidders)
 }
 
-fn has_bad_node_name(nodes: &[NodeDraft]) -> bool
-    ensures { result ≡ list_any (λ n. not (is_name (string_bytes n.name))) nodes.now }
+fn has_bad_name_among<T: Named>(items: &[T]) -> bool
+    ensures { result ≡ list_any (λ item. not (is_name (T.named item))) items.now }
 {
-    nodes.iter().any(|node| !is_name(node.name.as_str()))
-}
-
-fn has_bad_bidder_name(bidders: &[BidderDraft]) -> bool
-    ensures { result ≡ list_any (λ b. not (is_name (string_bytes b.name))) bidders.now }
-{
-    bidders.iter().any(|bidder| !is_name(bidder.name.as_str()))
+    items.iter().any(|item| !is_name(item.name()))
 }
 
 /// Whether two nodes or two bidders have one name.
@@ -34,27 +28,15 @@ pub(crate) fn has_duplicate(alloc: Global, draft: &Draft) -> Result<bool, AllocE
 {
     let nodes = draft.nodes.as_slice();
     let bidders = draft.bidders.as_slice();
-    Ok(has_node_name_twice(alloc, nodes)? || has_bidder_name_twice(alloc, bidders)?)
+    Ok(has_name_twice(alloc, nodes)? || has_name_twice(alloc, bidders)?)
 }
 
-fn has_node_name_twice(alloc: Global, nodes: &[NodeDraft]) -> Result<bool, AllocError>
-    ensures { IfOk result (λ found. found ≡ has_twice (map (λ n. string_bytes n.name) nodes.now)) }
+fn has_name_twice<T: Named>(alloc: Global, items: &[T]) -> Result<bool, AllocError>
+    ensures { IfOk result (λ found. found ≡ has_twice (map T.named items.now)) }
 {
     let mut seen = HashSet::new(alloc);
-    for node in nodes {
-        if !seen.insert(node.name.as_str())? {
-            return Ok(true);
-        }
-    }
-    Ok(false)
-}
-
-fn has_bidder_name_twice(alloc: Global, bidders: &[BidderDraft]) -> Result<bool, AllocError>
-    ensures { IfOk result (λ found. found ≡ has_twice (map (λ b. string_bytes b.name) bidders.now)) }
-{
-    let mut seen = HashSet::new(alloc);
-    for bidder in bidders {
-        if !seen.insert(bidder.name.as_str())? {
+    for item in items {
+        if !seen.insert(item.name())? {
             return Ok(true);
         }
     }

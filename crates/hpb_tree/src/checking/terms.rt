@@ -1,7 +1,6 @@
 ghost use Rattle.std.specs.Prelude.{◌≡◌, ◌<◌, option_map};
-ghost use Rattle.hpb_rules.specs.Drafts.{are_bad_terms};
+ghost use Rattle.hpb_rules.specs.Drafts.{are_bad_terms, has_bad_terms};
 ghost use Rattle.hpb_tree.specs.Draft.{rules_of, terms_said};
-ghost use Rattle.hpb_tree.specs.Refusal.{has_bad_terms};
 
 use crate::checking::ranges::is_within;
 use crate::draft::{Draft, TermsDraft};

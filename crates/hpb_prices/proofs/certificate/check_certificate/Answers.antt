@@ -1,4 +1,4 @@
-use Rattle.hpb_rules.proofs.Cover.{cover_proves}
+use Rattle.hpb_rules.proofs.TreeLaws.{cover_proves}
 use Rattle.hpb_prices.specs.Certificate.{bid_in, price_in, set_of}
 use Rattle.hpb_prices.proofs.certificate.check_certificate.Goals as goal
 

@@ -2,7 +2,7 @@ use Rattle.std.proofs.Common.{sym, ◌∙◌, arith}
 use Rattle.hpb_rules.specs.Choices.{is_node}
 use Rattle.hpb_rules.specs.Tree.{parent_of}
 use Rattle.hpb_tree.specs.Draft.{nodes_said}
-use Rattle.hpb_tree.proofs.Places.{count_yes, count_no}
+use Rattle.hpb_rules.proofs.Places.{count_yes, count_no}
 use Rattle.hpb_tree.proofs.outline.children_before.Goals as goal
 use Rattle.hpb_tree.proofs.outline.children_before.Goals.{then-is_child, else-is_child}
 

@@ -1,13 +1,13 @@
 use Rattle.std.proofs.Common.{◌-◌, ◌∙◌, length, get_or, ap, arith}
 use Rattle.hpb_bids.specs.View.{bid_of}
-use Rattle.hpb_winners.proofs.NoBid.{get_or-zeros}
+use Rattle.hpb_rules.proofs.Lists.{get_or-replicate_same}
 use Rattle.hpb_winners.proofs.Summing.{summed_start, part_more, part_small, top_more, top_small, revenue_is, revenue_small, inside_small, values_small}
 use Rattle.hpb_winners.proofs.winners.sum_up.Goals as goal
 
 pub loop-place-init : goal.loop-place-init
 loop-place-init c = summed_start c.args.tree.now.nodes (bid_of c.args.books.now) c.node_count-place.result c.fill.new.self c.args.values.now c.node_count-place.ensures.value
     (omega (arith, c.fill.ensures.len)) c.requires.values
-    (λ p. ap (λ xs. get_or xs p 0) (c.fill.ensures.after (λ y e. e)) ∙ get_or-zeros (length c.args.inside.now) p)
+    (λ p. ap (λ xs. get_or xs p 0) (c.fill.ensures.after (λ y e. e)) ∙ get_or-replicate_same (length c.args.inside.now) p 0)
 
 pub overflow_add-inside : goal.overflow_add-inside
 overflow_add-inside c = omega (arith, part_small c.args.tree.now.nodes (bid_of c.args.books.now) c.loop-place.place (c.loop-place.place - 1) _ _ _ c.loop-place.inside c.loop-place.values c.loop-place.revenue (omega arith) (omega arith) c.new-node.ensures c.high_bid.ensures.value c.high_bid.ensures.most c.max-value.ensures c.loop-place.invariant c.node_count-place.ensures.tree _ _ c.in-Some.ensures.value c.place.ensures.value)

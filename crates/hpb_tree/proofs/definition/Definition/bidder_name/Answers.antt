@@ -3,7 +3,7 @@ use Rattle.hpb_rules.specs.Text.{bidder_name}
 use Rattle.hpb_rules.specs.Tree.{Rules}
 use Rattle.hpb_tree.proofs.Accepted.{bidder_name_valid, bidder_found}
 use Rattle.hpb_tree.proofs.Kept.{accepted_value}
-use Rattle.hpb_tree.proofs.Named.{bidder_name_at}
+use Rattle.hpb_tree.proofs.Found.{bidder_name_at}
 use Rattle.hpb_tree.proofs.definition.Definition.bidder_name.Goals as goal
 
 pub returns-clause-value : goal.returns-clause-value

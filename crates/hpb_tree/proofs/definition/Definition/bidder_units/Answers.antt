@@ -4,7 +4,7 @@ use Rattle.hpb_rules.specs.Tree.{Rules}
 use Rattle.hpb_tree.specs.Definition.{bidder_view}
 use Rattle.hpb_tree.specs.declared.definition.Bidder.{Bidder}
 use Rattle.hpb_tree.proofs.Kept.{kept}
-use Rattle.hpb_tree.proofs.Named.{bidder_at, bidder_inside}
+use Rattle.hpb_tree.proofs.Found.{bidder_at, bidder_inside}
 use Rattle.hpb_tree.proofs.definition.Definition.bidder_units.Goals as goal
 
 pub returns-clause-value : goal.returns-clause-value

@@ -4,6 +4,6 @@ use Rattle.hpb_tree.proofs.definition.Definition.copy.Goals as goal
 
 pub invariant_of-result : goal.invariant_of-result
 invariant_of-result c =
-    let stages : c.in_ok-stages.stages.items ≡ c.self.inside.stages.items = rw c.as_slice.ensures.value at c.in_ok-stages.ensures in
+    let stages : c.in_ok-stages.stages.items ≡ c.self.inside.stages.items = rw c.as_slice.ensures.value at (c.in_ok-stages.ensures.items_if_clones_equal (λ one other same. same)) in
     let bidders : bidders_view c.in_ok-bidders.bidders.items ≡ bidders_view c.self.inside.bidders.items = rw c.as_slice-2.ensures.value at c.in_ok-bidders.ensures in
     rw (c.in_ok-tree.ensures, stages, bidders) c.self.invariant

@@ -3,7 +3,7 @@ use Rattle.std.specs.List.{position}
 use Rattle.std.specs.Str.{bytes_eq}
 use Rattle.hpb_rules.specs.Tree.{Rules, Bidder}
 use Rattle.hpb_tree.proofs.Kept.{Kept, kept}
-use Rattle.hpb_tree.proofs.Named.{bidder_position}
+use Rattle.hpb_tree.proofs.Found.{bidder_position}
 use Rattle.hpb_tree.proofs.definition.Definition.find_bidder.Goals as goal
 
 pub returns-in-Some-clause-value : goal.returns-in-Some-clause-value

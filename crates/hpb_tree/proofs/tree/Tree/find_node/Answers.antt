@@ -2,7 +2,7 @@ use Rattle.std.proofs.Common.{sym, ap, ◌∙◌, Some}
 use Rattle.std.specs.List.{position}
 use Rattle.std.specs.Str.{bytes_eq}
 use Rattle.hpb_rules.specs.Tree.{TreeRules, Node}
-use Rattle.hpb_tree.proofs.Named.{node_position}
+use Rattle.hpb_tree.proofs.Found.{node_position}
 use Rattle.hpb_tree.proofs.tree.Tree.find_node.Goals as goal
 
 pub returns-in-Some-clause-value : goal.returns-in-Some-clause-value

@@ -1,0 +1,28 @@
+-- The laws of histories after commands, and of answers to letters.
+use Rattle.std.specs.Prelude.{◌≡◌, List, ◌∷◌, [], ◌++◌, map, reverse, length, if◌then◌else◌}
+use Rattle.hpb_rules.specs.declared.command.Command.{Command}
+use Rattle.hpb_rules.specs.declared.letter.Answer.{Answer}
+use Rattle.hpb_rules.specs.declared.letter.Letter.{Letter}
+use Rattle.hpb_rules.specs.Tree.{Rules}
+use Rattle.hpb_rules.specs.Answer.{answer, is_reply_new, history_after, replies_from, past_from}
+use Rattle.hpb_rules.specs.Letters.{Fits, judged, new_commands}
+
+-- The history after a command is the history with the command at its end where it is newly accepted, and else the history as it was.
+abbrev pub HistoryAfterAppends : Type 0
+HistoryAfterAppends = (rules : Rules) (history : List Command) (command : Command)
+    → history_after rules history command ≡ (if is_reply_new (length history) (answer rules history command) then history ++ command ∷ [] else history)
+
+-- An answer that fits a list of accepted commands fits it with more behind.
+abbrev pub FitsGrow : Type 0
+FitsGrow = (rules : Rules) (seen more : List Command) (answered : Answer) → Fits rules seen answered → Fits rules (seen ++ more) answered
+
+-- Letters and then more are answered as the letters, and then as more after the history with what the letters' answers accept.
+abbrev pub JudgedJoin : Type 0
+JudgedJoin = (rules : Rules) (history : List Command) (letters more : List Letter)
+    → judged rules history (letters ++ more) ≡ judged rules history letters ++ judged rules (history ++ new_commands (judged rules history letters)) more
+
+-- Letters get the replies that their commands get one after another, and the history with what their answers accept is the history after these commands.
+abbrev pub JudgedIsAnswered : Type 0
+JudgedIsAnswered = (rules : Rules) (history : List Command) (letters : List Letter)
+    → (map (λ (answered : Answer). answered.reply) (judged rules history letters) ≡ replies_from rules (reverse history) (map (λ (letter : Letter). letter.command) letters))
+    × (reverse (history ++ new_commands (judged rules history letters)) ≡ past_from rules (reverse history) (map (λ (letter : Letter). letter.command) letters))
