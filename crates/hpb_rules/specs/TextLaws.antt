@@ -1,13 +1,14 @@
 -- The laws of lines and of texts.
-use Rattle.std.specs.Prelude.{◌≡◌, ℕ, ◌↔◌, List, [], ◌∷◌, ◌++◌, Some, Result}
+use Rattle.std.specs.Prelude.{◌≡◌, ℕ, ◌<◌, ◌↔◌, List, [], ◌∷◌, ◌++◌, length, Some, None, Result}
 use Rattle.hpb_rules.specs.declared.command.Command.{Command}
 use Rattle.hpb_rules.specs.declared.refusal.Refusal.{Refusal}
 use Rattle.hpb_rules.specs.Tree.{Rules}
 use Rattle.hpb_rules.specs.Answer.{IsHistory}
 use Rattle.hpb_rules.specs.Laws.{HoldsAlone}
+use Rattle.hpb_rules.specs.Drafts.{draft_refusal}
 use Rattle.hpb_rules.specs.Fronts.{IsFront}
-use Rattle.hpb_rules.specs.Lines.{Spelled, spelled, line_spelling, IsSpellable, line_feed}
-use Rattle.hpb_rules.specs.Text.{lines_text, history_after_lines, IsText, script_text}
+use Rattle.hpb_rules.specs.Lines.{Spelled, spelled, line_spelling, IsSpellable, IsSpellableName, line_feed, node_named, bidder_named}
+use Rattle.hpb_rules.specs.Text.{lines_text, history_after_lines, IsText, script_text, node_name, bidder_name}
 
 -- The text of whole lines with more behind them is the text of the lines, and then that of the rest after the history that the lines lead to.
 abbrev pub LinesTextJoins : Type 0
@@ -32,3 +33,9 @@ ScriptTextGrows = (define : List ℕ → Result Rules Refusal) (front rest : Lis
 -- A line spells a value exactly where it is the spelling of that value, and the value is one that a line can spell.
 abbrev pub SpellingIsOne : Type 0
 SpellingIsOne = (line : List ℕ) (value : Spelled) → (spelled line ≡ Some value) ↔ ((line ≡ line_spelling value) × IsSpellable value)
+
+-- In a definition that is not refused each name can stand in a line, and is found at its own place.
+abbrev pub NamesAreFound : Type 0
+NamesAreFound = (rules : Rules) (place : ℕ) → draft_refusal rules ≡ None
+    → (place < length rules.nodes → IsSpellableName (node_name rules.nodes place) × (node_named rules (node_name rules.nodes place) ≡ Some place))
+    × (place < length rules.bidders → IsSpellableName (bidder_name rules.bidders place) × (bidder_named rules (bidder_name rules.bidders place) ≡ Some place))

@@ -1,4 +1,4 @@
-ghost use Rattle.hpb_rules.specs.TextLaws.{LinesTextJoins, LinesKeepHistory, ScriptTextIsOne, ScriptTextGrows, SpellingIsOne};
+ghost use Rattle.hpb_rules.specs.TextLaws.{LinesTextJoins, LinesKeepHistory, ScriptTextIsOne, ScriptTextGrows, SpellingIsOne, NamesAreFound};
 
 /// The text of whole lines with more behind them is the text of the lines, and then that of the rest after them.
 pub fn lines_text_joins()
@@ -23,4 +23,9 @@ pub fn script_text_grows()
 /// A line spells a value exactly where it is the spelling of a value that a line can spell.
 pub fn spelling_is_one()
     ensures { SpellingIsOne }
+{}
+
+/// In a definition each name can stand in a line, and is found at its own place.
+pub fn names_are_found()
+    ensures { NamesAreFound }
 {}
