@@ -8,3 +8,4 @@ pub use Rattle.hpb_rules.proofs.GoingUp.{disjoint_is_apart, test_decides}
 pub use Rattle.hpb_rules.proofs.Money.{minimum_is_one, shares_are_one}
 pub use Rattle.hpb_rules.proofs.NodePrices.{price_is_value, prices_prove}
 pub use Rattle.hpb_rules.proofs.Winners.{best_is_one, revenue_is_greatest, winners_are_one}
+pub use Rattle.hpb_rules.proofs.DraftTrees.{full_tree}
