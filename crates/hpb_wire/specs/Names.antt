@@ -1,25 +1,24 @@
--- The line that asks for a request.
-use Rattle.std.specs.Prelude.{◌≡◌, ◌≢◌, ℕ, ◌^◌, ◌<◌, ◌≤◌, false, List, ◌++◌, length, codes, decimal, ⊤}
+-- A request by the names that its line has.
+use Rattle.std.specs.Prelude.{◌≡◌, ◌≢◌, ℕ, ◌^◌, ◌<◌, ◌≤◌, false, List, length, ⊤}
 use Rattle.std.specs.List.{All}
 use Rattle.hpb_rules.specs.declared.command.Command.{Command}
 use Rattle.hpb_rules.specs.declared.command.Command.TheVariants.{Bid, Close, Stage}
-use Rattle.hpb_rules.specs.Lines.{Request, command, show, node, who, is_space, is_line_feed}
+use Rattle.hpb_rules.specs.Lines.{Request, command, show, node, who, Spelled, bid_line, close_line, stage_line, show_line, node_line, who_line, spelling_of, is_space, is_line_feed}
 use Rattle.hpb_rules.specs.Text.{node_name, bidder_name}
 use Rattle.hpb_rules.specs.Tree.{Rules}
 
--- The line of a command: its words one space apart, its numbers in decimal.
-abbrev pub spelling_of_command : Rules → Command → List ℕ
-spelling_of_command rules (Bid from ticket on amount) =
-    codes "BID " ++ bidder_name rules.bidders from ++ codes " " ++ decimal ticket ++ codes " " ++ node_name rules.nodes on ++ codes " " ++ decimal amount
-spelling_of_command rules (Close ticket) = codes "CLOSE " ++ decimal ticket
-spelling_of_command rules (Stage ticket) = codes "STAGE " ++ decimal ticket
+-- A request with names for places, as a line spells it.
+abbrev pub named : Rules → Request → Spelled
+named rules (command (Bid from ticket on amount)) = bid_line (bidder_name rules.bidders from) ticket (node_name rules.nodes on) amount
+named rules (command (Close ticket)) = close_line ticket
+named rules (command (Stage ticket)) = stage_line ticket
+named rules show = show_line
+named rules (node place) = node_line (node_name rules.nodes place)
+named rules (who from) = who_line (bidder_name rules.bidders from)
 
--- The line of a request.
-abbrev pub spelling_of : Rules → Request → List ℕ
-spelling_of rules (command asked) = spelling_of_command rules asked
-spelling_of rules show = codes "SHOW"
-spelling_of rules (node place) = codes "NODE " ++ node_name rules.nodes place
-spelling_of rules (who from) = codes "WHO " ++ bidder_name rules.bidders from
+-- The line of a request: its words one space apart, its numbers in decimal.
+abbrev pub request_line : Rules → Request → List ℕ
+request_line rules request = spelling_of (named rules request)
 
 -- A command's bidder and node are the definition's, its ticket has 32 bits and its amount 64.
 abbrev pub CanBeCommanded : Rules → Command → Type 0

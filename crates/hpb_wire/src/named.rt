@@ -1,16 +1,16 @@
 ghost use Rattle.std.specs.Prelude.{◌≡◌};
 ghost use Rattle.hpb_rules.specs.Lines.{spelled, spelled_by, spelled_alone, spelled_with, spelled_bid, words, name_in, ticket_in, amount_in};
-ghost use Rattle.hpb_wire.specs.Requests.{seen, name_seen};
+ghost use Rattle.hpb_wire.specs.Requests.{spelled_as, name_as};
 
+use crate::cut::cut;
 use crate::number::number;
-use crate::words::cut;
 
 /// How many bytes a line has at most, its end not counted.
 pub const MOST_LINE: usize = 128;
 
 /// What a line spells, before its names are looked up.
 #[derive(Clone, Copy)]
-pub enum Spelled<'a> {
+pub(crate) enum NamedRequest<'a> {
     Bid {
         bidder: &'a [u8],
         ticket: u32,
@@ -25,18 +25,18 @@ pub enum Spelled<'a> {
 }
 
 /// What a line, given without its end, spells.
-pub fn read_line(line: &[u8]) -> Option<Spelled<'_>>
-    ensures { seen result ≡ spelled line.now }
+pub(crate) fn read_line(line: &[u8]) -> Option<NamedRequest<'_>>
+    ensures { spelled_as result ≡ spelled line.now }
 {
     if line.len() > MOST_LINE || line.contains(&b'\n') {
         return None;
     }
-    read_words(line)
+    read_spaced(line)
 }
 
 #[tactic(auto, using(crate::proofs::Cutting::too_many))]
-fn read_words(line: &[u8]) -> Option<Spelled<'_>>
-    ensures { seen result ≡ spelled_by (words line.now) }
+fn read_spaced(line: &[u8]) -> Option<NamedRequest<'_>>
+    ensures { spelled_as result ≡ spelled_by (words line.now) }
 {
     let (keyword, rest) = cut(line);
     let Some(rest) = rest else {
@@ -56,27 +56,27 @@ fn read_words(line: &[u8]) -> Option<Spelled<'_>>
     }
 }
 
-fn read_alone(keyword: &[u8]) -> Option<Spelled<'_>>
-    ensures { seen result ≡ spelled_alone keyword.now }
+fn read_alone(keyword: &[u8]) -> Option<NamedRequest<'_>>
+    ensures { spelled_as result ≡ spelled_alone keyword.now }
 {
     if keyword == b"SHOW".as_slice() {
-        Some(Spelled::Show)
+        Some(NamedRequest::Show)
     } else {
         None
     }
 }
 
-fn read_pair<'a>(keyword: &[u8], word: &'a [u8]) -> Option<Spelled<'a>>
-    ensures { seen result ≡ spelled_with keyword.now word.now }
+fn read_pair<'a>(keyword: &[u8], word: &'a [u8]) -> Option<NamedRequest<'a>>
+    ensures { spelled_as result ≡ spelled_with keyword.now word.now }
 {
     if keyword == b"CLOSE".as_slice() {
-        Some(Spelled::Close(ticket(word)?))
+        Some(NamedRequest::Close(ticket(word)?))
     } else if keyword == b"STAGE".as_slice() {
-        Some(Spelled::Stage(ticket(word)?))
+        Some(NamedRequest::Stage(ticket(word)?))
     } else if keyword == b"NODE".as_slice() {
-        Some(Spelled::Node(name(word)?))
+        Some(NamedRequest::Node(name(word)?))
     } else if keyword == b"WHO".as_slice() {
-        Some(Spelled::Who(name(word)?))
+        Some(NamedRequest::Who(name(word)?))
     } else {
         None
     }
@@ -87,14 +87,14 @@ fn read_bid<'a>(
     ticket_word: &[u8],
     on: &'a [u8],
     amount_word: &[u8],
-) -> Option<Spelled<'a>>
-    ensures { seen result ≡ spelled_bid from.now ticket_word.now on.now amount_word.now }
+) -> Option<NamedRequest<'a>>
+    ensures { spelled_as result ≡ spelled_bid from.now ticket_word.now on.now amount_word.now }
 {
     let bidder = name(from)?;
     let ticket = ticket(ticket_word)?;
     let node = name(on)?;
     let amount = amount(amount_word)?;
-    Some(Spelled::Bid {
+    Some(NamedRequest::Bid {
         bidder,
         ticket,
         node,
@@ -104,7 +104,7 @@ fn read_bid<'a>(
 
 /// A name is a word of one or more bytes.
 fn name(word: &[u8]) -> Option<&[u8]>
-    ensures { name_seen result ≡ name_in word.now }
+    ensures { name_as result ≡ name_in word.now }
 {
     if word.is_empty() { None } else { Some(word) }
 }

@@ -1,6 +1,6 @@
 ghost use Rattle.std.specs.Prelude.{◌≡◌, Some};
 ghost use Rattle.hpb_rules.specs.Rendering.{closed_text, wins_text};
-ghost use Rattle.hpb_wire.specs.Answers.{text_of, text_of_round, text_of_node, text_of_bidder, text_of_high};
+ghost use Rattle.hpb_wire.specs.Responses.{text_of, text_of_round, text_of_node, text_of_bidder, text_of_high};
 
 use hpb_rules::{Reply, refusal};
 use std::fmt;
@@ -49,9 +49,9 @@ pub struct BidderLine<'a> {
     pub ticket: u32,
 }
 
-/// What a line is answered. It is written without the end of its line.
+/// The response to a line. It is written without the end of its line.
 #[derive(Clone, Copy, Debug)]
-pub enum Answer<'a> {
+pub enum Response<'a> {
     /// `OK n` or `ERR code word`.
     Reply(Reply),
     /// `ROUND r STAGE s OPEN REVENUE v COUNT n`, with `CLOSED` once the auction is over.
@@ -62,19 +62,19 @@ pub enum Answer<'a> {
     Who(BidderLine<'a>),
 }
 
-impl fmt::Display for Answer<'_> {
+impl fmt::Display for Response<'_> {
     ghost output = { λ a. Some (text_of a) };
 
     fn fmt<W: fmt::Write>(&self, f: &mut fmt::Formatter<W>) -> fmt::Result {
         match self {
-            Answer::Reply(Reply::Ok(count)) => write!(f, "OK {count}"),
-            Answer::Reply(Reply::Refused(code)) => {
+            Response::Reply(Reply::Ok(count)) => write!(f, "OK {count}"),
+            Response::Reply(Reply::Refused(code)) => {
                 let word = refusal::word(*code);
                 write!(f, "ERR {code} {word}")
             }
-            Answer::Show(line) => write!(f, "{line}"),
-            Answer::Node(line) => write!(f, "{line}"),
-            Answer::Who(line) => write!(f, "{line}"),
+            Response::Show(line) => write!(f, "{line}"),
+            Response::Node(line) => write!(f, "{line}"),
+            Response::Who(line) => write!(f, "{line}"),
         }
     }
 }

@@ -1,7 +1,7 @@
 use Rattle.std.proofs.Common.{◌∷◌, ◌+◌, ◌-◌, length, take, drop, sym, ap, ◌∙◌, arith, take_all, length-drop}
 use Rattle.hpb_rules.specs.Lines.{words}
 use Rattle.hpb_wire.proofs.Cutting.{words_found}
-use Rattle.hpb_wire.proofs.words.cut.Goals as goal
+use Rattle.hpb_wire.proofs.cut.cut.Goals as goal
 
 pub returns-in-Some : goal.returns-in-Some
 returns-in-Some c =

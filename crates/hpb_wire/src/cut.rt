@@ -5,7 +5,7 @@ ghost use Rattle.hpb_wire.specs.Requests.{words_left};
 
 /// The first word of a line, and what stands behind the space after it, where there is one.
 #[tactic(auto, using(crate::proofs::Cutting::words_found, crate::proofs::Cutting::words_none))]
-pub fn cut(line: &[u8]) -> (&[u8], Option<&[u8]>)
+pub(crate) fn cut(line: &[u8]) -> (&[u8], Option<&[u8]>)
     ensures { words line.now ≡ result.0.now ∷ words_left result.1 }
 {
     match space(line) {
