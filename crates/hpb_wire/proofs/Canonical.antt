@@ -52,34 +52,3 @@ canonical most n word h small plain =
     let is = digits_below (are_digits word) _ _ n h in
     let within : leb (digits_value 10 word) most ≡ true = le-leb _ _ (omega (arith, is.1)) in
     rw (is.0, plain, within) (ap Some is.1)
-
--- what a number's one spelling is
-found : (digits front within : Bool) (v n : ℕ) → cond (digits && not front && within) (Some v) None ≡ Some n → (digits ≡ true) × (front ≡ false) × (within ≡ true) × (v ≡ n)
-found true false true v n h = (refl, refl, refl, cc)
-found true false false v n h = cc
-found true true within v n h = cc
-found false front within v n h = cc
-
-one_digit : (word : List ℕ) → has_front_zero word ≡ false → 0 < length word → get_or word 0 0 ≡ 48 → length word ≡ 1
-one_digit word plain some e = grind (arith, nat_tests)
-
-pub text_of_number : (most n : ℕ) (word : List ℕ) → most < 2 ^ 64 → number_up_to most word ≡ Some n → (n ≤ most) × (word ≡ decimal n)
-text_of_number most n word small h =
-    let is = found (are_digits word) (has_front_zero word) (leb (digits_value 10 word) most) (digits_value 10 word) n h in
-    let digits = and_parts (all_ascii_digits word) (ltb 0 (length word)) is.0 in
-    let some : 0 < length word = ltb-true _ _ digits.1 in
-    let within : digits_value 10 word ≤ most = leb-true _ _ is.2 in
-    let text = decimal-digits_value own word digits.0 some (one_digit word is.1 some) (omega arith) in
-    (omega (arith, is.3), sym text ∙ ap decimal is.3)
-
-zero_alone : (n : ℕ) → n < 2 ^ 64 → has_front_zero (decimal n) ≡ false
-zero_alone zero small = rw (decimal_digit 0 (omega arith)) refl
-zero_alone (suc n) small =
-    let first = first_decimal (suc n) (omega arith) small in
-    grind (arith, nat_tests)
-
-pub number_of_text : (most n : ℕ) → most < 2 ^ 64 → n ≤ most → number_up_to most (decimal n) ≡ Some n
-number_of_text most n small within =
-    let value = digits_value-decimal own n (omega arith) in
-    let some : ltb 0 (length (decimal n)) ≡ true = lt-ltb _ _ (decimal_nonempty n (omega arith)) in
-    rw (digits_decimal own n (omega arith), some, zero_alone n (omega arith), value, le-leb n most within) refl

@@ -6,9 +6,9 @@ use Rattle.std.proofs.lemmas.Option.{cond_some}
 use Rattle.std.proofs.lemmas.Bool.{ltb-true}
 use Rattle.std.proofs.lemmas.List.Splits.{slice_split_first}
 use Rattle.std.proofs.lemmas.List.Sums.{prefix_len-le-length}
-use Rattle.hpb_rules.specs.Lines.{words, is_space, spelled_by}
+use Rattle.hpb_rules.specs.Lines.{line_words, is_space, spelled_by}
 
-pub words_found : (xs : List ℕ) (i : ℕ) → position is_space xs ≡ Some i → words xs ≡ take i xs ∷ words (drop (i + 1) xs)
+pub words_found : (xs : List ℕ) (i : ℕ) → position is_space xs ≡ Some i → line_words xs ≡ take i xs ∷ line_words (drop (i + 1) xs)
 words_found xs i h =
     let found = cond_some (ltb (position_or_len is_space xs) (length xs)) (position_or_len is_space xs) i h in
     let split = slice_split_first is_space xs 0 (ltb-true _ _ found.0) in
@@ -26,7 +26,7 @@ none_when : (b : Bool) (n : ℕ) → cond b (Some n) None ≡ None → b ≡ fal
 none_when true n h = cc
 none_when false n h = refl
 
-pub words_none : (xs : List ℕ) → position is_space xs ≡ None → words xs ≡ xs ∷ []
+pub words_none : (xs : List ℕ) → position is_space xs ≡ None → line_words xs ≡ xs ∷ []
 words_none xs h =
     let past : ltb (position_or_len is_space xs) (length xs) ≡ false = none_when _ _ h in
     words_all xs (grind (arith, past, prefix_len-le-length (λ x. not (is_space x)) xs))
@@ -37,6 +37,6 @@ five_and_more k b t n a ws true x = refl
 five_and_more k b t n a [] false x = refl
 five_and_more k b t n a (w ∷ ws) false x = refl
 
-pub too_many : (k b t n a rest : List ℕ) → spelled_by (k ∷ b ∷ t ∷ n ∷ a ∷ words rest) ≡ None
+pub too_many : (k b t n a rest : List ℕ) → spelled_by (k ∷ b ∷ t ∷ n ∷ a ∷ line_words rest) ≡ None
 too_many k b t n a [] = refl
 too_many k b t n a (x ∷ xs) = five_and_more k b t n a (slice_split is_space xs) (is_space x) x

@@ -1,6 +1,3 @@
 mod Numerals
 mod Cutting
 mod Canonical
-mod Names
-mod Asked
-mod Read

@@ -1,5 +1,3 @@
 pub mod Numbers
 pub mod Requests
-pub mod Names
 pub mod Responses
-pub mod Laws

@@ -1,26 +1,14 @@
 -- What the code makes of lines, as the rules see it.
-use Rattle.std.specs.Prelude.{ℕ, ◌<◌, List, [], length, Option, Some, None, Result, Ok, Err, ⊤}
+use Rattle.std.specs.Prelude.{ℕ, ◌<◌, List, [], length, Option, Some, None, ⊤}
 use Rattle.std.specs.Borrow.{Bor}
 use Rattle.hpb_rules.specs.declared.command.Command.{Command}
 use Rattle.hpb_rules.specs.declared.command.Command.TheVariants.{Bid, Close, Stage}
 use Rattle.hpb_rules.specs.Lines as lines
 use Rattle.hpb_rules.specs.Tree.{Rules}
-use Rattle.hpb_wire.specs.declared.request.Request.{Request}
-use Rattle.hpb_wire.specs.declared.request.Request.TheVariants as requests
+use Rattle.hpb_rules.specs.declared.request.Request.{Request}
+use Rattle.hpb_rules.specs.declared.request.Request.TheVariants as requests
 use Rattle.hpb_wire.specs.declared.named.NamedRequest.{NamedRequest}
 use Rattle.hpb_wire.specs.declared.named.NamedRequest.TheVariants as names
-
--- A request of the code as one of the rules.
-abbrev pub request_view : Request → lines.Request
-request_view (requests.Command command) = lines.command command
-request_view requests.Show = lines.show
-request_view (requests.Node place) = lines.node place
-request_view (requests.Who from) = lines.who from
-
--- What is asked for, or the number of a refusal.
-abbrev pub asked : Result Request ℕ → Result lines.Request ℕ
-asked (Ok request) = Ok (request_view request)
-asked (Err code) = Err code
 
 -- What a line spells, by the bytes of its names.
 abbrev pub spelled_view : NamedRequest → lines.Spelled
@@ -44,7 +32,7 @@ name_as (Some word) = Some word.now
 -- The words of what is left of a line, if anything is.
 abbrev pub words_left : Option (Bor (List ℕ)) → List (List ℕ)
 words_left None = []
-words_left (Some rest) = lines.words rest.now
+words_left (Some rest) = lines.line_words rest.now
 
 -- A command's bidder and node are the definition's.
 abbrev pub IsCommandOf : Rules → Command → Type 0

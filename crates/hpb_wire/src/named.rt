@@ -1,5 +1,5 @@
 ghost use Rattle.std.specs.Prelude.{◌≡◌};
-ghost use Rattle.hpb_rules.specs.Lines.{spelled, spelled_by, spelled_alone, spelled_with, spelled_bid, words, name_in, ticket_in, amount_in};
+ghost use Rattle.hpb_rules.specs.Lines.{spelled, spelled_by, spelled_alone, spelled_with, spelled_bid, line_words, name_in, ticket_in, amount_in};
 ghost use Rattle.hpb_wire.specs.Requests.{spelled_as, name_as};
 
 use crate::cut::cut;
@@ -36,7 +36,7 @@ pub(crate) fn read_line(line: &[u8]) -> Option<NamedRequest<'_>>
 
 #[tactic(auto, using(crate::proofs::Cutting::too_many))]
 fn read_spaced(line: &[u8]) -> Option<NamedRequest<'_>>
-    ensures { spelled_as result ≡ spelled_by (words line.now) }
+    ensures { spelled_as result ≡ spelled_by (line_words line.now) }
 {
     let (keyword, rest) = cut(line);
     let Some(rest) = rest else {

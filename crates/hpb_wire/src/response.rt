@@ -2,7 +2,7 @@ ghost use Rattle.std.specs.Prelude.{◌≡◌, Some};
 ghost use Rattle.hpb_rules.specs.Rendering.{closed_text, wins_text};
 ghost use Rattle.hpb_wire.specs.Responses.{text_of, text_of_round, text_of_node, text_of_bidder, text_of_high};
 
-use hpb_rules::{Reply, refusal};
+use hpb_rules::Reply;
 use std::fmt;
 
 /// How the auction stands, as `SHOW` asks.
@@ -68,9 +68,9 @@ impl fmt::Display for Response<'_> {
     fn fmt<W: fmt::Write>(&self, f: &mut fmt::Formatter<W>) -> fmt::Result {
         match self {
             Response::Reply(Reply::Ok(count)) => write!(f, "OK {count}"),
-            Response::Reply(Reply::Refused(code)) => {
-                let word = refusal::word(*code);
-                write!(f, "ERR {code} {word}")
+            Response::Reply(Reply::Refused(refusal)) => {
+                let (number, word) = (refusal.number(), refusal.word());
+                write!(f, "ERR {number} {word}")
             }
             Response::Show(line) => write!(f, "{line}"),
             Response::Node(line) => write!(f, "{line}"),

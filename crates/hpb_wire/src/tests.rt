@@ -3,7 +3,7 @@ ghost use Rattle.hpb_wire.specs.Requests.{IsRequestOf};
 use super::*;
 use crate::response::{BidderLine, HighBid, NodeLine, RoundLine};
 use hpb_auction::Auction;
-use hpb_rules::{BidderId, Command, NodeId, Reply, refusal};
+use hpb_rules::{BidderId, Command, NodeId, Refusal, Reply, Request};
 use hpb_tree::{BidderDraft, Definition, Draft, NodeDraft, TermsDraft};
 use std::alloc::{AllocError, Global};
 use std::test::Fail;
@@ -40,7 +40,7 @@ fn definition(alloc: Global) -> Result<Definition, Fail> {
 }
 
 /// A bid of `x` on `a`.
-fn bid(ticket: u32, amount: u64) -> Result<Request, u8> {
+fn bid(ticket: u32, amount: u64) -> Result<Request, Refusal> {
     Ok(Request::Command(Command::Bid {
         bidder: BidderId::new(0),
         ticket,
@@ -49,38 +49,38 @@ fn bid(ticket: u32, amount: u64) -> Result<Request, u8> {
     }))
 }
 
-fn close(ticket: u32) -> Result<Request, u8> {
+fn close(ticket: u32) -> Result<Request, Refusal> {
     Ok(Request::Command(Command::Close { ticket }))
 }
 
-fn stage(ticket: u32) -> Result<Request, u8> {
+fn stage(ticket: u32) -> Result<Request, Refusal> {
     Ok(Request::Command(Command::Stage { ticket }))
 }
 
 #[test]
 fn malformed_lines(rt: HostRuntime) -> Result<(), Fail> {
     let definition = definition(rt.alloc())?;
-    let table: [(&[u8], Result<Request, u8>); 20] = [
+    let table: [(&[u8], Result<Request, Refusal>); 20] = [
         (b"BID x 1 a 100", bid(1, 100)),
-        (b"BID x 01 a 100", Err(10)),
-        (b"BID x  1 a 100", Err(10)),
-        (b"BID  1 a 100", Err(10)),
-        (b" BID x 1 a 100", Err(10)),
-        (b"BID x 1 a 100 ", Err(10)),
-        (b"BID x 1 a", Err(10)),
-        (b"BID x 1 a 100 1", Err(10)),
-        (b"BID x +1 a 100", Err(10)),
-        (b"bid x 1 a 100", Err(10)),
+        (b"BID x 01 a 100", Err(Refusal::Line)),
+        (b"BID x  1 a 100", Err(Refusal::Line)),
+        (b"BID  1 a 100", Err(Refusal::Line)),
+        (b" BID x 1 a 100", Err(Refusal::Line)),
+        (b"BID x 1 a 100 ", Err(Refusal::Line)),
+        (b"BID x 1 a", Err(Refusal::Line)),
+        (b"BID x 1 a 100 1", Err(Refusal::Line)),
+        (b"BID x +1 a 100", Err(Refusal::Line)),
+        (b"bid x 1 a 100", Err(Refusal::Line)),
         (b"CLOSE 7", close(7)),
-        (b"CLOSE", Err(10)),
+        (b"CLOSE", Err(Refusal::Line)),
         (b"STAGE 0", stage(0)),
-        (b"STAGE 00", Err(10)),
+        (b"STAGE 00", Err(Refusal::Line)),
         (b"SHOW", Ok(Request::Show)),
-        (b"SHOW ", Err(10)),
+        (b"SHOW ", Err(Refusal::Line)),
         (b"NODE d", Ok(Request::Node(NodeId::new(1)))),
-        (b"NODE ", Err(10)),
+        (b"NODE ", Err(Refusal::Line)),
         (b"WHO y", Ok(Request::Who(BidderId::new(1)))),
-        (b"", Err(10)),
+        (b"", Err(Refusal::Line)),
     ];
     for (line, wanted) in table {
         assert_eq!(rt; parse_line(line, &definition), wanted, "at {line:?}");
@@ -92,24 +92,24 @@ fn malformed_lines(rt: HostRuntime) -> Result<(), Fail> {
 fn hostile_lines(rt: HostRuntime) -> Result<(), Fail> {
     let definition = definition(rt.alloc())?;
     let long = [b'x'; 1000];
-    let table: [(&[u8], Result<Request, u8>); 14] = [
-        (&long, Err(10)),
-        (b"\xff\xff\xff\xff", Err(10)),
+    let table: [(&[u8], Result<Request, Refusal>); 14] = [
+        (&long, Err(Refusal::Line)),
+        (b"\xff\xff\xff\xff", Err(Refusal::Line)),
         (
             b"BID x 4294967295 a 18446744073709551615",
             bid(u32::MAX, u64::MAX),
         ),
-        (b"BID x 4294967296 a 100", Err(10)),
-        (b"BID x 1 a 18446744073709551616", Err(10)),
-        (b"SHOW\r", Err(10)),
-        (b"NODE a\r", Err(12)),
-        (b"NODE a\nNODE d", Err(10)),
-        (b"WHO \xff", Err(11)),
-        (b"WHO X", Err(11)),
-        (b"BID q 1 e 100", Err(11)),
-        (b"BID x 1 e 100", Err(12)),
-        (b"BID q 1 e 1x", Err(10)),
-        (b"BID a 0 x 0", Err(11)),
+        (b"BID x 4294967296 a 100", Err(Refusal::Line)),
+        (b"BID x 1 a 18446744073709551616", Err(Refusal::Line)),
+        (b"SHOW\r", Err(Refusal::Line)),
+        (b"NODE a\r", Err(Refusal::Node)),
+        (b"NODE a\nNODE d", Err(Refusal::Line)),
+        (b"WHO \xff", Err(Refusal::Bidder)),
+        (b"WHO X", Err(Refusal::Bidder)),
+        (b"BID q 1 e 100", Err(Refusal::Bidder)),
+        (b"BID x 1 e 100", Err(Refusal::Node)),
+        (b"BID q 1 e 1x", Err(Refusal::Line)),
+        (b"BID a 0 x 0", Err(Refusal::Bidder)),
     ];
     for (line, wanted) in table {
         assert_eq!(rt; parse_line(line, &definition), wanted, "at {line:?}");
@@ -157,7 +157,7 @@ fn responses_are_written(rt: HostRuntime) -> Result<(), Fail> {
     };
     let table = [
         (Response::Reply(Reply::Ok(1_000_000)), "OK 1000000\n"),
-        (Response::Reply(Reply::Refused(25)), "ERR 25 eligibility\n"),
+        (Response::Reply(Reply::Refused(Refusal::Eligibility)), "ERR 25 eligibility\n"),
         (
             Response::Show(round),
             "ROUND 2 STAGE 1 OPEN REVENUE 64000000000000 COUNT 65\n",
@@ -197,7 +197,7 @@ fn response(auction: &Auction, request: Request) -> Response<'_>
     requires { IsRequestOf auction.now.rules request }
 {
     match request {
-        Request::Command(_) => Response::Reply(Reply::Refused(refusal::LINE)),
+        Request::Command(_) => Response::Reply(Reply::Refused(Refusal::Line)),
         Request::Show => show(auction),
         Request::Node(place) => node(auction, place),
         Request::Who(bidder) => who(auction, bidder),
@@ -208,7 +208,7 @@ fn response(auction: &Auction, request: Request) -> Response<'_>
 fn shown(alloc: Global, auction: &Auction, line: &[u8]) -> Result<ResponseText, AllocError> {
     let response = match parse_line(line, auction.definition()) {
         Ok(request) => response(auction, request),
-        Err(code) => Response::Reply(Reply::Refused(code)),
+        Err(refusal) => Response::Reply(Reply::Refused(refusal)),
     };
     let mut text = ResponseText::new(alloc, 0)?;
     text.render(&response)?;
