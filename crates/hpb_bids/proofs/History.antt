@@ -12,7 +12,7 @@ use Rattle.hpb_rules.specs.declared.id.TheConstants.{MOST_BIDDERS, MOST_NODES}
 use Rattle.hpb_rules.specs.History.{amount_of, greater, greatest_bid, high, incoming, bid_on}
 use Rattle.hpb_rules.proofs.Tests.{no_bit}
 use Rattle.hpb_bids.specs.View.{BooksView, IsBooks, IsQuiet, IsEmpty, offer_at, has_bid, merged, placed, folded}
-use Rattle.hpb_bids.specs.Holds.{Holds}
+use Rattle.hpb_bids.specs.Past.{AreBooksOf}
 
 greater_newer : (o n : Option Offer) → amount_of o < amount_of n → greater o n ≡ n
 greater_newer o n h = ap (λ t. if t then n else o) (lt-ltb (amount_of o) (amount_of n) h)
@@ -61,11 +61,11 @@ zero_left [] b = refl
 zero_left (x ∷ xs) zero = refl
 zero_left (x ∷ xs) (suc b) = zero_left xs b
 
-pub empty_holds : (books : BooksView) → IsEmpty books → Holds books []
-empty_holds books e = record { standing = λ n h. e.standing n; incoming = λ n h. e.incoming n; bids = λ b n h k. no_bit _ n (e.bids b) }
+pub empty_are_books : (books : BooksView) → IsEmpty books → AreBooksOf books []
+empty_are_books books e = record { standing = λ n h. e.standing n; incoming = λ n h. e.incoming n; bids = λ b n h k. no_bit _ n (e.bids b) }
 
-pub folded_holds : (old new : BooksView) → IsBooks old → new ≡ folded old → (past : List Command) (t : ℕ) → Holds old past → Holds new (Close t ∷ past)
-folded_holds old new sized e past t h = subst (λ v. Holds v (Close t ∷ past)) (sym e) (record {
+pub folded_are_books : (old new : BooksView) → IsBooks old → new ≡ folded old → (past : List Command) (t : ℕ) → AreBooksOf old past → AreBooksOf new (Close t ∷ past)
+folded_are_books old new sized e past t h = subst (λ v. AreBooksOf v (Close t ∷ past)) (sym e) (record {
   standing = λ n k. merged_at old.standing old.incoming n (sized.standing ∙ sym sized.incoming) ∙ ap (λ o. greater o (offer_at old.incoming n)) (h.standing n k) ∙ ap (greater (high past n)) (h.incoming n k) ∙ greatest_merges past n;
   incoming = λ n k. none_left old.incoming n;
   bids = λ b n k l. no_bit _ n (zero_left old.bids b);
@@ -94,8 +94,8 @@ placed_mask masks b n c m older h e = ⊎_elim
     (λ f. ap (λ x. bit_at x m == 1) (get_or-set_other masks b c _ 0 (λ g. f (sym g))) ∙ e ∙ sym (ap (λ t. (t && (n == m)) || older) (ne_eqb b c f)))
     (cases_eq b c)
 
-pub placed_holds : (old new : BooksView) (b n a : ℕ) → IsBooks old → b < MOST_BIDDERS → n < MOST_NODES → new ≡ placed old b n a → (past : List Command) (t : ℕ) → Holds old past → Holds new (Bid b t n a ∷ past)
-placed_holds old new b n a sized i j e past t h = subst (λ v. Holds v (Bid b t n a ∷ past)) (sym e) (record {
+pub placed_are_books : (old new : BooksView) (b n a : ℕ) → IsBooks old → b < MOST_BIDDERS → n < MOST_NODES → new ≡ placed old b n a → (past : List Command) (t : ℕ) → AreBooksOf old past → AreBooksOf new (Bid b t n a ∷ past)
+placed_are_books old new b n a sized i j e past t h = subst (λ v. AreBooksOf v (Bid b t n a ∷ past)) (sym e) (record {
   standing = h.standing;
   incoming = λ m k. placed_incoming old.incoming n m a b (incoming past m) (omega (arith, sized.incoming)) (h.incoming m k);
   bids = λ c m k l. placed_mask old.bids b n c m (bid_on past c m) (omega (arith, sized.bids)) (h.bids c m k l);

@@ -10,7 +10,7 @@ use Rattle.hpb_rules.specs.Choices.{best}
 use Rattle.hpb_rules.specs.Prices.{share, children_among, of_package, surplus, carried as carried_of, price}
 use Rattle.hpb_rules.proofs.TreeLaws.{price_is_value}
 use Rattle.hpb_rules.proofs.Loops.{carried_child, carried_top, passed_bound}
-use Rattle.hpb_prices.specs.View.{IsCarried}
+use Rattle.hpb_prices.specs.Inside.{IsCarried}
 use Rattle.hpb_winners.specs.declared.outcome.TheConstants.{MOST_VALUE}
 
 module _ (nodes : List Node) (bid : ℕ → ℕ) where

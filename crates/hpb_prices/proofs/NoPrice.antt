@@ -4,7 +4,7 @@ use Rattle.std.proofs.lemmas.List.{get_or-replicate}
 use Rattle.hpb_rules.specs.Tree.{Node, IsTree, opening}
 use Rattle.hpb_rules.specs.Prices.{price, minimum_of}
 use Rattle.hpb_rules.proofs.Loops.{price_bound}
-use Rattle.hpb_winners.specs.Outcome.{no_bid}
+use Rattle.hpb_winners.specs.View.{no_bid}
 
 price_none : (nodes : List Node) (n : ℕ) → IsTree nodes → price nodes no_bid n ≡ 0
 price_none nodes n tree = omega (arith, price_bound nodes no_bid tree 0 n (λ m. omega arith))

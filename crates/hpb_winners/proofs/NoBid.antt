@@ -6,7 +6,7 @@ use Rattle.hpb_rules.specs.Tree.{Node}
 use Rattle.hpb_rules.specs.Choices.{no_node, is_node, mark, total, values_from, best, winners_from, revenue_from, revenue}
 use Rattle.hpb_rules.proofs.Lists.{get_or-replicate_same}
 use Rattle.hpb_rules.proofs.Loops.{Test, below_is, best_from, sum_bound}
-use Rattle.hpb_winners.specs.Outcome.{IsOutcome, no_bid}
+use Rattle.hpb_winners.specs.View.{IsOutcome, no_bid}
 
 best_none : (nodes : List Node) (n : ℕ) → n < length nodes → best nodes no_bid n ≡ 0
 best_none nodes n h = omega (arith, best_from nodes no_bid n h, sum_bound nodes no_bid 0 (suc n) (is_node n) (λ k. omega arith) (below_is n))

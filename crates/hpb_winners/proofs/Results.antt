@@ -2,7 +2,7 @@
 use Rattle.std.proofs.Common.{◌≡◌, ℕ, ◌<◌, List, Bool, length, get_or, max, ap, ◌∙◌, sym}
 use Rattle.hpb_rules.specs.Tree.{Node}
 use Rattle.hpb_rules.specs.Choices.{best, winners, revenue}
-use Rattle.hpb_winners.specs.Outcome.{IsOutcome}
+use Rattle.hpb_winners.specs.View.{IsOutcome}
 
 module _ (nodes : List Node) (bid : ℕ → ℕ) (inside values : List ℕ) (wins : List Bool) (revenue_found : ℕ) where
   -- The tables kept are those that the loops wrote.

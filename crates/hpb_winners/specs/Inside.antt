@@ -1,6 +1,6 @@
--- What an outcome's code stands for.
+-- The outcome of the code as definitions see it.
 use Rattle.std.specs.Prelude.{◌≡◌, ℕ, ◌≤◌, length, slice_index}
-use Rattle.hpb_winners.specs.Outcome.{OutcomeView}
+use Rattle.hpb_winners.specs.View.{OutcomeView}
 use Rattle.hpb_winners.specs.declared.outcome.TheConstants.{MOST_VALUE}
 use Rattle.hpb_winners.specs.declared.outcome.Outcome.TheInside.{Inside}
 

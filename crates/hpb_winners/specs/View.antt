@@ -1,4 +1,4 @@
--- What the high bids on a tree come to.
+-- What an outcome stands for: what the high bids on a tree come to.
 use Rattle.std.specs.Prelude.{◌≡◌, ℕ, ◌<◌, List, Bool, length, slice_index, max}
 use Rattle.hpb_rules.specs.Tree.{Node}
 use Rattle.hpb_rules.specs.Choices.{best, winners, revenue}
@@ -12,14 +12,14 @@ pub record OutcomeView : Type 0 where
   pub revenue : ℕ
 
 -- Each table has a place for each node.
-pub record IsSized (nodes : List Node) (outcome : OutcomeView) : Type 0 where
+pub record IsSizedOutcome (nodes : List Node) (outcome : OutcomeView) : Type 0 where
   pub inside : length outcome.inside ≡ length nodes
   pub values : length outcome.values ≡ length nodes
   pub wins : length outcome.wins ≡ length nodes
 
 -- The outcome is that of these high bids.
 pub record IsOutcome (nodes : List Node) (bid : ℕ → ℕ) (outcome : OutcomeView) : Type 0 where
-  pub sized : IsSized nodes outcome
+  pub sized : IsSizedOutcome nodes outcome
   pub inside : (node : ℕ) → node < length nodes → slice_index outcome.inside node ≡ best nodes bid node
   pub values : (node : ℕ) → node < length nodes → slice_index outcome.values node ≡ max (bid node) (best nodes bid node)
   pub wins : outcome.wins ≡ winners nodes bid

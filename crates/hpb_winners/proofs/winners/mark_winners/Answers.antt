@@ -11,7 +11,7 @@ loop-place-init c = marked_start c.args.tree.now.nodes (bid_of c.args.books.now)
 pub loop-place-preserved : goal.loop-place-preserved
 loop-place-preserved c = marked_more c.args.tree.now.nodes (bid_of c.args.books.now) c.loop-place.place c.loop-place.free c.loop-place.wins c.match-parent.open c.if-open.won c.if-open-2.free (omega arith)
     (elim c.match-parent.branch [
-      | in-Some w ↦ w.open-is ∙ open_part c.args.tree.now.nodes (bid_of c.args.books.now) c.loop-place.place _ _ c.loop-place.free c.new-node.ensures c.parent.ensures.value c.node_count-place-end.ensures.tree _ _ w.in-Some.is w.place.ensures.value
+      | in-Some w ↦ w.open-is ∙ open_part c.args.tree.now.nodes (bid_of c.args.books.now) c.loop-place.place _ _ c.loop-place.free c.new-node.ensures c.parent.ensures.value c.facts.ensures.tree _ _ w.in-Some.is w.place.ensures.value
       | in-None w ↦ w.open-is ∙ open_top c.args.tree.now.nodes (bid_of c.args.books.now) c.loop-place.place _ _ c.loop-place.free c.new-node.ensures c.parent.ensures.value w.in-None.is
     ])
     (elim c.if-open.branch [
@@ -25,4 +25,4 @@ pub returns-clause-wins : goal.returns-clause-wins
 returns-clause-wins c = marked_all c.args.tree.now.nodes (bid_of c.args.books.now) c.loop-place.place c.loop-place.free c.loop-place.wins (omega arith) c.loop-place.invariant
 
 pub returns-clause-winners : goal.returns-clause-winners
-returns-clause-winners c = are_winners c.args.tree.now.nodes (bid_of c.args.books.now) c.loop-place.wins c.node_count-place-end.ensures.tree (marked_all c.args.tree.now.nodes (bid_of c.args.books.now) c.loop-place.place c.loop-place.free c.loop-place.wins (omega arith) c.loop-place.invariant)
+returns-clause-winners c = are_winners c.args.tree.now.nodes (bid_of c.args.books.now) c.loop-place.wins c.facts.ensures.tree (marked_all c.args.tree.now.nodes (bid_of c.args.books.now) c.loop-place.place c.loop-place.free c.loop-place.wins (omega arith) c.loop-place.invariant)
