@@ -87,7 +87,7 @@ impl Outcome {
 
     /// The revenue of the winners, in whole dollars.
     pub fn revenue(&self) -> u64
-        ensures { result ≡ self.now.revenue }
+        ensures value { result ≡ self.now.revenue }
     {
         self.revenue
     }
