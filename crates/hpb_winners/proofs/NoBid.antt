@@ -24,9 +24,9 @@ revenue_none i zero bid = refl
 revenue_none i (suc n) bid = omega (arith, revenue_none (suc i) n bid)
 
 -- no winner, and zeros
-pub outcome_none : (nodes : List Node) (count : ℕ) (inside values : List ℕ) (wins : List Bool) → count ≡ length nodes → inside ≡ replicate count 0 → values ≡ replicate count 0 → wins ≡ replicate count false
+pub outcome_none : (nodes : List Node) {count : ℕ} {inside values : List ℕ} {wins : List Bool} → count ≡ length nodes → inside ≡ replicate count 0 → values ≡ replicate count 0 → wins ≡ replicate count false
     → IsOutcome nodes no_bid (record { inside = inside; values = values; wins = wins; revenue = 0 })
-outcome_none nodes count inside values wins c i v w = record {
+outcome_none nodes {count = count} c i v w = record {
   sized = record {
     inside = ap length i ∙ length-replicate count 0 ∙ c;
     values = ap length v ∙ length-replicate count 0 ∙ c;
