@@ -37,8 +37,8 @@ module _ (nodes : List Node) where
       omega (arith, number_some i t e, number_grows (i + 1) (length nodes - (i + 1)), ap (licence_number nodes) j)
 
   -- the count by what the code reads of the node
-  pub number_at : (i node count : ℕ) (t : Option Terms) (b : Bool) → node ≡ i → t ≡ terms_of nodes node → b ≡ is_some t → count ≡ licence_number nodes i → count + cond b 1 0 ≡ licence_number nodes (i + 1)
-  number_at i node count t b at e f c = ap (λ k. k + cond b 1 0) c ∙ ap (λ x. licence_number nodes i + cond x 1 0) (f ∙ ap is_some (e ∙ ap (terms_of nodes) at)) ∙ sym (number_more i)
+  pub number_at : {i node count : ℕ} {t : Option Terms} {b : Bool} → node ≡ i → t ≡ terms_of nodes node → b ≡ is_some t → count ≡ licence_number nodes i → count + cond b 1 0 ≡ licence_number nodes (i + 1)
+  number_at {i = i} {b = b} at e f c = ap (λ k. k + cond b 1 0) c ∙ ap (λ x. licence_number nodes i + cond x 1 0) (f ∙ ap is_some (e ∙ ap (terms_of nodes) at)) ∙ sym (number_more i)
 
   -- no more licences than nodes
   pub number_most : (i : ℕ) → licence_number nodes i ≤ i
@@ -79,8 +79,8 @@ module _ (nodes : List Node) where
     sum_licences = sym (walk (length nodes) 0 (omega arith))
 
   -- the price of a node, by the mask of its licences
-  pub sum_node : (node place mask set : ℕ) (prices : List ℕ) → node ≡ place → set ≡ mask → IsMask nodes node mask → length prices ≡ licence_count nodes → sum_where set 0 prices ≡ sum_over nodes (λ l. at_or_under nodes place l) (price_listed nodes prices)
-  sum_node node place mask set prices at e m counted =
+  pub sum_node : {node place mask set : ℕ} (prices : List ℕ) → node ≡ place → set ≡ mask → IsMask nodes node mask → length prices ≡ licence_count nodes → sum_where set 0 prices ≡ sum_over nodes (λ l. at_or_under nodes place l) (price_listed nodes prices)
+  sum_node {node = node} {mask = mask} prices at e m counted =
       ap (λ s. sum_where s 0 prices) e
       ∙ sum_licences mask (at_or_under nodes node) prices counted (λ l h some. m.bits l some)
       ∙ ap (λ n. sum_over nodes (λ l. at_or_under nodes n l) (price_listed nodes prices)) at
