@@ -21,8 +21,6 @@ module _ (nodes : List Node) (bid : ℕ → ℕ) where
     pub prices_are : (n : ℕ) → n < i → get_or prices n 0 ≡ price nodes bid n
     pub small : (n : ℕ) → n < i → get_or prices n 0 ≤ 2 * MOST_VALUE
 
-  pub passed_start : (carried prices : List ℕ) → length carried ≡ length nodes → length prices ≡ length nodes → Passed 0 carried prices
-  passed_start carried prices c p = record { so_far = record { count = c; values = λ n h. absurd (omega arith) }; prices_count = p; prices_are = λ n h. absurd (omega arith); small = λ n h. absurd (omega arith) }
 
   module _ (tree : IsTree nodes) where
     -- what a parent passes on
@@ -72,8 +70,3 @@ module _ (nodes : List Node) (bid : ℕ → ℕ) where
           (cases_lt n i);
     }
 
-  pub passed_small_all : (i : ℕ) (carried prices : List ℕ) → i ≡ length nodes → Passed i carried prices → (n : ℕ) → get_or prices n 0 ≤ 2 * MOST_VALUE
-  passed_small_all i carried prices all s n = ⊎_elim
-      (λ h. s.small n (omega arith))
-      (λ past. omega (arith, get_or_past prices n 0 (omega (arith, s.prices_count))))
-      (cases_lt n (length nodes))

@@ -32,8 +32,6 @@ module _ (nodes : List Node) (winners : ℕ) where
       pub have_bids : (n : ℕ) → n < i → bit_at winners n ≡ 1 → 0 < get_or highs n 0
       pub apart : (n : ℕ) → n < i → bit_at winners n ≡ 1 → IsBelowWinner nodes winners n → ⊥
 
-    pub chosen_start : Chosen 0
-    chosen_start = record { have_bids = λ n h. absurd (omega arith); apart = λ n h. absurd (omega arith) }
 
     pub chosen_more : (i : ℕ) → (bit_at winners i ≡ 1 → 0 < get_or highs i 0) → (bit_at winners i ≡ 1 → IsBelowWinner nodes winners i → ⊥) → Chosen i → Chosen (i + 1)
     chosen_more i bid alone s = record {

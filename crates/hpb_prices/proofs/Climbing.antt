@@ -36,9 +36,6 @@ module _ (nodes : List Node) (winners node : ℕ) where
     pub within : p < node
     within = (so_far.reached p some).1
 
-    pub found : bit_and (winners / 2 ^ p) 1 ≡ 1 → IsBelowWinner nodes winners node
-    found h = (p, sym (shr_and_one winners p) ∙ h, ((so_far.reached p some).0, λ e. omega (arith, within, e)))
-
     pub climbed_more : {q : ℕ} → q ≡ p → (bit_and (winners / 2 ^ q) 1 ≡ 1 → ⊥) → {next : Option ℕ} → next ≡ parent_of nodes p → IfSome next (λ r. r < p) → Climbed next
     climbed_more {q = k} at missed e before = record {
       reached = λ q here. let less : q < p = before_of here before in (under_trans nodes (child (sym e ∙ here) itself) (so_far.reached p some).0, omega (arith, within));
@@ -50,5 +47,3 @@ module _ (nodes : List Node) (winners node : ℕ) where
           (step.0, e ∙ step.1, step.2);
     }
 
-  pub none_found : Climbed None → IsBelowWinner nodes winners node → ⊥
-  none_found so_far b = let last : (r : ℕ) × (None ≡ Some r) × IsAtOrUnder nodes b.0 r = so_far.left b.0 b.1 b.2 in let e : None ≡ Some last.0 = last.1 in cc
