@@ -1,18 +1,21 @@
 -- A bidder's activity by the tables is its activity by what is known.
-use Rattle.std.proofs.Common.{◌≡◌, ℕ, ◌+◌, ◌<◌, ◌≤◌, Bool, true, false, ◌&&◌, ◌||◌, eqb, [], length, refl, sym, ap, ◌∙◌, arith, subst}
+use Rattle.std.proofs.Common.{◌≡◌, ℕ, ◌+◌, ◌<◌, ◌≤◌, Bool, true, false, ◌&&◌, ◌||◌, eqb, length, refl, sym, ap, ◌∙◌, arith, subst}
 use Rattle.std.specs.Prelude.{◌==◌}
 use Rattle.std.specs.List.{list_any, range_with_len}
 use Rattle.std.proofs.lemmas.Bool.{eq-eqb, eqb-true, both_ways}
 use Rattle.hpb_rules.specs.Tree.{sum_over, at_or_under, units_at}
 use Rattle.hpb_rules.specs.History.{is_of}
-use Rattle.hpb_rules.specs.Seen.{NodeView, Quantities}
-use Rattle.hpb_rules.specs.Values.{is_active, activity_of, activity_with}
+use Rattle.hpb_rules.specs.Choices.{is_in}
+use Rattle.hpb_rules.specs.AuctionValue.{AuctionValue, NodeBids}
+use Rattle.hpb_rules.specs.Values.{node_at, is_active, activity_in, activity_with_bid}
+use Rattle.hpb_rules.proofs.Tests.{same_answer, or_same}
 use Rattle.hpb_rules.proofs.Ranges.{found_in, finds_in}
-use Rattle.hpb_rules.proofs.Readings.{units_same}
+use Rattle.hpb_rules.proofs.RunLaws.{units_same}
 use Rattle.hpb_units.specs.Activity as units
 use Rattle.hpb_auction.specs.declared.auction.Auction.TheInside.{Inside}
-use Rattle.hpb_auction.specs.View.{quantities_of}
+use Rattle.hpb_auction.specs.Inside.{value_inside, IsKept}
 use Rattle.hpb_auction.proofs.Tables.{node_here, flag_here}
+use Rattle.hpb_auction.proofs.HighBids.{wins_here}
 
 both : (x y : Bool) → (x && y) ≡ true → (x ≡ true) × (y ≡ true)
 both true y e = (refl, e)
@@ -21,12 +24,6 @@ both false y e = absurd (both_ways false refl e)
 one_of : (x y : Bool) → (x || y) ≡ true → (x ≡ false → y ≡ true)
 one_of true y e f = absurd (both_ways true f refl)
 one_of false y e f = e
-
--- two answers that imply each other are one
-same_answer : (a b : Bool) → (a ≡ true → b ≡ true) → (b ≡ true → a ≡ true) → a ≡ b
-same_answer true b f g = sym (f refl)
-same_answer false true f g = g refl
-same_answer false false f g = refl
 
 -- what is found under one node more
 one_more : (under active : ℕ → Bool) (on a k : ℕ) → a ≤ on → on < a + k
@@ -71,26 +68,25 @@ one_more under active on a k from to = same_answer _ _ there back
             finds_in newer a k f.0 f.1 f.2 (and (under f.0) ((on == f.0) || active f.0) g.0 (right (on == f.0) (active f.0) g.1))
         by false p = finds_in newer a k on from to (and (under on) ((on == on) || active on) (one_of (list_any older (range_with_len a k)) (under on) e p) (left (on == on) (active on) (eq-eqb on on refl)))
 
-module _ (a : Inside) where
-  active_here : (b n : ℕ) → b < length a.definition.bidders → n < length a.definition.nodes → is_active (quantities_of a) b n ≡ units.is_active_on a.books a.outcome b n
-  active_here b n h k = either _ _ _ _ (flag_here a b n h k) (ap (λ (v : NodeView). v.wins && is_of b v.high) (node_here a n k))
-    where
-      either : (x y v w : Bool) → x ≡ y → v ≡ w → (x || v) ≡ (y || w)
-      either x y v w e f = cc
+module _ (a : Inside) (kept : IsKept a) where
+  active_here : (b n : ℕ) → b < length a.definition.bidders → n < length a.definition.nodes → is_active (value_inside a) b n ≡ units.is_active_on a.books a.outcome b n
+  active_here b n h k = or_same _ _ _ _ (flag_here a b n h k) (ap (λ set. is_in set n && is_of b (node_at (value_inside a) n).high) (sym (wins_here a kept))
+      ∙ ap (λ (bids : NodeBids). is_in a.outcome.wins n && is_of b bids.high) (node_here a n k))
 
-  pub activity_here : (b : ℕ) → b < length a.definition.bidders → activity_of (quantities_of a) b ≡ units.activity_of a.definition.nodes a.books a.outcome b
-  activity_here b h = units_same a.definition [] (is_active (quantities_of a) b) (units.is_active_on a.books a.outcome b) (λ n k. active_here b n h k)
+  pub activity_here : (b : ℕ) → b < length a.definition.bidders → activity_in (value_inside a) b ≡ units.activity_of a.definition.nodes a.books a.outcome b
+  activity_here b h = units_same a.definition (is_active (value_inside a) b) (units.is_active_on a.books a.outcome b) (λ n k. active_here b n h k)
 
-  pub activity_with_here : (b on : ℕ) → b < length a.definition.bidders → on < length a.definition.nodes → activity_with (quantities_of a) b on ≡ units.activity_with a.definition.nodes a.books a.outcome b on
+  pub activity_with_here : (b on : ℕ) → b < length a.definition.bidders → on < length a.definition.nodes → activity_with_bid (value_inside a) b on ≡ units.activity_with a.definition.nodes a.books a.outcome b on
   activity_with_here b on h k =
-      units_same a.definition [] (λ node. (on == node) || is_active (quantities_of a) b node) (λ node. (on == node) || units.is_active_on a.books a.outcome b node)
+      units_same a.definition (λ node. (on == node) || is_active (value_inside a) b node) (λ node. (on == node) || units.is_active_on a.books a.outcome b node)
       (λ n l. ap (λ t. (on == n) || t) (active_here b n h l))
       ∙ ap (λ (test : ℕ → Bool). sum_over a.definition.nodes test (units_at a.definition.nodes))
       (λ i. λ licence. one_more (λ n. at_or_under a.definition.nodes n licence) (units.is_active_on a.books a.outcome b) on 0 (length a.definition.nodes) (omega arith) (omega arith) i)
 
-module _ (a : Inside) (q : Quantities) (seen : quantities_of a ≡ q) where
-  pub activity_found : (b : ℕ) → b < length q.rules.bidders → activity_of q b ≡ units.activity_of a.definition.nodes a.books a.outcome b
-  activity_found b h = subst (λ (q : Quantities). b < length q.rules.bidders → activity_of q b ≡ units.activity_of a.definition.nodes a.books a.outcome b) seen (activity_here a b) h
+module _ (a : Inside) (kept : IsKept a) (value : AuctionValue) (seen : value_inside a ≡ value) where
+  pub activity_found : (b : ℕ) → b < length value.rules.bidders → activity_in value b ≡ units.activity_of a.definition.nodes a.books a.outcome b
+  activity_found b h = subst (λ (value : AuctionValue). b < length value.rules.bidders → activity_in value b ≡ units.activity_of a.definition.nodes a.books a.outcome b) seen (activity_here a kept b) h
 
-  pub activity_with_found : (b on : ℕ) → b < length q.rules.bidders → on < length q.rules.nodes → activity_with q b on ≡ units.activity_with a.definition.nodes a.books a.outcome b on
-  activity_with_found b on h k = subst (λ (q : Quantities). b < length q.rules.bidders → on < length q.rules.nodes → activity_with q b on ≡ units.activity_with a.definition.nodes a.books a.outcome b on) seen (activity_with_here a b on) h k
+  pub activity_with_found : (b on : ℕ) → b < length value.rules.bidders → on < length value.rules.nodes → activity_with_bid value b on ≡ units.activity_with a.definition.nodes a.books a.outcome b on
+  activity_with_found b on h k =
+      subst (λ (value : AuctionValue). b < length value.rules.bidders → on < length value.rules.nodes → activity_with_bid value b on ≡ units.activity_with a.definition.nodes a.books a.outcome b on) seen (activity_with_here a kept b on) h k

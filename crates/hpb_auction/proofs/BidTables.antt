@@ -7,19 +7,16 @@ use Rattle.hpb_rules.specs.declared.command.Offer.{Offer}
 use Rattle.hpb_rules.specs.declared.command.Command.{Command}
 use Rattle.hpb_rules.specs.declared.command.Command.TheVariants.{Bid}
 use Rattle.hpb_rules.specs.Tree.{Rules, places}
-use Rattle.hpb_rules.specs.History.{Sender, greater, sender_of, ticket_of}
-use Rattle.hpb_rules.specs.Seen.{NodeView, BidderView, SenderView, Quantities}
-use Rattle.hpb_rules.specs.Values.{sender_at, counted, bid_on_node, bid_of_bidder, changed}
+use Rattle.hpb_rules.specs.History.{greater, ticket_of}
+use Rattle.hpb_rules.specs.AuctionValue.{NodeBids, BidderState, AuctionValue}
+use Rattle.hpb_rules.specs.Values.{node_at, bidder_at, numbered, with_bid, after_bid, changed}
 use Rattle.hpb_rules.proofs.Ranges.{map_same, map_set}
-use Rattle.hpb_rules.proofs.Changes.{same_value}
+use Rattle.hpb_rules.proofs.ValueParts.{Parts, value_with, same_value, same_state}
 use Rattle.hpb_bids.specs.View.{BooksView, offer_at, has_bid}
-use Rattle.hpb_winners.specs.Outcome.{OutcomeView}
-use Rattle.hpb_prices.specs.View as prices
 use Rattle.hpb_auction.specs.declared.sender.Accepted.{Accepted}
 use Rattle.hpb_auction.specs.declared.sender.BidderRow.{BidderRow}
 use Rattle.hpb_auction.specs.declared.auction.Auction.TheInside.{Inside}
-use Rattle.hpb_auction.specs.Machine.{IsNext}
-use Rattle.hpb_auction.specs.View.{quantities_of, node_view, bidder_view, sender_view, row_at, empty_row, bidder_places, AreBidsOf, IsOfferOf, IsNumbered}
+use Rattle.hpb_auction.specs.Inside.{value_inside, booked, state_at, kept_last, row_at, empty_row, bidder_places, AreBidsOf, IsOfferOf, IsNumbered}
 use Rattle.hpb_auction.proofs.Kept.{greater_kept}
 use Rattle.hpb_auction.proofs.Tables.{node_here, bidder_here}
 
@@ -64,109 +61,118 @@ placed_kept rules books books' b n amount kept new h k = record {
         at false p y q g = absurd (cc)
     from c m false e f = kept.bids c m f
 
+-- a number that is at most the count is at most a greater one
+pub numbered_more : (count more : ℕ) (last : Option Accepted) → count ≤ more → IsNumbered count last → IsNumbered more last
+numbered_more count more None h p = tt
+numbered_more count more (Some accepted) h p = omega (arith, p)
+
 pub set_kept : (rows : List BidderRow) (count number i : ℕ) (row : BidderRow) (accepted : Accepted) → ((c : ℕ) → IsNumbered count (row_at rows c).last) → count ≤ number → accepted.number ≤ number → i < length rows
     → (c : ℕ) → IsNumbered number (row_at (set rows i (with_last row accepted)) c).last
 set_kept rows count number i row accepted kept more own within c = ⊎_elim
     (λ e. subst_row _ _ (sym (row_set rows i c (with_last row accepted) (sym e) (omega (arith, e)))) own)
-    (λ e. subst_row _ _ (sym (row_other rows i c (with_last row accepted) e)) (numbered (row_at rows c).last (kept c)))
+    (λ e. subst_row _ _ (sym (row_other rows i c (with_last row accepted) e)) (numbered_more count number (row_at rows c).last more (kept c)))
     (cases_eq c i)
   where
     subst_row : (x y : BidderRow) → x ≡ y → IsNumbered number x.last → IsNumbered number y.last
     subst_row x y e p = subst (λ (r : BidderRow). IsNumbered number r.last) e p
 
-    numbered : (last : Option Accepted) → IsNumbered count last → IsNumbered number last
-    numbered None p = tt
-    numbered (Some x) p = omega (arith, p)
+-- ---- the value after a bid
 
--- ---- what the tables show
+-- what a bid has changed in an auction: the books, and the row of its bidder
+pub record IsTaken (a : Inside) (books' : BooksView) (rows' : List BidderRow) (b n amount : ℕ) (accepted : Accepted) : Type 0 where
+  pub placed : IsPlaced a.books books' b n amount
+  pub own : row_at rows' b ≡ with_last (row_at a.bidders.items b) accepted
+  pub others : (c : ℕ) → (c ≡ b → ⊥) → row_at rows' c ≡ row_at a.bidders.items c
+  pub in_bidders : b < length a.definition.bidders
+  pub in_nodes : n < length a.definition.nodes
 
-module _ (rules : Rules) (books books' : BooksView) (rows rows' : List BidderRow) (outcome : OutcomeView) (priced : prices.PricesView) (b n amount : ℕ) (accepted : Accepted)
-    (new : IsPlaced books books' b n amount)
-    (own : row_at rows' b ≡ with_last (row_at rows b) accepted)
-    (others : (c : ℕ) → (c ≡ b → ⊥) → row_at rows' c ≡ row_at rows c)
-    (in_bidders : b < length rules.bidders) (in_nodes : n < length rules.nodes) where
-  pub nodes_placed : set (map (node_view books outcome priced) (places rules.nodes)) n (bid_on_node (node_view books outcome priced n) b amount) ≡ map (node_view books' outcome priced) (places rules.nodes)
-  nodes_placed = map_set (node_view books outcome priced) (node_view books' outcome priced) (bid_on_node (node_view books outcome priced n) b amount) 0 (length rules.nodes) n in_nodes
+module _ (a : Inside) (books' : BooksView) (rows' : List BidderRow) (b n amount : ℕ) (accepted : Accepted) (taken : IsTaken a books' rows' b n amount accepted) where
+  abbrev rules : Rules
+  rules = a.definition
+
+  abbrev rows : List BidderRow
+  rows = a.bidders.items
+
+  -- the incoming bid of a node
+  incoming : (m : ℕ) (t : Bool) → (n == m) ≡ t
+      → offer_at books'.incoming m ≡ (if t then greater (offer_at a.books.incoming m) (Some (record { amount = amount; bidder = b })) else offer_at a.books.incoming m)
+  incoming m t e = taken.placed.incoming m ∙ ap (λ t. if t then greater (offer_at a.books.incoming m) (Some (record { amount = amount; bidder = b })) else offer_at a.books.incoming m) e
+
+  nodes_placed : set (map (booked a.books) (places rules.nodes)) n (with_bid (booked a.books n) b amount) ≡ map (booked books') (places rules.nodes)
+  nodes_placed = map_set (booked a.books) (booked books') (with_bid (booked a.books n) b amount) 0 (length rules.nodes) n taken.in_nodes
       (at (0 + n) (omega arith))
-      (λ m l k other. same m _ _ _ _ (new.standing m) (new.incoming m ∙ ap (λ t. if t then greater (offer_at books.incoming m) (Some (record { amount = amount; bidder = b })) else offer_at books.incoming m) (ne_eqb n m (λ z. other (omega (arith, z))))))
+      (λ m l k other. same (taken.placed.standing m) (incoming m false (ne_eqb n m (λ z. other (omega (arith, z))))))
     where
-      same : (m : ℕ) (x y v w : Option Offer) → x ≡ y → v ≡ w → record (node_view books outcome priced m) { high = x; incoming = v } ≡ record (node_view books outcome priced m) { high = y; incoming = w }
-      same m x y v w e f = cc
+      same : {x y v w : Option Offer} → x ≡ y → v ≡ w → ◌≡◌ {A = NodeBids} (record { high = x; incoming = v }) (record { high = y; incoming = w })
+      same e f = cc
 
-      at : (m : ℕ) → m ≡ n → node_view books' outcome priced m ≡ bid_on_node (node_view books outcome priced n) b amount
-      at m e = ap (node_view books' outcome priced) e ∙ same n _ _ _ _ (new.standing n) (new.incoming n ∙ ap (λ t. if t then greater (offer_at books.incoming n) (Some (record { amount = amount; bidder = b })) else offer_at books.incoming n) (eq-eqb n n refl))
+      at : (m : ℕ) → m ≡ n → booked books' m ≡ with_bid (booked a.books n) b amount
+      at m e = ap (booked books') e ∙ same (taken.placed.standing n) (incoming n true (eq-eqb n n refl))
 
-  same_view : (x y : ℕ) (v w : List Bool) → x ≡ y → v ≡ w → ◌≡◌ {A = BidderView} (record { eligibility = x; bid_on = v }) (record { eligibility = y; bid_on = w })
-  same_view x y v w e f = cc
-
-  flags_placed : (c : ℕ) → c ≡ b → map (has_bid books' c) (places rules.nodes) ≡ set (map (has_bid books b) (places rules.nodes)) n true
-  flags_placed c e = sym (map_set (has_bid books b) (has_bid books' c) true 0 (length rules.nodes) n in_nodes
-      (new.bids c (0 + n) ∙ on _ _ _ (eq-eqb b c (sym e)) (eq-eqb n (0 + n) (omega arith)))
-      (λ m l k other. new.bids c m ∙ off (eqb b c) (eqb n m) (has_bid books c m) (ne_eqb n m (λ z. other (omega (arith, z)))) ∙ ap (λ k. has_bid books k m) e))
+  flags_placed : map (has_bid books' b) (places rules.nodes) ≡ set (map (has_bid a.books b) (places rules.nodes)) n true
+  flags_placed = sym (map_set (has_bid a.books b) (has_bid books' b) true 0 (length rules.nodes) n taken.in_nodes
+      (taken.placed.bids b (0 + n) ∙ on (has_bid a.books b (0 + n)) (eq-eqb b b refl) (eq-eqb n (0 + n) (omega arith)))
+      (λ m l k other. taken.placed.bids b m ∙ off (eqb b b) (has_bid a.books b m) (ne_eqb n m (λ z. other (omega (arith, z))))))
     where
-      on : (x y v : Bool) → x ≡ true → y ≡ true → ((x && y) || v) ≡ true
-      on x y v e f = rw (e, f) refl
+      on : {x y : Bool} (v : Bool) → x ≡ true → y ≡ true → ((x && y) || v) ≡ true
+      on v e f = rw (e, f) refl
 
-      off : (x y v : Bool) → y ≡ false → ((x && y) || v) ≡ v
-      off true y v f = rw f refl
-      off false y v f = refl
+      off : (x v : Bool) {y : Bool} → y ≡ false → ((x && y) || v) ≡ v
+      off true v f = rw f refl
+      off false v f = refl
 
-  pub bidders_placed : set (map (bidder_view rules books rows) (bidder_places rules)) b (bid_of_bidder (bidder_view rules books rows b) n) ≡ map (bidder_view rules books' rows') (bidder_places rules)
-  bidders_placed = map_set (bidder_view rules books rows) (bidder_view rules books' rows') (bid_of_bidder (bidder_view rules books rows b) n) 0 (length rules.bidders) b in_bidders
+  bidders_placed : (last : Command × ℕ) → kept_last (Some accepted) ≡ Some last
+      → set (map (state_at rules a.books rows) (bidder_places rules)) b (after_bid (state_at rules a.books rows b) n last) ≡ map (state_at rules books' rows') (bidder_places rules)
+  bidders_placed last is = map_set (state_at rules a.books rows) (state_at rules books' rows') (after_bid (state_at rules a.books rows b) n last) 0 (length rules.bidders) b taken.in_bidders
       (at (0 + b) (omega arith))
-      (λ c l k other. same_view _ _ _ _ (ap (λ (r : BidderRow). r.eligibility) (others c (λ z. other (omega (arith, z)))))
-      (map_same (has_bid books' c) (has_bid books c) 0 (length rules.nodes) (λ m p q. new.bids c m ∙ off (eqb b c) (eqb n m) (has_bid books c m) (ne_eqb b c (λ z. other (omega (arith, z)))))))
+      (λ c l k other. let another : c ≡ b → ⊥ = λ z. other (omega (arith, z)) in
+      same_state (state_at rules books' rows' c) (state_at rules a.books rows c)
+      (ap (λ (row : BidderRow). row.eligibility) (taken.others c another))
+      (map_same (has_bid books' c) (has_bid a.books c) 0 (length rules.nodes) (λ m p q. taken.placed.bids c m ∙ off (n == m) (has_bid a.books c m) (ne_eqb b c (λ z. another (sym z)))))
+      (ap (λ (row : BidderRow). kept_last row.last) (taken.others c another)))
     where
-      off : (x y v : Bool) → x ≡ false → ((x && y) || v) ≡ v
-      off x y v f = rw f refl
+      off : (y v : Bool) {x : Bool} → x ≡ false → ((x && y) || v) ≡ v
+      off y v f = rw f refl
 
-      at : (c : ℕ) → c ≡ b → bidder_view rules books' rows' c ≡ bid_of_bidder (bidder_view rules books rows b) n
-      at c e = ap (bidder_view rules books' rows') e ∙ same_view _ _ _ _ (ap (λ (r : BidderRow). r.eligibility) own) (flags_placed b refl)
+      at : (c : ℕ) → c ≡ b → state_at rules books' rows' c ≡ after_bid (state_at rules a.books rows b) n last
+      at c e = ap (state_at rules books' rows') e
+          ∙ same_state (state_at rules books' rows' b) (after_bid (state_at rules a.books rows b) n last)
+          (ap (λ (row : BidderRow). row.eligibility) taken.own)
+          flags_placed
+          (ap (λ (row : BidderRow). kept_last row.last) taken.own ∙ is)
 
-  pub senders_placed : (sender : SenderView) → sender_view (Some accepted) ≡ sender
-      → set (map (λ c. sender_view (row_at rows c).last) (bidder_places rules)) b sender ≡ map (λ c. sender_view (row_at rows' c).last) (bidder_places rules)
-  senders_placed sender e = map_set (λ c. sender_view (row_at rows c).last) (λ c. sender_view (row_at rows' c).last) sender 0 (length rules.bidders) b in_bidders
-      (at (0 + b) (omega arith))
-      (λ c l k other. ap (λ (r : BidderRow). sender_view r.last) (others c (λ z. other (omega (arith, z)))))
-    where
-      at : (c : ℕ) → c ≡ b → sender_view (row_at rows' c).last ≡ sender
-      at c f = ap (λ k. sender_view (row_at rows' k).last) f ∙ ap (λ (r : BidderRow). sender_view r.last) own ∙ e
-
--- the quantities after a bid
-module _ (a : Inside) (books' : BooksView) (rows' : List BidderRow) (b n amount : ℕ) (accepted : Accepted)
-    (new : IsPlaced a.books books' b n amount)
-    (own : row_at rows' b ≡ with_last (row_at a.bidders.items b) accepted)
-    (others : (c : ℕ) → (c ≡ b → ⊥) → row_at rows' c ≡ row_at a.bidders.items c)
-    (in_bidders : b < length a.definition.bidders) (in_nodes : n < length a.definition.nodes)
-    (command : accepted.command ≡ Bid b (ticket_of accepted.command) n amount)
-    (count : accepted.number ≡ a.count + 1)
-    (next : IsNext (quantities_of a) accepted.command) where
-  abbrev q : Quantities
-  q = quantities_of a
-
-  sender : sender_view (Some accepted) ≡ counted q (Bid b (ticket_of accepted.command) n amount)
-  sender = same _ _ _ _ _ _ (next ∙ ap (λ (s : Sender). suc (sender_at q s).ticket) (ap sender_of command)) command (count ∙ omega arith)
-    where
-      same : (t t' : ℕ) (c c' : Command) (k k' : ℕ) → t ≡ t' → c ≡ c' → k ≡ k' → ◌≡◌ {A = SenderView} (record { ticket = t; last = Some (c, k) }) (record { ticket = t'; last = Some (c', k') })
-      same t t' c c' k k' e f g = cc
-
-  pub bid_seen : ◌≡◌ {A = Quantities} (record {
-    rules = a.definition;
-    nodes = map (node_view books' a.outcome a.prices) (places a.definition.nodes);
-    bidders = map (bidder_view a.definition books' rows') (bidder_places a.definition);
-    senders = map (λ c. sender_view (row_at rows' c).last) (bidder_places a.definition);
-    auctioneer = sender_view a.auctioneer;
-    revenue = a.outcome.revenue;
+  -- the value with its nodes and its bidders changed
+  abbrev pub taken_parts : Parts
+  taken_parts = record {
+    nodes = map (booked books') (places rules.nodes);
+    bidders = map (state_at rules books' rows') (bidder_places rules);
+    auctioneer = kept_last a.auctioneer;
     round = a.round;
     stage = a.stage;
     over = a.closed;
-    count = accepted.number;
-  }) (changed q accepted.command)
-  bid_seen =
-      same_value a.definition _ _ _ _ _ _ _ _ _ _ _ _ _ _ _ _ _ _
-      (sym (ap (λ (v : NodeView). set q.nodes n (bid_on_node v b amount)) (node_here a n in_nodes) ∙ nodes_placed a.definition a.books books' a.bidders.items rows' a.outcome a.prices b n amount accepted new own others in_bidders in_nodes))
-      (sym (ap (λ (v : BidderView). set q.bidders b (bid_of_bidder v n)) (bidder_here a b in_bidders) ∙ bidders_placed a.definition a.books books' a.bidders.items rows' a.outcome a.prices b n amount accepted new own others in_bidders in_nodes))
-      (sym (senders_placed a.definition a.books books' a.bidders.items rows' a.outcome a.prices b n amount accepted new own others in_bidders in_nodes (counted q (Bid b (ticket_of accepted.command) n amount)) sender))
-      refl refl refl refl refl
-      (count ∙ omega arith)
-      ∙ ap (changed q) (sym command)
+  }
+
+  pub bid_seen : (command : accepted.command ≡ Bid b (ticket_of accepted.command) n amount) → accepted.number ≡ a.count + 1
+      → value_with rules accepted.number taken_parts ≡ changed (value_inside a) accepted.command
+  bid_seen command count =
+      let value : AuctionValue = value_inside a in
+      let last : Command × ℕ = numbered value (Bid b (ticket_of accepted.command) n amount) in
+      ap (λ k. value_with rules k taken_parts) number
+      ∙ sym (same_value rules (suc a.count)
+      (record taken_parts { nodes = set value.nodes n (with_bid (node_at value n) b amount); bidders = set value.bidders b (after_bid (bidder_at value b) n last) })
+      taken_parts
+      (record {
+        nodes = ap (λ (bids : NodeBids). set value.nodes n (with_bid bids b amount)) (node_here a n taken.in_nodes) ∙ nodes_placed;
+        bidders = ap (λ (state : BidderState). set value.bidders b (after_bid state n last)) (bidder_here a b taken.in_bidders) ∙ bidders_placed last (both command number);
+        auctioneer = refl;
+        round = refl;
+        stage = refl;
+        over = refl;
+      }))
+      ∙ ap (changed value) (sym command)
+    where
+      number : accepted.number ≡ suc a.count
+      number = count ∙ omega arith
+
+      both : {x y : Command} {k l : ℕ} → x ≡ y → k ≡ l → ◌≡◌ {A = Option (Command × ℕ)} (Some (x, k)) (Some (y, l))
+      both e f = cc

@@ -1,25 +1,21 @@
 -- The tables before the first command.
-use Rattle.std.proofs.Common.{◌≡◌, ℕ, ◌<◌, Bool, false, List, [], map, length, get_or, Option, None, refl, sym, ap, ◌∙◌, ⊎_elim, arith, subst}
+use Rattle.std.proofs.Common.{◌≡◌, ℕ, ◌<◌, false, List, [], map, length, get_or, Option, None, refl, sym, ap, ◌∙◌, ⊎_elim, arith, subst}
 use Rattle.std.specs.Prelude.{IfSome}
 use Rattle.std.proofs.lemmas.Bool.{cases_lt, both_ways}
 use Rattle.std.proofs.lemmas.List.{get_or_past}
 use Rattle.std.proofs.lemmas.List.FromFn.{length-map-range_with_len}
 use Rattle.hpb_rules.specs.declared.command.Offer.{Offer}
-use Rattle.hpb_rules.specs.Tree.{Rules, places, tree_of}
-use Rattle.hpb_rules.specs.Choices.{is_in, revenue}
+use Rattle.hpb_rules.specs.Tree.{Rules, places}
 use Rattle.hpb_rules.specs.History
-use Rattle.hpb_rules.specs.Seen as seen
-use Rattle.hpb_rules.specs.Seen.{NodeView, BidderView, Quantities}
+use Rattle.hpb_rules.specs.AuctionValue.{NodeBids, node_bids, bidder_state}
 use Rattle.hpb_rules.specs.Values.{first_value}
-use Rattle.hpb_rules.proofs.Changes.{same_value}
+use Rattle.hpb_rules.proofs.ValueParts.{Parts, value_with, parts_of, same_value, same_state}
 use Rattle.hpb_rules.proofs.Ranges.{map_same}
 use Rattle.hpb_bids.specs.View.{BooksView, IsEmpty, has_bid}
-use Rattle.hpb_winners.specs.Outcome.{OutcomeView, IsOutcome, no_bid}
-use Rattle.hpb_prices.specs.View as prices
 use Rattle.hpb_auction.specs.declared.sender.BidderRow.{BidderRow}
 use Rattle.hpb_auction.specs.Rows.{first_row, first_rows}
-use Rattle.hpb_auction.specs.View.{node_view, bidder_view, sender_view, row_at, empty_row, bidder_places, AreBidsOf, IsOfferOf, IsNumbered}
-use Rattle.hpb_auction.proofs.Kept.{no_bit}
+use Rattle.hpb_auction.specs.Inside.{booked, state_at, kept_last, row_at, empty_row, bidder_places, AreBidsOf, IsOfferOf, IsNumbered}
+use Rattle.hpb_rules.proofs.Tests.{no_bit}
 use Rattle.hpb_auction.proofs.Tables.{entry_at}
 
 pub empty_kept : (rules : Rules) (books : BooksView) → IsEmpty books → AreBidsOf rules books
@@ -47,45 +43,33 @@ first_numbers rules b = ⊎_elim
     at : (x y : BidderRow) → x ≡ y → IsNumbered 0 x.last → IsNumbered 0 y.last
     at x y e p = subst (λ (r : BidderRow). IsNumbered 0 r.last) e p
 
-module _ (rules : Rules) (books : BooksView) (empty : IsEmpty books) (outcome : OutcomeView) (reached : IsOutcome rules.nodes no_bid outcome)
-    (priced : prices.PricesView) (priced_is : prices.HasPrices rules.nodes no_bid priced) (minima_is : prices.HasMinima (tree_of rules) no_bid priced) where
-  nodes_first : map (node_view books outcome priced) (places rules.nodes) ≡ map (seen.node_view rules []) (places rules.nodes)
-  nodes_first = map_same (node_view books outcome priced) (seen.node_view rules []) 0 (length rules.nodes)
-      (λ n l m. same _ _ _ _ _ _ _ _ _ _ (empty.standing n) (empty.incoming n) (ap (λ set. is_in set n) reached.wins) (priced_is n (omega arith)) (minima_is n (omega arith)))
+module _ (rules : Rules) (books : BooksView) (empty : IsEmpty books) where
+  nodes_first : map (booked books) (places rules.nodes) ≡ map (node_bids []) (places rules.nodes)
+  nodes_first = map_same (booked books) (node_bids []) 0 (length rules.nodes) (λ n l m. same (empty.standing n) (empty.incoming n))
     where
-      same : (h h' i i' : Option Offer) (w w' : Bool) (p p' m m' : ℕ) → h ≡ h' → i ≡ i' → w ≡ w' → p ≡ p' → m ≡ m'
-          → ◌≡◌ {A = NodeView} (record { high = h; incoming = i; wins = w; price = p; minimum = m }) (record { high = h'; incoming = i'; wins = w'; price = p'; minimum = m' })
-      same h h' i i' w w' p p' m m' e f g k l = cc
+      same : {high high' incoming incoming' : Option Offer} → high ≡ high' → incoming ≡ incoming'
+          → ◌≡◌ {A = NodeBids} (record { high = high; incoming = incoming }) (record { high = high'; incoming = incoming' })
+      same e f = cc
 
-  bidders_first : map (bidder_view rules books (first_rows rules)) (bidder_places rules) ≡ map (seen.bidder_view rules []) (bidder_places rules)
-  bidders_first = map_same (bidder_view rules books (first_rows rules)) (seen.bidder_view rules []) 0 (length rules.bidders)
-      (λ b l m. same _ _ _ _ (ap (λ (r : BidderRow). r.eligibility) (row_here rules b (omega arith)))
-      (map_same (has_bid books b) (History.bid_on [] b) 0 (length rules.nodes) (λ n p k. no_bit (get_or books.bids b 0) n (empty.bids b))))
-    where
-      same : (x y : ℕ) (v w : List Bool) → x ≡ y → v ≡ w → ◌≡◌ {A = BidderView} (record { eligibility = x; bid_on = v }) (record { eligibility = y; bid_on = w })
-      same x y v w e f = cc
+  bidders_first : (rows : List BidderRow) → rows ≡ first_rows rules → map (state_at rules books rows) (bidder_places rules) ≡ map (bidder_state rules []) (bidder_places rules)
+  bidders_first rows are = map_same (state_at rules books rows) (bidder_state rules []) 0 (length rules.bidders)
+      (λ b l m. let row : row_at rows b ≡ first_row rules b = ap (λ (rows : List BidderRow). row_at rows b) are ∙ row_here rules b (omega arith) in
+      same_state (state_at rules books rows b) (bidder_state rules [] b)
+      (ap (λ (row : BidderRow). row.eligibility) row)
+      (map_same (has_bid books b) (History.bid_on [] b) 0 (length rules.nodes) (λ n p k. no_bit (get_or books.bids b 0) n (empty.bids b)))
+      (ap (λ (row : BidderRow). kept_last row.last) row))
 
-  senders_first : map (λ b. sender_view (row_at (first_rows rules) b).last) (bidder_places rules) ≡ map (λ b. seen.sender_view rules [] (History.bidder b)) (bidder_places rules)
-  senders_first = map_same (λ b. sender_view (row_at (first_rows rules) b).last) (λ b. seen.sender_view rules [] (History.bidder b)) 0 (length rules.bidders)
-      (λ b l m. ap (λ (r : BidderRow). sender_view r.last) (row_here rules b (omega arith)))
-
-  pub first_seen : (rows : List BidderRow) → rows ≡ first_rows rules → ◌≡◌ {A = Quantities} (record {
-    rules = rules;
-    nodes = map (node_view books outcome priced) (places rules.nodes);
-    bidders = map (bidder_view rules books rows) (bidder_places rules);
-    senders = map (λ b. sender_view (row_at rows b).last) (bidder_places rules);
-    auctioneer = sender_view None;
-    revenue = outcome.revenue;
+  -- the parts of an auction before its first command
+  abbrev pub first_parts : List BidderRow → Parts
+  first_parts rows = record {
+    nodes = map (booked books) (places rules.nodes);
+    bidders = map (state_at rules books rows) (bidder_places rules);
+    auctioneer = None;
     round = 1;
     stage = 1;
     over = false;
-    count = 0;
-  }) (first_value rules)
-  first_seen rows e =
-      same_value rules _ _ _ _ _ _ _ _ _ _ _ _ _ _ _ _ _ _
-      nodes_first
-      (ap (λ (rows : List BidderRow). map (bidder_view rules books rows) (bidder_places rules)) e ∙ bidders_first)
-      (ap (λ (rows : List BidderRow). map (λ b. sender_view (row_at rows b).last) (bidder_places rules)) e ∙ senders_first)
-      refl
-      (reached.revenue ∙ ap (revenue no_bid) reached.wins)
-      refl refl refl refl
+  }
+
+  pub first_seen : (rows : List BidderRow) → rows ≡ first_rows rules → value_with rules 0 (first_parts rows) ≡ first_value rules
+  first_seen rows are = same_value rules 0 (first_parts rows) (parts_of rules [])
+      (record { nodes = nodes_first; bidders = bidders_first rows are; auctioneer = refl; round = refl; stage = refl; over = refl })

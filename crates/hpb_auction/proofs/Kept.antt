@@ -1,16 +1,13 @@
--- What holds of bids and masks that the tables keep.
-use Rattle.std.proofs.Common.{◌≡◌, ℕ, Bool, true, false, Option, ap, ◌∙◌}
-use Rattle.std.specs.Prelude.{◌==◌, if◌then◌else◌, IfSome}
-use Rattle.std.specs.Int.{bit_at}
-use Rattle.std.proofs.lemmas.Nat.Bits.{bit_at-zero}
+-- What holds of the bids that the tables keep.
+use Rattle.std.proofs.Common.{◌≡◌, ℕ, Bool, true, false, Option, sym, subst}
+use Rattle.std.specs.Prelude.{if◌then◌else◌, IfSome}
 use Rattle.hpb_rules.specs.declared.command.Offer.{Offer}
 use Rattle.hpb_rules.specs.History.{greater}
-use Rattle.hpb_rules.specs.Tree.{Rules}
-use Rattle.hpb_auction.specs.View.{IsOfferOf}
-
--- an empty mask has no bit
-pub no_bit : (mask n : ℕ) → mask ≡ 0 → (bit_at mask n == 1) ≡ false
-no_bit mask n e = ap (λ k. bit_at k n == 1) e ∙ ap (λ k. k == 1) (bit_at-zero n)
+use Rattle.hpb_rules.specs.Tree.{Rules, tree_of}
+use Rattle.hpb_bids.specs.View.{BooksView, bid_of}
+use Rattle.hpb_winners.specs.Outcome.{OutcomeView, IsOutcome}
+use Rattle.hpb_prices.specs.View.{PricesView, IsSized, HasPrices, HasMinima}
+use Rattle.hpb_auction.specs.Inside.{IsOfferOf, AreTablesOf}
 
 -- the greater of two bids on a node is one of them
 pub greater_kept : (rules : Rules) (n : ℕ) (older newer : Option Offer) → IfSome older (IsOfferOf rules n) → IfSome newer (IsOfferOf rules n) → IfSome (greater older newer) (IsOfferOf rules n)
@@ -19,3 +16,17 @@ greater_kept rules n older newer h k = pick _
     pick : (b : Bool) → IfSome (if b then newer else older) (IsOfferOf rules n)
     pick true = k
     pick false = h
+
+-- tables of the high bids of some books are those of the books
+pub tables_by : {rules : Rules} {books : BooksView} {outcome : OutcomeView} {priced : PricesView} {bid : ℕ → ℕ} → bid_of books ≡ bid
+    → IsOutcome rules.nodes bid outcome → IsSized rules.nodes priced → HasPrices rules.nodes bid priced → HasMinima (tree_of rules) bid priced → AreTablesOf rules books outcome priced
+tables_by {rules = rules} {outcome = outcome} {priced = priced} high reached sized prices minima = record {
+  reached = subst (λ (bid : ℕ → ℕ). IsOutcome rules.nodes bid outcome) (sym high) reached;
+  sized = sized;
+  prices = subst (λ (bid : ℕ → ℕ). HasPrices rules.nodes bid priced) (sym high) prices;
+  minima = subst (λ (bid : ℕ → ℕ). HasMinima (tree_of rules) bid priced) (sym high) minima;
+}
+
+-- tables stay those of books whose high bids stay
+pub tables_stay : (rules : Rules) (books books' : BooksView) (outcome : OutcomeView) (priced : PricesView) → bid_of books' ≡ bid_of books → AreTablesOf rules books outcome priced → AreTablesOf rules books' outcome priced
+tables_stay rules books books' outcome priced high kept = tables_by high kept.reached kept.sized kept.prices kept.minima

@@ -1,5 +1,6 @@
 pub mod Verdicts
 pub mod Tables
+pub mod HighBids
 pub mod Activities
 pub mod Kept
 pub mod Quiet
@@ -8,4 +9,4 @@ pub mod CloseTables
 pub mod Faults
 pub mod Histories
 pub mod FirstTables
-pub mod Choices
+pub mod Runs

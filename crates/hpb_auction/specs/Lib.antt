@@ -1,4 +1,4 @@
 pub mod Verdicts
-pub mod View
+pub mod Inside
 pub mod Rows
-pub mod Machine
+pub mod Acceptable

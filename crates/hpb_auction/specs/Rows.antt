@@ -6,7 +6,7 @@ use Rattle.hpb_bids.specs.View.{BooksView}
 use Rattle.hpb_winners.specs.Outcome.{OutcomeView}
 use Rattle.hpb_units.specs.Activity.{activity_of}
 use Rattle.hpb_auction.specs.declared.sender.BidderRow.{BidderRow}
-use Rattle.hpb_auction.specs.View.{bidder_places}
+use Rattle.hpb_auction.specs.Inside.{bidder_places}
 
 -- A bidder's row before the first command: the units that it starts with.
 abbrev pub first_row : Rules → ℕ → BidderRow

@@ -1,76 +1,70 @@
--- What becomes of a command.
+-- What becomes of a command, by its sender's last one and then by the state of the auction.
 use Rattle.std.specs.Prelude.{◌≡◌, ◌≤◌, ℕ, suc, Bool, Option, Some, None, ⊤, ◌==◌, ◌||◌, nat_lt, nat_le, if◌then◌else◌}
 use Rattle.std.specs.Borrow.{Bor}
 use Rattle.hpb_rules.specs.declared.command.Command.{Command}
 use Rattle.hpb_rules.specs.declared.reply.Reply.{Reply}
 use Rattle.hpb_rules.specs.declared.reply.Reply.TheVariants as replies
-use Rattle.hpb_rules.specs.declared.refusal.TheConstants.{OLD, GAP, LIMIT, CLOSED}
+use Rattle.hpb_rules.specs.declared.refusal.Refusal.{Refusal}
+use Rattle.hpb_rules.specs.declared.refusal.Refusal.TheVariants as refusals
 use Rattle.hpb_rules.specs.declared.reply.TheConstants.{MOST_COMMANDS}
 use Rattle.hpb_rules.specs.Answer
-use Rattle.hpb_rules.specs.History.{ticket_of}
-use Rattle.hpb_rules.specs.Seen.{SenderView}
+use Rattle.hpb_rules.specs.History.{ticket_of, ticket_of_last}
 use Rattle.hpb_auction.specs.declared.sender.Accepted.{Accepted}
 use Rattle.hpb_auction.specs.declared.verdict.Verdict.{Verdict}
 use Rattle.hpb_auction.specs.declared.verdict.Verdict.TheVariants.{New, Repeat, Refused}
 
--- what the sender is told
+-- What the sender is told.
 abbrev pub reply_of : Verdict → Reply
-reply_of (New n) = replies.Ok n
-reply_of (Repeat n) = replies.Ok n
-reply_of (Refused code) = replies.Refused code
+reply_of (New number) = replies.Ok number
+reply_of (Repeat number) = replies.Ok number
+reply_of (Refused refusal) = replies.Refused refusal
 
--- a sender's last command with its number
-abbrev pub last_of : Option (Bor Accepted) → Option (Command × ℕ)
-last_of None = None
-last_of (Some a) = Some (a.now.command, a.now.number)
+-- A sender's last command with its number, as it was read.
+abbrev pub read_last : Option (Bor Accepted) → Option (Command × ℕ)
+read_last None = None
+read_last (Some accepted) = Some (accepted.now.command, accepted.now.number)
 
--- the number of a sender's last command, 0 where it has none
-abbrev pub last_number : Option (Bor Accepted) → ℕ
-last_number None = 0
-last_number (Some a) = a.now.number
+-- The number of a sender's last command, 0 where it has none.
+abbrev pub number_of_last : Option (Command × ℕ) → ℕ
+number_of_last None = 0
+number_of_last (Some last) = last.1
 
--- the ticket of a sender's last command, 0 where it has none
-abbrev pub last_ticket : Option (Bor Accepted) → ℕ
-last_ticket None = 0
-last_ticket (Some a) = ticket_of a.now.command
+-- The reply that the tickets decide, if they do: the command is its sender's last once more, or its ticket isn't the next.
+abbrev pub ticket_reply : Command → Option (Command × ℕ) → Option Reply
+ticket_reply command last =
+    if (ticket_of command == 0) || nat_lt (ticket_of command) (ticket_of_last last) then Some (replies.Refused refusals.Old) else
+    (if ticket_of command == ticket_of_last last then Some (Answer.repeated command last) else
+    (if nat_lt (suc (ticket_of_last last)) (ticket_of command) then Some (replies.Refused refusals.Gap) else None))
 
--- the reply that the tickets decide, if they do: the command is its sender's last once more, or its ticket isn't the next
-abbrev pub ticket_reply : Command → Option (Bor Accepted) → Option Reply
-ticket_reply c last =
-    if (ticket_of c == 0) || nat_lt (ticket_of c) (last_ticket last) then Some (replies.Refused OLD) else
-    (if ticket_of c == last_ticket last then Some (Answer.repeated c (last_of last)) else
-    (if nat_lt (suc (last_ticket last)) (ticket_of c) then Some (replies.Refused GAP) else None))
-
--- the reply to a command with the next ticket
-abbrev pub state_reply : ℕ → Bool → Option ℕ → Reply
+-- The reply to a command with the next ticket: there may be no room for it, the auction may be over, or something may be wrong with it.
+abbrev pub state_reply : ℕ → Bool → Option Refusal → Reply
 state_reply count over fault =
-    if nat_le MOST_COMMANDS count then replies.Refused LIMIT else
-    (if over then replies.Refused CLOSED else Answer.ok_or_fault (suc count) fault)
+    if nat_le MOST_COMMANDS count then replies.Refused refusals.Limit else
+    (if over then replies.Refused refusals.Closed else Answer.ok_or_fault (suc count) fault)
 
--- what is told, if anything is
+-- What is told, if anything is.
 abbrev pub told : Option Verdict → Option Reply
 told None = None
-told (Some v) = Some (reply_of v)
+told (Some verdict) = Some (reply_of verdict)
 
--- a fact of the number, where the command is newly accepted
+-- A fact of the number, where the command is newly accepted.
 abbrev pub IfNew : Verdict → (ℕ → Type 0) → Type 0
-IfNew (New n) P = P n
-IfNew (Repeat n) P = ⊤
-IfNew (Refused code) P = ⊤
+IfNew (New number) P = P number
+IfNew (Repeat number) P = ⊤
+IfNew (Refused refusal) P = ⊤
 
--- a fact of the number, where the command is its sender's last one once more
+-- A fact of the number, where the command is its sender's last one once more.
 abbrev pub IfRepeat : Verdict → (ℕ → Type 0) → Type 0
-IfRepeat (New n) P = ⊤
-IfRepeat (Repeat n) P = P n
-IfRepeat (Refused code) P = ⊤
+IfRepeat (New number) P = ⊤
+IfRepeat (Repeat number) P = P number
+IfRepeat (Refused refusal) P = ⊤
 
--- the first reply where there is one, else the second
+-- The first reply where there is one, else the second.
 abbrev pub decided : Option Reply → Reply → Reply
 decided None later = later
 decided (Some reply) later = reply
 
--- The last command that was read is the one known of a sender, and its number is at most the number of commands.
-pub record IsFoundIn (sender : SenderView) (count : ℕ) (read : Option (Bor Accepted)) : Type 0 where
-  pub ticket : last_ticket read ≡ sender.ticket
-  pub last : last_of read ≡ sender.last
-  pub number : last_number read ≤ count
+-- What was read is a sender's last command, and its number is at most the number of commands.
+pub record IsFoundIn (own : Option (Command × ℕ)) (count : ℕ) (read : Option (Bor Accepted)) : Type 0 where
+  pub last : read_last read ≡ own
+  pub number : number_of_last own ≤ count

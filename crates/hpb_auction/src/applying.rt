@@ -1,11 +1,12 @@
 ghost use Rattle.std.specs.Prelude.{◌≡◌, ℕ, ◌+◌, ◌≤◌, List, false};
 ghost use Rattle.hpb_rules.specs.declared.command.Command.TheVariants.{Bid, Close, Stage};
+ghost use Rattle.hpb_rules.specs.declared.refusal.Refusal.{Refusal};
 ghost use Rattle.hpb_rules.specs.declared.reply.TheConstants.{MOST_AMOUNT, MOST_COMMANDS};
-ghost use Rattle.hpb_rules.specs.Answer.{answer, is_reply_new};
+ghost use Rattle.hpb_rules.specs.Answer.{answer, history_after, is_reply_new};
+ghost use Rattle.hpb_rules.specs.AuctionValue.{Shows};
 ghost use Rattle.hpb_rules.specs.History.{ticket_of};
-ghost use Rattle.hpb_rules.specs.Seen.{Shows};
 ghost use Rattle.hpb_rules.specs.Values.{reply_in, changed, closed_value, next_value};
-ghost use Rattle.hpb_auction.specs.Machine.{CanTake, IsKnown, IsNext, history_after};
+ghost use Rattle.hpb_auction.specs.Acceptable.{CanTake, IsKnown};
 
 use crate::auction::Auction;
 use crate::sender::{Accepted, renew_eligibility};
@@ -26,7 +27,7 @@ impl Auction {
         ensures value { self.new ≡ next_value self.old command.now }
         ensures answer { (history : List Command) → Shows self.old history → result ≡ answer self.old.rules history command.now }
         ensures shown { (history : List Command) → Shows self.old history → Shows self.new (history_after self.old.rules history command.now) }
-        ensures refused { (code : ℕ) → result ≡ Reply.Refused code → self.new ≡ self.old }
+        ensures refused { (refusal : Refusal) → result ≡ Reply.Refused refusal → self.new ≡ self.old }
 
         // A repeat gets the number of an earlier command.
         ensures repeated { is_reply_new self.old.count result ≡ false → self.new ≡ self.old }
@@ -45,7 +46,6 @@ impl Auction {
         requires limit { number ≤ MOST_COMMANDS }
         requires known { IsKnown self.old command.now }
         requires can { CanTake self.old command.now }
-        requires next { IsNext self.old command.now }
         ensures { self.new ≡ changed self.old command.now }
     {
         let accepted = Accepted {
@@ -71,7 +71,6 @@ impl Auction {
         requires limit { accepted.number ≤ MOST_COMMANDS }
         requires known { IsKnown self.old accepted.command }
         requires can { amount ≤ MOST_AMOUNT }
-        requires next { IsNext self.old accepted.command }
         ensures { self.new ≡ changed self.old accepted.command }
     {
         self.count = accepted.number;
@@ -84,7 +83,6 @@ impl Auction {
         requires command { accepted.command ≡ Close (ticket_of accepted.command) }
         requires count { accepted.number ≡ self.old.count + 1 }
         requires limit { accepted.number ≤ MOST_COMMANDS }
-        requires next { IsNext self.old accepted.command }
         ensures { self.new ≡ changed self.old accepted.command }
     {
         self.count = accepted.number;
@@ -98,7 +96,6 @@ impl Auction {
         requires count { accepted.number ≡ self.old.count + 1 }
         requires limit { accepted.number ≤ MOST_COMMANDS }
         requires can { CanTake self.old accepted.command }
-        requires next { IsNext self.old accepted.command }
         ensures { self.new ≡ changed self.old accepted.command }
     {
         self.count = accepted.number;
@@ -106,12 +103,13 @@ impl Auction {
         self.auctioneer = Some(accepted);
     }
 
-    /// Ends the round: eligibilities by what was bid in it, then its bids count. A round without a bid is
-    /// the last.
+    /// Ends the round. Eligibilities come first, since they go by what was bid in it and by who won before it;
+    /// then its bids count, and winners and prices follow from them. A round without a bid is the last.
     fn close_round(&mut self)
         requires { self.old.round ≤ self.old.count }
         ensures { self.new ≡ closed_value self.old }
     {
+        // 1. Eligibilities, by the activity before the close.
         let percentage = self.definition.percentage(self.stage);
         let tree = self.definition.tree();
         renew_eligibility(
@@ -121,10 +119,16 @@ impl Auction {
             &self.books,
             &self.outcome,
         );
+
+        // 2. A round without a bid ends the auction; any other is followed by the next.
         let quiet = self.books.is_quiet();
         self.closed |= quiet;
         self.round += u32::from(!quiet);
+
+        // 3. Incoming bids become high bids where they are greater; who bid where is forgotten.
         self.books.fold_round();
+
+        // 4. Winners from the bottom up, then prices and minima from the top down.
         upward(tree, &self.books, &mut self.outcome);
         downward(tree, &self.books, &self.outcome, &mut self.prices);
     }

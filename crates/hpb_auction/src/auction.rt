@@ -29,23 +29,23 @@ pub struct Auction {
 }
 
 impl Model for Auction {
-    ghost use Rattle.hpb_rules.specs.Seen.{Quantities};
+    ghost use Rattle.hpb_rules.specs.AuctionValue.{AuctionValue};
 
-    ghost Value = { Quantities };
+    ghost Value = { AuctionValue };
 
-    ghost use Rattle.hpb_auction.specs.View.{quantities_of, IsKept};
+    ghost use Rattle.hpb_auction.specs.Inside.{value_inside, IsKept};
 
-    ghost view = { quantities_of };
+    ghost view = { value_inside };
 
     ghost invariant = { IsKept };
 }
 
 impl Auction {
-    ghost use Rattle.hpb_rules.specs.declared.command.Command.{Command};
-    ghost use Rattle.hpb_rules.specs.Seen.{Shows};
+    ghost use Rattle.hpb_rules.specs.AuctionValue.{Shows};
+    ghost use Rattle.hpb_rules.specs.Choices.{is_in};
+    ghost use Rattle.hpb_rules.specs.History.{bidder as bidder_sender};
     ghost use Rattle.hpb_rules.specs.ValueLaws.{IsBestChoice};
-    ghost use Rattle.hpb_rules.specs.Values.{first_value, node_at, bidder_at, activity_of};
-    ghost use Rattle.hpb_auction.specs.Machine.{bidder_sender_at};
+    ghost use Rattle.hpb_rules.specs.Values.{first_value, node_at, bidder_at, ticket_at, wins_in, revenue_in, price_in, minimum_in, activity_in};
 
     /// The auction before its first command. Fails only where memory is refused.
     pub fn new(alloc: Global, definition: &Definition) -> Result<Self, AllocError>
@@ -122,11 +122,11 @@ impl Auction {
         self.closed
     }
 
-    /// The sum of the winning bids, in whole dollars: of an auction that shows a history the greatest that
-    /// disjoint high bids of closed rounds have, and the prices prove it.
+    /// The sum of the winning bids, in whole dollars: the greatest that disjoint high bids of closed rounds have,
+    /// and the prices prove it.
     pub fn revenue(&self) -> u64
-        ensures value { result ≡ self.now.revenue }
-        ensures best { (history : List Command) → Shows self.now history → IsBestChoice self.now }
+        ensures value { result ≡ revenue_in self.now }
+        ensures best { IsBestChoice self.now }
     {
         self.outcome.revenue()
     }
@@ -139,14 +139,16 @@ impl Auction {
         self.count
     }
 
-    /// What is shown of a node.
+    /// What is shown of a node. The nodes that win have the greatest total of all disjoint high bids of closed
+    /// rounds, and the prices prove it.
     pub fn node_view(&self, node: NodeId) -> NodeView
         requires { node < length self.now.rules.nodes }
         ensures high { result.high ≡ (node_at self.now node).high }
         ensures incoming { result.incoming ≡ (node_at self.now node).incoming }
-        ensures price { result.price ≡ (node_at self.now node).price }
-        ensures minimum { result.minimum ≡ (node_at self.now node).minimum }
-        ensures wins { result.wins ≡ (node_at self.now node).wins }
+        ensures price { result.price ≡ price_in self.now node }
+        ensures minimum { result.minimum ≡ minimum_in self.now node }
+        ensures wins { result.wins ≡ is_in (wins_in self.now) node }
+        ensures best { IsBestChoice self.now }
         ensures bidder { IfSome result.high (λ offer. offer.bidder < length self.now.rules.bidders) }
     {
         NodeView {
@@ -162,8 +164,8 @@ impl Auction {
     pub fn bidder_view(&self, bidder: BidderId) -> BidderView
         requires { bidder < length self.now.rules.bidders }
         ensures eligibility { result.eligibility ≡ (bidder_at self.now bidder).eligibility }
-        ensures activity { result.activity ≡ activity_of self.now bidder }
-        ensures ticket { result.ticket ≡ (bidder_sender_at self.now bidder).ticket }
+        ensures activity { result.activity ≡ activity_in self.now bidder }
+        ensures ticket { result.ticket ≡ ticket_at self.now (bidder_sender bidder) }
     {
         let row = &self.bidders[bidder.place()];
         BidderView {

@@ -2,17 +2,17 @@ ghost use Rattle.std.specs.Prelude.{◌≡◌, ℕ, ◌+◌, ◌<◌, ◌≤◌,
 ghost use Rattle.hpb_rules.specs.declared.command.Command.TheVariants.{Bid, Stage};
 ghost use Rattle.hpb_rules.specs.declared.reply.TheConstants.{MOST_AMOUNT, MOST_COMMANDS};
 ghost use Rattle.hpb_rules.specs.Answer.{answer, unknown};
-ghost use Rattle.hpb_rules.specs.History.{sender_of};
-ghost use Rattle.hpb_rules.specs.Seen.{Shows};
-ghost use Rattle.hpb_rules.specs.Values.{sender_at, fault_in, reply_in};
+ghost use Rattle.hpb_rules.specs.AuctionValue.{Shows};
+ghost use Rattle.hpb_rules.specs.History.{bidder as bidder_sender, sender_of};
+ghost use Rattle.hpb_rules.specs.Values.{last_at, fault_in, reply_in};
 ghost use Rattle.hpb_tree.specs.declared.definition.TheConstants.{MOST_STAGES};
-ghost use Rattle.hpb_auction.specs.Machine.{CanTake, IsKnown, IsNext, bidder_sender_at};
-ghost use Rattle.hpb_auction.specs.Verdicts.{reply_of, IfNew, IfRepeat, IsFoundIn};
+ghost use Rattle.hpb_auction.specs.Acceptable.{CanTake, IsKnown};
+ghost use Rattle.hpb_auction.specs.Verdicts.{reply_of, state_reply, IfNew, IfRepeat, IsFoundIn};
 
 use crate::auction::Auction;
 use crate::sender::Accepted;
-use crate::verdict::{Verdict, by_state, by_ticket};
-use hpb_rules::{BidderId, Command, MOST_AMOUNT, NodeId, Reply, refusal};
+use crate::verdict::{Verdict, by_ticket};
+use hpb_rules::{BidderId, Command, MOST_AMOUNT, MOST_COMMANDS, NodeId, Refusal, Reply};
 use hpb_units::fits;
 
 impl Auction {
@@ -29,27 +29,27 @@ impl Auction {
         self.verdict(command).reply()
     }
 
-    /// What becomes of a command.
+    /// What becomes of a command: first by its sender's last one, then by the state of the auction.
     pub(crate) fn verdict(&self, command: &Command) -> Verdict
         ensures reply { reply_of result ≡ reply_in self.now command.now }
-        ensures new { IfNew result (λ number. (number ≡ self.now.count + 1) × (number ≤ MOST_COMMANDS) × IsKnown self.now command.now × CanTake self.now command.now × IsNext self.now command.now) }
+        ensures new { IfNew result (λ number. (number ≡ self.now.count + 1) × (number ≤ MOST_COMMANDS) × IsKnown self.now command.now × CanTake self.now command.now) }
         ensures repeat { IfRepeat result (λ number. number ≤ self.now.count) }
     {
         let last = match self.last_of(command) {
             Ok(last) => last,
-            Err(code) => return Verdict::Refused(code),
+            Err(refusal) => return Verdict::Refused(refusal),
         };
         match by_ticket(command, last) {
             Some(verdict) => verdict,
-            None => by_state(self.count, self.closed, self.fault(command)),
+            None => self.by_state(command),
         }
     }
 
     /// The last command of a command's sender, or the refusal of a bidder or a node that the definition hasn't.
-    fn last_of(&self, command: &Command) -> Result<Option<&Accepted>, u8>
+    fn last_of(&self, command: &Command) -> Result<Option<&Accepted>, Refusal>
         ensures known { IfOk result (λ _. IsKnown self.now command.now × (unknown self.now.rules command.now ≡ None)) }
-        ensures found { IfOk result (λ last. IsFoundIn (sender_at self.now (sender_of command.now)) self.now.count last) }
-        ensures refused { IfErr result (λ code. unknown self.now.rules command.now ≡ Some code) }
+        ensures found { IfOk result (λ last. IsFoundIn (last_at self.now (sender_of command.now)) self.now.count last) }
+        ensures refused { IfErr result (λ refusal. unknown self.now.rules command.now ≡ Some refusal) }
     {
         match command {
             Command::Bid { bidder, node, .. } => self.last_bid_of(*bidder, *node),
@@ -57,23 +57,43 @@ impl Auction {
         }
     }
 
-    fn last_bid_of(&self, bidder: BidderId, node: NodeId) -> Result<Option<&Accepted>, u8>
+    fn last_bid_of(&self, bidder: BidderId, node: NodeId) -> Result<Option<&Accepted>, Refusal>
         ensures known { IfOk result (λ _. (bidder < length self.now.rules.bidders) × (node < length self.now.rules.nodes)) }
-        ensures found { IfOk result (λ last. IsFoundIn (bidder_sender_at self.now bidder) self.now.count last) }
-        ensures refused { (ticket amount : ℕ) → IfErr result (λ code. unknown self.now.rules (Bid bidder ticket node amount) ≡ Some code) }
+        ensures found { IfOk result (λ last. IsFoundIn (last_at self.now (bidder_sender bidder)) self.now.count last) }
+        ensures refused { (ticket amount : ℕ) → IfErr result (λ refusal. unknown self.now.rules (Bid bidder ticket node amount) ≡ Some refusal) }
     {
         let row = bidder.place();
         if row >= self.bidders.len() {
-            return Err(refusal::BIDDER);
+            return Err(Refusal::Bidder);
         }
         if node.place() >= self.definition.node_count() {
-            return Err(refusal::NODE);
+            return Err(Refusal::Node);
         }
         Ok(self.bidders[row].last.as_ref())
     }
 
+    /// What becomes of a command with its sender's next ticket. What is wrong with the command itself is looked at
+    /// last, and only where there is room for it in an auction that goes on.
+    fn by_state(&self, command: &Command) -> Verdict
+        requires { IsKnown self.now command.now }
+        ensures reply { reply_of result ≡ state_reply self.now.count self.now.over (fault_in self.now command.now) }
+        ensures new { IfNew result (λ number. (number ≡ self.now.count + 1) × (number ≤ MOST_COMMANDS) × CanTake self.now command.now) }
+        ensures never_repeat { IfRepeat result (λ _. ⊥) }
+    {
+        if self.count >= MOST_COMMANDS {
+            return Verdict::Refused(Refusal::Limit);
+        }
+        if self.closed {
+            return Verdict::Refused(Refusal::Closed);
+        }
+        match self.fault(command) {
+            Some(refusal) => Verdict::Refused(refusal),
+            None => Verdict::New(self.count + 1),
+        }
+    }
+
     /// What is wrong with a command of the definition's bidders and nodes, whatever its ticket is.
-    fn fault(&self, command: &Command) -> Option<u8>
+    fn fault(&self, command: &Command) -> Option<Refusal>
         requires { IsKnown self.now command.now }
         ensures value { result ≡ fault_in self.now command.now }
         ensures none { result ≡ None → CanTake self.now command.now }
@@ -90,33 +110,33 @@ impl Auction {
         }
     }
 
-    fn bid_fault(&self, bidder: BidderId, node: NodeId, amount: u64) -> Option<u8>
+    fn bid_fault(&self, bidder: BidderId, node: NodeId, amount: u64) -> Option<Refusal>
         requires bidder { bidder < length self.now.rules.bidders }
         requires node { node < length self.now.rules.nodes }
         ensures value { (ticket : ℕ) → result ≡ fault_in self.now (Bid bidder ticket node amount) }
         ensures none { result ≡ None → amount ≤ MOST_AMOUNT }
     {
         if amount % u64::from(self.definition.step()) != 0 {
-            return Some(refusal::STEP);
+            return Some(Refusal::Step);
         }
         if amount < self.prices.minimum(node) {
-            return Some(refusal::LOW);
+            return Some(Refusal::Low);
         }
         if amount > MOST_AMOUNT {
-            return Some(refusal::HIGH);
+            return Some(Refusal::High);
         }
         if self.books.has_bid_on(bidder, node) {
-            return Some(refusal::AGAIN);
+            return Some(Refusal::Again);
         }
         let eligibility = self.bidders[bidder.place()].eligibility;
         let tree = self.definition.tree();
         if !fits(tree, &self.books, &self.outcome, bidder, node, eligibility) {
-            return Some(refusal::ELIGIBILITY);
+            return Some(Refusal::Eligibility);
         }
         None
     }
 
-    fn stage_fault(&self) -> Option<u8>
+    fn stage_fault(&self) -> Option<Refusal>
         ensures value { (ticket : ℕ) → result ≡ fault_in self.now (Stage ticket) }
         ensures further { result ≡ None → self.now.stage < length self.now.rules.stages }
         ensures within { result ≡ None → self.now.stage < MOST_STAGES }
@@ -124,7 +144,7 @@ impl Auction {
         if usize::from(self.stage) < self.definition.stage_count() {
             None
         } else {
-            Some(refusal::STAGE)
+            Some(Refusal::Stage)
         }
     }
 }

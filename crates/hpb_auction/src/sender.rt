@@ -1,9 +1,9 @@
 ghost use Rattle.std.specs.Prelude.{◌≡◌, ℕ, ◌<◌, ◌≤◌, length, IfOk};
-ghost use Rattle.hpb_rules.specs.History.{ticket_of};
+ghost use Rattle.hpb_rules.specs.History.{ticket_of, ticket_of_last};
 ghost use Rattle.hpb_rules.specs.declared.id.TheConstants.{MOST_BIDDERS};
 ghost use Rattle.hpb_winners.specs.Outcome.{IsSized};
-ghost use Rattle.hpb_auction.specs.Verdicts.{last_ticket};
-ghost use Rattle.hpb_auction.specs.View.{row_at};
+ghost use Rattle.hpb_auction.specs.Verdicts.{read_last};
+ghost use Rattle.hpb_auction.specs.Inside.{row_at};
 ghost use Rattle.hpb_auction.specs.Rows.{first_rows, renewed};
 
 use hpb_bids::Books;
@@ -32,7 +32,7 @@ pub(crate) fn ticket(command: &Command) -> u32
 
 /// The ticket of a sender's last command, 0 where it has none.
 pub(crate) fn last_ticket(last: Option<&Accepted>) -> u32
-    ensures { result ≡ last_ticket last.entry }
+    ensures { result ≡ ticket_of_last (read_last last.entry) }
 {
     match last {
         Some(accepted) => ticket(&accepted.command),

@@ -1,10 +1,10 @@
-ghost use Rattle.std.specs.Prelude.{◌≡◌, suc, ◌+◌, ◌≤◌, IfSome, None};
+ghost use Rattle.std.specs.Prelude.{◌≡◌, suc, IfSome, None};
 ghost use Rattle.hpb_rules.specs.Answer.{repeated};
-ghost use Rattle.hpb_auction.specs.Verdicts.{reply_of, last_of, last_number, last_ticket, ticket_reply, state_reply, told, IfNew, IfRepeat};
-ghost use Rattle.hpb_rules.specs.History.{ticket_of};
+ghost use Rattle.hpb_rules.specs.History.{ticket_of, ticket_of_last};
+ghost use Rattle.hpb_auction.specs.Verdicts.{reply_of, read_last, number_of_last, ticket_reply, told, IfNew, IfRepeat};
 
 use crate::sender::{Accepted, last_ticket, ticket};
-use hpb_rules::{Command, MOST_COMMANDS, Reply, refusal};
+use hpb_rules::{Command, Refusal, Reply};
 
 /// What becomes of a command.
 #[derive(Clone, Copy, Debug, PartialEq, Eq)]
@@ -13,8 +13,8 @@ pub(crate) enum Verdict {
     New(u32),
     /// The sender's last command once more, which had this number.
     Repeat(u32),
-    /// Refused by this number.
-    Refused(u8),
+    /// Refused.
+    Refused(Refusal),
 }
 
 impl Verdict {
@@ -24,60 +24,41 @@ impl Verdict {
     {
         match self {
             Verdict::New(number) | Verdict::Repeat(number) => Reply::Ok(number),
-            Verdict::Refused(code) => Reply::Refused(code),
+            Verdict::Refused(refusal) => Reply::Refused(refusal),
         }
     }
 }
 
 /// What the tickets say of a command whose sender's last one is given: `None` where it is the next.
 pub(crate) fn by_ticket(command: &Command, last: Option<&Accepted>) -> Option<Verdict>
-    ensures reply { told result ≡ ticket_reply command.now last.entry }
+    ensures reply { told result ≡ ticket_reply command.now (read_last last.entry) }
     ensures never_new { IfSome result (λ verdict. IfNew verdict (λ _. ⊥)) }
-    ensures repeat { IfSome result (λ verdict. IfRepeat verdict (λ number. number ≡ last_number last.entry)) }
-    ensures next { result ≡ None → ticket_of command.now ≡ suc (last_ticket last.entry) }
+    ensures repeat { IfSome result (λ verdict. IfRepeat verdict (λ number. number ≡ number_of_last (read_last last.entry))) }
+    ensures next { result ≡ None → ticket_of command.now ≡ suc (ticket_of_last (read_last last.entry)) }
 {
     let given = ticket(command);
     let before = last_ticket(last);
     if given == 0 || given < before {
-        return Some(Verdict::Refused(refusal::OLD));
+        return Some(Verdict::Refused(Refusal::Old));
     }
     if given == before {
         return Some(by_repeat(command, last));
     }
     if given - before > 1 {
-        return Some(Verdict::Refused(refusal::GAP));
+        return Some(Verdict::Refused(Refusal::Gap));
     }
     None
 }
 
 /// What a command is under its sender's last ticket.
 fn by_repeat(command: &Command, last: Option<&Accepted>) -> Verdict
-    ensures reply { reply_of result ≡ repeated command.now (last_of last.entry) }
+    ensures reply { reply_of result ≡ repeated command.now (read_last last.entry) }
     ensures never_new { IfNew result (λ _. ⊥) }
-    ensures repeat { IfRepeat result (λ number. number ≡ last_number last.entry) }
+    ensures repeat { IfRepeat result (λ number. number ≡ number_of_last (read_last last.entry)) }
 {
     match last {
         Some(accepted) if accepted.command == *command => Verdict::Repeat(accepted.number),
-        Some(_) => Verdict::Refused(refusal::TICKET),
-        None => Verdict::Refused(refusal::OLD),
-    }
-}
-
-/// What becomes of a command with the right ticket, where this many are accepted, by whether the auction is
-/// over and by what is wrong with the command itself.
-pub(crate) fn by_state(count: u32, closed: bool, fault: Option<u8>) -> Verdict
-    ensures reply { reply_of result ≡ state_reply count closed fault }
-    ensures new { IfNew result (λ number. (number ≡ count + 1) × (number ≤ MOST_COMMANDS) × (fault ≡ None)) }
-    ensures never_repeat { IfRepeat result (λ _. ⊥) }
-{
-    if count >= MOST_COMMANDS {
-        return Verdict::Refused(refusal::LIMIT);
-    }
-    if closed {
-        return Verdict::Refused(refusal::CLOSED);
-    }
-    match fault {
-        Some(code) => Verdict::Refused(code),
-        None => Verdict::New(count + 1),
+        Some(_) => Verdict::Refused(Refusal::Ticket),
+        None => Verdict::Refused(Refusal::Old),
     }
 }

@@ -1,7 +1,7 @@
 use super::*;
 use Refusal::{Children, Duplicate, Empty, Field, Json, Leaf, Limits, Name, Number, Parent, Terms};
-use hpb_rules::Refusal;
-use hpb_tree::{Definition, NodeId};
+use hpb_rules::{NodeId, Refusal};
+use hpb_tree::Definition;
 use std::alloc::{AllocError, Global};
 use std::test::Fail;
 

@@ -1,22 +1,21 @@
--- A draft that is not refused is a definition with a tree.
-use Rattle.std.proofs.Common.{◌≡◌, ℕ, zero, suc, ◌+◌, ◌<◌, ◌≤◌, Bool, true, false, not, cond, ◌&&◌, ltb, leb, List, [], ◌∷◌, Option, Some, None, length, refl, ap, arith}
-use Rattle.std.specs.Prelude.{if◌then◌else◌, is_some, is_none, slice_index_or, All}
-use Rattle.std.specs.List.{list_any, range_with_len}
-use Rattle.std.proofs.lemmas.Bool.{both_ways, eqb-true, leb-true, leb-false, ltb-false, lt-ltb, and_parts, or_parts, not-false}
-use Rattle.std.proofs.lemmas.List.Sums.{sum_by-cons}
+-- A draft is not refused exactly where it is a definition.
+use Rattle.std.proofs.Common.{◌≡◌, ℕ, zero, suc, ◌<◌, ◌≤◌, Bool, true, false, ◌||◌, ltb, List, [], ◌∷◌, Some, None, length, ap, ◌∙◌, arith, refl}
+use Rattle.std.specs.Prelude.{if◌then◌else◌}
+use Rattle.std.proofs.lemmas.Bool.{ltb-false, le-ltb, or_parts, or_from}
 use Rattle.hpb_rules.specs.declared.refusal.Refusal.{Refusal}
-use Rattle.hpb_rules.specs.declared.licence.Terms.{Terms}
-use Rattle.hpb_rules.specs.Tree.{Node, parent_of, terms_of, IsTree}
-use Rattle.hpb_rules.specs.Choices.{is_node}
-use Rattle.hpb_rules.specs.Prices.{children_among}
-use Rattle.hpb_rules.specs.Drafts.{is_within, has_bad_number, is_late, has_late_parent, children_of, has_thin_package, has_licence_with_child, draft_faults, first_fault}
+use Rattle.hpb_rules.specs.Tree.{Rules}
+use Rattle.hpb_rules.specs.Definitions.{IsDefinition}
+use Rattle.hpb_rules.specs.Drafts.{depth, licence_count, is_over_limits, draft_faults, first_fault, draft_refusal}
 use Rattle.hpb_rules.specs.Laws.{AcceptedIsDefinition}
-use Rattle.hpb_rules.proofs.Under.{parent_in}
-use Rattle.hpb_rules.proofs.Ranges.{fails_at}
-use Rattle.hpb_rules.proofs.Ranks.{rank_lt}
+use Rattle.hpb_rules.proofs.Places.{none_at, none_here}
+use Rattle.hpb_rules.proofs.DraftNumbers.{HasNumbers, numbers_of, no_bad_number, HasAll, all_of, lacks_nothing}
+use Rattle.hpb_rules.proofs.DraftNames.{HasNames, names_are, no_bad_name, no_duplicate}
+use Rattle.hpb_rules.proofs.DraftTrees.{IsFullTree, full_tree, tree_passes, no_thin_package}
+use Rattle.hpb_rules.proofs.DraftTerms.{counted, count_is, all_terms, no_bad_terms}
+use Rattle.hpb_rules.proofs.Depths.{level_is, on_level}
 
--- ---- tests that fail
--- the test at a place in a table of faults
+-- ---- a table of faults
+-- the test at a place
 abbrev pub fault_at : List (Bool × Refusal) → ℕ → Bool
 fault_at [] place = false
 fault_at (fault ∷ faults) zero = fault.0
@@ -32,68 +31,107 @@ no_fault (fault ∷ faults) e place = by (no_fault faults) fault.0 refl e place
     by rec false p f zero = p
     by rec false p f (suc place) = rec f place
 
-passes_all : {A : Type 0} (test : A → Bool) (xs : List A) → list_any (λ x. not (test x)) xs ≡ false → All (λ x. test x ≡ true) xs
-passes_all test [] e k d h = absurd (omega arith)
-passes_all test (x ∷ xs) e zero d h = not-false (test x) (or_parts _ _ e).0
-passes_all test (x ∷ xs) e (suc k) d h = passes_all test xs (or_parts (not (test x)) _ e).1 k d (omega arith)
+-- each test fails
+abbrev AllFail : List (Bool × Refusal) → Type 0
+AllFail [] = Unit {0}
+AllFail (fault ∷ faults) = (fault.0 ≡ false) × AllFail faults
 
-within : (least most number : ℕ) → is_within least most number ≡ true → (least ≤ number) × (number ≤ most)
-within least most number e = let both : (leb least number ≡ true) × (leb number most ≡ true) = and_parts _ _ e in (leb-true _ _ both.0, leb-true _ _ both.1)
+none_found : (faults : List (Bool × Refusal)) → AllFail faults → first_fault faults ≡ None
+none_found [] h = refl
+none_found (fault ∷ faults) h = ap (λ b. if b then Some fault.1 else first_fault faults) h.0 ∙ none_found faults h.1
 
--- ---- the tree
-is_parent : (parent : ℕ) (c : Option ℕ) → is_node parent c ≡ true → c ≡ Some parent
-is_parent parent None e = absurd (both_ways false refl e)
-is_parent parent (Some other) e = ap Some (eqb-true other parent e)
+-- ---- limits
+pub record IsInLimits (rules : Rules) : Type 0 where
+  pub nodes : length rules.nodes ≤ 127
+  pub licences : licence_count rules.nodes ≤ 64
+  pub bidders : length rules.bidders ≤ 64
+  pub stages : length rules.stages ≤ 4
+  pub depths : (node : ℕ) → node < length rules.nodes → depth rules.nodes node ≤ 8
 
-module _ (nodes : List Node) where
-  -- where children are counted there is one
-  some_child : (parent a k : ℕ) → 0 < children_among nodes parent (range_with_len a k) → (node : ℕ) × (parent_of nodes node ≡ Some parent)
-  some_child parent a zero h = absurd (omega arith)
-  some_child parent a (suc k) h = by (some_child parent (a + 1) k) (is_node parent (parent_of nodes a)) refl
-    where
-      count : children_among nodes parent (range_with_len a (suc k)) ≡ cond (is_node parent (parent_of nodes a)) 1 0 + children_among nodes parent (range_with_len (a + 1) k)
-      count = sum_by-cons (λ node. cond (is_node parent (parent_of nodes node)) 1 0) a (range_with_len (a + 1) k)
-
-      by : (0 < children_among nodes parent (range_with_len (a + 1) k) → (node : ℕ) × (parent_of nodes node ≡ Some parent)) → (b : Bool) → is_node parent (parent_of nodes a) ≡ b → (node : ℕ) × (parent_of nodes node ≡ Some parent)
-      by rec true e = (a, is_parent parent (parent_of nodes a) e)
-      by rec false e = rec (omega (arith, count, ap {B = ℕ} (λ b. cond b 1 0) e))
-
-  -- a parent that isn't late
-  not_late : (node parent : ℕ) (c : Option ℕ) → c ≡ Some parent → is_late node c ≡ false → parent < node
-  not_late node parent None e f = absurd (cc)
-  not_late node parent (Some other) e f = let same : other ≡ parent = cc in omega (arith, leb-false node other f)
-
-  no_terms : (t : Option Terms) (count : ℕ) → 0 < count → (is_some t && ltb 0 count) ≡ false → t ≡ None
-  no_terms None count h e = refl
-  no_terms (Some t) count h e = absurd (both_ways _ e (lt-ltb 0 count h))
-
-  two_children : (t : Option Terms) (count : ℕ) → t ≡ None → (is_none t && ltb count 2) ≡ false → 2 ≤ count
-  two_children None count e f = ltb-false count 2 f
-  two_children (Some t) count e f = absurd (cc)
-
-  pub tree_is : has_late_parent nodes ≡ false → has_thin_package nodes ≡ false → has_licence_with_child nodes ≡ false → IsTree nodes
-  tree_is late thin licence = record {
-    parents = before;
-    packages = λ node parent e.
-        let h : parent < node = before node parent e in
-        let l : node < length nodes = parent_in nodes node parent e in
-        no_terms (terms_of nodes parent) (children_of nodes parent) (omega (arith, rank_lt nodes parent node e))
-        (fails_at (λ n. is_some (terms_of nodes n) && ltb 0 (children_of nodes n)) 0 (length nodes) licence parent (omega arith) (omega arith));
-    children = λ parent h e. some_child parent 0 (length nodes)
-        (omega (arith, two_children (terms_of nodes parent) (children_of nodes parent) e (fails_at (λ n. is_none (terms_of nodes n) && ltb (children_of nodes n) 2) 0 (length nodes) thin parent (omega arith) (omega arith))));
-  }
-    where
-      before : (node parent : ℕ) → parent_of nodes node ≡ Some parent → parent < node
-      before node parent e = let l : node < length nodes = parent_in nodes node parent e in
-          not_late node parent (parent_of nodes node) e (fails_at (λ n. is_late n (parent_of nodes n)) 0 (length nodes) late node (omega arith) (omega arith))
-
-pub accepted_is_definition : AcceptedIsDefinition
-accepted_is_definition rules e =
-    let number : has_bad_number rules ≡ false = no_fault (draft_faults rules) e 0 in
-    let step : is_within 1 1000000 rules.step ≡ true = not-false _ (or_parts _ _ (or_parts _ _ (or_parts _ _ number).0).0).0 in
-    let stages : list_any (λ percentage. not (is_within 50 100 percentage)) rules.stages ≡ false = (or_parts _ _ (or_parts _ _ number).0).1 in
+in_limits : (rules : Rules) → is_over_limits rules ≡ false → IsInLimits rules
+in_limits rules e =
+    let four : (ltb 127 (length rules.nodes) || ltb 64 (licence_count rules.nodes) || ltb 64 (length rules.bidders) || ltb 4 (length rules.stages)) ≡ false = (or_parts _ _ e).0 in
+    let three : (ltb 127 (length rules.nodes) || ltb 64 (licence_count rules.nodes) || ltb 64 (length rules.bidders)) ≡ false = (or_parts _ _ four).0 in
+    let two : (ltb 127 (length rules.nodes) || ltb 64 (licence_count rules.nodes)) ≡ false = (or_parts _ _ three).0 in
     record {
-      tree = tree_is rules.nodes (no_fault (draft_faults rules) e 4) (no_fault (draft_faults rules) e 5) (no_fault (draft_faults rules) e 6);
-      step = (within 1 1000000 rules.step step).0;
-      percentages = λ k d h. within 50 100 (slice_index_or rules.stages k d) (passes_all (is_within 50 100) rules.stages stages k d h);
+      nodes = ltb-false 127 (length rules.nodes) (or_parts _ _ two).0;
+      licences = ltb-false 64 (licence_count rules.nodes) (or_parts (ltb 127 (length rules.nodes)) _ two).1;
+      bidders = ltb-false 64 (length rules.bidders) (or_parts _ _ three).1;
+      stages = ltb-false 4 (length rules.stages) (or_parts _ _ four).1;
+      depths = λ node h. ltb-false 8 (depth rules.nodes node) (none_at (λ n. ltb 8 (depth rules.nodes n)) (length rules.nodes) node (or_parts _ _ e).1 (omega arith));
     }
+
+not_over : (rules : Rules) → IsInLimits rules → is_over_limits rules ≡ false
+not_over rules h = or_from _ _
+    (or_from _ _
+    (or_from _ _
+    (or_from _ _ (le-ltb 127 (length rules.nodes) h.nodes) (le-ltb 64 (licence_count rules.nodes) h.licences))
+    (le-ltb 64 (length rules.bidders) h.bidders))
+    (le-ltb 4 (length rules.stages) h.stages))
+    (none_here (λ n. ltb 8 (depth rules.nodes n)) (length rules.nodes) (λ node within. le-ltb 8 (depth rules.nodes node) (h.depths node within)))
+
+-- ---- a draft that is not refused is a definition
+pub accepted_is_definition : (rules : Rules) → draft_refusal rules ≡ None → IsDefinition rules
+accepted_is_definition rules e =
+    let fails : (place : ℕ) → fault_at (draft_faults rules) place ≡ false = no_fault (draft_faults rules) e in
+    let numbers : HasNumbers rules = numbers_of rules (fails 0) in
+    let some : HasAll rules = all_of rules (fails 1) in
+    let names : HasNames rules = names_are rules (fails 2) (fails 3) in
+    let full : IsFullTree rules.nodes = full_tree rules.nodes (fails 4) (fails 5) (fails 6) in
+    let limits : IsInLimits rules = in_limits rules (fails 7) in
+    record {
+      step = numbers.step.0;
+      most_step = numbers.step.1;
+      percent = numbers.percent;
+      stages = (some.stages, limits.stages);
+      percentages = numbers.percentages;
+      nodes = (some.nodes, limits.nodes);
+      bidders = (some.bidders, limits.bidders);
+      node_names = names.nodes;
+      bidder_names = names.bidders;
+      bidder_units = numbers.bidder_units;
+      tree = full.tree;
+      children = full.children;
+      licences = (licence_count rules.nodes, counted rules.nodes, limits.licences);
+      levels = λ node level h on. omega (arith, level_is rules.nodes full.tree node level on, limits.depths node h);
+      licence_terms = all_terms rules.step rules.nodes (fails 8);
+    }
+
+-- ---- and the other way round
+definition_in_limits : (rules : Rules) → IsDefinition rules → IsInLimits rules
+definition_in_limits rules d = record {
+  nodes = d.nodes.1;
+  licences = omega (arith, count_is rules.nodes d.licences.0 d.licences.1, d.licences.2);
+  bidders = d.bidders.1;
+  stages = d.stages.1;
+  depths = λ node h. d.levels node (depth rules.nodes node) h (on_level rules.nodes d.tree node);
+}
+
+pub definition_is_accepted : (rules : Rules) → IsDefinition rules → draft_refusal rules ≡ None
+definition_is_accepted rules d =
+    let names : HasNames rules = record { nodes = d.node_names; bidders = d.bidder_names } in
+    none_found (draft_faults rules) (
+      no_bad_number rules (record { step = (d.step, d.most_step); percent = d.percent; percentages = d.percentages; bidder_units = d.bidder_units }),
+      (
+        lacks_nothing rules (record { nodes = d.nodes.0; bidders = d.bidders.0; stages = d.stages.0 }),
+        (
+          no_bad_name rules names,
+          (
+            no_duplicate rules names,
+            (
+              (tree_passes rules.nodes d.tree).0,
+              (
+                no_thin_package rules.nodes d.children,
+                (
+                  (tree_passes rules.nodes d.tree).1,
+                  (not_over rules (definition_in_limits rules d), (no_bad_terms rules.step rules.nodes d.licence_terms, tt)),
+                ),
+              ),
+            ),
+          ),
+        ),
+      ),
+    )
+
+pub accepted_exactly : AcceptedIsDefinition
+accepted_exactly rules = (accepted_is_definition rules, definition_is_accepted rules)

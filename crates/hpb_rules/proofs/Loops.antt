@@ -6,4 +6,5 @@ pub use Rattle.hpb_rules.proofs.Upward.{freed, freed_set, winners_after, winners
 pub use Rattle.hpb_rules.proofs.Winners.{winners_all}
 pub use Rattle.hpb_rules.proofs.Carried.{carried_child, carried_top}
 pub use Rattle.hpb_rules.proofs.NodePrices.{price_bound, passed_bound}
+pub use Rattle.hpb_rules.proofs.Ranks.{rank_lt}
 pub use Rattle.hpb_rules.proofs.Money.{share_at}

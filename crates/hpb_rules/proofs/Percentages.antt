@@ -8,7 +8,7 @@ use Rattle.hpb_rules.specs.Tree.{Rules}
 use Rattle.hpb_rules.specs.Drafts.{draft_faults, is_empty, lacks_something}
 use Rattle.hpb_rules.specs.History
 use Rattle.hpb_rules.specs.Answer.{IsPast}
-use Rattle.hpb_rules.specs.Laws.{IsDefinition}
+use Rattle.hpb_rules.specs.Definitions.{IsDefinition}
 use Rattle.hpb_rules.specs.HistoryLaws.{PercentageIsKnown}
 use Rattle.hpb_rules.proofs.NewCommands.{next_test, accepted_new}
 use Rattle.hpb_rules.proofs.Accepted.{no_fault, accepted_is_definition}

@@ -9,10 +9,10 @@ use Rattle.hpb_rules.specs.declared.refusal.Refusal.{Refusal}
 use Rattle.hpb_rules.specs.declared.command.Command.{Command}
 use Rattle.hpb_rules.specs.Tree.{Rules}
 use Rattle.hpb_rules.specs.Fronts.{IsFront}
-use Rattle.hpb_rules.specs.Lines.{is_line_feed, most_bytes, words, spelled_by, spelled, looked_up, request_of}
-use Rattle.hpb_rules.specs.Text.{unfinished_text, answer_line, next_past, lines_after, text_after, text_by, text_of_lines, line_of}
+use Rattle.hpb_rules.specs.Lines.{is_line_feed, most_line_bytes, line_feed, line_words, spelled_by, spelled, looked_up, request_of}
+use Rattle.hpb_rules.specs.Text.{unfinished_text, answer_line, next_past, lines_after, text_after, lines_text, text_by, text_of_lines, line_of}
 use Rattle.hpb_rules.specs.Rendering.{refusal_text}
-use Rattle.hpb_rules.specs.TextLaws.{line_feed, LinesTextGrows, ScriptTextGrows}
+use Rattle.hpb_rules.specs.TextLaws.{ScriptTextGrows}
 use Rattle.hpb_rules.proofs.Lists.{front_self, append_nil}
 
 -- ---- lines of two pieces of input
@@ -77,7 +77,8 @@ module _ (rules : Rules) where
     lines_filled lines more past h ∙ ap (λ text. text ++ lines_after rules (past_of past lines) more) (append_nil (answered past lines) ∙ sym (lines_append lines past [] [])),
   )
 
-pub lines_text_grows : LinesTextGrows
+-- the text of whole lines is a front of the text of these lines with more behind them
+pub lines_text_grows : (rules : Rules) (history : List Command) (front rest : List ℕ) → IsFront (lines_text rules history (front ++ line_feed ∷ [])) (lines_text rules history (front ++ line_feed ∷ rest))
 lines_text_grows rules history front rest =
     let more : IsFront (lines_after rules (reverse history) (slice_split is_line_feed front ++ [] ∷ [])) (lines_after rules (reverse history) (slice_split is_line_feed front ++ slice_split is_line_feed rest))
     = front_after rules (reverse history) (slice_split is_line_feed front) (slice_split is_line_feed rest) (split_filled is_line_feed rest) in
@@ -98,8 +99,8 @@ script_text_grows define front rest =
     (more.0, ap (text_of_lines define) (split_at_end front rest) ∙ more.1 ∙ ap (λ text. text ++ more.0) (sym (ap (text_of_lines define) (split_at_end front []))))
 
 -- ---- long lines
-too_long : (line : List ℕ) → most_bytes < length line → spelled line ≡ None
-too_long line h = ap (λ b. if b || list_any is_line_feed line then None else spelled_by (words line)) (lt-ltb most_bytes (length line) h)
+too_long : (line : List ℕ) → most_line_bytes < length line → spelled line ≡ None
+too_long line h = ap (λ b. if b || list_any is_line_feed line then None else spelled_by (line_words line)) (lt-ltb most_line_bytes (length line) h)
 
 -- the first 129 bytes of a line tell what it asks for
 pub request_of_front : (rules : Rules) (line : List ℕ) → request_of rules (take 129 line) ≡ request_of rules line

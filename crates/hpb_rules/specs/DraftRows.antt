@@ -1,10 +1,12 @@
 -- The worked rows of drafts: the small definition is accepted, and with one change each it is refused.
-use Rattle.std.specs.Prelude.{◌≡◌, ℕ, List, [], ◌∷◌, ◌++◌, Option, Some, None, codes}
+use Rattle.std.specs.Prelude.{◌≡◌, ℕ, ◌-◌, List, [], ◌∷◌, ◌++◌, map, Option, Some, None, codes, decimal, replicate}
+use Rattle.std.specs.List.{range_with_len}
+use Rattle.std.specs.Fmt.{digits}
 use mathlib.Core.Path.{refl}
 use Rattle.hpb_rules.specs.declared.refusal.Refusal.TheVariants as refusals
 use Rattle.hpb_rules.specs.Tree.{Rules, Node}
 use Rattle.hpb_rules.specs.Drafts.{draft_refusal}
-use Rattle.hpb_rules.specs.RowRules.{small, group, licence}
+use Rattle.hpb_rules.specs.RowRules.{small, tens, group, licence, numbered, with_units}
 
 -- A licence with an opening of its own.
 abbrev opened : List ℕ → Option ℕ → ℕ → ℕ → Node
@@ -33,6 +35,28 @@ c = licence (codes "c") (Some 0) 20
 -- Licence d.
 abbrev d : Node
 d = licence (codes "d") None 5
+
+-- The small definition with a name of so many bytes for its last licence.
+abbrev with_name_of : ℕ → Rules
+with_name_of count = with_nodes (nodes_with east a c (licence (replicate count 97) None 5))
+
+-- So many licences at the top; one bidder with so many units.
+abbrev flat : ℕ → ℕ → Rules
+flat count units = tens (80 ∷ []) (map (numbered None) (range_with_len 0 count)) (with_units (codes "g") units ∷ [])
+
+-- A package inside another.
+abbrev inner : ℕ → Node
+inner place = group (codes "p" ++ decimal place) (Some (place - 1))
+
+-- A licence in the package at a place.
+abbrev inside : ℕ → Node
+inside place = numbered (Some place) place
+
+-- Packages of so many levels, each in the one before it, with a licence in each and one more in the last.
+abbrev nested : ℕ → List Node
+nested levels =
+    group (codes "p0") None ∷ map inner (range_with_len 1 (levels - 1))
+    ++ map inside (range_with_len 0 levels) ++ licence (codes "last") (Some (levels - 1)) 1 ∷ []
 
 accepted : draft_refusal small ≡ None
 accepted = refl
@@ -69,3 +93,33 @@ five_stages = refl
 
 opening_of_105 : draft_refusal (with_nodes (nodes_with east (opened (codes "a") (Some 1) 10 105) c d)) ≡ Some refusals.Terms
 opening_of_105 = refl
+
+name_of_16_bytes : draft_refusal (with_name_of 16) ≡ None
+name_of_16_bytes = refl
+
+name_of_17_bytes : draft_refusal (with_name_of 17) ≡ Some refusals.Name
+name_of_17_bytes = refl
+
+units_of_64_millions : draft_refusal (flat 1 64000000) ≡ None
+unfolding digits
+units_of_64_millions = refl
+
+units_above_64_millions : draft_refusal (flat 1 64000001) ≡ Some refusals.Number
+unfolding digits
+units_above_64_millions = refl
+
+licences_64 : draft_refusal (flat 64 1) ≡ None
+unfolding digits
+licences_64 = refl
+
+licences_65 : draft_refusal (flat 65 1) ≡ Some refusals.Limits
+unfolding digits
+licences_65 = refl
+
+depth_of_8 : draft_refusal (with_nodes (nested 7)) ≡ None
+unfolding digits
+depth_of_8 = refl
+
+depth_of_9 : draft_refusal (with_nodes (nested 8)) ≡ Some refusals.Limits
+unfolding digits
+depth_of_9 = refl

@@ -1,10 +1,12 @@
 -- The laws of trees, winners and prices: what is defined by a property is one thing, and the computation gives it.
-use Rattle.std.specs.Prelude.{◌≡◌, ℕ, ◌+◌, ◌<◌, ◌≤◌, ◌↔◌, max, List, Bool, length, None, All}
+use Rattle.std.specs.Prelude.{◌≡◌, ℕ, suc, ◌+◌, ◌<◌, ◌≤◌, ◌↔◌, max, List, Bool, length, slice_index, Some, None}
 use Rattle.std.specs.Bool.{Decides}
-use Rattle.hpb_rules.specs.Drafts.{draft_refusal}
-use Rattle.hpb_rules.specs.Tree.{Node, Rules, IsTree, IsAtOrUnder, Disjoint, at_or_under}
+use Rattle.std.specs.List.{range_with_len}
+use Rattle.hpb_rules.specs.Definitions.{IsDefinition}
+use Rattle.hpb_rules.specs.Drafts.{draft_refusal, depth}
+use Rattle.hpb_rules.specs.Tree.{Node, Rules, IsTree, IsAtOrUnder, Disjoint, parent_of, places, at_or_under}
 use Rattle.hpb_rules.specs.Choices.{IsChoice, IsWinners, IsBest, revenue, winners, best, top_revenue}
-use Rattle.hpb_rules.specs.Prices.{IsShares, shares, IsMinimum, minimum_of, Covers, price_of_all, licence_price, price, carried}
+use Rattle.hpb_rules.specs.Prices.{IsShares, shares, IsMinimum, minimum_of, Covers, price_of_all, licence_price, price, children_among, surplus, carried}
 
 -- A property holds of one thing alone where it holds of it, and what else it holds of is equal to it.
 abbrev pub HoldsAlone : {A : Type 0} → (A → Type 0) → A → Type 0
@@ -58,12 +60,20 @@ abbrev pub DisjointIsApart : Type 0
 DisjointIsApart = (nodes : List Node) (one other : ℕ) → IsTree nodes → one < length nodes → other < length nodes
     → Disjoint nodes one other ↔ ((IsAtOrUnder nodes one other → ⊥) × (IsAtOrUnder nodes other one → ⊥))
 
--- What a definition keeps that is not refused: it has a tree, a step of its own and percentages from 50 to 100.
-pub record IsDefinition (rules : Rules) : Type 0 where
-  pub tree : IsTree rules.nodes
-  pub step : 0 < rules.step
-  pub percentages : All (λ percentage. (50 ≤ percentage) × (percentage ≤ 100)) rules.stages
-
--- What is not refused is a definition that the other laws speak of.
+-- A draft is not refused exactly where it is a definition.
 abbrev pub AcceptedIsDefinition : Type 0
-AcceptedIsDefinition = (rules : Rules) → draft_refusal rules ≡ None → IsDefinition rules
+AcceptedIsDefinition = (rules : Rules) → (draft_refusal rules ≡ None) ↔ IsDefinition rules
+
+-- A top node has depth 1, and each other one more than its parent.
+abbrev pub DepthIsOneMore : Type 0
+DepthIsOneMore = (nodes : List Node) (node : ℕ) → IsTree nodes
+    → (parent_of nodes node ≡ None → depth nodes node ≡ 1)
+    × ((parent : ℕ) → parent_of nodes node ≡ Some parent → depth nodes node ≡ suc (depth nodes parent))
+
+-- Nothing is carried to a top node. What is carried to another is its share, by its place among its parent's children, of what is
+-- carried to the parent and of the parent's surplus.
+abbrev pub CarriedIsShare : Type 0
+CarriedIsShare = (nodes : List Node) (bid : ℕ → ℕ) (node : ℕ) → IsTree nodes
+    → (parent_of nodes node ≡ None → carried nodes bid node ≡ 0)
+    × ((parent : ℕ) → parent_of nodes node ≡ Some parent → carried nodes bid node ≡
+    slice_index (shares (carried nodes bid parent + surplus nodes bid parent) (children_among nodes parent (places nodes))) (children_among nodes parent (range_with_len 0 node)))

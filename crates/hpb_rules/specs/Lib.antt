@@ -20,11 +20,13 @@ pub mod LetterLaws
 pub mod Machine
 pub mod Refusals
 pub mod Drafts
+pub mod Definitions
 pub mod Lines
 pub mod Rendering
 pub mod Text
 pub mod RowRules
 pub mod Rows
+pub mod LineRows
 pub mod RowsOfSixtyFour
 pub mod CertificateRow
 pub mod MachineRows

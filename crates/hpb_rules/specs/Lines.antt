@@ -1,22 +1,16 @@
 -- What a line asks for. A line is its bytes without the line feed at its end.
 -- Source: this project's own.
-use Rattle.std.specs.Prelude.{ℕ, ◌-◌, ◌^◌, Bool, ◌&&◌, ◌||◌, not, ◌==◌, nat_le, nat_lt, List, [], ◌∷◌, length, slice_index, codes, decimal, Option, Some, None, Result, Ok, Err, if◌then◌else◌}
+use Rattle.std.specs.Prelude.{◌≢◌, ℕ, ◌-◌, ◌^◌, ◌<◌, ◌≤◌, Bool, ◌&&◌, ◌||◌, not, ◌==◌, nat_le, nat_lt, List, [], ◌∷◌, length, slice_index, codes, decimal, Option, Some, None, Result, Ok, Err, if◌then◌else◌, All}
 use Rattle.std.specs.List.{slice_split, join_with_byte, list_any, position}
 use Rattle.std.specs.Option.{option_and_then}
 use Rattle.std.specs.Str.{bytes_eq, all_ascii_digits}
 use Rattle.std.specs.Str.Parse.{digits_value}
-use Rattle.hpb_rules.specs.declared.command.Command.{Command}
 use Rattle.hpb_rules.specs.declared.command.Command.TheVariants.{Bid, Close, Stage}
 use Rattle.hpb_rules.specs.declared.refusal.Refusal.{Refusal}
 use Rattle.hpb_rules.specs.declared.refusal.Refusal.TheVariants as refusals
+use Rattle.hpb_rules.specs.declared.request.Request.{Request}
+use Rattle.hpb_rules.specs.declared.request.Request.TheVariants as requests
 use Rattle.hpb_rules.specs.Tree.{Rules}
-
--- A request is a command, or asks to see the auction, a node or a bidder.
-pub data Request : Type 0 where
-  command : Command → Request
-  show : Request
-  node : ℕ → Request
-  who : ℕ → Request
 
 -- What a line spells, before its names are looked up.
 pub data Spelled : Type 0 where
@@ -28,20 +22,28 @@ pub data Spelled : Type 0 where
   who_line : (name : List ℕ) → Spelled
 
 -- How many bytes a line has at most.
-abbrev pub most_bytes : ℕ
-most_bytes = 128
+abbrev pub most_line_bytes : ℕ
+most_line_bytes = 128
 
 -- The byte at the end of a line.
+abbrev pub line_feed : ℕ
+line_feed = 10
+
+-- Whether a byte ends a line.
 abbrev pub is_line_feed : ℕ → Bool
-is_line_feed byte = byte == 10
+is_line_feed byte = byte == line_feed
 
 -- The byte between words.
+abbrev pub space : ℕ
+space = 32
+
+-- Whether a byte stands between words.
 abbrev pub is_space : ℕ → Bool
-is_space byte = byte == 32
+is_space byte = byte == space
 
 -- The words of a line are what stands between its spaces.
-abbrev pub words : List ℕ → List (List ℕ)
-words line = slice_split is_space line
+abbrev pub line_words : List ℕ → List (List ℕ)
+line_words line = slice_split is_space line
 
 -- Whether a word is a number in decimal, without a sign, and without a zero before another digit.
 abbrev pub is_number : List ℕ → Bool
@@ -90,7 +92,7 @@ spelled_by _ = None
 
 -- What a line spells.
 abbrev pub spelled : List ℕ → Option Spelled
-spelled line = if nat_lt most_bytes (length line) || list_any is_line_feed line then None else spelled_by (words line)
+spelled line = if nat_lt most_line_bytes (length line) || list_any is_line_feed line then None else spelled_by (line_words line)
 
 -- The place of the bidder who bears a name.
 abbrev pub bidder_named : Rules → List ℕ → Option ℕ
@@ -109,12 +111,12 @@ found refusal (Some place) next = next place
 abbrev pub looked_up : Rules → Option Spelled → Result Request Refusal
 looked_up rules None = Err refusals.Line
 looked_up rules (Some (bid_line from ticket on amount)) =
-    found refusals.Bidder (bidder_named rules from) (λ from. found refusals.Node (node_named rules on) (λ on. Ok (command (Bid from ticket on amount))))
-looked_up rules (Some (close_line ticket)) = Ok (command (Close ticket))
-looked_up rules (Some (stage_line ticket)) = Ok (command (Stage ticket))
-looked_up rules (Some show_line) = Ok show
-looked_up rules (Some (node_line name)) = found refusals.Node (node_named rules name) (λ place. Ok (node place))
-looked_up rules (Some (who_line name)) = found refusals.Bidder (bidder_named rules name) (λ place. Ok (who place))
+    found refusals.Bidder (bidder_named rules from) (λ from. found refusals.Node (node_named rules on) (λ on. Ok (requests.Command (Bid from ticket on amount))))
+looked_up rules (Some (close_line ticket)) = Ok (requests.Command (Close ticket))
+looked_up rules (Some (stage_line ticket)) = Ok (requests.Command (Stage ticket))
+looked_up rules (Some show_line) = Ok requests.Show
+looked_up rules (Some (node_line name)) = found refusals.Node (node_named rules name) (λ place. Ok (requests.Node place))
+looked_up rules (Some (who_line name)) = found refusals.Bidder (bidder_named rules name) (λ place. Ok (requests.Who place))
 
 -- The request that a line spells under a definition, or why it is refused.
 abbrev pub request_of : Rules → List ℕ → Result Request Refusal
@@ -122,13 +124,32 @@ request_of rules line = looked_up rules (spelled line)
 
 -- Words with a space between each two.
 abbrev pub spaced : List (List ℕ) → List ℕ
-spaced parts = join_with_byte 32 parts
+spaced parts = join_with_byte space parts
 
 -- The line that spells something.
-abbrev pub spelling_of : Spelled → List ℕ
-spelling_of (bid_line from ticket on amount) = spaced (codes "BID" ∷ from ∷ decimal ticket ∷ on ∷ decimal amount ∷ [])
-spelling_of (close_line ticket) = spaced (codes "CLOSE" ∷ decimal ticket ∷ [])
-spelling_of (stage_line ticket) = spaced (codes "STAGE" ∷ decimal ticket ∷ [])
-spelling_of show_line = codes "SHOW"
-spelling_of (node_line name) = spaced (codes "NODE" ∷ name ∷ [])
-spelling_of (who_line name) = spaced (codes "WHO" ∷ name ∷ [])
+abbrev pub line_spelling : Spelled → List ℕ
+line_spelling (bid_line from ticket on amount) = spaced (codes "BID" ∷ from ∷ decimal ticket ∷ on ∷ decimal amount ∷ [])
+line_spelling (close_line ticket) = spaced (codes "CLOSE" ∷ decimal ticket ∷ [])
+line_spelling (stage_line ticket) = spaced (codes "STAGE" ∷ decimal ticket ∷ [])
+line_spelling show_line = codes "SHOW"
+line_spelling (node_line name) = spaced (codes "NODE" ∷ name ∷ [])
+line_spelling (who_line name) = spaced (codes "WHO" ∷ name ∷ [])
+
+-- A name can stand in a line where it has a byte at least, and none of its bytes is a space or a line feed.
+pub record IsSpellableName (name : List ℕ) : Type 0 where
+  pub filled : 0 < length name
+  pub no_space : All (λ byte. byte ≢ space) name
+  pub no_line_feed : All (λ byte. byte ≢ line_feed) name
+
+-- The names can stand in a line, the tickets have 32 bits and the amounts 64.
+abbrev pub HasSpellableParts : Spelled → Type 0
+HasSpellableParts (bid_line from ticket on amount) = IsSpellableName from × (ticket < 2 ^ 32) × IsSpellableName on × (amount < 2 ^ 64)
+HasSpellableParts (close_line ticket) = ticket < 2 ^ 32
+HasSpellableParts (stage_line ticket) = ticket < 2 ^ 32
+HasSpellableParts show_line = Unit {0}
+HasSpellableParts (node_line name) = IsSpellableName name
+HasSpellableParts (who_line name) = IsSpellableName name
+
+-- What a line can spell: its parts can stand in a line, and the line is not too long.
+abbrev pub IsSpellable : Spelled → Type 0
+IsSpellable value = HasSpellableParts value × (length (line_spelling value) ≤ most_line_bytes)

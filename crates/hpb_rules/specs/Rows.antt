@@ -60,6 +60,7 @@ refused_bids : GetsThen (codes "BID q 1 a 100\nBID x 2 e 100\nBID x 2 a 165\nBID
 unfolding digits
 refused_bids = refl
 
+-- The auctioneer's last command once more: it gets its number again, and no close is added.
 second_close_is_old : Gets small (codes "CLOSE 1\nCLOSE 1\n") (codes "OK 1\nOK 1\n")
 unfolding digits
 second_close_is_old = refl
@@ -71,3 +72,10 @@ earlier_of_equal_bids = refl
 package_counts_its_licences_once : Gets small (codes "BID z 1 all 300\nBID z 2 a 100\nBID z 3 d 100\nWHO z\n") (codes "OK 1\nOK 2\nERR 25 eligibility\nWHO z ELIGIBILITY 40 ACTIVITY 40 TICKET 2\n")
 unfolding digits
 package_counts_its_licences_once = refl
+
+-- A command that has several things wrong gets the first refusal of their order.
+first_refusal_that_applies : Gets small
+    (codes "BID q 01 e 5\nBID q 1 e 5\nBID x 0 e 5\nBID x 0 a 5\nBID x 2 a 5\nBID x 1 a 5\nBID x 1 a 100\nBID x 1 b 105\nBID x 2 a 5\nBID x 2 a 10\nBID x 2 a 1000000000005\nBID x 2 a 1000000000010\nBID x 2 b 200\nBID x 2 a 100\nCLOSE 1\nBID z 1 a 105\nSTAGE 2\nSTAGE 3\nCLOSE 3\nBID z 1 a 5\nSTAGE 4\n")
+    (codes "ERR 10 line\nERR 11 bidder\nERR 12 node\nERR 13 old\nERR 15 gap\nERR 21 step\nOK 1\nERR 14 ticket\nERR 21 step\nERR 22 low\nERR 21 step\nERR 23 high\nERR 25 eligibility\nERR 24 again\nOK 2\nERR 21 step\nOK 3\nERR 27 stage\nOK 4\nERR 20 closed\nERR 20 closed\n")
+unfolding digits
+first_refusal_that_applies = refl

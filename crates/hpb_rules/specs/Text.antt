@@ -1,16 +1,18 @@
 -- What is written for what is read: one line for each line.
 -- Source: this project's own.
-use Rattle.std.specs.Prelude.{ℕ, zero, suc, List, [], ◌∷◌, ◌++◌, ◌==◌, length, reverse, codes, option_map, Result, Ok, Err, if◌then◌else◌}
+use Rattle.std.specs.Prelude.{◌≡◌, ◌≢◌, ◌⊎◌, ℕ, zero, suc, List, [], ◌∷◌, ◌++◌, ◌==◌, length, reverse, codes, option_map, Result, Ok, Err, if◌then◌else◌, All}
 use Rattle.std.specs.List.{slice_split}
 use Rattle.hpb_rules.specs.declared.command.Command.{Command}
 use Rattle.hpb_rules.specs.declared.refusal.Refusal.{Refusal}
 use Rattle.hpb_rules.specs.declared.refusal.Refusal.TheVariants as refusals
+use Rattle.hpb_rules.specs.declared.request.Request.{Request}
+use Rattle.hpb_rules.specs.declared.request.Request.TheVariants as requests
 use Rattle.hpb_rules.specs.Tree.{Rules, Node, Bidder}
 use Rattle.hpb_rules.specs.Choices.{is_in, revenue}
 use Rattle.hpb_rules.specs.Prices.{price, minimum}
 use Rattle.hpb_rules.specs.History
 use Rattle.hpb_rules.specs.Answer.{answer_after, after}
-use Rattle.hpb_rules.specs.Lines.{Request, command, show, node, who, request_of, is_line_feed}
+use Rattle.hpb_rules.specs.Lines.{request_of, line_feed, is_line_feed}
 use Rattle.hpb_rules.specs.Rendering.{refusal_text, reply_text, show_text, node_text, who_text}
 
 -- A text with the line feed at its end.
@@ -24,6 +26,12 @@ transcript answer next unfinished state [] = []
 transcript answer next unfinished state (last ∷ []) = if length last == 0 then [] else unfinished
 transcript answer next unfinished state (line ∷ following ∷ more) =
     answer state line ++ transcript answer next unfinished (next state line) (following ∷ more)
+
+-- The state that lines lead to. A last line without its end leads nowhere.
+abbrev pub state_after : {State : Type 0} → (next : State → List ℕ → State) → State → List (List ℕ) → State
+state_after next state [] = state
+state_after next state (last ∷ []) = state
+state_after next state (line ∷ following ∷ more) = state_after next (next state line) (following ∷ more)
 
 -- The answer to a last line without its end, whatever it says.
 abbrev pub unfinished_text : List ℕ
@@ -65,14 +73,14 @@ module _ (rules : Rules) where
   -- The answer to a request, or to a line that is refused.
   abbrev pub response : List Command → Result Request Refusal → List ℕ
   response past (Err refusal) = refusal_text refusal
-  response past (Ok (command asked)) = reply_text (answer_after rules past asked)
-  response past (Ok show) = shown past
-  response past (Ok (node place)) = shown_node past place
-  response past (Ok (who from)) = shown_bidder past from
+  response past (Ok (requests.Command asked)) = reply_text (answer_after rules past asked)
+  response past (Ok requests.Show) = shown past
+  response past (Ok (requests.Node place)) = shown_node past place
+  response past (Ok (requests.Who from)) = shown_bidder past from
 
   -- The past after a request: only a newly accepted command changes it.
   abbrev pub past_after : List Command → Result Request Refusal → List Command
-  past_after past (Ok (command asked)) = after rules past asked
+  past_after past (Ok (requests.Command asked)) = after rules past asked
   past_after past other = past
 
   -- What a line is answered, with its line feed.
@@ -95,6 +103,10 @@ module _ (rules : Rules) where
   abbrev pub lines_text : List Command → List ℕ → List ℕ
   lines_text history input = text_after (reverse history) input
 
+  -- The history that an input leads to, where it follows a history.
+  abbrev pub history_after_lines : List Command → List ℕ → List Command
+  history_after_lines history input = reverse (state_after next_past (reverse history) (slice_split is_line_feed input))
+
 -- The text of a script whose first line was read as a definition, or refused.
 abbrev pub text_by : Result Rules Refusal → List (List ℕ) → List ℕ
 text_by (Err refusal) lines = line_of (refusal_text refusal)
@@ -108,3 +120,18 @@ text_of_lines define (first ∷ lines) = text_by (define first) lines
 -- The text of a script, by a reading of definitions.
 abbrev pub script_text : (List ℕ → Result Rules Refusal) → List ℕ → List ℕ
 script_text define input = text_of_lines define (slice_split is_line_feed input)
+
+-- The text by the reading of a first line: the refusal's line, or the text of what follows.
+abbrev pub text_by_reading : Result Rules Refusal → List ℕ → List ℕ
+text_by_reading (Err refusal) rest = line_of (refusal_text refusal)
+text_by_reading (Ok rules) rest = lines_text rules [] rest
+
+-- The text of a script, by a relation that says how first lines are read: as a definition, or refused.
+pub record IsText (reads : List ℕ → Result Rules Refusal → Type 0) (input text : List ℕ) : Type 0 where
+  pub first : List ℕ
+  pub rest : List ℕ
+  pub reading : Result Rules Refusal
+  pub one_line : All (λ byte. byte ≢ line_feed) first
+  pub parts : (input ≡ first ++ line_feed ∷ rest) ⊎ ((input ≡ first) × (rest ≡ []))
+  pub read : reads first reading
+  pub by_reading : text ≡ text_by_reading reading rest

@@ -1,26 +1,41 @@
 -- The laws of lines and of texts.
-use Rattle.std.specs.Prelude.{◌≡◌, ℕ, List, [], ◌∷◌, ◌++◌, Some, Result}
+use Rattle.std.specs.Prelude.{◌≡◌, ℕ, ◌<◌, ◌↔◌, List, [], ◌∷◌, ◌++◌, length, Some, None, Result}
 use Rattle.hpb_rules.specs.declared.command.Command.{Command}
 use Rattle.hpb_rules.specs.declared.refusal.Refusal.{Refusal}
 use Rattle.hpb_rules.specs.Tree.{Rules}
+use Rattle.hpb_rules.specs.Answer.{IsHistory}
+use Rattle.hpb_rules.specs.Laws.{HoldsAlone}
+use Rattle.hpb_rules.specs.Drafts.{draft_refusal}
 use Rattle.hpb_rules.specs.Fronts.{IsFront}
-use Rattle.hpb_rules.specs.Lines.{Spelled, spelled, spelling_of}
-use Rattle.hpb_rules.specs.Text.{lines_text, script_text}
+use Rattle.hpb_rules.specs.Lines.{Spelled, spelled, line_spelling, IsSpellable, IsSpellableName, line_feed, node_named, bidder_named}
+use Rattle.hpb_rules.specs.Text.{lines_text, history_after_lines, IsText, script_text, node_name, bidder_name}
 
--- The byte at the end of a line.
-abbrev pub line_feed : ℕ
-line_feed = 10
+-- The text of whole lines with more behind them is the text of the lines, and then that of the rest after the history that the lines lead to.
+abbrev pub LinesTextJoins : Type 0
+LinesTextJoins = (rules : Rules) (history : List Command) (front rest : List ℕ)
+    → let lines = front ++ line_feed ∷ [] in
+    lines_text rules history (lines ++ rest) ≡ lines_text rules history lines ++ lines_text rules (history_after_lines rules history lines) rest
 
--- The text of whole lines is a front of the text of these lines with more behind them.
-abbrev pub LinesTextGrows : Type 0
-LinesTextGrows = (rules : Rules) (history : List Command) (front rest : List ℕ)
-    → IsFront (lines_text rules history (front ++ line_feed ∷ [])) (lines_text rules history (front ++ line_feed ∷ rest))
+-- Lines lead from a history to a history that goes on from it.
+abbrev pub LinesKeepHistory : Type 0
+LinesKeepHistory = (rules : Rules) (history : List Command) (input : List ℕ) → IsHistory rules history
+    → IsHistory rules (history_after_lines rules history input) × IsFront history (history_after_lines rules history input)
 
--- The same of scripts, by any reading of definitions.
+-- By a reading that is a function a script has exactly one text, and it is the computed one.
+abbrev pub ScriptTextIsOne : Type 0
+ScriptTextIsOne = (define : List ℕ → Result Rules Refusal) (input : List ℕ) → HoldsAlone (IsText (λ line reading. define line ≡ reading) input) (script_text define input)
+
+-- The text of whole lines of a script is a front of the text of these lines with more behind them.
 abbrev pub ScriptTextGrows : Type 0
 ScriptTextGrows = (define : List ℕ → Result Rules Refusal) (front rest : List ℕ)
     → IsFront (script_text define (front ++ line_feed ∷ [])) (script_text define (front ++ line_feed ∷ rest))
 
--- A line that spells something is the one line that spells it.
+-- A line spells a value exactly where it is the spelling of that value, and the value is one that a line can spell.
 abbrev pub SpellingIsOne : Type 0
-SpellingIsOne = (line : List ℕ) (value : Spelled) → spelled line ≡ Some value → line ≡ spelling_of value
+SpellingIsOne = (line : List ℕ) (value : Spelled) → (spelled line ≡ Some value) ↔ ((line ≡ line_spelling value) × IsSpellable value)
+
+-- In a definition that is not refused each name can stand in a line, and is found at its own place.
+abbrev pub NamesAreFound : Type 0
+NamesAreFound = (rules : Rules) (place : ℕ) → draft_refusal rules ≡ None
+    → (place < length rules.nodes → IsSpellableName (node_name rules.nodes place) × (node_named rules (node_name rules.nodes place) ≡ Some place))
+    × (place < length rules.bidders → IsSpellableName (bidder_name rules.bidders place) × (bidder_named rules (bidder_name rules.bidders place) ≡ Some place))

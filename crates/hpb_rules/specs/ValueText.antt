@@ -4,12 +4,14 @@ use Rattle.std.specs.Prelude.{ℕ, List, Option, option_map, Result, Ok, Err}
 use Rattle.std.specs.List.{slice_split}
 use Rattle.hpb_rules.specs.declared.command.Offer.{Offer}
 use Rattle.hpb_rules.specs.declared.refusal.Refusal.{Refusal}
+use Rattle.hpb_rules.specs.declared.request.Request.{Request}
+use Rattle.hpb_rules.specs.declared.request.Request.TheVariants as requests
 use Rattle.hpb_rules.specs.Tree.{Rules}
 use Rattle.hpb_rules.specs.Choices.{is_in}
 use Rattle.hpb_rules.specs.Rounds.{bidder}
 use Rattle.hpb_rules.specs.AuctionValue.{AuctionValue}
 use Rattle.hpb_rules.specs.Values.{node_at, bidder_at, ticket_at, wins_in, price_in, minimum_in, revenue_in, activity_in, reply_in, next_value}
-use Rattle.hpb_rules.specs.Lines.{Request, command, show, node, who, request_of, is_line_feed}
+use Rattle.hpb_rules.specs.Lines.{request_of, is_line_feed}
 use Rattle.hpb_rules.specs.Rendering.{refusal_text, reply_text, show_text, node_text, who_text}
 use Rattle.hpb_rules.specs.Text.{line_of, transcript, unfinished_text, node_name, bidder_name}
 
@@ -36,14 +38,14 @@ bidder_shown_in value from =
 -- The answer to a request, or to a line that is refused.
 abbrev pub response_in : AuctionValue → Result Request Refusal → List ℕ
 response_in value (Err refusal) = refusal_text refusal
-response_in value (Ok (command asked)) = reply_text (reply_in value asked)
-response_in value (Ok show) = shown_in value
-response_in value (Ok (node place)) = node_shown_in value place
-response_in value (Ok (who from)) = bidder_shown_in value from
+response_in value (Ok (requests.Command asked)) = reply_text (reply_in value asked)
+response_in value (Ok requests.Show) = shown_in value
+response_in value (Ok (requests.Node place)) = node_shown_in value place
+response_in value (Ok (requests.Who from)) = bidder_shown_in value from
 
 -- The value after a request: only a newly accepted command changes it.
 abbrev pub value_after_request : AuctionValue → Result Request Refusal → AuctionValue
-value_after_request value (Ok (command asked)) = next_value value asked
+value_after_request value (Ok (requests.Command asked)) = next_value value asked
 value_after_request value other = value
 
 -- What a line is answered, with its line feed.

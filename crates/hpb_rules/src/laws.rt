@@ -1,5 +1,5 @@
 ghost use Rattle.hpb_rules.specs.CertificateRow.{Certificates};
-ghost use Rattle.hpb_rules.specs.Laws.{SharesAreOne, MinimumIsOne, WinnersAreOne, BestIsOne, CoverProves, PricesProve, TestDecides, RevenueIsGreatest, PriceIsValue, DisjointIsApart, AcceptedIsDefinition};
+ghost use Rattle.hpb_rules.specs.Laws.{SharesAreOne, MinimumIsOne, WinnersAreOne, BestIsOne, CoverProves, PricesProve, TestDecides, RevenueIsGreatest, PriceIsValue, DisjointIsApart, AcceptedIsDefinition, DepthIsOneMore, CarriedIsShare};
 
 /// The shares are the one list that never rises, whose first is at most one more than its last, with that sum.
 pub fn shares_are_one()
@@ -56,7 +56,17 @@ pub fn certificates()
     ensures { Certificates }
 {}
 
-/// A draft that is not refused has a tree, a step and stage percentages, as the other laws ask.
+/// A draft is not refused exactly where it keeps all rules on definitions.
 pub fn accepted_is_definition()
     ensures { AcceptedIsDefinition }
+{}
+
+/// A top node has depth 1, and each other one more than its parent.
+pub fn depth_is_one_more()
+    ensures { DepthIsOneMore }
+{}
+
+/// What is carried down to a node is its share of what its parent passes down.
+pub fn carried_is_share()
+    ensures { CarriedIsShare }
 {}

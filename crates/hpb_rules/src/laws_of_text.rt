@@ -1,16 +1,31 @@
-ghost use Rattle.hpb_rules.specs.TextLaws.{LinesTextGrows, ScriptTextGrows, SpellingIsOne};
+ghost use Rattle.hpb_rules.specs.TextLaws.{LinesTextJoins, LinesKeepHistory, ScriptTextIsOne, ScriptTextGrows, SpellingIsOne, NamesAreFound};
 
-/// The text of whole lines is a front of the text of these lines with more behind them.
-pub fn lines_text_grows()
-    ensures { LinesTextGrows }
+/// The text of whole lines with more behind them is the text of the lines, and then that of the rest after them.
+pub fn lines_text_joins()
+    ensures { LinesTextJoins }
 {}
 
-/// The same of scripts, by any reading of their first line.
+/// Lines lead from a history to a history that goes on from it.
+pub fn lines_keep_history()
+    ensures { LinesKeepHistory }
+{}
+
+/// A script has exactly one text, by any reading of its first line that is a function.
+pub fn script_text_is_one()
+    ensures { ScriptTextIsOne }
+{}
+
+/// The text of whole lines of a script is a front of the text of these lines with more behind them.
 pub fn script_text_grows()
     ensures { ScriptTextGrows }
 {}
 
-/// A line that spells a request is the one line that spells it.
+/// A line spells a value exactly where it is the spelling of a value that a line can spell.
 pub fn spelling_is_one()
     ensures { SpellingIsOne }
+{}
+
+/// In a definition each name can stand in a line, and is found at its own place.
+pub fn names_are_found()
+    ensures { NamesAreFound }
 {}

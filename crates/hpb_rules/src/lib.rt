@@ -18,13 +18,14 @@ mod letter;
 mod licence;
 mod refusal;
 mod reply;
+mod request;
 
 pub use command::{Command, Offer};
 pub use id::{BidderId, MOST_BIDDERS, MOST_NODES, NodeId};
 pub use laws::{
-    accepted_is_definition, best_is_one, certificates, cover_proves, disjoint_is_apart,
-    minimum_is_one, price_is_value, prices_prove, revenue_is_greatest, shares_are_one,
-    test_decides, winners_are_one,
+    accepted_is_definition, best_is_one, carried_is_share, certificates, cover_proves,
+    depth_is_one_more, disjoint_is_apart, minimum_is_one, price_is_value, prices_prove,
+    revenue_is_greatest, shares_are_one, test_decides, winners_are_one,
 };
 pub use laws_of_history::{
     accepted_is_new, answer_is_shown, bids_meet_rules, front_is_history, history_grows,
@@ -37,7 +38,10 @@ pub use laws_of_rounds::{
     close_takes_greater, eligibility_is_greatest, greatest_is_first, high_is_greatest,
     incoming_is_greatest, over_is_quiet_round, rounds_are_cut,
 };
-pub use laws_of_text::{lines_text_grows, script_text_grows, spelling_is_one};
+pub use laws_of_text::{
+    lines_keep_history, lines_text_joins, names_are_found, script_text_grows, script_text_is_one,
+    spelling_is_one,
+};
 pub use laws_of_values::{
     next_is_shown, reply_is_answer, run_is_shown, text_is_shown, value_is_best_choice,
 };
@@ -45,3 +49,4 @@ pub use letter::{Answer, Letter};
 pub use licence::Terms;
 pub use refusal::Refusal;
 pub use reply::{MOST_AMOUNT, MOST_COMMANDS, Reply};
+pub use request::Request;

@@ -6,7 +6,7 @@ use Rattle.std.specs.Option.{is_some}
 use Rattle.std.specs.List.{sum_by, range_with_len}
 use Rattle.hpb_rules.specs.declared.licence.Terms.{Terms}
 use Rattle.hpb_rules.specs.Tree.{Node, IsTree, terms_of, at_or_under, units_at, opening_at}
-use Rattle.hpb_rules.proofs.Accepted.{tree_is}
+use Rattle.hpb_rules.proofs.TreeLaws.{full_tree}
 use Rattle.hpb_rules.proofs.Places.{sum_more, sum_grows, sum_has}
 use Rattle.hpb_tree.specs.declared.tree.TheConstants.{MOST_LICENCES, MOST_LICENCE_UNITS, MOST_LICENCE_OPENING}
 use Rattle.hpb_tree.specs.Licences.{licences_among, part_over}
@@ -27,7 +27,7 @@ module _ (nodes : List Node) (sound : AreSound nodes) where
   before = ordered nodes sound.ordered
 
   pub is_tree : IsTree nodes
-  is_tree = tree_is nodes sound.ordered sound.packages sound.licences
+  is_tree = (full_tree nodes sound.ordered sound.packages sound.licences).tree
 
   -- what the licences of a node can sum up to
   module _ (test : ℕ → Bool) (number : ℕ → ℕ) (most : ℕ) (small : (l : ℕ) → number l ≤ most) where

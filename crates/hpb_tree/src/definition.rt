@@ -1,36 +1,30 @@
-ghost use Rattle.std.specs.Prelude.{◌≡◌, ℕ, ◌+◌, ◌-◌, ◌*◌, ◌<◌, ◌≤◌, length, slice_index, IfSome, Some, All, position, string_bytes, IfOk, IsTrue, None};
-ghost use Rattle.std.specs.List.{range_with_len};
-ghost use Rattle.std.specs.Str.{bytes_eq};
+ghost use Rattle.std.specs.Prelude.{◌≡◌, ◌-◌, ◌<◌, ◌≤◌, length, slice_index, IfSome, Some, All, IfOk, IsTrue, None};
 ghost use Rattle.hpb_rules.specs.Drafts.{is_name, draft_refusal};
-ghost use Rattle.hpb_rules.specs.Tree.{IsTree, tree_of, parent_of, terms_of, places, units, opening};
-ghost use Rattle.hpb_rules.specs.Prices.{children_among};
+ghost use Rattle.hpb_rules.specs.Tree.{tree_of};
 ghost use Rattle.hpb_rules.specs.Text.{node_name, bidder_name};
 ghost use Rattle.hpb_rules.specs.Lines.{node_named, bidder_named};
 ghost use Rattle.hpb_rules.specs.Units.{bidder_units};
 ghost use Rattle.hpb_tree.specs.Definition.{bidders_view};
-ghost use Rattle.hpb_tree.specs.Licences.{IsMask, licence_count};
 
 use crate::named::place_named;
-use crate::tree::{
-    MOST_LICENCE_OPENING, MOST_LICENCE_UNITS, MOST_LICENCES, MOST_PERCENT, MOST_STEP, Tree,
-};
-use hpb_rules::{BidderId, MOST_BIDDERS, MOST_NODES, NodeId, Terms};
+use crate::tree::{MOST_STEP, Tree};
+use hpb_rules::{BidderId, MOST_BIDDERS, MOST_NODES, NodeId};
 use std::alloc::{AllocError, Global};
 use std::marker::Model;
 
 /// How many stages there are at most.
 pub const MOST_STAGES: usize = 4;
 /// The least percentage of a stage.
-pub const LEAST_PERCENTAGE: u8 = 50;
+pub(crate) const LEAST_PERCENTAGE: u8 = 50;
 /// The greatest percentage of a stage.
-pub const MOST_PERCENTAGE: u8 = 100;
+pub(crate) const MOST_PERCENTAGE: u8 = 100;
 /// The greatest bidding units that a bidder starts with.
-pub const MOST_BIDDER_UNITS: u32 = 64_000_000;
+pub(crate) const MOST_BIDDER_UNITS: u32 = 64_000_000;
 
 /// The longest name, in bytes.
-pub const MOST_NAME: usize = 16;
+pub(crate) const MOST_NAME: usize = 16;
 /// How many levels a tree has at most.
-pub const MOST_DEPTH: usize = 8;
+pub(crate) const MOST_DEPTH: usize = 8;
 
 /// A bidder, with the units that it starts with.
 #[derive(Debug, Drop)]

@@ -1,4 +1,4 @@
-ghost use Rattle.std.specs.Prelude.{◌≡◌, ℕ, ◌<◌, ◌≤◌, ◌*◌, length, IfSome, Some, position, string_bytes, IfOk};
+ghost use Rattle.std.specs.Prelude.{◌≡◌, ℕ, ◌<◌, ◌≤◌, ◌*◌, length, IfSome, Some, position, string_bytes, IfOk, All, slice_index_or};
 ghost use Rattle.std.specs.List.{range_with_len};
 ghost use Rattle.std.specs.Str.{bytes_eq};
 ghost use Rattle.hpb_rules.specs.Tree.{IsTree, parent_of, terms_of, places, units, opening};
@@ -15,13 +15,13 @@ use std::marker::Model;
 /// The greatest step, in whole dollars.
 pub const MOST_STEP: u32 = 1_000_000;
 /// The greatest percent.
-pub const MOST_PERCENT: u8 = 50;
+pub(crate) const MOST_PERCENT: u8 = 50;
 /// How many nodes are licences at most.
 pub const MOST_LICENCES: usize = 64;
 /// The greatest bidding units of a licence.
 pub const MOST_LICENCE_UNITS: u32 = 1_000_000;
 /// The greatest opening of a licence, in whole dollars.
-pub const MOST_LICENCE_OPENING: u64 = 10_000_000_000;
+pub(crate) const MOST_LICENCE_OPENING: u64 = 10_000_000_000;
 
 /// A node with what is known of it once the whole tree is read.
 #[derive(Debug, Drop)]
@@ -109,7 +109,10 @@ impl Tree {
 
     /// The nodes, in their order: a parent stands before its children.
     pub fn nodes(&self) -> &[NodeId]
-        ensures { result.now ≡ places self.now.nodes }
+        ensures value { result.now ≡ places self.now.nodes }
+        ensures count { length result.now ≡ length self.now.nodes }
+        ensures within { All (λ node. node < length self.now.nodes) result.now }
+        ensures each { (place other : ℕ) → place < length self.now.nodes → slice_index_or result.now place other ≡ place }
     {
         self.ids.as_slice()
     }

@@ -2,5 +2,5 @@ mod Numerals
 mod Cutting
 mod Canonical
 mod Names
-mod Spelled
+mod Asked
 mod Read

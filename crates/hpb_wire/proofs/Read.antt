@@ -1,5 +1,5 @@
 -- The line of a request asks for it.
-use Rattle.std.proofs.Common.{◌≡◌, ◌≢◌, ℕ, ◌-◌, ◌^◌, ◌<◌, ◌≤◌, Bool, true, false, List, [], ◌∷◌, ◌++◌, length, get_or, Some, Ok, refl, sym, ap, ◌∙◌, arith, codes, decimal, append_assoc, length-append, inl, inr}
+use Rattle.std.proofs.Common.{◌≡◌, ◌≢◌, ℕ, ◌-◌, ◌^◌, ◌<◌, ◌≤◌, Bool, true, false, List, [], ◌∷◌, ◌++◌, length, get_or, Some, Ok, refl, sym, ap, ◌∙◌, arith, codes, decimal, length-append, inl, inr}
 use Rattle.std.specs.Bool.{⊤}
 use Rattle.std.specs.List.{All, slice_split, list_any, position, join_with_byte}
 use Rattle.std.specs.Str.{bytes_eq, all_ascii_digits}
@@ -16,7 +16,7 @@ use Rattle.hpb_rules.specs.Lines
 use Rattle.hpb_rules.specs.Lines.{Request, command, show, node, who, is_space, is_line_feed}
 use Rattle.hpb_rules.specs.Text.{node_name, bidder_name}
 use Rattle.hpb_rules.specs.Tree.{Rules, Node, Bidder}
-use Rattle.hpb_wire.specs.Spelling.{spelling_of, CanBeAsked, IsName, HasNames}
+use Rattle.hpb_wire.specs.Names.{request_line, CanBeAsked, IsName, HasNames}
 use Rattle.hpb_wire.proofs.Canonical.{number_of_text}
 use Rattle.hpb_wire.proofs.Names.{no_bidder, no_node, bidder_name-get_or, node_name-get_or}
 use Rattle.hpb_wire.proofs.Numerals.{own}
@@ -113,10 +113,6 @@ ticket_short t h = length-decimal-le 10 t (omega arith) (omega arith) (omega ari
 amount_short : (a : ℕ) → a < 2 ^ 64 → length (decimal a) ≤ 20
 amount_short a h = length-decimal-le 20 a (omega arith) (omega arith) h
 
--- a bid, as it is spelled and as its words are joined
-joined : (b t n a : List ℕ) → codes "BID " ++ b ++ codes " " ++ t ++ codes " " ++ n ++ codes " " ++ a ≡ codes "BID" ++ (32 ∷ (b ++ (32 ∷ (t ++ (32 ∷ (n ++ (32 ∷ a)))))))
-joined b t n a = simp append_assoc
-
 close_read : (d : Rules) (t : ℕ) → t < 2 ^ 32 → Lines.request_of d (codes "CLOSE " ++ decimal t) ≡ Ok (command (Close t))
 unfolding AreWords
 close_read d t h =
@@ -147,7 +143,7 @@ who_read d names b h =
     let line = spelled-join (codes "WHO") (bidder_name d.bidders b ∷ []) (written (codes "WHO") refl refl, (name_word (bidder_name d.bidders b) name, tt)) (omega (arith, name.short)) in
     ap (Lines.looked_up d) line ∙ rw (name_in-name (bidder_name d.bidders b) name, bidder_named-name d names b h) refl
 
-bid_read : (d : Rules) → HasNames d → (b t n a : ℕ) → CanBeAsked d (command (Bid b t n a)) → Lines.request_of d (spelling_of d (command (Bid b t n a))) ≡ Ok (command (Bid b t n a))
+bid_read : (d : Rules) → HasNames d → (b t n a : ℕ) → CanBeAsked d (command (Bid b t n a)) → Lines.request_of d (request_line d (command (Bid b t n a))) ≡ Ok (command (Bid b t n a))
 unfolding AreWords
 bid_read d names b t n a h =
     let bidder = bidder_name d.bidders b in
@@ -157,11 +153,10 @@ bid_read d names b t n a h =
     let ws : AreWords (codes "BID" ∷ bidder ∷ decimal t ∷ on ∷ decimal a ∷ []) = (written (codes "BID") refl refl, (name_word bidder bidder_is, (number_word t (omega (arith, h.1)), (name_word on on_is, (number_word a h.3, tt))))) in
     let line = spelled-join (codes "BID") (bidder ∷ decimal t ∷ on ∷ decimal a ∷ []) ws
     (simp length-append (omega (arith, bidder_is.short, on_is.short, ticket_short t h.1, amount_short a h.3))) in
-    ap (Lines.request_of d) (joined bidder (decimal t) on (decimal a))
-    ∙ ap (Lines.looked_up d) line
+    ap (Lines.looked_up d) line
     ∙ rw (name_in-name bidder bidder_is, ticket_in-decimal t h.1, name_in-name on on_is, amount_in-decimal a h.3, bidder_named-name d names b h.0, node_named-name d names n h.2) refl
 
-pub request_read : (d : Rules) (r : Request) → HasNames d → CanBeAsked d r → Lines.request_of d (spelling_of d r) ≡ Ok r
+pub request_read : (d : Rules) (r : Request) → HasNames d → CanBeAsked d r → Lines.request_of d (request_line d r) ≡ Ok r
 request_read d (command (Bid b t n a)) names h = bid_read d names b t n a h
 request_read d (command (Close t)) names h = close_read d t h
 request_read d (command (Stage t)) names h = stage_read d t h

@@ -1,5 +1,5 @@
 pub mod Numbers
 pub mod Requests
-pub mod Spelling
-pub mod Answers
+pub mod Names
+pub mod Responses
 pub mod Laws

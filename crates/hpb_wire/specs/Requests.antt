@@ -7,8 +7,8 @@ use Rattle.hpb_rules.specs.Lines as lines
 use Rattle.hpb_rules.specs.Tree.{Rules}
 use Rattle.hpb_wire.specs.declared.request.Request.{Request}
 use Rattle.hpb_wire.specs.declared.request.Request.TheVariants as requests
-use Rattle.hpb_wire.specs.declared.spelling.Spelled.{Spelled}
-use Rattle.hpb_wire.specs.declared.spelling.Spelled.TheVariants as spelled
+use Rattle.hpb_wire.specs.declared.named.NamedRequest.{NamedRequest}
+use Rattle.hpb_wire.specs.declared.named.NamedRequest.TheVariants as names
 
 -- A request of the code as one of the rules.
 abbrev pub request_view : Request → lines.Request
@@ -23,23 +23,23 @@ asked (Ok request) = Ok (request_view request)
 asked (Err code) = Err code
 
 -- What a line spells, by the bytes of its names.
-abbrev pub spelled_view : Spelled → lines.Spelled
-spelled_view (spelled.Bid from ticket on amount) = lines.bid_line from.now ticket on.now amount
-spelled_view (spelled.Close ticket) = lines.close_line ticket
-spelled_view (spelled.Stage ticket) = lines.stage_line ticket
-spelled_view spelled.Show = lines.show_line
-spelled_view (spelled.Node name) = lines.node_line name.now
-spelled_view (spelled.Who name) = lines.who_line name.now
+abbrev pub spelled_view : NamedRequest → lines.Spelled
+spelled_view (names.Bid from ticket on amount) = lines.bid_line from.now ticket on.now amount
+spelled_view (names.Close ticket) = lines.close_line ticket
+spelled_view (names.Stage ticket) = lines.stage_line ticket
+spelled_view names.Show = lines.show_line
+spelled_view (names.Node name) = lines.node_line name.now
+spelled_view (names.Who name) = lines.who_line name.now
 
 -- What is spelled, if anything is.
-abbrev pub seen : Option Spelled → Option lines.Spelled
-seen None = None
-seen (Some spelling) = Some (spelled_view spelling)
+abbrev pub spelled_as : Option NamedRequest → Option lines.Spelled
+spelled_as None = None
+spelled_as (Some spelling) = Some (spelled_view spelling)
 
 -- The bytes of a name, if there is one.
-abbrev pub name_seen : Option (Bor (List ℕ)) → Option (List ℕ)
-name_seen None = None
-name_seen (Some word) = Some word.now
+abbrev pub name_as : Option (Bor (List ℕ)) → Option (List ℕ)
+name_as None = None
+name_as (Some word) = Some word.now
 
 -- The words of what is left of a line, if anything is.
 abbrev pub words_left : Option (Bor (List ℕ)) → List (List ℕ)

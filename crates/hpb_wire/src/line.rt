@@ -4,8 +4,8 @@ ghost use Rattle.hpb_rules.specs.declared.refusal.TheConstants.{BIDDER, NODE};
 ghost use Rattle.hpb_rules.specs.Lines.{request_of, looked_up, bidder_named, node_named};
 ghost use Rattle.hpb_wire.specs.Requests.{asked, spelled_view, IsRequestOf};
 
+use crate::named::{NamedRequest, read_line};
 use crate::request::Request;
-use crate::spelling::{Spelled, read_line};
 use hpb_rules::{BidderId, Command, NodeId, refusal};
 use hpb_tree::Definition;
 
@@ -27,12 +27,12 @@ pub fn parse_line(line: &[u8], definition: &Definition) -> Result<Request, u8>
 }
 
 /// The request that a line spells: the bidder is looked up first, then the node.
-fn look_up(spelled: Spelled<'_>, definition: &Definition) -> Result<Request, u8>
+fn look_up(spelled: NamedRequest<'_>, definition: &Definition) -> Result<Request, u8>
     ensures value { asked result ≡ looked_up definition.now (Some (spelled_view spelled.entry)) }
     ensures known { IfOk result (IsRequestOf definition.now) }
 {
     match spelled {
-        Spelled::Bid {
+        NamedRequest::Bid {
             bidder,
             ticket,
             node,
@@ -47,11 +47,11 @@ fn look_up(spelled: Spelled<'_>, definition: &Definition) -> Result<Request, u8>
                 amount,
             }))
         }
-        Spelled::Close(ticket) => Ok(Request::Command(Command::Close { ticket })),
-        Spelled::Stage(ticket) => Ok(Request::Command(Command::Stage { ticket })),
-        Spelled::Show => Ok(Request::Show),
-        Spelled::Node(name) => Ok(Request::Node(find_node(name, definition)?)),
-        Spelled::Who(name) => Ok(Request::Who(find_bidder(name, definition)?)),
+        NamedRequest::Close(ticket) => Ok(Request::Command(Command::Close { ticket })),
+        NamedRequest::Stage(ticket) => Ok(Request::Command(Command::Stage { ticket })),
+        NamedRequest::Show => Ok(Request::Show),
+        NamedRequest::Node(name) => Ok(Request::Node(find_node(name, definition)?)),
+        NamedRequest::Who(name) => Ok(Request::Who(find_bidder(name, definition)?)),
     }
 }
 

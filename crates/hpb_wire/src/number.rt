@@ -4,7 +4,7 @@ ghost use Rattle.hpb_wire.specs.Numbers.{number_of_digits, has_front_zero};
 
 /// The number up to `most` that a word spells in decimal, with no sign and no zero before another digit.
 #[tactic(auto, using(crate::proofs::Canonical::fronted, crate::proofs::Canonical::no_number))]
-pub fn number(word: &[u8], most: u64) -> Option<u64>
+pub(crate) fn number(word: &[u8], most: u64) -> Option<u64>
     ensures value { result ≡ number_up_to most word.now }
     ensures bound { IfSome result (λ n. n ≤ most) }
 {

@@ -1,6 +1,7 @@
 ghost use Rattle.hpb_wire.specs.Requests.{IsRequestOf};
 
 use super::*;
+use crate::response::{BidderLine, HighBid, NodeLine, RoundLine};
 use hpb_auction::Auction;
 use hpb_rules::{BidderId, Command, NodeId, Reply, refusal};
 use hpb_tree::{BidderDraft, Definition, Draft, NodeDraft, TermsDraft};
@@ -117,8 +118,8 @@ fn hostile_lines(rt: HostRuntime) -> Result<(), Fail> {
 }
 
 #[test]
-fn answers_are_written(rt: HostRuntime) -> Result<(), Fail> {
-    let mut text = String::new(rt.alloc());
+fn responses_are_written(rt: HostRuntime) -> Result<(), Fail> {
+    let mut text = ResponseText::new(rt.alloc(), 0)?;
     let standing = Some(HighBid {
         amount: 100,
         bidder: "x",
@@ -155,62 +156,62 @@ fn answers_are_written(rt: HostRuntime) -> Result<(), Fail> {
         ..round
     };
     let table = [
-        (Answer::Reply(Reply::Ok(1_000_000)), "OK 1000000\n"),
-        (Answer::Reply(Reply::Refused(25)), "ERR 25 eligibility\n"),
+        (Response::Reply(Reply::Ok(1_000_000)), "OK 1000000\n"),
+        (Response::Reply(Reply::Refused(25)), "ERR 25 eligibility\n"),
         (
-            Answer::Show(round),
+            Response::Show(round),
             "ROUND 2 STAGE 1 OPEN REVENUE 64000000000000 COUNT 65\n",
         ),
         (
-            Answer::Show(last),
+            Response::Show(last),
             "ROUND 2 STAGE 1 CLOSED REVENUE 64000000000000 COUNT 65\n",
         ),
         (
-            Answer::Node(node),
+            Response::Node(node),
             "NODE a HIGH 100 x PRICE 138 MIN 160 WIN no\n",
         ),
         (
-            Answer::Node(free),
+            Response::Node(free),
             "NODE d HIGH 0 - PRICE 0 MIN 100 WIN yes\n",
         ),
         (
-            Answer::Who(who),
+            Response::Who(who),
             "WHO w ELIGIBILITY 21 ACTIVITY 20 TICKET 2\n",
         ),
     ];
-    for (answer, line) in table {
+    for (response, line) in table {
         text.clear();
-        render(&mut text, &answer)?;
-        assert_eq!(rt; text.as_str(), line);
+        text.render(&response)?;
+        assert_eq!(rt; text.as_bytes(), line.as_bytes());
     }
-    render(&mut text, &Answer::Reply(Reply::Ok(1)))?;
+    text.render(&Response::Reply(Reply::Ok(1)))?;
     assert_eq!(rt;
-        text.as_str(),
-        "WHO w ELIGIBILITY 21 ACTIVITY 20 TICKET 2\nOK 1\n"
+        text.as_bytes(),
+        b"WHO w ELIGIBILITY 21 ACTIVITY 20 TICKET 2\nOK 1\n".as_slice()
     );
     Ok(())
 }
 
-/// What a request to see something is answered.
-fn answered(auction: &Auction, request: Request) -> Answer<'_>
+/// The response to a request to see something.
+fn response(auction: &Auction, request: Request) -> Response<'_>
     requires { IsRequestOf auction.now.rules request }
 {
     match request {
-        Request::Command(_) => Answer::Reply(Reply::Refused(refusal::LINE)),
+        Request::Command(_) => Response::Reply(Reply::Refused(refusal::LINE)),
         Request::Show => show(auction),
         Request::Node(place) => node(auction, place),
         Request::Who(bidder) => who(auction, bidder),
     }
 }
 
-/// The line that answers what is asked about an auction.
-fn shown(alloc: Global, auction: &Auction, line: &[u8]) -> Result<String, AllocError> {
-    let answer = match parse_line(line, auction.definition()) {
-        Ok(request) => answered(auction, request),
-        Err(code) => Answer::Reply(Reply::Refused(code)),
+/// The line of a response about an auction.
+fn shown(alloc: Global, auction: &Auction, line: &[u8]) -> Result<ResponseText, AllocError> {
+    let response = match parse_line(line, auction.definition()) {
+        Ok(request) => response(auction, request),
+        Err(code) => Response::Reply(Reply::Refused(code)),
     };
-    let mut text = String::new(alloc);
-    render(&mut text, &answer)?;
+    let mut text = ResponseText::new(alloc, 0)?;
+    text.render(&response)?;
     Ok(text)
 }
 
@@ -235,7 +236,7 @@ fn auctions_are_shown(rt: HostRuntime) -> Result<(), Fail> {
     ];
     for (line, wanted) in table {
         let text = shown(alloc, &auction, line)?;
-        assert_eq!(rt; text.as_str(), wanted);
+        assert_eq!(rt; text.as_bytes(), wanted.as_bytes());
     }
     Ok(())
 }

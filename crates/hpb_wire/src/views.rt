@@ -1,16 +1,16 @@
 ghost use Rattle.std.specs.Prelude.{◌≡◌, ◌<◌, length, IfSome};
 ghost use Rattle.hpb_rules.specs.ValueText.{shown_in, node_shown_in, bidder_shown_in, high_in};
-ghost use Rattle.hpb_wire.specs.Answers.{text_of, high_of};
+ghost use Rattle.hpb_wire.specs.Responses.{text_of, high_of};
 
-use crate::answer::{Answer, BidderLine, HighBid, NodeLine, RoundLine};
+use crate::response::{BidderLine, HighBid, NodeLine, Response, RoundLine};
 use hpb_auction::{Auction, BidderId, NodeId, Offer};
 use hpb_tree::Definition;
 
 /// What `SHOW` is answered.
-pub fn show(auction: &Auction) -> Answer<'static>
+pub fn show(auction: &Auction) -> Response<'static>
     ensures { text_of result ≡ shown_in auction.now }
 {
-    Answer::Show(RoundLine {
+    Response::Show(RoundLine {
         round: auction.round(),
         stage: auction.stage(),
         closed: auction.closed(),
@@ -20,13 +20,13 @@ pub fn show(auction: &Auction) -> Answer<'static>
 }
 
 /// What `NODE` is answered of a node: how it stands by closed rounds.
-pub fn node(auction: &Auction, node: NodeId) -> Answer<'_>
+pub fn node(auction: &Auction, node: NodeId) -> Response<'_>
     requires { node < length auction.now.rules.nodes }
     ensures { text_of result ≡ node_shown_in auction.now node }
 {
     let definition = auction.definition();
     let view = auction.node_view(node);
-    Answer::Node(NodeLine {
+    Response::Node(NodeLine {
         name: definition.name(node),
         high: high_bid(definition, view.high),
         price: view.price,
@@ -36,12 +36,12 @@ pub fn node(auction: &Auction, node: NodeId) -> Answer<'_>
 }
 
 /// What `WHO` is answered of a bidder.
-pub fn who(auction: &Auction, bidder: BidderId) -> Answer<'_>
+pub fn who(auction: &Auction, bidder: BidderId) -> Response<'_>
     requires { bidder < length auction.now.rules.bidders }
     ensures { text_of result ≡ bidder_shown_in auction.now bidder }
 {
     let view = auction.bidder_view(bidder);
-    Answer::Who(BidderLine {
+    Response::Who(BidderLine {
         name: auction.definition().bidder_name(bidder),
         eligibility: view.eligibility,
         activity: view.activity,

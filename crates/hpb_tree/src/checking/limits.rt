@@ -1,4 +1,4 @@
-ghost use Rattle.std.specs.Prelude.{◌≡◌, ◌≤◌, ◌<◌, ◌+◌, false, length, nat_lt};
+ghost use Rattle.std.specs.Prelude.{◌≡◌, ◌≤◌, ◌<◌, false, length, nat_lt};
 ghost use Rattle.std.specs.List.{list_any};
 ghost use Rattle.hpb_rules.specs.Drafts.{has_late_parent, is_over_limits, depth};
 ghost use Rattle.hpb_rules.specs.Tree.{places};

@@ -1,5 +1,5 @@
 use Rattle.std.proofs.Common.{◌≡◌, ℕ, ◌<◌, ◌≤◌, length}
-use Rattle.hpb_auction.specs.View.{row_at}
+use Rattle.hpb_auction.specs.Inside.{row_at}
 use Rattle.hpb_auction.specs.Rows.{renewed}
 use Rattle.hpb_auction.proofs.sender.renew_eligibility.Given as goal
 

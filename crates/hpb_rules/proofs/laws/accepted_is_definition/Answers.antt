@@ -2,4 +2,4 @@ use Rattle.hpb_rules.proofs.Accepted
 use Rattle.hpb_rules.proofs.laws.accepted_is_definition.Goals as goal
 
 pub returns : goal.returns
-returns c = Accepted.accepted_is_definition
+returns c = Accepted.accepted_exactly

@@ -1,4 +1,4 @@
-use Rattle.hpb_wire.proofs.Spelled.{line_asked}
+use Rattle.hpb_wire.proofs.Asked.{line_asked}
 use Rattle.hpb_wire.proofs.laws.lines_are_canonical.Goals as goal
 
 pub returns : goal.returns

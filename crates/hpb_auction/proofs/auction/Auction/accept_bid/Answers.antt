@@ -1,29 +1,66 @@
-use Rattle.std.proofs.Common.{◌≡◌, ◌+◌, ◌<◌, length, sym, ap, ◌∙◌, arith, subst}
+use Rattle.std.proofs.Common.{rules, ◌≡◌, ◌+◌, ◌<◌, length, sym, ap, ◌∙◌, arith, subst}
 use Rattle.hpb_rules.specs.declared.command.Command.{Command}
-use Rattle.hpb_rules.specs.Seen.{Quantities}
+use Rattle.hpb_rules.specs.AuctionValue.{AuctionValue}
 use Rattle.hpb_rules.specs.Values.{changed}
-use Rattle.hpb_auction.specs.Machine.{IsKnown, IsNext}
-use Rattle.hpb_bids.specs.View.{BooksView, offer_at}
+use Rattle.hpb_auction.specs.Acceptable.{IsKnown}
+use Rattle.hpb_bids.specs.View.{BooksView, offer_at, bid_of}
 use Rattle.hpb_auction.specs.declared.sender.BidderRow.{BidderRow}
-use Rattle.hpb_auction.specs.View.{quantities_of, row_at}
+use Rattle.hpb_auction.specs.Inside.{value_inside, row_at}
 use Rattle.hpb_auction.proofs.Tables.{row_found}
-use Rattle.hpb_auction.proofs.BidTables.{bid_seen, row_set, row_other, with_last}
+use Rattle.hpb_auction.proofs.Kept.{tables_stay}
+use Rattle.hpb_auction.proofs.BidTables.{IsPlaced, placed_kept, set_kept, numbered_more, bid_seen, row_set, row_other, with_last}
 use Rattle.hpb_auction.proofs.auction.Auction.accept_bid.Goals as goal
+
+known : (c : goal.After-self-2-1) → (c.args.bidder < length c.self.inside.definition.bidders) × (c.args.node < length c.self.inside.definition.nodes)
+known c = subst (λ (command : Command). IsKnown (value_inside c.self.inside) command) c.requires.command
+    (subst (λ (value : AuctionValue). IsKnown value c.args.accepted.command) (sym c.self.view_is) c.requires.known)
+
+placed : (c : goal.After-self-2-1) → IsPlaced c.self.inside.books c.place.new.self c.args.bidder c.args.node c.args.amount
+placed c = record {
+  standing = λ m. ap (λ (books : BooksView). offer_at books.standing m) c.place.ensures.value;
+  incoming = c.place.ensures.incoming;
+  bids = c.place.ensures.bids;
+}
+
+in_rows : (c : goal.After-self-2-1) → c.place-2.result < length c.self.inside.bidders.items
+in_rows c = omega (arith, (known c).0, c.self.invariant.rows, c.place-2.ensures.value)
+
+counted : (c : goal.After-self-2-1) → c.args.accepted.number ≡ c.self.inside.count + 1
+counted c = c.requires.count ∙ ap (λ (value : AuctionValue). value.count + 1) (sym c.self.view_is)
+
+pub invariant_of-self : goal.invariant_of-self
+invariant_of-self c =
+    let a = c.self.inside in
+    let kept = c.self.invariant in
+    record {
+      tree = kept.tree;
+      rows = search rules;
+      most_rows = search rules;
+      bids = placed_kept a.definition a.books c.place.new.self c.args.bidder c.args.node c.args.amount kept.bids (placed c) (known c).0 (known c).1;
+      tables = tables_stay a.definition a.books c.place.new.self a.outcome a.prices (ap bid_of c.place.ensures.value) kept.tables;
+      count = c.requires.limit;
+      numbers = set_kept a.bidders.items a.count c.args.accepted.number c.place-2.result c.index_mut.result.now c.args.accepted kept.numbers (omega (arith, counted c)) (omega arith) (in_rows c);
+      number = numbered_more a.count c.args.accepted.number a.auctioneer (omega (arith, counted c)) kept.number;
+      round = omega (arith, kept.round, counted c);
+      some_stage = kept.some_stage;
+      most_stage = kept.most_stage;
+    }
 
 pub returns : goal.returns
 returns c =
     let a = c.self.inside in
     let rows = c.self.inside.bidders.items in
-    let known : (c.args.bidder < length a.definition.bidders) × (c.args.node < length a.definition.nodes)
-    = subst (λ (command : Command). IsKnown (quantities_of a) command) c.requires.command (subst (λ (q : Quantities). IsKnown q c.args.accepted.command) (sym c.self.view_is) c.requires.known) in
-    let in_rows : c.args.bidder < length rows = omega (arith, known.0, c.self.invariant.rows) in
     let same : c.place-2.result ≡ c.args.bidder = c.place-2.ensures.value in
-    let read : c.index_mut.result.now ≡ row_at rows c.args.bidder = row_found rows c.place-2.result c.args.bidder c.index_mut.result.now c.index_mut.ensures.value same in_rows in
+    let inside : c.args.bidder < length rows = omega (arith, in_rows c, same) in
+    let read : c.index_mut.result.now ≡ row_at rows c.args.bidder = row_found rows c.place-2.result c.args.bidder c.index_mut.result.now c.index_mut.ensures.value same inside in
     bid_seen a c.place.new.self _ c.args.bidder c.args.node c.args.amount c.args.accepted
-    (record { standing = λ m. ap (λ (v : BooksView). offer_at v.standing m) c.place.ensures.value; incoming = c.place.ensures.incoming; bids = c.place.ensures.bids })
-    (row_set rows c.place-2.result c.args.bidder (with_last c.index_mut.result.now c.args.accepted) same in_rows ∙ ap (λ (r : BidderRow). with_last r c.args.accepted) read)
-    (λ k other. row_other rows c.place-2.result k (with_last c.index_mut.result.now c.args.accepted) (λ e. other (e ∙ same)))
-    known.0 known.1 c.requires.command
-    (c.requires.count ∙ ap (λ (q : Quantities). q.count + 1) (sym c.self.view_is))
-    (subst (λ (q : Quantities). IsNext q c.args.accepted.command) (sym c.self.view_is) c.requires.next)
-    ∙ ap (λ (q : Quantities). changed q c.args.accepted.command) c.self.view_is
+    (record {
+      placed = placed c;
+      own = row_set rows c.place-2.result c.args.bidder (with_last c.index_mut.result.now c.args.accepted) same inside ∙ ap (λ (row : BidderRow). with_last row c.args.accepted) read;
+      others = λ k other. row_other rows c.place-2.result k (with_last c.index_mut.result.now c.args.accepted) (λ e. other (e ∙ same));
+      in_bidders = (known c).0;
+      in_nodes = (known c).1;
+    })
+    c.requires.command
+    (counted c)
+    ∙ ap (λ (value : AuctionValue). changed value c.args.accepted.command) c.self.view_is

@@ -8,14 +8,14 @@ pub returns-then-amount-minimum-clause-value : goal.returns-then-amount-minimum-
 returns-then-amount-minimum-clause-value c =
     fault_is c.args.self.now c.args.bidder c.args.node c.args.amount true true _ _ _
     (stepped_at c.self.inside c.args.self.now c.self.view_is c.args.amount c.step.result c.from.result c.from.ensures c.step.ensures.value (omega (arith, c.if-amount-from-ne0.false)))
-    (low_found c.self.inside c.args.self.now c.self.view_is c.args.bidder c.args.node c.args.amount c.requires.bidder c.requires.node c.minimum.result c.minimum.ensures ∙ lt-ltb c.args.amount c.minimum.result (omega (arith, c.if-amount-minimum.true)))
+    (low_found c.self.inside c.self.invariant c.args.self.now c.self.view_is c.args.bidder c.args.node c.args.amount c.requires.bidder c.requires.node c.minimum.result c.minimum.ensures ∙ lt-ltb c.args.amount c.minimum.result (omega (arith, c.if-amount-minimum.true)))
     refl refl refl
 
 pub returns-then-amount-gt-MOST_AMOUNT-clause-value : goal.returns-then-amount-gt-MOST_AMOUNT-clause-value
 returns-then-amount-gt-MOST_AMOUNT-clause-value c =
     fault_is c.args.self.now c.args.bidder c.args.node c.args.amount true false true _ _
     (stepped_at c.self.inside c.args.self.now c.self.view_is c.args.amount c.step.result c.from.result c.from.ensures c.step.ensures.value (omega (arith, c.if-amount-from-ne0.false)))
-    (low_found c.self.inside c.args.self.now c.self.view_is c.args.bidder c.args.node c.args.amount c.requires.bidder c.requires.node c.minimum.result c.minimum.ensures ∙ le-ltb c.args.amount c.minimum.result (omega (arith, c.if-amount-minimum.false)))
+    (low_found c.self.inside c.self.invariant c.args.self.now c.self.view_is c.args.bidder c.args.node c.args.amount c.requires.bidder c.requires.node c.minimum.result c.minimum.ensures ∙ le-ltb c.args.amount c.minimum.result (omega (arith, c.if-amount-minimum.false)))
     (lt-ltb MOST_AMOUNT c.args.amount (omega (arith, c.if-amount-gt-MOST_AMOUNT.true)))
     refl refl
 
@@ -23,27 +23,27 @@ pub returns-then-has_bid_on-clause-value : goal.returns-then-has_bid_on-clause-v
 returns-then-has_bid_on-clause-value c =
     fault_is c.args.self.now c.args.bidder c.args.node c.args.amount true false false true _
     (stepped_at c.self.inside c.args.self.now c.self.view_is c.args.amount c.step.result c.from.result c.from.ensures c.step.ensures.value (omega (arith, c.if-amount-from-ne0.false)))
-    (low_found c.self.inside c.args.self.now c.self.view_is c.args.bidder c.args.node c.args.amount c.requires.bidder c.requires.node c.minimum.result c.minimum.ensures ∙ le-ltb c.args.amount c.minimum.result (omega (arith, c.if-amount-minimum.false)))
+    (low_found c.self.inside c.self.invariant c.args.self.now c.self.view_is c.args.bidder c.args.node c.args.amount c.requires.bidder c.requires.node c.minimum.result c.minimum.ensures ∙ le-ltb c.args.amount c.minimum.result (omega (arith, c.if-amount-minimum.false)))
     (le-ltb MOST_AMOUNT c.args.amount (omega (arith, c.if-amount-gt-MOST_AMOUNT.false)))
-    (again_found c.self.inside c.args.self.now c.self.view_is c.args.bidder c.args.node c.args.amount c.requires.bidder c.requires.node ∙ sym c.has_bid_on.ensures ∙ c.if-has_bid_on.true)
+    (again_found c.self.inside c.self.invariant c.args.self.now c.self.view_is c.args.bidder c.args.node c.args.amount c.requires.bidder c.requires.node ∙ sym c.has_bid_on.ensures ∙ c.if-has_bid_on.true)
     refl
 
 pub returns-then-not-fits-clause-value : goal.returns-then-not-fits-clause-value
 returns-then-not-fits-clause-value c =
     fault_is c.args.self.now c.args.bidder c.args.node c.args.amount true false false false true
     (stepped_at c.self.inside c.args.self.now c.self.view_is c.args.amount c.step.result c.from.result c.from.ensures c.step.ensures.value (omega (arith, c.if-amount-from-ne0.false)))
-    (low_found c.self.inside c.args.self.now c.self.view_is c.args.bidder c.args.node c.args.amount c.requires.bidder c.requires.node c.minimum.result c.minimum.ensures ∙ le-ltb c.args.amount c.minimum.result (omega (arith, c.if-amount-minimum.false)))
+    (low_found c.self.inside c.self.invariant c.args.self.now c.self.view_is c.args.bidder c.args.node c.args.amount c.requires.bidder c.requires.node c.minimum.result c.minimum.ensures ∙ le-ltb c.args.amount c.minimum.result (omega (arith, c.if-amount-minimum.false)))
     (le-ltb MOST_AMOUNT c.args.amount (omega (arith, c.if-amount-gt-MOST_AMOUNT.false)))
-    (again_found c.self.inside c.args.self.now c.self.view_is c.args.bidder c.args.node c.args.amount c.requires.bidder c.requires.node ∙ sym c.has_bid_on.ensures ∙ c.if-has_bid_on.false)
-    (over c.self.inside c.args.self.now c.self.view_is c.args.bidder c.args.node c.args.amount c.place.result c.requires.bidder c.requires.node c.self.invariant.rows c.index.result.now c.index.ensures c.place.ensures.value c.tree-tree.result.now c.tree-tree.ensures c.fits.result c.fits.ensures
+    (again_found c.self.inside c.self.invariant c.args.self.now c.self.view_is c.args.bidder c.args.node c.args.amount c.requires.bidder c.requires.node ∙ sym c.has_bid_on.ensures ∙ c.if-has_bid_on.false)
+    (over c.self.inside c.self.invariant c.args.self.now c.self.view_is c.args.bidder c.args.node c.args.amount c.place.result c.requires.bidder c.requires.node c.index.result.now c.index.ensures c.place.ensures.value c.tree-tree.result.now c.tree-tree.ensures c.fits.result c.fits.ensures
     ∙ ap not c.if-not-fits.true)
 
 pub returns-clause-value : goal.returns-clause-value
 returns-clause-value c =
     fault_is c.args.self.now c.args.bidder c.args.node c.args.amount true false false false false
     (stepped_at c.self.inside c.args.self.now c.self.view_is c.args.amount c.step.result c.from.result c.from.ensures c.step.ensures.value (omega (arith, c.if-amount-from-ne0.false)))
-    (low_found c.self.inside c.args.self.now c.self.view_is c.args.bidder c.args.node c.args.amount c.requires.bidder c.requires.node c.minimum.result c.minimum.ensures ∙ le-ltb c.args.amount c.minimum.result (omega (arith, c.if-amount-minimum.false)))
+    (low_found c.self.inside c.self.invariant c.args.self.now c.self.view_is c.args.bidder c.args.node c.args.amount c.requires.bidder c.requires.node c.minimum.result c.minimum.ensures ∙ le-ltb c.args.amount c.minimum.result (omega (arith, c.if-amount-minimum.false)))
     (le-ltb MOST_AMOUNT c.args.amount (omega (arith, c.if-amount-gt-MOST_AMOUNT.false)))
-    (again_found c.self.inside c.args.self.now c.self.view_is c.args.bidder c.args.node c.args.amount c.requires.bidder c.requires.node ∙ sym c.has_bid_on.ensures ∙ c.if-has_bid_on.false)
-    (over c.self.inside c.args.self.now c.self.view_is c.args.bidder c.args.node c.args.amount c.place.result c.requires.bidder c.requires.node c.self.invariant.rows c.index.result.now c.index.ensures c.place.ensures.value c.tree-tree.result.now c.tree-tree.ensures c.fits.result c.fits.ensures
+    (again_found c.self.inside c.self.invariant c.args.self.now c.self.view_is c.args.bidder c.args.node c.args.amount c.requires.bidder c.requires.node ∙ sym c.has_bid_on.ensures ∙ c.if-has_bid_on.false)
+    (over c.self.inside c.self.invariant c.args.self.now c.self.view_is c.args.bidder c.args.node c.args.amount c.place.result c.requires.bidder c.requires.node c.index.result.now c.index.ensures c.place.ensures.value c.tree-tree.result.now c.tree-tree.ensures c.fits.result c.fits.ensures
     ∙ ap not c.if-not-fits.false)

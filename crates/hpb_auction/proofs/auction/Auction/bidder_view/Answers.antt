@@ -1,31 +1,32 @@
 use Rattle.std.proofs.Common.{◌≡◌, ◌<◌, length, ap, sym, ◌∙◌, arith}
 use Rattle.hpb_rules.specs.Tree.{TreeRules}
-use Rattle.hpb_rules.specs.Seen.{Quantities, BidderView, SenderView}
+use Rattle.hpb_rules.specs.History.{ticket_of_last}
+use Rattle.hpb_rules.specs.AuctionValue.{AuctionValue, BidderState}
 use Rattle.hpb_units.specs.Activity as units
-use Rattle.hpb_auction.specs.View.{row_at}
+use Rattle.hpb_auction.specs.Inside.{row_at}
 use Rattle.hpb_auction.specs.declared.sender.BidderRow.{BidderRow}
-use Rattle.hpb_auction.proofs.Tables.{bidder_found, sender_found, row_found, ticket_seen}
+use Rattle.hpb_auction.proofs.Tables.{bidder_found, row_found, last_seen}
 use Rattle.hpb_auction.proofs.Activities.{activity_found}
 use Rattle.hpb_auction.proofs.auction.Auction.bidder_view.Goals as goal
 
 read : (c : goal.After-last_ticket) → c.index-row.result.now ≡ row_at c.self.inside.bidders.items c.args.bidder
 read c =
-    let within : c.args.bidder < length c.self.inside.bidders.items = omega (arith, c.self.invariant.rows, c.requires, ap (λ (q : Quantities). length q.rules.bidders) c.self.view_is) in
+    let within : c.args.bidder < length c.self.inside.bidders.items = omega (arith, c.self.invariant.rows, c.requires, ap (λ (value : AuctionValue). length value.rules.bidders) c.self.view_is) in
     row_found c.self.inside.bidders.items c.place.result c.args.bidder c.index-row.result.now c.index-row.ensures c.place.ensures.value within
 
 pub returns-clause-eligibility : goal.returns-clause-eligibility
 returns-clause-eligibility c =
-    ap (λ (r : BidderRow). r.eligibility) (read c)
-    ∙ sym (ap (λ (v : BidderView). v.eligibility) (bidder_found c.self.inside _ c.self.view_is c.args.bidder c.requires))
+    ap (λ (row : BidderRow). row.eligibility) (read c)
+    ∙ sym (ap (λ (state : BidderState). state.eligibility) (bidder_found c.self.inside c.args.self.now c.self.view_is c.args.bidder c.requires))
 
 pub returns-clause-ticket : goal.returns-clause-ticket
 returns-clause-ticket c =
     c.last_ticket.ensures
-    ∙ ticket_seen c.as_ref.result _ (c.as_ref.ensures.value ∙ ap (λ (r : BidderRow). r.last) (read c))
-    ∙ sym (ap (λ (v : SenderView). v.ticket) (sender_found c.self.inside _ c.self.view_is c.args.bidder c.requires))
+    ∙ ap ticket_of_last (last_seen c.as_ref.result _ (c.as_ref.ensures.value ∙ ap (λ (row : BidderRow). row.last) (read c)))
+    ∙ sym (ap (λ (state : BidderState). ticket_of_last state.last) (bidder_found c.self.inside c.args.self.now c.self.view_is c.args.bidder c.requires))
 
 pub returns-clause-activity : goal.returns-clause-activity
 returns-clause-activity c =
     c.activity.ensures
     ∙ ap (λ (t : TreeRules). units.activity_of t.nodes c.self.inside.books c.self.inside.outcome c.args.bidder) c.tree.ensures
-    ∙ sym (activity_found c.self.inside c.args.self.now c.self.view_is c.args.bidder c.requires)
+    ∙ sym (activity_found c.self.inside c.self.invariant c.args.self.now c.self.view_is c.args.bidder c.requires)

@@ -1,18 +1,21 @@
-use Rattle.std.proofs.Common.{◌≡◌, ℕ, ◌<◌, ◌++◌, ◌||◌, Bool, true, false, not, cond, List, take, drop, length, refl, sym, ap, ◌∙◌, arith, subst}
+use Rattle.std.proofs.Common.{◌≡◌, ℕ, ◌+◌, ◌<◌, ◌≤◌, ◌++◌, map, Option, ⊎_elim, ◌||◌, Bool, true, false, not, cond, List, take, drop, length, refl, sym, ap, ◌∙◌, arith, subst}
 use mir.Val.{bool_byte}
 use Rattle.std.proofs.Math.Seq.{take-append_seam}
-use Rattle.hpb_rules.specs.Tree.{TreeRules}
-use Rattle.hpb_rules.specs.Values as values
-use Rattle.hpb_rules.proofs.Changes.{same_value}
+use Rattle.std.proofs.lemmas.Bool.{cases_lt}
+use Rattle.std.proofs.lemmas.List.{get_or_past}
+use Rattle.hpb_rules.specs.Tree.{TreeRules, places}
+use Rattle.hpb_rules.proofs.ValueParts.{same_value}
+use Rattle.hpb_rules.specs.AuctionValue.{AuctionValue}
 use Rattle.hpb_bids.specs.View.{bid_of}
 use Rattle.hpb_winners.specs.Outcome.{IsOutcome}
-use Rattle.hpb_prices.specs.View.{HasPrices, HasMinima}
+use Rattle.hpb_prices.specs.View.{IsSized, HasPrices, HasMinima}
+use Rattle.hpb_auction.specs.declared.sender.Accepted.{Accepted}
 use Rattle.hpb_auction.specs.declared.sender.BidderRow.{BidderRow}
-use Rattle.hpb_rules.specs.Values.{closed_value}
+use Rattle.hpb_rules.specs.Values.{has_open_bid, closed_value}
 use Rattle.hpb_auction.specs.Rows.{renewed}
-use Rattle.hpb_auction.specs.View.{quantities_of, row_at}
+use Rattle.hpb_auction.specs.Inside.{value_inside, booked, state_at, kept_last, bidder_places, row_at, empty_row, IsNumbered}
 use Rattle.hpb_auction.proofs.Quiet.{quiet_seen}
-use Rattle.hpb_auction.proofs.CloseTables.{IsFolded, nodes_closed, bidders_closed, senders_closed, revenue_closed, more_or_same}
+use Rattle.hpb_auction.proofs.CloseTables.{folded_kept, IsRenewed, nodes_closed, bidders_closed, more_or_same}
 use Rattle.hpb_auction.proofs.auction.Auction.close_round.Goals as goal
 use Rattle.hpb_auction.proofs.auction.Auction.close_round.Goals.{After-downward}
 
@@ -28,30 +31,90 @@ whole c =
     ap (λ n. take n (c.renew_eligibility.new.rows ++ drop (length c.renew_eligibility.new.rows) c.self.inside.bidders.items)) (c.self.inside.bidders.ok.0 ∙ sym (c.renew_eligibility.ensures.length ∙ ap length (seen c)))
     ∙ take-append_seam c.renew_eligibility.new.rows (drop (length c.renew_eligibility.new.rows) c.self.inside.bidders.items)
 
+renewed_rows : (c : After-downward) → (b : ℕ) → b < length c.self.inside.bidders.items
+    → row_at (kept c) b ≡ renewed c.self.inside.definition.nodes c.self.inside.books c.self.inside.outcome c.percentage-percentage.result b (row_at c.self.inside.bidders.items b)
+renewed_rows c b h =
+    let a = c.self.inside in
+    ap (λ (rows : List BidderRow). row_at rows b) (whole c)
+    ∙ c.renew_eligibility.ensures.rows b (omega (arith, h, ap length (seen c)))
+    ∙ ap (λ (rows : List BidderRow). renewed c.tree-tree.result.now.nodes a.books a.outcome c.percentage-percentage.result b (row_at rows b)) (seen c)
+    ∙ ap (λ (t : TreeRules). renewed t.nodes a.books a.outcome c.percentage-percentage.result b (row_at a.bidders.items b)) c.tree-tree.ensures
+
+-- the rows are as many as before
+rows_stay : (c : After-downward) → length (kept c) ≡ length c.self.inside.bidders.items
+rows_stay c = ap length (whole c) ∙ c.renew_eligibility.ensures.length ∙ ap length (seen c)
+
+numbers_stay : (c : After-downward) → (b : ℕ) → IsNumbered c.self.inside.count (row_at (kept c) b).last
+numbers_stay c b = ⊎_elim
+    (λ less. along (ap (λ (row : BidderRow). row.last) (renewed_rows c b less)) (c.self.invariant.numbers b))
+    (λ more. along (ap (λ (row : BidderRow). row.last) (get_or_past (kept c) b empty_row (omega (arith, more, rows_stay c)))) tt)
+    (cases_lt b (length c.self.inside.bidders.items))
+  where
+    along : {last last' : Option Accepted} → last ≡ last' → IsNumbered c.self.inside.count last' → IsNumbered c.self.inside.count last
+    along e p = subst (λ (last : Option Accepted). IsNumbered c.self.inside.count last) (sym e) p
+
+pub invariant_of-self : goal.invariant_of-self
+invariant_of-self c =
+    let a = c.self.inside in
+    let old = c.self.invariant in
+    record {
+      tree = old.tree;
+      rows = rows_stay c ∙ old.rows;
+      most_rows = omega (arith, rows_stay c, old.most_rows);
+      bids = folded_kept a.definition a.books c.fold_round.new.self old.bids (record { standing = c.fold_round.ensures.standing; incoming = c.fold_round.ensures.incoming; quiet = c.fold_round.ensures.quiet });
+      tables = record {
+        reached = subst (λ (t : TreeRules). IsOutcome t.nodes (bid_of c.fold_round.new.self) c.upward.new.outcome) c.tree-tree.ensures c.upward.ensures.outcome;
+        sized = subst (λ (t : TreeRules). IsSized t.nodes c.downward.new.prices) c.tree-tree.ensures c.downward.ensures.sized;
+        prices = subst (λ (t : TreeRules). HasPrices t.nodes (bid_of c.fold_round.new.self) c.downward.new.prices) c.tree-tree.ensures c.downward.ensures.prices;
+        minima = subst (λ (t : TreeRules). HasMinima t (bid_of c.fold_round.new.self) c.downward.new.prices) c.tree-tree.ensures c.downward.ensures.minima;
+      };
+      count = old.count;
+      numbers = numbers_stay c;
+      number = old.number;
+      round = omega (arith, ap (λ (value : AuctionValue). value.round) c.self.view_is, ap (λ (value : AuctionValue). value.count) c.self.view_is, c.requires, c.from.ensures, at_most_one (not c.is_quiet-quiet.result));
+      some_stage = old.some_stage;
+      most_stage = old.most_stage;
+    }
+  where
+    at_most_one : (b : Bool) → bool_byte b ≤ 1
+    at_most_one true = omega arith
+    at_most_one false = omega arith
+
 pub returns : goal.returns
 returns c =
     let a = c.self.inside in
-    let bids = c.self.invariant.bids in
-    let folded : IsFolded a.books c.fold_round.new.self = record { standing = c.fold_round.ensures.standing; incoming = c.fold_round.ensures.incoming; quiet = c.fold_round.ensures.quiet } in
-    let outcome : IsOutcome a.definition.nodes (bid_of c.fold_round.new.self) c.upward.new.outcome = subst (λ (t : TreeRules). IsOutcome t.nodes (bid_of c.fold_round.new.self) c.upward.new.outcome) c.tree-tree.ensures c.upward.ensures.outcome in
-    let priced : HasPrices a.definition.nodes (bid_of c.fold_round.new.self) c.downward.new.prices = subst (λ (t : TreeRules). HasPrices t.nodes (bid_of c.fold_round.new.self) c.downward.new.prices) c.tree-tree.ensures c.downward.ensures.prices in
-    let minima : HasMinima _ (bid_of c.fold_round.new.self) c.downward.new.prices = subst (λ (t : TreeRules). HasMinima t (bid_of c.fold_round.new.self) c.downward.new.prices) c.tree-tree.ensures c.downward.ensures.minima in
-    let rows : (b : ℕ) → b < length a.bidders.items → row_at (kept c) b ≡ renewed a.definition.nodes a.books a.outcome c.percentage-percentage.result b (row_at a.bidders.items b)
-    = λ b h. ap (λ (rows : List BidderRow). row_at rows b) (whole c)
-    ∙ c.renew_eligibility.ensures.rows b (omega (arith, h, ap length (seen c)))
-    ∙ ap (λ (rows : List BidderRow). renewed c.tree-tree.result.now.nodes a.books a.outcome c.percentage-percentage.result b (row_at rows b)) (seen c)
-    ∙ ap (λ (t : TreeRules). renewed t.nodes a.books a.outcome c.percentage-percentage.result b (row_at a.bidders.items b)) c.tree-tree.ensures in
-    let loud : values.has_bid (quantities_of a) ≡ not c.is_quiet-quiet.result = quiet_seen a bids c.is_quiet-quiet.result c.is_quiet-quiet.ensures in
-    same_value a.definition _ _ _ _ _ _ _ _ _ _ _ _ _ _ _ _ _ _
-    (nodes_closed a bids c.fold_round.new.self c.upward.new.outcome c.downward.new.prices (kept c) folded outcome priced minima c.percentage-percentage.result c.percentage-percentage.ensures.value c.self.invariant.rows rows)
-    (bidders_closed a bids c.fold_round.new.self c.upward.new.outcome c.downward.new.prices (kept c) folded outcome priced minima c.percentage-percentage.result c.percentage-percentage.ensures.value c.self.invariant.rows rows)
-    (senders_closed a bids c.fold_round.new.self c.upward.new.outcome c.downward.new.prices (kept c) folded outcome priced minima c.percentage-percentage.result c.percentage-percentage.ensures.value c.self.invariant.rows rows)
-    refl
-    (revenue_closed a bids c.fold_round.new.self c.upward.new.outcome c.downward.new.prices (kept c) folded outcome priced minima c.percentage-percentage.result c.percentage-percentage.ensures.value c.self.invariant.rows rows)
-    (more_or_same a.round (not c.is_quiet-quiet.result) c.from.result (c.from.ensures ∙ one (not c.is_quiet-quiet.result)) (values.has_bid (quantities_of a)) loud)
-    refl
-    (over a.closed c.is_quiet-quiet.result (values.has_bid (quantities_of a)) loud)
-    refl
+    let quiet : Bool = c.is_quiet-quiet.result in
+    let new : IsRenewed a c.fold_round.new.self (kept c) c.percentage-percentage.result = record {
+      folded = record { standing = c.fold_round.ensures.standing; incoming = c.fold_round.ensures.incoming; quiet = c.fold_round.ensures.quiet };
+      in_force = c.percentage-percentage.ensures.value;
+      rows = renewed_rows c;
+    } in
+    let loud : has_open_bid (value_inside a) ≡ not quiet = quiet_seen a c.self.invariant.bids quiet c.is_quiet-quiet.ensures in
+    same_value a.definition a.count
+    (record {
+      nodes = map (booked c.fold_round.new.self) (places a.definition.nodes);
+      bidders = map (state_at a.definition c.fold_round.new.self (kept c)) (bidder_places a.definition);
+      auctioneer = kept_last a.auctioneer;
+      round = a.round + c.from.result;
+      stage = a.stage;
+      over = a.closed || quiet;
+    })
+    (record {
+      nodes = (closed_value (value_inside a)).nodes;
+      bidders = (closed_value (value_inside a)).bidders;
+      auctioneer = kept_last a.auctioneer;
+      round = (closed_value (value_inside a)).round;
+      stage = a.stage;
+      over = (closed_value (value_inside a)).over;
+    })
+    (record {
+      nodes = nodes_closed a c.self.invariant c.fold_round.new.self (kept c) c.percentage-percentage.result new;
+      bidders = bidders_closed a c.self.invariant c.fold_round.new.self (kept c) c.percentage-percentage.result new;
+      auctioneer = refl;
+      round = more_or_same a.round (not quiet) c.from.result (c.from.ensures ∙ one (not quiet)) (has_open_bid (value_inside a)) loud;
+      stage = refl;
+      over = over a.closed quiet (has_open_bid (value_inside a)) loud;
+    })
     ∙ ap closed_value c.self.view_is
   where
     one : (b : Bool) → bool_byte b ≡ cond b 1 0

@@ -5,5 +5,5 @@ use Rattle.hpb_auction.proofs.auction.Auction.last_of.Goals as goal
 
 pub returns-in-Bid-clause-refused : goal.returns-in-Bid-clause-refused
 returns-in-Bid-clause-refused c =
-    subst (λ (command : Command). IfErr c.last_bid_of.result (λ code. unknown c.args.self.now.rules command ≡ Some code)) (sym c.in-Bid.is)
+    subst (λ (command : Command). IfErr c.last_bid_of.result (λ refusal. unknown c.args.self.now.rules command ≡ Some refusal)) (sym c.in-Bid.is)
     (c.last_bid_of.ensures.refused c.in-Bid.ticket c.in-Bid.amount)

@@ -1,17 +1,23 @@
 use Rattle.std.proofs.Common.{◌≡◌, List, length, sym, ap, ◌∙◌, arith, subst}
 use Rattle.hpb_rules.specs.Tree.{TreeRules}
 use Rattle.hpb_rules.specs.Values.{first_value}
-use Rattle.hpb_rules.proofs.Accepted.{accepted_is_definition}
-use Rattle.hpb_winners.specs.Outcome.{IsOutcome, no_bid}
+use Rattle.hpb_rules.proofs.TreeLaws.{accepted_is_definition}
+use Rattle.hpb_bids.specs.View.{no_bid}
+use Rattle.hpb_winners.specs.Outcome.{IsOutcome}
 use Rattle.hpb_prices.specs.View.{HasPrices, HasMinima, IsSized}
-use Rattle.hpb_auction.specs.View.{row_at, IsNumbered}
+use Rattle.hpb_auction.specs.Inside.{row_at, IsNumbered, AreTablesOf}
 use Rattle.hpb_auction.specs.declared.sender.BidderRow.{BidderRow}
 use Rattle.hpb_auction.proofs.FirstTables.{empty_kept, rows_count, first_numbers, first_seen}
+use Rattle.hpb_auction.proofs.Kept.{tables_by}
 use Rattle.hpb_auction.proofs.auction.Auction.new.Goals as goal
 use Rattle.hpb_auction.proofs.auction.Auction.new.Goals.{In_ok-bidders}
 
-outcome : (c : In_ok-bidders) → IsOutcome c.in_ok-definition.definition.nodes no_bid c.in_ok-outcome.outcome
-outcome c = subst (λ (t : TreeRules). IsOutcome t.nodes no_bid c.in_ok-outcome.outcome) c.tree-2.ensures c.in_ok-outcome.ensures
+tables : (c : In_ok-bidders) → AreTablesOf c.in_ok-definition.definition c.in_ok-books.books c.in_ok-outcome.outcome c.in_ok-prices.prices
+tables c = tables_by c.in_ok-books.ensures.high
+    (subst (λ (t : TreeRules). IsOutcome t.nodes no_bid c.in_ok-outcome.outcome) c.tree-2.ensures c.in_ok-outcome.ensures)
+    (subst (λ (t : TreeRules). IsSized t.nodes c.in_ok-prices.prices) c.tree-3.ensures c.in_ok-prices.ensures.sized)
+    (subst (λ (t : TreeRules). HasPrices t.nodes no_bid c.in_ok-prices.prices) c.tree-3.ensures c.in_ok-prices.ensures.prices)
+    (subst (λ (t : TreeRules). HasMinima t no_bid c.in_ok-prices.prices) c.tree-3.ensures c.in_ok-prices.ensures.minima)
 
 pub invariant_of-result : goal.invariant_of-result
 invariant_of-result c =
@@ -22,8 +28,7 @@ invariant_of-result c =
       rows = count;
       most_rows = omega (arith, count, c.in_ok-bidders.ensures.most);
       bids = empty_kept rules c.in_ok-books.books c.in_ok-books.ensures.empty;
-      outcome = (outcome c).sized;
-      prices = subst (λ (t : TreeRules). IsSized t.nodes c.in_ok-prices.prices) c.tree-3.ensures c.in_ok-prices.ensures.sized;
+      tables = tables c;
       count = omega arith;
       numbers = λ b. subst (λ (rows : List BidderRow). IsNumbered 0 (row_at rows b).last) (sym c.in_ok-bidders.ensures.rows) (first_numbers rules b);
       number = tt;
@@ -34,17 +39,11 @@ invariant_of-result c =
 
 pub returns-clause-value : goal.returns-clause-value
 returns-clause-value c =
-    first_seen c.in_ok-definition.definition c.in_ok-books.books c.in_ok-books.ensures.empty c.in_ok-outcome.outcome (outcome c) c.in_ok-prices.prices
-    (subst (λ (t : TreeRules). HasPrices t.nodes no_bid c.in_ok-prices.prices) c.tree-3.ensures c.in_ok-prices.ensures.prices)
-    (subst (λ (t : TreeRules). HasMinima t no_bid c.in_ok-prices.prices) c.tree-3.ensures c.in_ok-prices.ensures.minima)
-    c.in_ok-bidders.bidders.items c.in_ok-bidders.ensures.rows
+    first_seen c.in_ok-definition.definition c.in_ok-books.books c.in_ok-books.ensures.empty c.in_ok-bidders.bidders.items c.in_ok-bidders.ensures.rows
     ∙ ap first_value c.in_ok-definition.ensures
 
 pub returns-clause-empty : goal.returns-clause-empty
 returns-clause-empty c = (
   tt,
-  first_seen c.in_ok-definition.definition c.in_ok-books.books c.in_ok-books.ensures.empty c.in_ok-outcome.outcome (outcome c) c.in_ok-prices.prices
-      (subst (λ (t : TreeRules). HasPrices t.nodes no_bid c.in_ok-prices.prices) c.tree-3.ensures c.in_ok-prices.ensures.prices)
-      (subst (λ (t : TreeRules). HasMinima t no_bid c.in_ok-prices.prices) c.tree-3.ensures c.in_ok-prices.ensures.minima)
-      c.in_ok-bidders.bidders.items c.in_ok-bidders.ensures.rows,
+  first_seen c.in_ok-definition.definition c.in_ok-books.books c.in_ok-books.ensures.empty c.in_ok-bidders.bidders.items c.in_ok-bidders.ensures.rows,
 )

@@ -1,19 +1,24 @@
 use Rattle.std.proofs.Common.{ap, sym, ◌∙◌}
-use Rattle.hpb_rules.specs.Seen.{NodeView}
+use Rattle.hpb_rules.specs.Choices.{is_in}
+use Rattle.hpb_rules.specs.AuctionValue.{NodeBids}
 use Rattle.hpb_auction.proofs.Tables.{node_found}
+use Rattle.hpb_auction.proofs.HighBids.{wins_found, price_found, minimum_found, best_found}
 use Rattle.hpb_auction.proofs.auction.Auction.node_view.Goals as goal
 
 pub returns-clause-high : goal.returns-clause-high
-returns-clause-high c = c.standing.ensures.value ∙ sym (ap (λ (v : NodeView). v.high) (node_found c.self.inside _ c.self.view_is c.args.node c.requires))
+returns-clause-high c = c.standing.ensures.value ∙ sym (ap (λ (bids : NodeBids). bids.high) (node_found c.self.inside c.args.self.now c.self.view_is c.args.node c.requires))
 
 pub returns-clause-incoming : goal.returns-clause-incoming
-returns-clause-incoming c = c.incoming.ensures.value ∙ sym (ap (λ (v : NodeView). v.incoming) (node_found c.self.inside _ c.self.view_is c.args.node c.requires))
+returns-clause-incoming c = c.incoming.ensures.value ∙ sym (ap (λ (bids : NodeBids). bids.incoming) (node_found c.self.inside c.args.self.now c.self.view_is c.args.node c.requires))
 
 pub returns-clause-price : goal.returns-clause-price
-returns-clause-price c = c.price.ensures ∙ sym (ap (λ (v : NodeView). v.price) (node_found c.self.inside _ c.self.view_is c.args.node c.requires))
+returns-clause-price c = c.price.ensures ∙ price_found c.self.inside c.self.invariant c.args.self.now c.self.view_is c.args.node c.requires
 
 pub returns-clause-minimum : goal.returns-clause-minimum
-returns-clause-minimum c = c.minimum.ensures ∙ sym (ap (λ (v : NodeView). v.minimum) (node_found c.self.inside _ c.self.view_is c.args.node c.requires))
+returns-clause-minimum c = c.minimum.ensures ∙ minimum_found c.self.inside c.self.invariant c.args.self.now c.self.view_is c.args.node c.requires
 
 pub returns-clause-wins : goal.returns-clause-wins
-returns-clause-wins c = c.wins.ensures ∙ sym (ap (λ (v : NodeView). v.wins) (node_found c.self.inside _ c.self.view_is c.args.node c.requires))
+returns-clause-wins c = c.wins.ensures ∙ ap (λ set. is_in set c.args.node) (wins_found c.self.inside c.self.invariant c.args.self.now c.self.view_is)
+
+pub returns-clause-best : goal.returns-clause-best
+returns-clause-best c = best_found c.self.inside c.self.invariant c.args.self.now c.self.view_is

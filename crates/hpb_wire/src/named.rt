@@ -1,0 +1,125 @@
+ghost use Rattle.std.specs.Prelude.{◌≡◌};
+ghost use Rattle.hpb_rules.specs.Lines.{spelled, spelled_by, spelled_alone, spelled_with, spelled_bid, words, name_in, ticket_in, amount_in};
+ghost use Rattle.hpb_wire.specs.Requests.{spelled_as, name_as};
+
+use crate::cut::cut;
+use crate::number::number;
+
+/// How many bytes a line has at most, its end not counted.
+pub const MOST_LINE: usize = 128;
+
+/// What a line spells, before its names are looked up.
+#[derive(Clone, Copy)]
+pub(crate) enum NamedRequest<'a> {
+    Bid {
+        bidder: &'a [u8],
+        ticket: u32,
+        node: &'a [u8],
+        amount: u64,
+    },
+    Close(u32),
+    Stage(u32),
+    Show,
+    Node(&'a [u8]),
+    Who(&'a [u8]),
+}
+
+/// What a line, given without its end, spells.
+pub(crate) fn read_line(line: &[u8]) -> Option<NamedRequest<'_>>
+    ensures { spelled_as result ≡ spelled line.now }
+{
+    if line.len() > MOST_LINE || line.contains(&b'\n') {
+        return None;
+    }
+    read_spaced(line)
+}
+
+#[tactic(auto, using(crate::proofs::Cutting::too_many))]
+fn read_spaced(line: &[u8]) -> Option<NamedRequest<'_>>
+    ensures { spelled_as result ≡ spelled_by (words line.now) }
+{
+    let (keyword, rest) = cut(line);
+    let Some(rest) = rest else {
+        return read_alone(keyword);
+    };
+    let (second, rest) = cut(rest);
+    let Some(rest) = rest else {
+        return read_pair(keyword, second);
+    };
+    let (third, rest) = cut(rest);
+    let (fourth, rest) = cut(rest?);
+    let (fifth, rest) = cut(rest?);
+    if rest.is_none() && keyword == b"BID".as_slice() {
+        read_bid(second, third, fourth, fifth)
+    } else {
+        None
+    }
+}
+
+fn read_alone(keyword: &[u8]) -> Option<NamedRequest<'_>>
+    ensures { spelled_as result ≡ spelled_alone keyword.now }
+{
+    if keyword == b"SHOW".as_slice() {
+        Some(NamedRequest::Show)
+    } else {
+        None
+    }
+}
+
+fn read_pair<'a>(keyword: &[u8], word: &'a [u8]) -> Option<NamedRequest<'a>>
+    ensures { spelled_as result ≡ spelled_with keyword.now word.now }
+{
+    if keyword == b"CLOSE".as_slice() {
+        Some(NamedRequest::Close(ticket(word)?))
+    } else if keyword == b"STAGE".as_slice() {
+        Some(NamedRequest::Stage(ticket(word)?))
+    } else if keyword == b"NODE".as_slice() {
+        Some(NamedRequest::Node(name(word)?))
+    } else if keyword == b"WHO".as_slice() {
+        Some(NamedRequest::Who(name(word)?))
+    } else {
+        None
+    }
+}
+
+fn read_bid<'a>(
+    from: &'a [u8],
+    ticket_word: &[u8],
+    on: &'a [u8],
+    amount_word: &[u8],
+) -> Option<NamedRequest<'a>>
+    ensures { spelled_as result ≡ spelled_bid from.now ticket_word.now on.now amount_word.now }
+{
+    let bidder = name(from)?;
+    let ticket = ticket(ticket_word)?;
+    let node = name(on)?;
+    let amount = amount(amount_word)?;
+    Some(NamedRequest::Bid {
+        bidder,
+        ticket,
+        node,
+        amount,
+    })
+}
+
+/// A name is a word of one or more bytes.
+fn name(word: &[u8]) -> Option<&[u8]>
+    ensures { name_as result ≡ name_in word.now }
+{
+    if word.is_empty() { None } else { Some(word) }
+}
+
+fn ticket(word: &[u8]) -> Option<u32>
+    ensures { result ≡ ticket_in word.now }
+{
+    match number(word, u32::MAX as u64) {
+        Some(ticket) => Some(ticket as u32),
+        None => None,
+    }
+}
+
+fn amount(word: &[u8]) -> Option<u64>
+    ensures { result ≡ amount_in word.now }
+{
+    number(word, u64::MAX)
+}
