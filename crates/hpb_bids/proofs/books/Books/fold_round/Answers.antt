@@ -33,15 +33,15 @@ returns-clause-value c =
 pub returns-clause-history : goal.returns-clause-history
 returns-clause-history c =
     let sized = kept_view c.self.inside c.args.self.now c.self.view_is c.self.invariant in
-    folded_are_books c.args.self.now _ sized (returns-clause-value c)
+    folded_are_books sized (returns-clause-value c)
 
 pub returns-clause-standing : goal.returns-clause-standing
 returns-clause-standing c =
     let sized = kept_view c.self.inside c.args.self.now c.self.view_is c.self.invariant in
-    folded_standing c.args.self.now _ sized (returns-clause-value c)
+    folded_standing sized (returns-clause-value c)
 
 pub returns-clause-incoming : goal.returns-clause-incoming
-returns-clause-incoming c = folded_incoming c.args.self.now _ (returns-clause-value c)
+returns-clause-incoming c = folded_incoming c.args.self.now (returns-clause-value c)
 
 pub returns-clause-quiet : goal.returns-clause-quiet
-returns-clause-quiet c = folded_quiet c.args.self.now _ (returns-clause-value c)
+returns-clause-quiet c = folded_quiet c.args.self.now (returns-clause-value c)

@@ -21,4 +21,4 @@ pub returns-clause-high : goal.returns-clause-high
 returns-clause-high c = λ i. λ node. ap amount_of ((returns-clause-empty c).standing node) i
 
 pub returns-clause-history : goal.returns-clause-history
-returns-clause-history c = empty_are_books _ (returns-clause-empty c)
+returns-clause-history c = empty_are_books (returns-clause-empty c)

@@ -17,14 +17,14 @@ returns-clause-value c =
 pub returns-clause-history : goal.returns-clause-history
 returns-clause-history c =
     let sized = kept_view c.self.inside c.args.self.now c.self.view_is c.self.invariant in
-    placed_are_books c.args.self.now _ c.args.bidder c.args.node c.args.amount sized (omega (arith, c.place.ensures.value)) (omega (arith, c.place-index.ensures.value)) (returns-clause-value c)
+    placed_are_books c.args.bidder c.args.node c.args.amount sized (omega (arith, c.place.ensures.value)) (omega (arith, c.place-index.ensures.value)) (returns-clause-value c)
 
 pub returns-clause-incoming : goal.returns-clause-incoming
 returns-clause-incoming c =
     let sized = kept_view c.self.inside c.args.self.now c.self.view_is c.self.invariant in
-    placed_offers c.args.self.now _ c.args.bidder c.args.node c.args.amount sized (omega (arith, c.place-index.ensures.value)) (returns-clause-value c)
+    placed_offers c.args.bidder c.args.node c.args.amount sized (omega (arith, c.place-index.ensures.value)) (returns-clause-value c)
 
 pub returns-clause-bids : goal.returns-clause-bids
 returns-clause-bids c =
     let sized = kept_view c.self.inside c.args.self.now c.self.view_is c.self.invariant in
-    placed_bids c.args.self.now _ c.args.bidder c.args.node c.args.amount sized (omega (arith, c.place.ensures.value)) (returns-clause-value c)
+    placed_bids c.args.bidder c.args.node c.args.amount sized (omega (arith, c.place.ensures.value)) (returns-clause-value c)
