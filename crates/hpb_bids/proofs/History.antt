@@ -1,49 +1,21 @@
 -- The books after each kind of command.
-use Rattle.std.proofs.Common.{◌≡◌, ℕ, zero, suc, ◌<◌, ◌≤◌, ◌^◌, Bool, true, false, ◌&&◌, ◌||◌, eqb, List, [], ◌∷◌, map, length, get_or, set, eq-eqb, Option, Some, None, max, refl, sym, ap, ◌∙◌, ⊎_elim, arith, subst}
+use Rattle.std.proofs.Common.{◌≡◌, ℕ, zero, suc, ◌<◌, ◌^◌, Bool, ◌&&◌, ◌||◌, List, [], ◌∷◌, map, length, get_or, set, eq-eqb, Option, Some, None, max, refl, sym, ap, ◌∙◌, ⊎_elim, arith, subst}
 use Rattle.std.specs.Prelude.{◌==◌, nat_lt, if◌then◌else◌, bit_or}
 use Rattle.std.specs.Int.{bit_at}
-use Rattle.std.proofs.lemmas.Bool.{cases_eq, cases_lt, ne_eqb, lt-ltb, le-ltb}
+use Rattle.std.proofs.lemmas.Bool.{cases_eq, ne_eqb}
 use Rattle.std.proofs.lemmas.List.{get_or-set_same, get_or-set_other}
 use Rattle.std.proofs.lemmas.Nat.Bits.{bit_at_or, bit_at-pow_same, bit_at-pow_other, bit_at-lt}
 use Rattle.hpb_rules.specs.declared.command.Offer.{Offer}
 use Rattle.hpb_rules.specs.declared.command.Command.{Command}
-use Rattle.hpb_rules.specs.declared.command.Command.TheVariants.{Bid, Close, Stage}
+use Rattle.hpb_rules.specs.declared.command.Command.TheVariants.{Bid, Close}
 use Rattle.hpb_rules.specs.declared.id.TheConstants.{MOST_BIDDERS, MOST_NODES}
-use Rattle.hpb_rules.specs.History.{amount_of, greater, greatest_bid, high, incoming, bid_on}
+use Rattle.hpb_rules.specs.History.{amount_of, greater, high, incoming, bid_on}
+use Rattle.hpb_rules.proofs.RunLaws.{close_takes_greater}
 use Rattle.hpb_rules.proofs.Tests.{no_bit}
 use Rattle.hpb_bids.specs.View.{BooksView, IsBooks, IsQuiet, IsEmpty, offer_at, has_bid, merged, placed, folded}
-use Rattle.hpb_bids.specs.Holds.{Holds}
+use Rattle.hpb_bids.specs.Past.{AreBooksOf}
 
-greater_newer : (o n : Option Offer) → amount_of o < amount_of n → greater o n ≡ n
-greater_newer o n h = ap (λ t. if t then n else o) (lt-ltb (amount_of o) (amount_of n) h)
-
-greater_older : (o n : Option Offer) → amount_of n ≤ amount_of o → greater o n ≡ o
-greater_older o n h = ap (λ t. if t then n else o) (le-ltb (amount_of o) (amount_of n) h)
-
--- of three bids it doesn't matter which two are compared first
-greater_assoc : (h i n : Option Offer) → greater (greater h i) n ≡ greater h (greater i n)
-greater_assoc h i n = ⊎_elim
-    (λ p. ⊎_elim
-    (λ q. ap (λ o. greater o n) (greater_newer h i p) ∙ greater_newer i n q ∙ sym (ap (greater h) (greater_newer i n q) ∙ greater_newer h n (omega arith)))
-    (λ q. ap (λ o. greater o n) (greater_newer h i p) ∙ greater_older i n q ∙ sym (ap (greater h) (greater_older i n q) ∙ greater_newer h i p))
-    (cases_lt (amount_of i) (amount_of n)))
-    (λ p. ⊎_elim
-    (λ q. ap (λ o. greater o n) (greater_older h i p) ∙ sym (ap (greater h) (greater_newer i n q)))
-    (λ q. ap (λ o. greater o n) (greater_older h i p) ∙ greater_older h n (omega arith) ∙ sym (ap (greater h) (greater_older i n q) ∙ greater_older h i p))
-    (cases_lt (amount_of i) (amount_of n)))
-    (cases_lt (amount_of h) (amount_of i))
-
--- the greatest bid of all rounds is the greater of that of the closed ones and that of the open one
-greatest_merges : (past : List Command) (n : ℕ) → greater (high past n) (incoming past n) ≡ greatest_bid past n
-greatest_merges [] n = refl
-greatest_merges (Bid b t m a ∷ past) n =
-    elim (eqb m n) as (λ hit. greater (high past n) (if hit && nat_lt (amount_of (incoming past n)) a then Some (record { amount = a; bidder = b }) else incoming past n) ≡ (if hit && nat_lt (amount_of (greatest_bid past n)) a then Some (record { amount = a; bidder = b }) else greatest_bid past n)) [
-      | true ↦ sym (greater_assoc (high past n) (incoming past n) (Some (record { amount = a; bidder = b }))) ∙ ap (λ o. greater o (Some (record { amount = a; bidder = b }))) (greatest_merges past n)
-      | false ↦ greatest_merges past n
-    ]
-greatest_merges (Close t ∷ past) n = greater_older (greatest_bid past n) None (omega arith)
-greatest_merges (Stage t ∷ past) n = greatest_merges past n
-
+-- the greater of two bids at each place
 merged_at : (older newer : List (Option Offer)) (n : ℕ) → length older ≡ length newer → offer_at (merged older newer) n ≡ greater (offer_at older n) (offer_at newer n)
 merged_at [] [] n e = refl
 merged_at [] (o ∷ newer) n e = absurd (omega arith)
@@ -61,12 +33,12 @@ zero_left [] b = refl
 zero_left (x ∷ xs) zero = refl
 zero_left (x ∷ xs) (suc b) = zero_left xs b
 
-pub empty_holds : (books : BooksView) → IsEmpty books → Holds books []
-empty_holds books e = record { standing = λ n h. e.standing n; incoming = λ n h. e.incoming n; bids = λ b n h k. no_bit _ n (e.bids b) }
+pub empty_are_books : {books : BooksView} → IsEmpty books → AreBooksOf books []
+empty_are_books e = record { standing = λ n h. e.standing n; incoming = λ n h. e.incoming n; bids = λ b n h k. no_bit _ n (e.bids b) }
 
-pub folded_holds : (old new : BooksView) → IsBooks old → new ≡ folded old → (past : List Command) (t : ℕ) → Holds old past → Holds new (Close t ∷ past)
-folded_holds old new sized e past t h = subst (λ v. Holds v (Close t ∷ past)) (sym e) (record {
-  standing = λ n k. merged_at old.standing old.incoming n (sized.standing ∙ sym sized.incoming) ∙ ap (λ o. greater o (offer_at old.incoming n)) (h.standing n k) ∙ ap (greater (high past n)) (h.incoming n k) ∙ greatest_merges past n;
+pub folded_are_books : {old new : BooksView} → IsBooks old → new ≡ folded old → (past : List Command) (t : ℕ) → AreBooksOf old past → AreBooksOf new (Close t ∷ past)
+folded_are_books {old = old} {new = new} sized e past t h = subst (λ v. AreBooksOf v (Close t ∷ past)) (sym e) (record {
+  standing = λ n k. merged_at old.standing old.incoming n (sized.standing ∙ sym sized.incoming) ∙ ap (λ o. greater o (offer_at old.incoming n)) (h.standing n k) ∙ ap (greater (high past n)) (h.incoming n k) ∙ sym (close_takes_greater past t n);
   incoming = λ n k. none_left old.incoming n;
   bids = λ b n k l. no_bit _ n (zero_left old.bids b);
 })
@@ -94,8 +66,8 @@ placed_mask masks b n c m older h e = ⊎_elim
     (λ f. ap (λ x. bit_at x m == 1) (get_or-set_other masks b c _ 0 (λ g. f (sym g))) ∙ e ∙ sym (ap (λ t. (t && (n == m)) || older) (ne_eqb b c f)))
     (cases_eq b c)
 
-pub placed_holds : (old new : BooksView) (b n a : ℕ) → IsBooks old → b < MOST_BIDDERS → n < MOST_NODES → new ≡ placed old b n a → (past : List Command) (t : ℕ) → Holds old past → Holds new (Bid b t n a ∷ past)
-placed_holds old new b n a sized i j e past t h = subst (λ v. Holds v (Bid b t n a ∷ past)) (sym e) (record {
+pub placed_are_books : {old new : BooksView} (b n a : ℕ) → IsBooks old → b < MOST_BIDDERS → n < MOST_NODES → new ≡ placed old b n a → (past : List Command) (t : ℕ) → AreBooksOf old past → AreBooksOf new (Bid b t n a ∷ past)
+placed_are_books {old = old} {new = new} b n a sized i j e past t h = subst (λ v. AreBooksOf v (Bid b t n a ∷ past)) (sym e) (record {
   standing = h.standing;
   incoming = λ m k. placed_incoming old.incoming n m a b (incoming past m) (omega (arith, sized.incoming)) (h.incoming m k);
   bids = λ c m k l. placed_mask old.bids b n c m (bid_on past c m) (omega (arith, sized.bids)) (h.bids c m k l);
@@ -103,23 +75,23 @@ placed_holds old new b n a sized i j e past t h = subst (λ v. Holds v (Bid b t 
 
 -- ---- what a bid and a close leave, place by place
 
-pub placed_offers : (old new : BooksView) (b n a : ℕ) → IsBooks old → n < MOST_NODES → new ≡ placed old b n a
+pub placed_offers : {old new : BooksView} (b n a : ℕ) → IsBooks old → n < MOST_NODES → new ≡ placed old b n a
     → (m : ℕ) → offer_at new.incoming m ≡ (if n == m then greater (offer_at old.incoming m) (Some (record { amount = a; bidder = b })) else offer_at old.incoming m)
-placed_offers old new b n a sized h e m = ap (λ (v : BooksView). offer_at v.incoming m) e ∙ ⊎_elim
+placed_offers {old = old} {new = new} b n a sized h e m = ap (λ (v : BooksView). offer_at v.incoming m) e ∙ ⊎_elim
     (λ f. subst (λ k. offer_at (set old.incoming n (greater (offer_at old.incoming n) (Some (record { amount = a; bidder = b })))) k ≡ (if n == k then greater (offer_at old.incoming k) (Some (record { amount = a; bidder = b })) else offer_at old.incoming k)) f
     (get_or-set_same old.incoming n _ None (omega (arith, sized.incoming)) ∙ sym (ap (λ t. if t then greater (offer_at old.incoming n) (Some (record { amount = a; bidder = b })) else offer_at old.incoming n) (eq-eqb n n refl))))
     (λ f. get_or-set_other old.incoming n m _ None (λ g. f (sym g)) ∙ sym (ap (λ t. if t then greater (offer_at old.incoming m) (Some (record { amount = a; bidder = b })) else offer_at old.incoming m) (ne_eqb n m f)))
     (cases_eq n m)
 
-pub placed_bids : (old new : BooksView) (b n a : ℕ) → IsBooks old → b < MOST_BIDDERS → new ≡ placed old b n a
+pub placed_bids : {old new : BooksView} (b n a : ℕ) → IsBooks old → b < MOST_BIDDERS → new ≡ placed old b n a
     → (c m : ℕ) → has_bid new c m ≡ (((b == c) && (n == m)) || has_bid old c m)
-placed_bids old new b n a sized h e c m = ap (λ (v : BooksView). has_bid v c m) e ∙ placed_mask old.bids b n c m (has_bid old c m) (omega (arith, sized.bids)) refl
+placed_bids {old = old} {new = new} b n a sized h e c m = ap (λ (v : BooksView). has_bid v c m) e ∙ placed_mask old.bids b n c m (has_bid old c m) (omega (arith, sized.bids)) refl
 
-pub folded_standing : (old new : BooksView) → IsBooks old → new ≡ folded old → (n : ℕ) → offer_at new.standing n ≡ greater (offer_at old.standing n) (offer_at old.incoming n)
-folded_standing old new sized e n = ap (λ (v : BooksView). offer_at v.standing n) e ∙ merged_at old.standing old.incoming n (sized.standing ∙ sym sized.incoming)
+pub folded_standing : {old new : BooksView} → IsBooks old → new ≡ folded old → (n : ℕ) → offer_at new.standing n ≡ greater (offer_at old.standing n) (offer_at old.incoming n)
+folded_standing {old = old} {new = new} sized e n = ap (λ (v : BooksView). offer_at v.standing n) e ∙ merged_at old.standing old.incoming n (sized.standing ∙ sym sized.incoming)
 
-pub folded_incoming : (old new : BooksView) → new ≡ folded old → (n : ℕ) → offer_at new.incoming n ≡ None
-folded_incoming old new e n = ap (λ (v : BooksView). offer_at v.incoming n) e ∙ none_left old.incoming n
+pub folded_incoming : (old : BooksView) {new : BooksView} → new ≡ folded old → (n : ℕ) → offer_at new.incoming n ≡ None
+folded_incoming old {new = new} e n = ap (λ (v : BooksView). offer_at v.incoming n) e ∙ none_left old.incoming n
 
-pub folded_quiet : (old new : BooksView) → new ≡ folded old → IsQuiet new
-folded_quiet old new e b = ap (λ (v : BooksView). get_or {A = ℕ} v.bids b 0) e ∙ zero_left old.bids b
+pub folded_quiet : (old : BooksView) {new : BooksView} → new ≡ folded old → IsQuiet new
+folded_quiet old {new = new} e b = ap (λ (v : BooksView). get_or {A = ℕ} v.bids b 0) e ∙ zero_left old.bids b

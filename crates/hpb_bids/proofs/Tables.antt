@@ -6,11 +6,11 @@ use Rattle.std.proofs.lemmas.List.Elements.{All-map}
 use Rattle.std.proofs.lemmas.Nat.{one_shl}
 use Rattle.std.proofs.Math.Seq.{map-set_same, take-append_seam}
 use Rattle.hpb_rules.specs.declared.command.Offer.{Offer}
-use Rattle.hpb_rules.specs.declared.id.TheConstants.{MOST_BIDDERS, MOST_NODES}
 use Rattle.hpb_rules.specs.declared.reply.TheConstants.{MOST_AMOUNT}
 use Rattle.hpb_rules.specs.History.{amount_of, greater}
 use Rattle.hpb_bids.specs.View.{BooksView, IsBooks, merged, placed, folded, IsQuiet}
-use Rattle.hpb_bids.specs.Inside.{tables_view, received, closed, IsSmall}
+use Rattle.hpb_bids.specs.Inside.{tables_view, books_view, received, closed, IsSmall, IsKept}
+use Rattle.hpb_bids.specs.declared.books.Books.TheInside.{Inside}
 use Rattle.hpb_bids.specs.declared.books.NodeBids.{NodeBids}
 
 -- a table of rows without a bid has no bid
@@ -23,19 +23,25 @@ small_at : (most : ℕ) (o : Option Offer) → IfSome o (λ x. x.amount ≤ most
 small_at most None h = omega arith
 small_at most (Some o) h = h
 
-amounts_view : (nodes : List NodeBids) (n : ℕ) → All IsSmall nodes → amount_of (get_or (map (λ (m : NodeBids). m.standing) nodes) n None) ≤ MOST_AMOUNT
-amounts_view [] n h = omega arith
-amounts_view (m ∷ ms) zero h = small_at _ m.standing (h 0 m (omega arith)).standing
-amounts_view (m ∷ ms) (suc n) h = amounts_view ms n (λ i d within. h (suc i) d (omega arith))
+-- a place of a table has an offer of one of its rows, or none
+offers_small : (f : NodeBids → Option Offer) (nodes : List NodeBids) (n : ℕ) → All (λ m. IfSome (f m) (λ o. o.amount ≤ MOST_AMOUNT)) nodes → IfSome (get_or (map f nodes) n None) (λ o. o.amount ≤ MOST_AMOUNT)
+offers_small f [] n h = tt
+offers_small f (m ∷ ms) zero h = h 0 m (omega arith)
+offers_small f (m ∷ ms) (suc n) h = offers_small f ms n (λ i d within. h (suc i) d (omega arith))
 
--- what the tables keep
-pub kept_view : (nodes : List NodeBids) (masks : List ℕ) (books : BooksView) → tables_view nodes masks ≡ books → length nodes ≡ MOST_NODES → length masks ≡ MOST_BIDDERS → All IsSmall nodes → IsBooks books
-kept_view nodes masks books seen rows size small = subst IsBooks seen (record {
-  standing = length-map nodes _ ∙ rows;
-  incoming = length-map nodes _ ∙ rows;
-  bids = size;
-  amounts = λ n. amounts_view nodes n small;
+-- what the code keeps is what its value keeps
+pub kept_view : (inside : Inside) (books : BooksView) → books_view inside ≡ books → IsKept inside → IsBooks books
+kept_view inside books seen kept = subst IsBooks seen (record {
+  standing = length-map inside.nodes.items _ ∙ kept.nodes;
+  incoming = length-map inside.nodes.items _ ∙ kept.nodes;
+  bids = kept.bids;
+  standing_amounts = high;
+  incoming_amounts = λ n. offers_small (λ m. m.incoming) inside.nodes.items n (λ i d within. (kept.amounts i d within).incoming);
+  amounts = λ n. small_at _ _ (high n);
 })
+  where
+    high : (n : ℕ) → IfSome (get_or (map (λ (m : NodeBids). m.standing) inside.nodes.items) n None) (λ o. o.amount ≤ MOST_AMOUNT)
+    high n = offers_small (λ m. m.standing) inside.nodes.items n (λ i d within. (kept.amounts i d within).standing)
 
 same_books : {s t i j : List (Option Offer)} {b d : List ℕ} → s ≡ t → i ≡ j → b ≡ d → ◌≡◌ {A = BooksView} (record { standing = s; incoming = i; bids = b }) (record { standing = t; incoming = j; bids = d })
 same_books e f g = cc

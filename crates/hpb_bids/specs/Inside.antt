@@ -8,7 +8,7 @@ use Rattle.hpb_bids.specs.View.{BooksView}
 use Rattle.hpb_bids.specs.declared.books.NodeBids.{NodeBids}
 use Rattle.hpb_bids.specs.declared.books.Books.TheInside.{Inside}
 
--- the tables as definitions see them
+-- The tables as definitions see them.
 abbrev pub tables_view : List NodeBids → List ℕ → BooksView
 tables_view nodes bids = record {
   standing = map (λ (n : NodeBids). n.standing) nodes;
@@ -16,25 +16,25 @@ tables_view nodes bids = record {
   bids = bids;
 }
 
--- the value of the books
+-- The value of the books.
 abbrev pub books_view : Inside → BooksView
 books_view b = tables_view b.nodes.items b.bids.items
 
--- the bids on a node are at most the greatest amount
+-- The bids on a node are at most the greatest amount.
 pub record IsSmall (n : NodeBids) : Type 0 where
   pub standing : IfSome n.standing (λ o. o.amount ≤ MOST_AMOUNT)
   pub incoming : IfSome n.incoming (λ o. o.amount ≤ MOST_AMOUNT)
 
--- each table has its size, and no amount is above the greatest
+-- Each table has its size, and no amount is above the greatest.
 pub record IsKept (b : Inside) : Type 0 where
   pub nodes : length b.nodes.items ≡ MOST_NODES
   pub bids : length b.bids.items ≡ MOST_BIDDERS
   pub amounts : All IsSmall b.nodes.items
 
--- the bids on a node after one more in the open round
+-- The bids on a node after one more in the open round.
 abbrev pub received : NodeBids → Offer → NodeBids
 received n o = record { standing = n.standing; incoming = greater n.incoming (Some o) }
 
--- the bids on a node after a close
+-- The bids on a node after a close.
 abbrev pub closed : NodeBids → NodeBids
 closed n = record { standing = greater n.standing n.incoming; incoming = None }

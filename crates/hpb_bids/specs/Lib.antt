@@ -1,3 +1,3 @@
 pub mod View
-pub mod Holds
+pub mod Past
 pub mod Inside

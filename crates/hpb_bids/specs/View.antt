@@ -1,41 +1,43 @@
 -- What the books stand for.
-use Rattle.std.specs.Prelude.{length, ◌≤◌, ◌≡◌, ℕ, ◌^◌, Bool, ◌==◌, List, [], ◌∷◌, map, Option, Some, None, slice_index, slice_index_or, slice_set, bit_or}
+use Rattle.std.specs.Prelude.{length, ◌≤◌, ◌≡◌, ℕ, ◌^◌, Bool, ◌==◌, List, [], ◌∷◌, map, Option, Some, None, IfSome, slice_index, slice_index_or, slice_set, bit_or}
 use Rattle.std.specs.Int.{bit_at}
 use Rattle.hpb_rules.specs.declared.command.Offer.{Offer}
 use Rattle.hpb_rules.specs.declared.id.TheConstants.{MOST_BIDDERS, MOST_NODES}
 use Rattle.hpb_rules.specs.declared.reply.TheConstants.{MOST_AMOUNT}
 use Rattle.hpb_rules.specs.History.{amount_of, greater}
 
--- of each node the high bid of closed rounds and the greatest of the open round, and of each bidder the nodes on which it bid in the open round: bit n of its number is for node n
+-- Of each node the high bid of closed rounds and the greatest of the open round, and of each bidder the nodes on which it bid in the open round: bit n of its number is for node n.
 pub record BooksView : Type 0 where
   pub standing : List (Option Offer)
   pub incoming : List (Option Offer)
   pub bids : List ℕ
 
--- the bid on a node
+-- The bid on a node.
 abbrev pub offer_at : List (Option Offer) → ℕ → Option Offer
 offer_at offers n = slice_index_or offers n None
 
--- the high bid of a node, and 0 where it has none
+-- The high bid of a node, and 0 where it has none.
 abbrev pub bid_of : BooksView → ℕ → ℕ
 bid_of books n = amount_of (offer_at books.standing n)
 
--- no node has a high bid
+-- No node has a high bid.
 abbrev pub no_bid : ℕ → ℕ
 no_bid node = 0
 
--- whether the bidder bid on the node in the open round
+-- Whether the bidder bid on the node in the open round.
 abbrev pub has_bid : BooksView → ℕ → ℕ → Bool
 has_bid books b n = bit_at (slice_index books.bids b) n == 1
 
--- each table has its size, and no high bid is above the greatest amount
+-- Each table has its size, and no bid is above the greatest amount.
 pub record IsBooks (books : BooksView) : Type 0 where
   pub standing : length books.standing ≡ MOST_NODES
   pub incoming : length books.incoming ≡ MOST_NODES
   pub bids : length books.bids ≡ MOST_BIDDERS
+  pub standing_amounts : (n : ℕ) → IfSome (offer_at books.standing n) (λ offer. offer.amount ≤ MOST_AMOUNT)
+  pub incoming_amounts : (n : ℕ) → IfSome (offer_at books.incoming n) (λ offer. offer.amount ≤ MOST_AMOUNT)
   pub amounts : (n : ℕ) → bid_of books n ≤ MOST_AMOUNT
 
--- the books after a bid in the open round
+-- The books after a bid in the open round.
 abbrev pub placed : BooksView → ℕ → ℕ → ℕ → BooksView
 placed books b n a = record {
   standing = books.standing;
@@ -43,13 +45,13 @@ placed books b n a = record {
   bids = slice_set books.bids b (bit_or (slice_index books.bids b) (2 ^ n));
 }
 
--- the greater of two bids on each node
+-- The greater of two bids on each node.
 abbrev pub merged : List (Option Offer) → List (Option Offer) → List (Option Offer)
 merged [] newer = []
 merged (o ∷ older) [] = o ∷ older
 merged (o ∷ older) (n ∷ newer) = greater o n ∷ merged older newer
 
--- the books after a close
+-- The books after a close.
 abbrev pub folded : BooksView → BooksView
 folded books = record {
   standing = merged books.standing books.incoming;
@@ -57,11 +59,11 @@ folded books = record {
   bids = map (λ _. 0) books.bids;
 }
 
--- nobody bid in the open round
+-- Nobody bid in the open round.
 abbrev pub IsQuiet : BooksView → Type 0
 IsQuiet books = (b : ℕ) → slice_index books.bids b ≡ 0
 
--- nobody has bid
+-- Nobody has bid.
 pub record IsEmpty (books : BooksView) : Type 0 where
   pub standing : (n : ℕ) → offer_at books.standing n ≡ None
   pub incoming : (n : ℕ) → offer_at books.incoming n ≡ None

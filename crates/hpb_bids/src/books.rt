@@ -3,7 +3,7 @@ ghost use Rattle.hpb_rules.specs.declared.command.Command.{Command};
 ghost use Rattle.hpb_rules.specs.declared.command.Command.TheVariants.{Bid, Close};
 ghost use Rattle.hpb_rules.specs.History.{amount_of, greater};
 ghost use Rattle.hpb_bids.specs.View.{offer_at, bid_of, no_bid, has_bid, placed, folded, IsBooks, IsQuiet, IsEmpty};
-ghost use Rattle.hpb_bids.specs.Holds.{Holds};
+ghost use Rattle.hpb_bids.specs.Past.{AreBooksOf};
 
 use hpb_rules::{BidderId, MOST_AMOUNT, MOST_BIDDERS, MOST_NODES, NodeId, Offer};
 use hpb_tree::Tree;
@@ -65,7 +65,7 @@ impl Books {
     pub fn new(alloc: Global, _tree: &Tree) -> Result<Books, AllocError>
         ensures empty { IfOk result IsEmpty }
         ensures high { IfOk result (λ books. bid_of books ≡ no_bid) }
-        ensures history { IfOk result (λ books. Holds books []) }
+        ensures history { IfOk result (λ books. AreBooksOf books []) }
     {
         let none = NodeBids {
             standing: None,
@@ -87,11 +87,16 @@ impl Books {
         })
     }
 
+    /// What is known of all books: their tables have their sizes, and no bid is above `MOST_AMOUNT`.
+    pub fn facts(&self)
+        ensures { IsBooks self.now }
+    {
+        let _ = &self.nodes;
+    }
+
     /// The high bid of a node, by closed rounds.
     pub fn standing(&self, node: NodeId) -> Option<Offer>
         ensures value { result ≡ offer_at self.now.standing node }
-        ensures amount { IfSome result (λ o. o.amount ≤ MOST_AMOUNT) }
-        ensures books { IsBooks self.now }
     {
         self.nodes[node.place()].standing
     }
@@ -99,7 +104,6 @@ impl Books {
     /// The greatest bid on a node in the open round, of equal ones the first.
     pub fn incoming(&self, node: NodeId) -> Option<Offer>
         ensures value { result ≡ offer_at self.now.incoming node }
-        ensures amount { IfSome result (λ o. o.amount ≤ MOST_AMOUNT) }
     {
         self.nodes[node.place()].incoming
     }
@@ -131,7 +135,7 @@ impl Books {
         ensures value { self.new ≡ placed self.old bidder node amount }
         ensures incoming { (n : ℕ) → offer_at self.new.incoming n ≡ (if node == n then greater (offer_at self.old.incoming n) (Some (record { amount = amount; bidder = bidder })) else offer_at self.old.incoming n) }
         ensures bids { (b n : ℕ) → has_bid self.new b n ≡ (((bidder == b) && (node == n)) || has_bid self.old b n) }
-        ensures history { (past : List Command) (t : ℕ) → Holds self.old past → Holds self.new (Bid bidder t node amount ∷ past) }
+        ensures history { (past : List Command) (t : ℕ) → AreBooksOf self.old past → AreBooksOf self.new (Bid bidder t node amount ∷ past) }
     {
         let index = node.place();
         self.nodes[index].receive(Offer { amount, bidder });
@@ -144,7 +148,7 @@ impl Books {
         ensures standing { (n : ℕ) → offer_at self.new.standing n ≡ greater (offer_at self.old.standing n) (offer_at self.old.incoming n) }
         ensures incoming { (n : ℕ) → offer_at self.new.incoming n ≡ None }
         ensures quiet { IsQuiet self.new }
-        ensures history { (past : List Command) (t : ℕ) → Holds self.old past → Holds self.new (Close t ∷ past) }
+        ensures history { (past : List Command) (t : ℕ) → AreBooksOf self.old past → AreBooksOf self.new (Close t ∷ past) }
     {
         for bids in self.nodes.iter_mut() {
             bids.close();

@@ -10,7 +10,7 @@ use Rattle.hpb_rules.specs.Choices.{best}
 use Rattle.hpb_rules.specs.Prices.{share, children_among, of_package, surplus, carried as carried_of, price}
 use Rattle.hpb_rules.proofs.TreeLaws.{price_is_value}
 use Rattle.hpb_rules.proofs.Loops.{carried_child, carried_top, passed_bound}
-use Rattle.hpb_prices.specs.View.{IsCarried}
+use Rattle.hpb_prices.specs.Inside.{IsCarried}
 use Rattle.hpb_winners.specs.declared.outcome.TheConstants.{MOST_VALUE}
 
 module _ (nodes : List Node) (bid : ℕ → ℕ) where
@@ -21,12 +21,11 @@ module _ (nodes : List Node) (bid : ℕ → ℕ) where
     pub prices_are : (n : ℕ) → n < i → get_or prices n 0 ≡ price nodes bid n
     pub small : (n : ℕ) → n < i → get_or prices n 0 ≤ 2 * MOST_VALUE
 
-  pub passed_start : (carried prices : List ℕ) → length carried ≡ length nodes → length prices ≡ length nodes → Passed 0 carried prices
-  passed_start carried prices c p = record { so_far = record { count = c; values = λ n h. absurd (omega arith) }; prices_count = p; prices_are = λ n h. absurd (omega arith); small = λ n h. absurd (omega arith) }
 
   module _ (tree : IsTree nodes) where
     -- what a parent passes on
-    module _ (node parent p inside extra : ℕ) (carried : List ℕ) (up : Some parent ≡ parent_of nodes node) (same : p ≡ parent) (so_far : IsCarried nodes bid node carried) (inside_is : inside ≡ best nodes bid parent) (extra_is : extra ≡ bid parent - inside) where
+    module _ {node parent p inside extra : ℕ} {carried : List ℕ} (so_far : IsCarried nodes bid node carried) (up : Some parent ≡ parent_of nodes node) (same : p ≡ parent)
+        (inside_is : inside ≡ best nodes bid parent) (extra_is : extra ≡ bid parent - inside) where
       before : parent < node
       before = tree.parents node parent (sym up)
 
@@ -39,8 +38,8 @@ module _ (nodes : List Node) (bid : ℕ → ℕ) where
       pub passed_small : ((n : ℕ) → bid n ≤ MOST_AMOUNT) → node < length nodes → get_or carried p 0 + extra ≤ length nodes * MOST_AMOUNT
       passed_small amounts within = omega (arith, carried_is, surplus_is, passed_bound nodes bid tree MOST_AMOUNT parent amounts (omega (arith, before)))
 
-      pub carried_part : (children rank : ℕ) → children ≡ children_among nodes parent (places nodes) → rank ≡ children_among nodes parent (range_with_len 0 node) → share (get_or carried p 0 + extra) children rank ≡ carried_of nodes bid node
-      carried_part children rank c r =
+      pub carried_part : {children rank : ℕ} → children ≡ children_among nodes parent (places nodes) → rank ≡ children_among nodes parent (range_with_len 0 node) → share (get_or carried p 0 + extra) children rank ≡ carried_of nodes bid node
+      carried_part {children = children} {rank = rank} c r =
           ap (λ x. share (x + extra) children rank) carried_is
           ∙ ap (λ x. share (carried_of nodes bid parent + x) children rank) surplus_is
           ∙ ap (λ x. share (carried_of nodes bid parent + surplus nodes bid parent) x rank) c
@@ -50,9 +49,9 @@ module _ (nodes : List Node) (bid : ℕ → ℕ) where
     pub carried_none : (node : ℕ) → None ≡ parent_of nodes node → 0 ≡ carried_of nodes bid node
     carried_none node top = sym (carried_top nodes bid tree node (sym top))
 
-    pub passed_more : (i node from_above value : ℕ) (carried prices : List ℕ) → node ≡ i → i < length nodes → from_above ≡ carried_of nodes bid node → from_above ≤ MOST_VALUE → value ≡ max (bid node) (best nodes bid node) → value ≤ MOST_VALUE
-        → Passed i carried prices → Passed (i + 1) (set carried i from_above) (set prices i (value + from_above))
-    passed_more i node from_above value carried prices at h received small_received is small_value s = let c : from_above ≡ carried_of nodes bid i = received ∙ ap (carried_of nodes bid) at in let v : value ≡ max (bid i) (best nodes bid i) = is ∙ ap (λ n. max (bid n) (best nodes bid n)) at in record {
+    pub passed_more : {i node from_above value : ℕ} {carried prices : List ℕ} → Passed i carried prices → node ≡ i → i < length nodes → from_above ≡ carried_of nodes bid node → from_above ≤ MOST_VALUE → value ≡ max (bid node) (best nodes bid node) → value ≤ MOST_VALUE
+        → Passed (i + 1) (set carried i from_above) (set prices i (value + from_above))
+    passed_more {i = i} {from_above = from_above} {value = value} {carried = carried} {prices = prices} s at h received small_received is small_value = let c : from_above ≡ carried_of nodes bid i = received ∙ ap (carried_of nodes bid) at in let v : value ≡ max (bid i) (best nodes bid i) = is ∙ ap (λ n. max (bid n) (best nodes bid n)) at in record {
       so_far = record {
         count = length-set carried i from_above ∙ s.so_far.count;
         values = λ n l. ⊎_elim
@@ -71,8 +70,3 @@ module _ (nodes : List Node) (bid : ℕ → ℕ) where
           (cases_lt n i);
     }
 
-  pub passed_small_all : (i : ℕ) (carried prices : List ℕ) → i ≡ length nodes → Passed i carried prices → (n : ℕ) → get_or prices n 0 ≤ 2 * MOST_VALUE
-  passed_small_all i carried prices all s n = ⊎_elim
-      (λ h. s.small n (omega arith))
-      (λ past. omega (arith, get_or_past prices n 0 (omega (arith, s.prices_count))))
-      (cases_lt n (length nodes))

@@ -8,7 +8,7 @@ use Rattle.std.proofs.lemmas.Nat.Bits.{shr_and_one, bit_at-lt}
 use Rattle.hpb_rules.specs.Tree.{Node, IsTree}
 use Rattle.hpb_rules.specs.Choices.{is_in, IsChoice}
 use Rattle.hpb_rules.proofs.Above.{under_le, not_under, disjoint_from}
-use Rattle.hpb_prices.specs.Certificate.{bid_in, set_of, IsBelowWinner}
+use Rattle.hpb_prices.specs.Certificate.{bid_listed, set_of, IsBelowWinner}
 
 bit_from : (n i : ℕ) → (bit_and (n / 2 ^ i) 1 ≡ 0 → ⊥) → bit_at n i ≡ 1
 bit_from n i h = ⊎_elim (λ less. let zero_bit : bit_at n i ≡ 0 = omega arith in absurd (h (shr_and_one n i ∙ zero_bit))) (λ le. omega (arith, bit_at-lt n i)) (cases_lt (bit_at n i) 1)
@@ -32,8 +32,6 @@ module _ (nodes : List Node) (winners : ℕ) where
       pub have_bids : (n : ℕ) → n < i → bit_at winners n ≡ 1 → 0 < get_or highs n 0
       pub apart : (n : ℕ) → n < i → bit_at winners n ≡ 1 → IsBelowWinner nodes winners n → ⊥
 
-    pub chosen_start : Chosen 0
-    chosen_start = record { have_bids = λ n h. absurd (omega arith); apart = λ n h. absurd (omega arith) }
 
     pub chosen_more : (i : ℕ) → (bit_at winners i ≡ 1 → 0 < get_or highs i 0) → (bit_at winners i ≡ 1 → IsBelowWinner nodes winners i → ⊥) → Chosen i → Chosen (i + 1)
     chosen_more i bid alone s = record {
@@ -45,7 +43,7 @@ module _ (nodes : List Node) (winners : ℕ) where
     chosen_other i clear s = let zero_bit : bit_at winners i ≡ 0 = sym (shr_and_one winners i) ∙ clear in chosen_more i (λ bit. absurd (omega (arith, bit))) (λ bit. absurd (omega (arith, bit))) s
 
     module _ (tree : IsTree nodes) where
-      pub chosen_all : (i : ℕ) → i ≡ length nodes → Chosen i → IsChoice nodes (bid_in highs) (set_of nodes winners)
+      pub chosen_all : (i : ℕ) → i ≡ length nodes → Chosen i → IsChoice nodes (bid_listed highs) (set_of nodes winners)
       chosen_all i all s = record {
         length = set_length;
         have_bids = λ n e. let here : (n < length nodes) × (bit_at winners n ≡ 1) = set_in n e in s.have_bids n (omega (arith, here.0)) here.1;
@@ -58,10 +56,10 @@ module _ (nodes : List Node) (winners : ℕ) where
       }
 
       module _ (i node : ℕ) (within : i < length nodes) (at : node ≡ i) (wins : bit_and (winners / 2 ^ i) 1 ≡ 0 → ⊥) where
-        pub no_bid_no_choice : get_or highs i 0 ≡ 0 → IsChoice nodes (bid_in highs) (set_of nodes winners) → ⊥
+        pub no_bid_no_choice : get_or highs i 0 ≡ 0 → IsChoice nodes (bid_listed highs) (set_of nodes winners) → ⊥
         no_bid_no_choice none choice = let some : 0 < get_or highs i 0 = choice.have_bids i (in_set i within (bit_from winners i wins)) in omega (arith, none)
 
-        pub below_no_choice : IsBelowWinner nodes winners node → IsChoice nodes (bid_in highs) (set_of nodes winners) → ⊥
+        pub below_no_choice : IsBelowWinner nodes winners node → IsChoice nodes (bid_listed highs) (set_of nodes winners) → ⊥
         below_no_choice here choice =
             let b : IsBelowWinner nodes winners i = subst (IsBelowWinner nodes winners) at here in
             let le : b.0 ≤ i = under_le nodes tree b.2.0 in

@@ -23,25 +23,22 @@ module _ (nodes : List Node) (winners node : ℕ) where
     pub reached : (p : ℕ) → above ≡ Some p → IsAtOrUnder nodes p node × (p < node)
     pub left : (m : ℕ) → bit_at winners m ≡ 1 → IsInside nodes m node → (p : ℕ) × (above ≡ Some p) × IsAtOrUnder nodes m p
 
-  before_of : (n : ℕ) (above : Option ℕ) (p : ℕ) → above ≡ Some p → IfSome above (λ q. q < n) → p < n
-  before_of n above p e h = subst (λ o. IfSome o (λ q. q < n)) e h
+  before_of : {n : ℕ} {above : Option ℕ} {p : ℕ} → above ≡ Some p → IfSome above (λ q. q < n) → p < n
+  before_of {n = n} e h = subst (λ o. IfSome o (λ q. q < n)) e h
 
-  pub climbed_start : (above : Option ℕ) → above ≡ parent_of nodes node → IfSome above (λ q. q < node) → Climbed above
-  climbed_start above e before = record {
-    reached = λ p some. (child (sym e ∙ some) itself, before_of node above p some before);
+  pub climbed_start : {above : Option ℕ} → above ≡ parent_of nodes node → IfSome above (λ q. q < node) → Climbed above
+  climbed_start e before = record {
+    reached = λ p some. (child (sym e ∙ some) itself, before_of some before);
     left = λ m bit inside. let step : (p : ℕ) × (parent_of nodes node ≡ Some p) × IsAtOrUnder nodes m p = up nodes inside.0 inside.1 in (step.0, e ∙ step.1, step.2);
   }
 
-  module _ (above : Option ℕ) (p : ℕ) (some : above ≡ Some p) (so_far : Climbed above) where
+  module _ {above : Option ℕ} {p : ℕ} (so_far : Climbed above) (some : above ≡ Some p) where
     pub within : p < node
     within = (so_far.reached p some).1
 
-    pub found : bit_and (winners / 2 ^ p) 1 ≡ 1 → IsBelowWinner nodes winners node
-    found h = (p, sym (shr_and_one winners p) ∙ h, ((so_far.reached p some).0, λ e. omega (arith, within, e)))
-
-    pub climbed_more : (q : ℕ) → q ≡ p → (bit_and (winners / 2 ^ q) 1 ≡ 1 → ⊥) → (next : Option ℕ) → next ≡ parent_of nodes p → IfSome next (λ r. r < p) → Climbed next
-    climbed_more k at missed next e before = record {
-      reached = λ q here. let less : q < p = before_of p next q here before in (under_trans nodes (child (sym e ∙ here) itself) (so_far.reached p some).0, omega (arith, within));
+    pub climbed_more : {q : ℕ} → q ≡ p → (bit_and (winners / 2 ^ q) 1 ≡ 1 → ⊥) → {next : Option ℕ} → next ≡ parent_of nodes p → IfSome next (λ r. r < p) → Climbed next
+    climbed_more {q = k} at missed e before = record {
+      reached = λ q here. let less : q < p = before_of here before in (under_trans nodes (child (sym e ∙ here) itself) (so_far.reached p some).0, omega (arith, within));
       left = λ m bit inside.
           let last : (r : ℕ) × (above ≡ Some r) × IsAtOrUnder nodes m r = so_far.left m bit inside in
           let same : last.0 ≡ p = let both : Some last.0 ≡ Some p = sym last.1 ∙ some in cc in
@@ -50,5 +47,3 @@ module _ (nodes : List Node) (winners node : ℕ) where
           (step.0, e ∙ step.1, step.2);
     }
 
-  pub none_found : Climbed None → IsBelowWinner nodes winners node → ⊥
-  none_found so_far b = let last : (r : ℕ) × (None ≡ Some r) × IsAtOrUnder nodes b.0 r = so_far.left b.0 b.1 b.2 in let e : None ≡ Some last.0 = last.1 in cc

@@ -3,7 +3,7 @@ use Rattle.std.proofs.Common.{◌≡◌, ℕ, ◌+◌, ◌-◌, ◌*◌, ◌<◌
 use Rattle.hpb_rules.specs.Prices.{IsMinimum, minimum_of}
 use Rattle.hpb_rules.proofs.TreeLaws.{minimum_is_one}
 
-module _ (step percent opening price raise amount result : ℕ) (some : 0 < step) (raise_enough : price * percent ≤ 100 * raise) (raise_least : (x : ℕ) → price * percent ≤ 100 * x → raise ≤ x) (amount_is : amount ≡ max opening (price + raise))
+module _ (step percent opening price : ℕ) {raise amount result : ℕ} (some : 0 < step) (raise_enough : price * percent ≤ 100 * raise) (raise_least : (x : ℕ) → price * percent ≤ 100 * x → raise ≤ x) (amount_is : amount ≡ max opening (price + raise))
     (multiple : (q : ℕ) × (result ≡ q * step)) (enough : amount ≤ result) (least : (q : ℕ) → amount ≤ q * step → result ≤ q * step) where
   pub minimum_is : IsMinimum step percent opening price result
   minimum_is = record {

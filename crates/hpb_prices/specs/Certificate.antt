@@ -11,12 +11,12 @@ sum_where set place [] = 0
 sum_where set place (amount ∷ amounts) = cond (bit_at set place == 1) amount 0 + sum_where set (suc place) amounts
 
 -- The high bid of a node.
-abbrev pub bid_in : List ℕ → ℕ → ℕ
-bid_in highs node = slice_index highs node
+abbrev pub bid_listed : List ℕ → ℕ → ℕ
+bid_listed highs node = slice_index highs node
 
 -- The price of the licence at a place: the list has the licences' prices in their order.
-abbrev pub price_in : List Node → List ℕ → ℕ → ℕ
-price_in nodes prices licence = slice_index prices (licence_number nodes licence)
+abbrev pub price_listed : List Node → List ℕ → ℕ → ℕ
+price_listed nodes prices licence = slice_index prices (licence_number nodes licence)
 
 -- The nodes whose bits are set.
 abbrev pub set_of : List Node → ℕ → List Bool
@@ -31,4 +31,4 @@ pub record Certifies (nodes : List Node) (highs prices : List ℕ) (winners : �
   pub bids : length highs ≡ length nodes
   pub licences : length prices ≡ licence_count nodes
   pub within : winners < 2 ^ length nodes
-  pub certificate : IsCertificate nodes (bid_in highs) (price_in nodes prices) (set_of nodes winners)
+  pub certificate : IsCertificate nodes (bid_listed highs) (price_listed nodes prices) (set_of nodes winners)

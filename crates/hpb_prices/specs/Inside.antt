@@ -1,5 +1,7 @@
--- What the code of prices stands for.
-use Rattle.std.specs.Prelude.{◌≡◌, length}
+-- The prices of the code as definitions see them.
+use Rattle.std.specs.Prelude.{◌≡◌, ℕ, ◌<◌, List, length, slice_index}
+use Rattle.hpb_rules.specs.Tree.{Node}
+use Rattle.hpb_rules.specs.Prices.{carried as carried_to}
 use Rattle.hpb_prices.specs.View.{PricesView}
 use Rattle.hpb_prices.specs.declared.prices.Prices.TheInside.{Inside}
 
@@ -11,3 +13,8 @@ prices_view p = record { prices = p.prices.items; minima = p.minima.items }
 pub record IsKept (p : Inside) : Type 0 where
   pub minima : length p.minima.items ≡ length p.prices.items
   pub carried : length p.carried.items ≡ length p.prices.items
+
+-- The table has a place for each node, and says of the nodes before one what is carried down to them.
+pub record IsCarried (nodes : List Node) (bid : ℕ → ℕ) (place : ℕ) (carried : List ℕ) : Type 0 where
+  pub count : length carried ≡ length nodes
+  pub values : (node : ℕ) → node < place → slice_index carried node ≡ carried_to nodes bid node

@@ -1,7 +1,7 @@
--- The prices of a tree's nodes.
+-- What prices stand for: the price of each node and the least bid on it.
 use Rattle.std.specs.Prelude.{◌≡◌, ℕ, ◌<◌, List, length, slice_index}
 use Rattle.hpb_rules.specs.Tree.{Node, TreeRules, opening}
-use Rattle.hpb_rules.specs.Prices.{price, minimum_of, carried as carried_to}
+use Rattle.hpb_rules.specs.Prices.{price, minimum_of}
 
 -- Of each node the price and the least bid.
 pub record PricesView : Type 0 where
@@ -9,7 +9,7 @@ pub record PricesView : Type 0 where
   pub minima : List ℕ
 
 -- Each table has a place for each node.
-pub record IsSized (nodes : List Node) (priced : PricesView) : Type 0 where
+pub record AreSizedPrices (nodes : List Node) (priced : PricesView) : Type 0 where
   pub prices : length priced.prices ≡ length nodes
   pub minima : length priced.minima ≡ length nodes
 
@@ -20,8 +20,3 @@ HasPrices nodes bid priced = (node : ℕ) → node < length nodes → slice_inde
 -- Each least bid is the one that these high bids give.
 abbrev pub HasMinima : TreeRules → (ℕ → ℕ) → PricesView → Type 0
 HasMinima tree bid priced = (node : ℕ) → node < length tree.nodes → slice_index priced.minima node ≡ minimum_of tree.step tree.percent (opening tree.nodes node) (price tree.nodes bid node)
-
--- The table has a place for each node, and says of the nodes before one what is carried down to them.
-pub record IsCarried (nodes : List Node) (bid : ℕ → ℕ) (place : ℕ) (carried : List ℕ) : Type 0 where
-  pub count : length carried ≡ length nodes
-  pub values : (node : ℕ) → node < place → slice_index carried node ≡ carried_to nodes bid node

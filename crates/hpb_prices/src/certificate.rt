@@ -2,7 +2,7 @@ ghost use Rattle.std.specs.Prelude.{◌≡◌, ◌<◌, ◌≤◌, ◌↔◌, Li
 ghost use Rattle.hpb_rules.specs.Choices.{IsChoice, revenue};
 ghost use Rattle.hpb_rules.specs.Prices.{Covers, IsCertificate};
 ghost use Rattle.hpb_tree.specs.Licences.{licence_count as count_of_licences};
-ghost use Rattle.hpb_prices.specs.Certificate.{Certifies, IsBelowWinner, bid_in, price_in, set_of, sum_where as sum_of_set};
+ghost use Rattle.hpb_prices.specs.Certificate.{Certifies, IsBelowWinner, bid_listed, price_listed, set_of, sum_where as sum_of_set};
 
 use hpb_money::Dollars;
 use hpb_rules::{MOST_NODES, NodeId};
@@ -15,7 +15,7 @@ use hpb_tree::Tree;
 /// the winners' high bids. No for lists of another length, and for a bit that no node has.
 pub fn check_certificate(tree: &Tree, highs: &[Dollars], prices: &[Dollars], winners: u128) -> bool
     ensures yes { IsTrue result ↔ Certifies tree.now.nodes highs.now prices.now winners }
-    ensures best { IsTrue result → (c : List Bool) → IsChoice tree.now.nodes (bid_in highs.now) c → revenue (bid_in highs.now) c ≤ revenue (bid_in highs.now) (set_of tree.now.nodes winners) }
+    ensures best { IsTrue result → (c : List Bool) → IsChoice tree.now.nodes (bid_listed highs.now) c → revenue (bid_listed highs.now) c ≤ revenue (bid_listed highs.now) (set_of tree.now.nodes winners) }
 {
     let count = tree.node_count();
     if highs.len() != count || prices.len() != licence_count(tree) || winners >> count != 0 {
@@ -30,7 +30,7 @@ fn is_certificate(tree: &Tree, highs: &[Dollars], prices: &[Dollars], winners: u
     requires prices { length prices.now ≡ count_of_licences tree.now.nodes }
     requires most { count_of_licences tree.now.nodes ≤ MOST_NODES }
     requires nodes { length tree.now.nodes ≤ MOST_NODES }
-    ensures { IsTrue result ↔ IsCertificate tree.now.nodes (bid_in highs.now) (price_in tree.now.nodes prices.now) (set_of tree.now.nodes winners) }
+    ensures { IsTrue result ↔ IsCertificate tree.now.nodes (bid_listed highs.now) (price_listed tree.now.nodes prices.now) (set_of tree.now.nodes winners) }
 {
     if !is_choice(tree, highs, winners) || !are_covered(tree, highs, prices) {
         return false;
@@ -55,8 +55,9 @@ fn licence_count(tree: &Tree) -> usize
 /// Whether each winner has a high bid, and none stands below another.
 fn is_choice(tree: &Tree, highs: &[Dollars], winners: u128) -> bool
     requires { length highs.now ≡ length tree.now.nodes }
-    ensures { IsTrue result ↔ IsChoice tree.now.nodes (bid_in highs.now) (set_of tree.now.nodes winners) }
+    ensures { IsTrue result ↔ IsChoice tree.now.nodes (bid_listed highs.now) (set_of tree.now.nodes winners) }
 {
+    tree.facts();
     for place in 0..tree.node_count() {
         if winners >> place & 1 == 0 {
             continue;
@@ -88,7 +89,7 @@ fn are_covered(tree: &Tree, highs: &[Dollars], prices: &[Dollars]) -> bool
     requires highs { length highs.now ≡ length tree.now.nodes }
     requires prices { length prices.now ≡ count_of_licences tree.now.nodes }
     requires most { count_of_licences tree.now.nodes ≤ MOST_NODES }
-    ensures { IsTrue result ↔ Covers tree.now.nodes (bid_in highs.now) (price_in tree.now.nodes prices.now) }
+    ensures { IsTrue result ↔ Covers tree.now.nodes (bid_listed highs.now) (price_listed tree.now.nodes prices.now) }
 {
     for place in 0..tree.node_count() {
         let licences = tree.licences(NodeId::new(place));

@@ -1,9 +1,10 @@
 ghost use Rattle.std.specs.Prelude.{◌≡◌, ℕ, ◌-◌, ◌+◌, ◌<◌, ◌≤◌, ◌*◌, length, slice_index};
 ghost use Rattle.hpb_rules.specs.Tree.{IsTree};
 ghost use Rattle.hpb_rules.specs.Prices.{carried as carried_of, price};
-ghost use Rattle.hpb_bids.specs.View.{IsBooks, bid_of};
-ghost use Rattle.hpb_winners.specs.Outcome.{IsOutcome};
-ghost use Rattle.hpb_prices.specs.View.{HasMinima, HasPrices, IsCarried, IsSized};
+ghost use Rattle.hpb_bids.specs.View.{bid_of};
+ghost use Rattle.hpb_winners.specs.View.{IsOutcome};
+ghost use Rattle.hpb_prices.specs.Inside.{IsCarried};
+ghost use Rattle.hpb_prices.specs.View.{AreSizedPrices, HasMinima, HasPrices};
 
 use crate::minimum::set_minima;
 use crate::prices::Prices;
@@ -17,8 +18,8 @@ use hpb_winners::{MOST_VALUE, Outcome};
 /// inside it is shared among its children.
 pub fn downward(tree: &Tree, books: &Books, outcome: &Outcome, prices: &mut Prices)
     requires outcome { IsOutcome tree.now.nodes (bid_of books.now) outcome.now }
-    requires prices { IsSized tree.now.nodes prices.old }
-    ensures sized { IsSized tree.now.nodes prices.new }
+    requires prices { AreSizedPrices tree.now.nodes prices.old }
+    ensures sized { AreSizedPrices tree.now.nodes prices.new }
     ensures prices { HasPrices tree.now.nodes (bid_of books.now) prices.new }
     ensures minima { HasMinima tree.now (bid_of books.now) prices.new }
 {
@@ -47,6 +48,8 @@ fn pass_down(
     ensures prices { (n : ℕ) → n < length tree.now.nodes → slice_index prices.new n ≡ price tree.now.nodes (bid_of books.now) n }
     ensures most { (n : ℕ) → slice_index prices.new n ≤ 2 * MOST_VALUE }
 {
+    tree.facts();
+    outcome.facts();
     for place in 0..tree.node_count() {
         let node = NodeId::new(place);
         let from_above = carried_to(tree, books, outcome, carried, node);
@@ -64,14 +67,14 @@ fn carried_to(
     carried: &[Dollars],
     node: NodeId,
 ) -> Dollars
-    requires tree { IsTree tree.now.nodes }
-    requires nodes { length tree.now.nodes ≤ MOST_NODES }
     requires outcome { IsOutcome tree.now.nodes (bid_of books.now) outcome.now }
     requires carried { IsCarried tree.now.nodes (bid_of books.now) node carried.now }
     requires node { node < length tree.now.nodes }
     ensures value { result ≡ carried_of tree.now.nodes (bid_of books.now) node }
     ensures most { result ≤ MOST_VALUE }
 {
+    tree.facts();
+    books.facts();
     match tree.parent(node) {
         Some(parent) => {
             let passed = carried[parent.place()] + surplus(books, outcome, parent);
@@ -84,8 +87,7 @@ fn carried_to(
 /// What a package's high bid is more than the best inside it.
 fn surplus(books: &Books, outcome: &Outcome, node: NodeId) -> Dollars
     requires { node < length outcome.now.inside }
-    ensures value { result ≡ bid_of books.now node - slice_index outcome.now.inside node }
-    ensures books { IsBooks books.now }
+    ensures { result ≡ bid_of books.now node - slice_index outcome.now.inside node }
 {
     let high = books.standing(node).map_or(0, |offer| offer.amount);
     high.saturating_sub(outcome.inside(node))

@@ -1,6 +1,6 @@
 ghost use Rattle.std.specs.Prelude.{◌≡◌, ◌<◌, length, IfOk, slice_index};
-ghost use Rattle.hpb_winners.specs.Outcome.{no_bid};
-ghost use Rattle.hpb_prices.specs.View.{HasMinima, HasPrices, IsSized};
+ghost use Rattle.hpb_winners.specs.View.{no_bid};
+ghost use Rattle.hpb_prices.specs.View.{AreSizedPrices, HasMinima, HasPrices};
 
 use crate::minimum::set_minima;
 use hpb_money::Dollars;
@@ -34,10 +34,11 @@ impl Prices {
     /// The prices of a tree without a bid: 0, so the least bids are the openings. Fails only where memory is
     /// refused.
     pub fn new(alloc: Global, tree: &Tree) -> Result<Prices, AllocError>
-        ensures sized { IfOk result (IsSized tree.now.nodes) }
+        ensures sized { IfOk result (AreSizedPrices tree.now.nodes) }
         ensures prices { IfOk result (HasPrices tree.now.nodes no_bid) }
         ensures minima { IfOk result (HasMinima tree.now no_bid) }
     {
+        tree.facts();
         let count = tree.node_count();
         let prices = vec![in alloc; 0; count]?;
         let mut minima = vec![in alloc; 0; count]?;

@@ -103,9 +103,6 @@ module _ (nodes : List Node) (bid : ℕ → ℕ) (tree : IsTree nodes) where
     total_bound most bid 0 no_node nodes h (λ j l. refl),
   )
 
-  pub carried_bound : (most n : ℕ) → ((m : ℕ) → bid m ≤ most) → n < length nodes → carried nodes bid n ≤ length nodes * most
-  carried_bound most n h l = omega (arith, price_bound most n h, price_is n l)
-
   pub passed_bound : (most n : ℕ) → ((m : ℕ) → bid m ≤ most) → n < length nodes → (carried nodes bid n + surplus nodes bid n) ≤ length nodes * most
   passed_bound most n h l = omega (arith, price_bound most n h, price_is n l, less (terms_of nodes n))
     where

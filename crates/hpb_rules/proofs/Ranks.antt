@@ -1,12 +1,12 @@
 -- Which place a node has among its parent's children.
-use Rattle.std.proofs.Common.{◌≡◌, ℕ, zero, suc, ◌+◌, ◌-◌, ◌<◌, ◌≤◌, cond, eqb, List, [], ◌∷◌, ◌++◌, Option, Some, None, length, refl, ap, ◌∙◌, ⊎_elim, arith}
+use Rattle.std.proofs.Common.{◌≡◌, ℕ, zero, suc, ◌+◌, ◌-◌, ◌<◌, ◌≤◌, cond, eqb, List, Option, Some, None, length, refl, sym, ap, ◌∙◌, ⊎_elim, arith}
 use Rattle.std.specs.List.{range_with_len}
+use Rattle.std.proofs.Math.Numerals.{add-one}
 use Rattle.std.proofs.lemmas.Bool.{eq-eqb, eqb-true, cases_Bool}
-use Rattle.std.proofs.lemmas.List.Sums.{sum_by_push}
 use Rattle.hpb_rules.specs.Tree.{Node, parent_of, IsTree, places}
 use Rattle.hpb_rules.specs.Choices.{is_node}
 use Rattle.hpb_rules.specs.Prices.{children_among}
-use Rattle.hpb_rules.proofs.Ranges.{range_more}
+use Rattle.hpb_rules.proofs.Places.{sum_more}
 use Rattle.hpb_rules.proofs.Under.{parent_in}
 
 module _ (nodes : List Node) where
@@ -15,7 +15,7 @@ module _ (nodes : List Node) where
   before p n = children_among nodes p (range_with_len 0 n)
 
   pub before_more : (p n : ℕ) → before p (suc n) ≡ before p n + cond (is_node p (parent_of nodes n)) 1 0
-  before_more p n = ap (children_among nodes p) (range_more 0 n ∙ ap (λ x. range_with_len 0 n ++ x ∷ []) (let e : 0 + n ≡ n = omega arith in e)) ∙ sum_by_push (λ m. cond (is_node p (parent_of nodes m)) 1 0) (range_with_len 0 n) n
+  before_more p n = ap (before p) (sym (add-one n)) ∙ sum_more (λ m. cond (is_node p (parent_of nodes m)) 1 0) n
 
   pub before_grows : (p a b : ℕ) → before p a ≤ before p (a + b)
   before_grows p a zero = let e : a ≡ a + 0 = omega arith in omega (arith, ap (before p) e)

@@ -54,8 +54,8 @@ module _ (nodes : List Node) where
       by (Some t) e = absurd (both_ways _ e refl)
 
   -- whether a place is a licence, by what the code reads of it
-  pub licence_at : (i node : ℕ) (t : Option Terms) (b v : Bool) → node ≡ i → t ≡ terms_of nodes node → b ≡ is_some t → b ≡ v → is_some (terms_of nodes i) ≡ v
-  licence_at i node t b v at read tested e = ap (λ k. is_some (terms_of nodes k)) (sym at) ∙ ap is_some (sym read) ∙ sym tested ∙ e
+  pub licence_at : {i node : ℕ} {t : Option Terms} {b v : Bool} → node ≡ i → t ≡ terms_of nodes node → b ≡ is_some t → b ≡ v → is_some (terms_of nodes i) ≡ v
+  licence_at at read tested e = ap (λ k. is_some (terms_of nodes k)) (sym at) ∙ ap is_some (sym read) ∙ sym tested ∙ e
 
   -- tests that agree on each licence have one sum
   pub sum_over_same : (one other : ℕ → Bool) (f : ℕ → ℕ) → ((l : ℕ) → IsSome (terms_of nodes l) → one l ≡ other l) → sum_over nodes one f ≡ sum_over nodes other f
@@ -103,7 +103,7 @@ module _ (nodes : List Node) where
       pub summed : total ≡ sum_by (part_over nodes (is_marked nodes mask) (units_at nodes)) (range_with_len 0 i)
       pub most : total ≤ MOST_LICENCES * MOST_LICENCE_UNITS * number
 
-    module _ (i total number : ℕ) (s : Counted i total number) where
+    module _ {i total number : ℕ} (s : Counted i total number) where
       -- the bit that the code reads
       marked_here : bit_and (mask / 2 ^ number) 1 ≡ bit_at mask (licence_number nodes i)
       marked_here = shr_and_one mask number ∙ ap (bit_at mask) s.counted
@@ -128,8 +128,8 @@ module _ (nodes : List Node) where
       }
 
       -- a licence whose bit is set adds its units
-      pub counted_own : (own : ℕ) → IsTree nodes → is_some (terms_of nodes i) ≡ true → bit_and (mask / 2 ^ number) 1 ≡ 1 → own ≡ units nodes i → own ≤ MOST_LICENCES * MOST_LICENCE_UNITS → Counted (i + 1) (total + own) (number + 1)
-      counted_own own tree some set e small = record {
+      pub counted_own : {own : ℕ} → IsTree nodes → is_some (terms_of nodes i) ≡ true → bit_and (mask / 2 ^ number) 1 ≡ 1 → own ≡ units nodes i → own ≤ MOST_LICENCES * MOST_LICENCE_UNITS → Counted (i + 1) (total + own) (number + 1)
+      counted_own tree some set e small = record {
         counted = count_yes (λ m. is_some (terms_of nodes m)) i number some s.counted;
         summed =
             let taken : is_marked nodes mask i ≡ true = eq-eqb (bit_at mask (licence_number nodes i)) 1 (sym marked_here ∙ set) in

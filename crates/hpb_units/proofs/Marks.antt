@@ -34,9 +34,9 @@ module _ (nodes : List Node) where
       greater x y p q = grind (arith, nat_tests)
 
   -- a mask that marks what a test says, with a node's licences added
-  pub marked_with : (test : ℕ → Bool) (mask n own : ℕ) → ((l : ℕ) → IsSome (terms_of nodes l) → is_marked nodes mask l ≡ test l) → IsMask nodes n own
+  pub marked_with : (test : ℕ → Bool) (mask : ℕ) {n own : ℕ} → ((l : ℕ) → IsSome (terms_of nodes l) → is_marked nodes mask l ≡ test l) → IsMask nodes n own
       → (l : ℕ) → IsSome (terms_of nodes l) → is_marked nodes (bit_or mask own) l ≡ (test l || at_or_under nodes n l)
-  marked_with test mask n own marks m l some =
+  marked_with test mask {n = n} {own = own} marks m l some =
       marked_or mask own l
       ∙ ap (λ b. b || is_marked nodes own l) (marks l some)
       ∙ ap (λ b. test l || b) (marked_node n own l m some)
@@ -45,10 +45,10 @@ module _ (nodes : List Node) where
   pub record Gathered (test : ℕ → Bool) (i mask : ℕ) : Type 0 where
     pub marks : (l : ℕ) → IsSome (terms_of nodes l) → is_marked nodes mask l ≡ list_any (λ n. at_or_under nodes n l && test n) (range_with_len 0 i)
 
-  module _ (test : ℕ → Bool) (i mask : ℕ) (g : Gathered test i mask) where
+  module _ (test : ℕ → Bool) {i mask : ℕ} (g : Gathered test i mask) where
     -- a node that passes adds its licences
-    pub gathered_more : (n own : ℕ) → n ≡ i → test n ≡ true → IsMask nodes n own → Gathered test (i + 1) (bit_or mask own)
-    gathered_more n own at passes m = record {
+    pub gathered_more : {n own : ℕ} → n ≡ i → test n ≡ true → IsMask nodes n own → Gathered test (i + 1) (bit_or mask own)
+    gathered_more {n = n} {own = own} at passes m = record {
       marks = λ l some.
           marked_or mask own l
           ∙ both (is_marked nodes mask l) _ (is_marked nodes own l) (at_or_under nodes i l) (test i) (g.marks l some)
@@ -62,8 +62,8 @@ module _ (nodes : List Node) where
         both x y v false t e f h = cc
 
     -- a node that does not pass adds none
-    pub gathered_same : (n : ℕ) → n ≡ i → test n ≡ false → Gathered test (i + 1) mask
-    gathered_same n at fails = record {
+    pub gathered_same : {n : ℕ} → n ≡ i → test n ≡ false → Gathered test (i + 1) mask
+    gathered_same at fails = record {
       marks = λ l some.
           g.marks l some
           ∙ none _ (at_or_under nodes i l) (test i) (ap test (sym at) ∙ fails)

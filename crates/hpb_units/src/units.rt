@@ -3,7 +3,7 @@ ghost use Rattle.hpb_rules.specs.Choices.{is_in};
 ghost use Rattle.hpb_rules.specs.History.{is_of};
 ghost use Rattle.hpb_rules.specs.Tree.{terms_of, sum_over, units_at};
 ghost use Rattle.hpb_bids.specs.View.{offer_at};
-ghost use Rattle.hpb_winners.specs.Outcome.{IsSized};
+ghost use Rattle.hpb_winners.specs.View.{IsSizedOutcome};
 ghost use Rattle.hpb_units.specs.Activity.{is_active_on, held, activity_of, activity_with, is_marked};
 
 use hpb_bids::Books;
@@ -14,7 +14,7 @@ use hpb_winners::Outcome;
 /// The activity of a bidder, in bidding units: those of the licences of the nodes on which it bid in the
 /// open round or which it won at the last close, each licence once.
 pub fn activity(tree: &Tree, books: &Books, outcome: &Outcome, bidder: BidderId) -> u32
-    requires { IsSized tree.now.nodes outcome.now }
+    requires { IsSizedOutcome tree.now.nodes outcome.now }
     ensures { result ≡ activity_of tree.now.nodes books.now outcome.now bidder }
 {
     units_of(tree, licences_held(tree, books, outcome, bidder))
@@ -29,7 +29,7 @@ pub fn fits(
     node: NodeId,
     eligibility: u32,
 ) -> bool
-    requires sized { IsSized tree.now.nodes outcome.now }
+    requires sized { IsSizedOutcome tree.now.nodes outcome.now }
     requires node { node < length tree.now.nodes }
     ensures { IsTrue result ↔ (activity_with tree.now.nodes books.now outcome.now bidder node ≤ eligibility) }
 {
@@ -39,7 +39,7 @@ pub fn fits(
 
 /// A bit for each licence of the nodes on which a bidder bid in the open round or which it won.
 fn licences_held(tree: &Tree, books: &Books, outcome: &Outcome, bidder: BidderId) -> u64
-    requires { IsSized tree.now.nodes outcome.now }
+    requires { IsSizedOutcome tree.now.nodes outcome.now }
     ensures { (l : ℕ) → IsSome (terms_of tree.now.nodes l) → is_marked tree.now.nodes result l ≡ held tree.now.nodes books.now outcome.now bidder l }
 {
     let mut licences = 0;
@@ -75,6 +75,7 @@ fn has_won(books: &Books, outcome: &Outcome, bidder: BidderId, node: NodeId) -> 
 fn units_of(tree: &Tree, licences: u64) -> u32
     ensures { result ≡ sum_over tree.now.nodes (is_marked tree.now.nodes licences) (units_at tree.now.nodes) }
 {
+    tree.facts();
     let mut total = 0;
     let mut number: u32 = 0;
     for place in 0..tree.node_count() {

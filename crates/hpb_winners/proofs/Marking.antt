@@ -25,22 +25,22 @@ module _ (nodes : List Node) (bid : ℕ → ℕ) where
   marked_start free wins f w = record { free_count = f; wins_count = w; so_far = winners_start nodes bid free }
 
   -- what stands above the node at place i, by its parent
-  module _ (i node : ℕ) (above : Option ℕ) (free : List Bool) (at : node ≡ i) (read : above ≡ parent_of nodes node) where
+  module _ (i : ℕ) (free : List Bool) {node : ℕ} {above : Option ℕ} (at : node ≡ i) (read : above ≡ parent_of nodes node) where
     parent_at : parent_of nodes i ≡ above
     parent_at = ap (parent_of nodes) (sym at) ∙ sym read
 
-    pub open_part : IsTree nodes → (p parent : ℕ) → above ≡ Some parent → p ≡ parent → is_in free p ≡ freed nodes bid free i (parent_of nodes i)
-    open_part tree p parent some same =
+    pub open_part : IsTree nodes → {p parent : ℕ} → above ≡ Some parent → p ≡ parent → is_in free p ≡ freed nodes bid free i (parent_of nodes i)
+    open_part tree {p = p} some same =
         let up : parent_of nodes i ≡ Some p = parent_at ∙ some ∙ ap Some (sym same) in
         sym (ap (freed nodes bid free i) up ∙ ap (λ t. t && is_in free p) (lt-ltb p i (tree.parents i p up)))
 
     pub open_top : above ≡ None → true ≡ freed nodes bid free i (parent_of nodes i)
     open_top none = sym (ap (freed nodes bid free i) (parent_at ∙ none))
 
-  pub marked_more : (i : ℕ) (free wins : List Bool) (above won next : Bool) → i < length nodes
+  pub marked_more : {i : ℕ} {free wins : List Bool} → Marked i free wins → (above won next : Bool) → i < length nodes
       → above ≡ freed nodes bid free i (parent_of nodes i) → won ≡ (above && ltb (best nodes bid i) (bid i)) → next ≡ (above && not won)
-      → Marked i free wins → Marked (i + 1) (set free i next) (set wins i won)
-  marked_more i free wins above won next h a w n s = record {
+      → Marked (i + 1) (set free i next) (set wins i won)
+  marked_more {i = i} {free = free} {wins = wins} s above won next h a w n = record {
     free_count = length-set free i next ∙ s.free_count;
     wins_count = length-set wins i won ∙ s.wins_count;
     so_far =
@@ -57,12 +57,12 @@ module _ (nodes : List Node) (bid : ℕ → ℕ) where
         ∙ s.so_far;
   }
 
-  pub marked_all : (i : ℕ) (free wins : List Bool) → i ≡ length nodes → Marked i free wins → wins ≡ winners nodes bid
-  marked_all i free wins all s =
+  pub marked_all : {i : ℕ} {free wins : List Bool} → Marked i free wins → i ≡ length nodes → wins ≡ winners nodes bid
+  marked_all {i = i} {free = free} {wins = wins} s all =
       let whole : take i wins ≡ wins = take_all i wins (omega (arith, s.wins_count)) in
       let rest : winners_after nodes bid i (freed nodes bid free i) ≡ []
       = subst (λ k. winners_after nodes bid k (freed nodes bid free i) ≡ []) (sym all) (winners_end nodes bid (freed nodes bid free i)) in
       sym whole ∙ sym (append-nil (take i wins)) ∙ ap (λ ys. take i wins ++ ys) (sym rest) ∙ s.so_far
 
-  pub are_winners : (wins : List Bool) → IsTree nodes → wins ≡ winners nodes bid → IsWinners nodes bid wins
-  are_winners wins tree e = subst (IsWinners nodes bid) (sym e) (winners_are_one nodes bid tree).0
+  pub are_winners : {wins : List Bool} → IsTree nodes → wins ≡ winners nodes bid → IsWinners nodes bid wins
+  are_winners tree e = subst (IsWinners nodes bid) (sym e) (winners_are_one nodes bid tree).0

@@ -6,7 +6,7 @@ use Rattle.hpb_rules.specs.Tree.{Node}
 use Rattle.hpb_rules.specs.Choices.{no_node, is_node, mark, total, values_from, best, winners_from, revenue_from, revenue}
 use Rattle.hpb_rules.proofs.Lists.{get_or-replicate_same}
 use Rattle.hpb_rules.proofs.Loops.{Test, below_is, best_from, sum_bound}
-use Rattle.hpb_winners.specs.Outcome.{IsOutcome, no_bid}
+use Rattle.hpb_winners.specs.View.{IsOutcome, no_bid}
 
 best_none : (nodes : List Node) (n : ℕ) → n < length nodes → best nodes no_bid n ≡ 0
 best_none nodes n h = omega (arith, best_from nodes no_bid n h, sum_bound nodes no_bid 0 (suc n) (is_node n) (λ k. omega arith) (below_is n))
@@ -24,9 +24,9 @@ revenue_none i zero bid = refl
 revenue_none i (suc n) bid = omega (arith, revenue_none (suc i) n bid)
 
 -- no winner, and zeros
-pub outcome_none : (nodes : List Node) (count : ℕ) (inside values : List ℕ) (wins : List Bool) → count ≡ length nodes → inside ≡ replicate count 0 → values ≡ replicate count 0 → wins ≡ replicate count false
+pub outcome_none : (nodes : List Node) {count : ℕ} {inside values : List ℕ} {wins : List Bool} → count ≡ length nodes → inside ≡ replicate count 0 → values ≡ replicate count 0 → wins ≡ replicate count false
     → IsOutcome nodes no_bid (record { inside = inside; values = values; wins = wins; revenue = 0 })
-outcome_none nodes count inside values wins c i v w = record {
+outcome_none nodes {count = count} c i v w = record {
   sized = record {
     inside = ap length i ∙ length-replicate count 0 ∙ c;
     values = ap length v ∙ length-replicate count 0 ∙ c;

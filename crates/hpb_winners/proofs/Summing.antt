@@ -48,7 +48,8 @@ module _ (nodes : List Node) (bid : ℕ → ℕ) where
   }
 
   -- the node at place i is looked at: its high bid and what stands inside it give its value
-  module _ (k i node high value : ℕ) (inside values : List ℕ) (revenue : ℕ) (next : k ≡ suc i) (within : i < length nodes) (at : node ≡ i) (high_is : high ≡ bid node) (amount : high ≤ MOST_AMOUNT) (value_is : value ≡ max high (get_or inside i 0)) (so_far : Summed k inside values revenue) where
+  module _ {k node high value : ℕ} {inside values : List ℕ} {revenue : ℕ} (so_far : Summed k inside values revenue) (i : ℕ) (next : k ≡ suc i) (within : i < length nodes)
+      (at : node ≡ i) (high_is : high ≡ bid node) (amount : high ≤ MOST_AMOUNT) (value_is : value ≡ max high (get_or inside i 0)) where
     bid_is : high ≡ bid i
     bid_is = high_is ∙ ap bid at
 
@@ -75,7 +76,7 @@ module _ (nodes : List Node) (bid : ℕ → ℕ) where
         (cases_lt i n)
 
     -- where the node has a parent
-    module _ (tree : IsTree nodes) (parent p : ℕ) (up : Some parent ≡ parent_of nodes node) (parent_is : p ≡ parent) where
+    module _ (tree : IsTree nodes) {parent p : ℕ} (up : Some parent ≡ parent_of nodes node) (parent_is : p ≡ parent) where
       parent_at : parent_of nodes i ≡ Some p
       parent_at = ap (parent_of nodes) (sym at) ∙ sym up ∙ ap Some (sym parent_is)
 
@@ -114,7 +115,7 @@ module _ (nodes : List Node) (bid : ℕ → ℕ) where
       top_small = omega (arith, top_more.swept.top, sum_small i no_node (λ j le. refl) small_more)
 
   -- what stands in the end
-  module _ (k : ℕ) (inside values : List ℕ) (revenue : ℕ) (all : k ≡ 0) (so_far : Summed k inside values revenue) where
+  module _ {k : ℕ} {inside values : List ℕ} {revenue : ℕ} (so_far : Summed k inside values revenue) (all : k ≡ 0) where
     revenue_at : revenue ≡ sum_from nodes bid 0 no_node
     revenue_at = so_far.swept.top ∙ ap (λ j. sum_from nodes bid j no_node) all
 

@@ -1,18 +1,26 @@
--- What an outcome's code stands for.
-use Rattle.std.specs.Prelude.{◌≡◌, ℕ, ◌≤◌, length, slice_index}
-use Rattle.hpb_winners.specs.Outcome.{OutcomeView}
-use Rattle.hpb_winners.specs.declared.outcome.TheConstants.{MOST_VALUE}
-use Rattle.hpb_winners.specs.declared.outcome.Outcome.TheInside.{Inside}
+-- What an outcome stands for: what the high bids on a tree come to.
+use Rattle.std.specs.Prelude.{◌≡◌, ℕ, ◌<◌, List, Bool, length, slice_index, max}
+use Rattle.hpb_rules.specs.Tree.{Node}
+use Rattle.hpb_rules.specs.Choices.{best, winners, revenue}
+pub use Rattle.hpb_bids.specs.View.{no_bid}
 
--- The tables of the code, but the one that marking the winners needs.
-abbrev pub outcome_view : Inside → OutcomeView
-outcome_view o = record { inside = o.inside.items; values = o.values.items; wins = o.wins.items; revenue = o.revenue }
+-- An outcome says of each node the best revenue inside it, its value and whether it wins, and the winners' revenue.
+pub record OutcomeView : Type 0 where
+  pub inside : List ℕ
+  pub values : List ℕ
+  pub wins : List Bool
+  pub revenue : ℕ
 
--- The tables have one length, and no amount is out of range.
-pub record IsKept (o : Inside) : Type 0 where
-  pub values : length o.values.items ≡ length o.inside.items
-  pub wins : length o.wins.items ≡ length o.inside.items
-  pub free : length o.free.items ≡ length o.inside.items
-  pub most_inside : (node : ℕ) → slice_index o.inside.items node ≤ MOST_VALUE
-  pub most_value : (node : ℕ) → slice_index o.values.items node ≤ MOST_VALUE
-  pub most_revenue : o.revenue ≤ MOST_VALUE
+-- Each table has a place for each node.
+pub record IsSizedOutcome (nodes : List Node) (outcome : OutcomeView) : Type 0 where
+  pub inside : length outcome.inside ≡ length nodes
+  pub values : length outcome.values ≡ length nodes
+  pub wins : length outcome.wins ≡ length nodes
+
+-- The outcome is that of these high bids.
+pub record IsOutcome (nodes : List Node) (bid : ℕ → ℕ) (outcome : OutcomeView) : Type 0 where
+  pub sized : IsSizedOutcome nodes outcome
+  pub inside : (node : ℕ) → node < length nodes → slice_index outcome.inside node ≡ best nodes bid node
+  pub values : (node : ℕ) → node < length nodes → slice_index outcome.values node ≡ max (bid node) (best nodes bid node)
+  pub wins : outcome.wins ≡ winners nodes bid
+  pub revenue : outcome.revenue ≡ revenue bid outcome.wins

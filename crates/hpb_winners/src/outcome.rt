@@ -1,6 +1,6 @@
 ghost use Rattle.std.specs.Prelude.{◌≡◌, ℕ, ◌<◌, ◌≤◌, length, IfOk, slice_index};
 ghost use Rattle.hpb_rules.specs.Choices.{is_in};
-ghost use Rattle.hpb_winners.specs.Outcome.{IsOutcome, no_bid};
+ghost use Rattle.hpb_winners.specs.View.{IsOutcome, no_bid};
 
 use hpb_rules::{MOST_AMOUNT, MOST_NODES, NodeId};
 use hpb_tree::Tree;
@@ -23,11 +23,11 @@ pub struct Outcome {
 }
 
 impl Model for Outcome {
-    ghost use Rattle.hpb_winners.specs.Outcome.{OutcomeView};
+    ghost use Rattle.hpb_winners.specs.View.{OutcomeView};
 
     ghost Value = { OutcomeView };
 
-    ghost use Rattle.hpb_winners.specs.View.{outcome_view, IsKept};
+    ghost use Rattle.hpb_winners.specs.Inside.{outcome_view, IsKept};
 
     ghost view = { outcome_view };
 
@@ -49,11 +49,19 @@ impl Outcome {
         })
     }
 
+    /// What is known of all outcomes: no amount is above `MOST_VALUE`.
+    pub fn facts(&self)
+        ensures inside { (n : ℕ) → slice_index self.now.inside n ≤ MOST_VALUE }
+        ensures values { (n : ℕ) → slice_index self.now.values n ≤ MOST_VALUE }
+        ensures revenue { self.now.revenue ≤ MOST_VALUE }
+    {
+        let _ = &self.revenue;
+    }
+
     /// The value of a node, in whole dollars: the greater of its high bid and the sum of its children's values.
     pub fn value(&self, node: NodeId) -> u64
         requires { node < length self.now.values }
-        ensures value { result ≡ slice_index self.now.values node }
-        ensures most { result ≤ MOST_VALUE }
+        ensures { result ≡ slice_index self.now.values node }
     {
         let index = node.place();
         self.values[index]
@@ -62,8 +70,7 @@ impl Outcome {
     /// The sum of the values of a node's children, in whole dollars: the best revenue without its own bid.
     pub fn inside(&self, node: NodeId) -> u64
         requires { node < length self.now.inside }
-        ensures value { result ≡ slice_index self.now.inside node }
-        ensures most { result ≤ MOST_VALUE }
+        ensures { result ≡ slice_index self.now.inside node }
     {
         let index = node.place();
         self.inside[index]
@@ -81,7 +88,6 @@ impl Outcome {
     /// The revenue of the winners, in whole dollars.
     pub fn revenue(&self) -> u64
         ensures value { result ≡ self.now.revenue }
-        ensures most { result ≤ MOST_VALUE }
     {
         self.revenue
     }

@@ -1,7 +1,7 @@
 ghost use Rattle.std.specs.Prelude.{◌≡◌, ℕ, ◌<◌, ◌≤◌, length, slice_index, max};
 ghost use Rattle.hpb_rules.specs.Choices.{IsWinners, best, revenue, winners};
 ghost use Rattle.hpb_bids.specs.View.{bid_of};
-ghost use Rattle.hpb_winners.specs.Outcome.{IsOutcome, IsSized};
+ghost use Rattle.hpb_winners.specs.View.{IsOutcome, IsSizedOutcome};
 
 use crate::outcome::{MOST_VALUE, Outcome};
 use hpb_bids::Books;
@@ -11,7 +11,7 @@ use hpb_tree::Tree;
 /// Finds the outcome of the high bids: the winners are the choice of greatest revenue, and on a tie the
 /// parts of a package win.
 pub fn upward(tree: &Tree, books: &Books, outcome: &mut Outcome)
-    requires { IsSized tree.now.nodes outcome.old }
+    requires { IsSizedOutcome tree.now.nodes outcome.old }
     ensures outcome { IsOutcome tree.now.nodes (bid_of books.now) outcome.new }
     ensures winners { IsWinners tree.now.nodes (bid_of books.now) outcome.new.wins }
 {
@@ -36,6 +36,7 @@ fn sum_up(tree: &Tree, books: &Books, inside: &mut [u64], values: &mut [u64]) ->
     ensures most_value { (n : ℕ) → slice_index values.new n ≤ MOST_VALUE }
     ensures most_revenue { result ≤ MOST_VALUE }
 {
+    tree.facts();
     inside.fill(0);
     let mut revenue = 0;
     for place in (0..tree.node_count()).rev() {
@@ -59,6 +60,7 @@ fn mark_winners(tree: &Tree, books: &Books, inside: &[u64], free: &mut [bool], w
     ensures winners { IsWinners tree.now.nodes (bid_of books.now) wins.new }
     ensures wins { wins.new ≡ winners tree.now.nodes (bid_of books.now) }
 {
+    tree.facts();
     for place in 0..tree.node_count() {
         let node = NodeId::new(place);
         let open = match tree.parent(node) {
@@ -76,5 +78,6 @@ fn high_bid(books: &Books, node: NodeId) -> u64
     ensures value { result ≡ bid_of books.now node }
     ensures most { result ≤ MOST_AMOUNT }
 {
+    books.facts();
     books.standing(node).map_or(0, |offer| offer.amount)
 }

@@ -6,8 +6,8 @@ use Rattle.hpb_prices.proofs.certificate.are_covered.Goals as goal
 pub returns-then-from-sum_where : goal.returns-then-from-sum_where
 returns-then-from-sum_where c = (
   λ e. absurd (both_ways false refl e),
-  λ covers. absurd (omega (arith, covers c.loop-place.place (omega arith), sum_node c.args.tree.now.nodes c.new.result c.loop-place.place c.licences-licences.result c.from-in-loop-place.result c.args.prices.now c.new.ensures c.from-in-loop-place.ensures c.licences-licences.ensures c.requires.prices)),
+  λ covers. absurd (omega (arith, covers c.loop-place.place (omega arith), sum_node c.args.tree.now.nodes c.args.prices.now c.new.ensures c.from-in-loop-place.ensures c.licences-licences.ensures c.requires.prices)),
 )
 
 pub loop-place-preserved : goal.loop-place-preserved
-loop-place-preserved c = below_more _ _ c.loop-place.invariant (omega (arith, sum_node c.args.tree.now.nodes c.new.result c.loop-place.place c.licences-licences.result c.from-in-loop-place.result c.args.prices.now c.new.ensures c.from-in-loop-place.ensures c.licences-licences.ensures c.requires.prices))
+loop-place-preserved c = below_more _ _ c.loop-place.invariant (omega (arith, sum_node c.args.tree.now.nodes c.args.prices.now c.new.ensures c.from-in-loop-place.ensures c.licences-licences.ensures c.requires.prices))

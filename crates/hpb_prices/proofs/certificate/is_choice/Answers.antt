@@ -11,10 +11,10 @@ pub returns-then-highs-place-eq0 : goal.returns-then-highs-place-eq0
 returns-then-highs-place-eq0 c = (
   λ e. absurd (both_ways false refl e),
   λ choice. absurd (elim c.then-highs-place-eq0.branch [
-    | then-highs-place-eq0-via-then-highs-place-eq0 w ↦ no_bid_no_choice c.args.tree.now.nodes c.args.winners c.args.highs.now c.node_count-place-end.ensures.tree c.loop-place.place _ (omega arith) refl c.if-winners-place-eq0.false w.if-highs-place-eq0.true choice
-    | then-highs-place-eq0-via-else-highs-place-eq0+then-is_below_winner w ↦ below_no_choice c.args.tree.now.nodes c.args.winners c.args.highs.now c.node_count-place-end.ensures.tree c.loop-place.place w.new.result (omega arith) w.new.ensures c.if-winners-place-eq0.false (w.is_below_winner.ensures.0 w.if-is_below_winner.true) choice
+    | then-highs-place-eq0-via-then-highs-place-eq0 w ↦ no_bid_no_choice c.args.tree.now.nodes c.args.winners c.args.highs.now c.facts.ensures.tree c.loop-place.place _ (omega arith) refl c.if-winners-place-eq0.false w.if-highs-place-eq0.true choice
+    | then-highs-place-eq0-via-else-highs-place-eq0+then-is_below_winner w ↦ below_no_choice c.args.tree.now.nodes c.args.winners c.args.highs.now c.facts.ensures.tree c.loop-place.place w.new.result (omega arith) w.new.ensures c.if-winners-place-eq0.false (w.is_below_winner.ensures.0 w.if-is_below_winner.true) choice
   ]),
 )
 
 pub returns : goal.returns
-returns c = (λ e. chosen_all c.args.tree.now.nodes c.args.winners c.args.highs.now c.node_count-place-end.ensures.tree c.loop-place.place (omega arith) c.loop-place.invariant, λ choice. refl)
+returns c = (λ e. chosen_all c.args.tree.now.nodes c.args.winners c.args.highs.now c.facts.ensures.tree c.loop-place.place (omega arith) c.loop-place.invariant, λ choice. refl)

@@ -8,6 +8,6 @@ overflow_add-count c = omega (arith, number_most c.args.tree.now.nodes c.loop-pl
 
 pub loop-place-preserved : goal.loop-place-preserved
 loop-place-preserved c = elim c.if-is_some.branch [
-  | then-is_some w ↦ w.count-is ∙ number_at c.args.tree.now.nodes c.loop-place.place c.new.result c.loop-place.count c.terms.result _ c.new.ensures c.terms.ensures (sym w.if-is_some.true ∙ c.is_some.ensures) c.loop-place.invariant
-  | else-is_some w ↦ w.count-is ∙ omega arith ∙ number_at c.args.tree.now.nodes c.loop-place.place c.new.result c.loop-place.count c.terms.result _ c.new.ensures c.terms.ensures (sym w.if-is_some.false ∙ c.is_some.ensures) c.loop-place.invariant
+  | then-is_some w ↦ w.count-is ∙ number_at c.args.tree.now.nodes c.new.ensures c.terms.ensures (sym w.if-is_some.true ∙ c.is_some.ensures) c.loop-place.invariant
+  | else-is_some w ↦ w.count-is ∙ omega arith ∙ number_at c.args.tree.now.nodes c.new.ensures c.terms.ensures (sym w.if-is_some.false ∙ c.is_some.ensures) c.loop-place.invariant
 ]

@@ -4,6 +4,6 @@ use Rattle.hpb_prices.proofs.Carrying.{passed_more}
 use Rattle.hpb_prices.proofs.passing.pass_down.Goals as goal
 
 pub loop-place-preserved : goal.loop-place-preserved
-loop-place-preserved c = passed_more c.args.tree.now.nodes (bid_of c.args.books.now) c.node_count-place-end.ensures.tree c.loop-place.place c.new-node.result c.carried_to-from_above.result c.value.result c.loop-place.carried c.loop-place.prices
+loop-place-preserved c = passed_more c.args.tree.now.nodes (bid_of c.args.books.now) c.facts.ensures.tree c.loop-place.invariant
     c.new-node.ensures (omega arith) c.carried_to-from_above.ensures.value c.carried_to-from_above.ensures.most
-    (c.value.ensures.value ∙ c.requires.outcome.values c.new-node.result (omega arith)) c.value.ensures.most c.loop-place.invariant
+    (c.value.ensures ∙ c.requires.outcome.values c.new-node.result (omega arith)) (omega (arith, c.facts-2.ensures.values c.new-node.result))

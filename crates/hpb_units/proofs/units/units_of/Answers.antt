@@ -6,27 +6,25 @@ use Rattle.hpb_units.proofs.units.units_of.Goals as goal
 
 pub overflow_shr-licences : goal.overflow_shr-licences
 overflow_shr-licences c =
-    omega (arith, number_small c.args.tree.now.nodes c.loop-place.place c.node_count-place-end.ensures.licences (licence_at c.args.tree.now.nodes c.loop-place.place _ _ _ true c.new-node.ensures c.terms.ensures c.is_some.ensures c.if-is_some.true))
+    omega (arith, number_small c.args.tree.now.nodes c.loop-place.place c.facts.ensures.most_licences (licence_at c.args.tree.now.nodes c.new-node.ensures c.terms.ensures c.is_some.ensures c.if-is_some.true))
 
 pub overflow_add-total : goal.overflow_add-total
 overflow_add-total c =
-    omega (arith, number_small c.args.tree.now.nodes c.loop-place.place c.node_count-place-end.ensures.licences (licence_at c.args.tree.now.nodes c.loop-place.place _ _ _ true c.new-node.ensures c.terms.ensures c.is_some.ensures c.if-is_some.true))
+    omega (arith, number_small c.args.tree.now.nodes c.loop-place.place c.facts.ensures.most_licences (licence_at c.args.tree.now.nodes c.new-node.ensures c.terms.ensures c.is_some.ensures c.if-is_some.true))
 
 pub overflow_add-number : goal.overflow_add-number
 overflow_add-number c =
-    omega (arith, number_small c.args.tree.now.nodes c.loop-place.place c.node_count-place-end.ensures.licences (licence_at c.args.tree.now.nodes c.loop-place.place _ _ _ true c.new-node.ensures c.terms.ensures c.is_some.ensures c.if-is_some.true))
+    omega (arith, number_small c.args.tree.now.nodes c.loop-place.place c.facts.ensures.most_licences (licence_at c.args.tree.now.nodes c.new-node.ensures c.terms.ensures c.is_some.ensures c.if-is_some.true))
 
 pub loop-place-preserved : goal.loop-place-preserved
 loop-place-preserved c =
     let nodes = c.args.tree.now.nodes in
-    let place = c.loop-place.place in
-    let more = licence_at nodes place _ _ _ true c.new-node.ensures c.terms.ensures c.is_some.ensures in
     elim c.if-is_some.branch [
       | then-is_some w ↦ elim w.if-licences-number-eq1.branch [
-        | then-licences-number-eq1 w' ↦ rw (w.total-is, w.number-is, w'.total-is) (counted_own nodes c.args.licences place c.loop-place.total c.loop-place.number c.loop-place.invariant _ c.node_count-place-end.ensures.tree (more w.if-is_some.true)
+        | then-licences-number-eq1 w' ↦ rw (w.total-is, w.number-is, w'.total-is) (counted_own nodes c.args.licences c.loop-place.invariant c.facts.ensures.tree (licence_at nodes c.new-node.ensures c.terms.ensures c.is_some.ensures w.if-is_some.true)
             w'.if-licences-number-eq1.true (w'.units-total.ensures.value ∙ ap (units nodes) c.new-node.ensures) w'.units-total.ensures.most)
-        | else-licences-number-eq1 w' ↦ rw (w.total-is, w.number-is, w'.total-is) (counted_other nodes c.args.licences place c.loop-place.total c.loop-place.number c.loop-place.invariant (more w.if-is_some.true) w'.if-licences-number-eq1.false)
+        | else-licences-number-eq1 w' ↦ rw (w.total-is, w.number-is, w'.total-is) (counted_other nodes c.args.licences c.loop-place.invariant (licence_at nodes c.new-node.ensures c.terms.ensures c.is_some.ensures w.if-is_some.true) w'.if-licences-number-eq1.false)
       ]
-      | else-is_some w ↦ rw (w.total-is, w.number-is) (counted_package nodes c.args.licences place c.loop-place.total c.loop-place.number c.loop-place.invariant
-          (licence_at nodes place _ _ _ false c.new-node.ensures c.terms.ensures c.is_some.ensures w.if-is_some.false))
+      | else-is_some w ↦ rw (w.total-is, w.number-is) (counted_package nodes c.args.licences c.loop-place.invariant
+          (licence_at nodes c.new-node.ensures c.terms.ensures c.is_some.ensures w.if-is_some.false))
     ]

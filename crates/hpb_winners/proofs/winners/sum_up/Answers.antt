@@ -10,25 +10,25 @@ loop-place-init c = summed_start c.args.tree.now.nodes (bid_of c.args.books.now)
     (λ p. ap (λ xs. get_or xs p 0) (c.fill.ensures.after (λ y e. e)) ∙ get_or-replicate_same (length c.args.inside.now) p 0)
 
 pub overflow_add-inside : goal.overflow_add-inside
-overflow_add-inside c = omega (arith, part_small c.args.tree.now.nodes (bid_of c.args.books.now) c.loop-place.place (c.loop-place.place - 1) _ _ _ c.loop-place.inside c.loop-place.values c.loop-place.revenue (omega arith) (omega arith) c.new-node.ensures c.high_bid.ensures.value c.high_bid.ensures.most c.max-value.ensures c.loop-place.invariant c.node_count-place.ensures.tree _ _ c.in-Some.ensures.value c.place.ensures.value)
+overflow_add-inside c = omega (arith, part_small c.args.tree.now.nodes (bid_of c.args.books.now) c.loop-place.invariant (c.loop-place.place - 1) (omega arith) (omega arith) c.new-node.ensures c.high_bid.ensures.value c.high_bid.ensures.most c.max-value.ensures c.facts.ensures.tree c.in-Some.ensures.value c.place.ensures.value)
 
 pub loop-place-preserved-in-Some : goal.loop-place-preserved-in-Some
-loop-place-preserved-in-Some c = part_more c.args.tree.now.nodes (bid_of c.args.books.now) c.loop-place.place (c.loop-place.place - 1) _ _ _ c.loop-place.inside c.loop-place.values c.loop-place.revenue (omega arith) (omega arith) c.new-node.ensures c.high_bid.ensures.value c.high_bid.ensures.most c.max-value.ensures c.loop-place.invariant c.node_count-place.ensures.tree _ _ c.in-Some.ensures.value c.place.ensures.value
+loop-place-preserved-in-Some c = part_more c.args.tree.now.nodes (bid_of c.args.books.now) c.loop-place.invariant (c.loop-place.place - 1) (omega arith) (omega arith) c.new-node.ensures c.high_bid.ensures.value c.high_bid.ensures.most c.max-value.ensures c.facts.ensures.tree c.in-Some.ensures.value c.place.ensures.value
 
 pub overflow_add-revenue : goal.overflow_add-revenue
-overflow_add-revenue c = omega (arith, top_small c.args.tree.now.nodes (bid_of c.args.books.now) c.loop-place.place (c.loop-place.place - 1) _ _ _ c.loop-place.inside c.loop-place.values c.loop-place.revenue (omega arith) (omega arith) c.new-node.ensures c.high_bid.ensures.value c.high_bid.ensures.most c.max-value.ensures c.loop-place.invariant c.in-None.ensures.value)
+overflow_add-revenue c = omega (arith, top_small c.args.tree.now.nodes (bid_of c.args.books.now) c.loop-place.invariant (c.loop-place.place - 1) (omega arith) (omega arith) c.new-node.ensures c.high_bid.ensures.value c.high_bid.ensures.most c.max-value.ensures c.in-None.ensures.value)
 
 pub loop-place-preserved : goal.loop-place-preserved
-loop-place-preserved c = top_more c.args.tree.now.nodes (bid_of c.args.books.now) c.loop-place.place (c.loop-place.place - 1) _ _ _ c.loop-place.inside c.loop-place.values c.loop-place.revenue (omega arith) (omega arith) c.new-node.ensures c.high_bid.ensures.value c.high_bid.ensures.most c.max-value.ensures c.loop-place.invariant c.in-None.ensures.value
+loop-place-preserved c = top_more c.args.tree.now.nodes (bid_of c.args.books.now) c.loop-place.invariant (c.loop-place.place - 1) (omega arith) (omega arith) c.new-node.ensures c.high_bid.ensures.value c.high_bid.ensures.most c.max-value.ensures c.in-None.ensures.value
 
 pub returns-clause-revenue : goal.returns-clause-revenue
-returns-clause-revenue c = revenue_is c.args.tree.now.nodes (bid_of c.args.books.now) c.loop-place.place c.loop-place.inside c.loop-place.values c.loop-place.revenue (omega arith) c.loop-place.invariant c.node_count-place.ensures.tree
+returns-clause-revenue c = revenue_is c.args.tree.now.nodes (bid_of c.args.books.now) c.loop-place.invariant (omega arith) c.facts.ensures.tree
 
 pub returns-clause-most_inside : goal.returns-clause-most_inside
-returns-clause-most_inside c = λ n. omega (arith, inside_small c.args.tree.now.nodes (bid_of c.args.books.now) c.loop-place.place c.loop-place.inside c.loop-place.values c.loop-place.revenue (omega arith) c.loop-place.invariant n)
+returns-clause-most_inside c = λ n. omega (arith, inside_small c.args.tree.now.nodes (bid_of c.args.books.now) c.loop-place.invariant (omega arith) n)
 
 pub returns-clause-most_value : goal.returns-clause-most_value
-returns-clause-most_value c = λ n. omega (arith, values_small c.args.tree.now.nodes (bid_of c.args.books.now) c.loop-place.place c.loop-place.inside c.loop-place.values c.loop-place.revenue (omega arith) c.loop-place.invariant n)
+returns-clause-most_value c = λ n. omega (arith, values_small c.args.tree.now.nodes (bid_of c.args.books.now) c.loop-place.invariant (omega arith) n)
 
 pub returns-clause-most_revenue : goal.returns-clause-most_revenue
-returns-clause-most_revenue c = omega (arith, revenue_small c.args.tree.now.nodes (bid_of c.args.books.now) c.loop-place.place c.loop-place.inside c.loop-place.values c.loop-place.revenue (omega arith) c.loop-place.invariant)
+returns-clause-most_revenue c = omega (arith, revenue_small c.args.tree.now.nodes (bid_of c.args.books.now) c.loop-place.invariant (omega arith))

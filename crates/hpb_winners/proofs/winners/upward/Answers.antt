@@ -6,7 +6,7 @@ use Rattle.hpb_winners.proofs.Results.{outcome_of}
 use Rattle.hpb_winners.proofs.winners.upward.Goals as goal
 
 pub returns-clause-outcome : goal.returns-clause-outcome
-returns-clause-outcome c = outcome_of c.args.tree.now.nodes (bid_of c.args.books.now) c.sum_up-outcome-inside.new.inside c.sum_up-outcome-inside.new.values c.mark_winners.new.wins c.sum_up-outcome-inside.result _ _ _
+returns-clause-outcome c = outcome_of c.args.tree.now.nodes (bid_of c.args.books.now)
     (with_items_is c.outcome.inside.inside c.sum_up-outcome-inside.new.inside (omega arith))
     (with_items_is c.outcome.inside.values c.sum_up-outcome-inside.new.values (omega arith))
     (with_items_is c.outcome.inside.wins c.mark_winners.new.wins (omega arith))

@@ -4,7 +4,7 @@ use Rattle.std.proofs.lemmas.List.{length-map}
 use Rattle.std.specs.Prelude.{All}
 use Rattle.hpb_bids.specs.Inside.{closed, IsSmall, tables_view}
 use Rattle.hpb_bids.specs.declared.books.NodeBids.{NodeBids}
-use Rattle.hpb_bids.proofs.History.{folded_holds, folded_standing, folded_incoming, folded_quiet}
+use Rattle.hpb_bids.proofs.History.{folded_are_books, folded_standing, folded_incoming, folded_quiet}
 use Rattle.hpb_bids.proofs.Tables.{kept_view, whole, folded_view, small_all_closed}
 use Rattle.hpb_bids.proofs.books.Books.fold_round.Goals as goal
 
@@ -32,16 +32,16 @@ returns-clause-value c =
 
 pub returns-clause-history : goal.returns-clause-history
 returns-clause-history c =
-    let sized = kept_view c.self.inside.nodes.items c.self.inside.bids.items c.args.self.now c.self.view_is c.self.invariant.nodes c.self.invariant.bids c.self.invariant.amounts in
-    folded_holds c.args.self.now _ sized (returns-clause-value c)
+    let sized = kept_view c.self.inside c.args.self.now c.self.view_is c.self.invariant in
+    folded_are_books sized (returns-clause-value c)
 
 pub returns-clause-standing : goal.returns-clause-standing
 returns-clause-standing c =
-    let sized = kept_view c.self.inside.nodes.items c.self.inside.bids.items c.args.self.now c.self.view_is c.self.invariant.nodes c.self.invariant.bids c.self.invariant.amounts in
-    folded_standing c.args.self.now _ sized (returns-clause-value c)
+    let sized = kept_view c.self.inside c.args.self.now c.self.view_is c.self.invariant in
+    folded_standing sized (returns-clause-value c)
 
 pub returns-clause-incoming : goal.returns-clause-incoming
-returns-clause-incoming c = folded_incoming c.args.self.now _ (returns-clause-value c)
+returns-clause-incoming c = folded_incoming c.args.self.now (returns-clause-value c)
 
 pub returns-clause-quiet : goal.returns-clause-quiet
-returns-clause-quiet c = folded_quiet c.args.self.now _ (returns-clause-value c)
+returns-clause-quiet c = folded_quiet c.args.self.now (returns-clause-value c)

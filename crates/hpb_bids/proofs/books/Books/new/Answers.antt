@@ -2,7 +2,7 @@ use Rattle.std.proofs.Common.{refl, ap, None}
 use Rattle.hpb_rules.specs.History.{amount_of}
 use Rattle.hpb_rules.proofs.Lists.{get_or-replicate_same}
 use Rattle.hpb_bids.specs.declared.books.NodeBids.{NodeBids}
-use Rattle.hpb_bids.proofs.History.{empty_holds}
+use Rattle.hpb_bids.proofs.History.{empty_are_books}
 use Rattle.hpb_bids.proofs.Tables.{none_at}
 use Rattle.hpb_bids.proofs.books.Books.new.Goals as goal
 
@@ -21,4 +21,4 @@ pub returns-clause-high : goal.returns-clause-high
 returns-clause-high c = λ i. λ node. ap amount_of ((returns-clause-empty c).standing node) i
 
 pub returns-clause-history : goal.returns-clause-history
-returns-clause-history c = empty_holds _ (returns-clause-empty c)
+returns-clause-history c = empty_are_books (returns-clause-empty c)

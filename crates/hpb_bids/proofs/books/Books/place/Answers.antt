@@ -1,7 +1,7 @@
 use Rattle.std.proofs.Common.{◌<◌, length, ◌∙◌, arith}
 use Rattle.std.proofs.lemmas.Grind.{get_or_default_zero}
 use Rattle.hpb_bids.proofs.Tables.{kept_view, placed_view}
-use Rattle.hpb_bids.proofs.History.{placed_holds, placed_offers, placed_bids}
+use Rattle.hpb_bids.proofs.History.{placed_are_books, placed_offers, placed_bids}
 use Rattle.hpb_bids.proofs.books.Books.place.Goals as goal
 
 pub returns-clause-value : goal.returns-clause-value
@@ -16,15 +16,15 @@ returns-clause-value c =
 
 pub returns-clause-history : goal.returns-clause-history
 returns-clause-history c =
-    let sized = kept_view c.self.inside.nodes.items c.self.inside.bids.items c.args.self.now c.self.view_is c.self.invariant.nodes c.self.invariant.bids c.self.invariant.amounts in
-    placed_holds c.args.self.now _ c.args.bidder c.args.node c.args.amount sized (omega (arith, c.place.ensures.value)) (omega (arith, c.place-index.ensures.value)) (returns-clause-value c)
+    let sized = kept_view c.self.inside c.args.self.now c.self.view_is c.self.invariant in
+    placed_are_books c.args.bidder c.args.node c.args.amount sized (omega (arith, c.place.ensures.value)) (omega (arith, c.place-index.ensures.value)) (returns-clause-value c)
 
 pub returns-clause-incoming : goal.returns-clause-incoming
 returns-clause-incoming c =
-    let sized = kept_view c.self.inside.nodes.items c.self.inside.bids.items c.args.self.now c.self.view_is c.self.invariant.nodes c.self.invariant.bids c.self.invariant.amounts in
-    placed_offers c.args.self.now _ c.args.bidder c.args.node c.args.amount sized (omega (arith, c.place-index.ensures.value)) (returns-clause-value c)
+    let sized = kept_view c.self.inside c.args.self.now c.self.view_is c.self.invariant in
+    placed_offers c.args.bidder c.args.node c.args.amount sized (omega (arith, c.place-index.ensures.value)) (returns-clause-value c)
 
 pub returns-clause-bids : goal.returns-clause-bids
 returns-clause-bids c =
-    let sized = kept_view c.self.inside.nodes.items c.self.inside.bids.items c.args.self.now c.self.view_is c.self.invariant.nodes c.self.invariant.bids c.self.invariant.amounts in
-    placed_bids c.args.self.now _ c.args.bidder c.args.node c.args.amount sized (omega (arith, c.place.ensures.value)) (returns-clause-value c)
+    let sized = kept_view c.self.inside c.args.self.now c.self.view_is c.self.invariant in
+    placed_bids c.args.bidder c.args.node c.args.amount sized (omega (arith, c.place.ensures.value)) (returns-clause-value c)

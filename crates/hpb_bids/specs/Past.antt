@@ -5,8 +5,8 @@ use Rattle.hpb_rules.specs.declared.id.TheConstants.{MOST_BIDDERS, MOST_NODES}
 use Rattle.hpb_rules.specs.History.{high, incoming, bid_on}
 use Rattle.hpb_bids.specs.View.{BooksView, offer_at, has_bid}
 
--- the books are those of the commands: of each node the high and the incoming bid, and of each bidder the nodes on which it bid
-pub record Holds (books : BooksView) (past : List Command) : Type 0 where
+-- The books are those of the commands: of each node the high and the incoming bid, and of each bidder the nodes on which it bid.
+pub record AreBooksOf (books : BooksView) (past : List Command) : Type 0 where
   pub standing : (n : ℕ) → n < MOST_NODES → offer_at books.standing n ≡ high past n
   pub incoming : (n : ℕ) → n < MOST_NODES → offer_at books.incoming n ≡ incoming past n
   pub bids : (b n : ℕ) → b < MOST_BIDDERS → n < MOST_NODES → has_bid books b n ≡ bid_on past b n
