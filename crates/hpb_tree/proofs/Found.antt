@@ -29,20 +29,24 @@ bidder_name-bidders_view [] i d h = absurd (omega arith)
 bidder_name-bidders_view (b ∷ bs) zero d h = refl
 bidder_name-bidders_view (b ∷ bs) (suc i) d h = bidder_name-bidders_view bs i d (omega arith)
 
-pub bidder_inside : (bs : List Entry) (bidders : List Bidder) (i k : ℕ) → bidders_view bs ≡ bidders → i ≡ k → k < length bidders → i < length bs
-bidder_inside bs bidders i k seen same within = omega (arith, length-map bs bidder_view, ap length seen)
+-- a bidder of the code was read at the place of a bidder
+pub record IsBidderRead (bs : List Entry) (bidders : List Bidder) (index bidder : ℕ) (b : Entry) : Type 0 where
+  pub seen : bidders_view bs ≡ bidders
+  pub found : b ≡ get_or bs index b
+  pub same : index ≡ bidder
+  pub within : bidder < length bidders
 
--- what is read of the bidder at a place
-module _ (bs : List Entry) (bidders : List Bidder) (i k : ℕ) (b : Entry) (seen : bidders_view bs ≡ bidders) (found : b ≡ get_or bs i b) (same : i ≡ k) (within : k < length bidders) where
-  inside : i < length bs
-  inside = bidder_inside bs bidders i k seen same within
+-- what is read of it
+module _ {bs : List Entry} {bidders : List Bidder} {index bidder : ℕ} {b : Entry} (read : IsBidderRead bs bidders index bidder b) where
+  pub bidder_inside : index < length bs
+  bidder_inside = omega (arith, length-map bs bidder_view, ap length read.seen, read.same, read.within)
 
-  pub bidder_name_at : string_bytes b.name ≡ bidder_name bidders k
-  bidder_name_at = ap (λ (c : Entry). string_bytes c.name) found ∙ sym (bidder_name-bidders_view bs i b inside) ∙ ap (λ xs. bidder_name xs i) seen ∙ ap (bidder_name bidders) same
+  pub bidder_name_at : string_bytes b.name ≡ bidder_name bidders bidder
+  bidder_name_at = ap (λ (c : Entry). string_bytes c.name) read.found ∙ sym (bidder_name-bidders_view bs index b bidder_inside) ∙ ap (λ xs. bidder_name xs index) read.seen ∙ ap (bidder_name bidders) read.same
 
-  pub bidder_at : slice_get bidders k ≡ Some (bidder_view b)
+  pub bidder_at : slice_get bidders bidder ≡ Some (bidder_view b)
   bidder_at =
-      ap (slice_get bidders) (sym same)
-      ∙ ap (λ xs. slice_get xs i) (sym seen)
-      ∙ slice_get-get_or (bidders_view bs) i (bidder_view b) (omega (arith, inside, length-map bs bidder_view))
-      ∙ ap Some (get_or-map bidder_view bs i b (bidder_view b) inside ∙ ap bidder_view (sym found))
+      ap (slice_get bidders) (sym read.same)
+      ∙ ap (λ xs. slice_get xs index) (sym read.seen)
+      ∙ slice_get-get_or (bidders_view bs) index (bidder_view b) (omega (arith, bidder_inside, length-map bs bidder_view))
+      ∙ ap Some (get_or-map bidder_view bs index b (bidder_view b) bidder_inside ∙ ap bidder_view (sym read.found))

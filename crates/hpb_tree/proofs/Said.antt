@@ -30,10 +30,10 @@ pub length-nodes_said : (ns : List NodeDraft) → length (nodes_said ns) ≡ len
 length-nodes_said ns = length-map ns node_said
 
 -- a node with the name, the parent and the terms that were written
-pub node_from : (ns : List NodeDraft) (i : ℕ) (d : NodeDraft) (name : List ℕ) (parent : Option ℕ) (terms : Option Terms) → i < length ns → d ≡ get_or ns i d
+pub node_from : (ns : List NodeDraft) (i : ℕ) (d : NodeDraft) {name : List ℕ} {parent : Option ℕ} {terms : Option Terms} → i < length ns → d ≡ get_or ns i d
     → name ≡ string_bytes d.name → parent ≡ parent_of (nodes_said ns) i → terms ≡ terms_of (nodes_said ns) i
     → slice_get (nodes_said ns) i ≡ Some (record { name = name; parent = parent; terms = terms })
-node_from ns i d name parent terms h found n p t =
+node_from ns i d {name} {parent} {terms} h found n p t =
     slice_get-get_or (nodes_said ns) i (node_said d) (omega (arith, length-nodes_said ns))
     ∙ ap Some (get_or-map node_said ns i d (node_said d) h ∙ same)
   where

@@ -27,25 +27,32 @@ node_name-nodes_view [] i d h = absurd (omega arith)
 node_name-nodes_view (n ∷ ns) zero d h = refl
 node_name-nodes_view (n ∷ ns) (suc i) d h = node_name-nodes_view ns i d (omega arith)
 
--- what is read of the node at a place
-module _ (ns : List TreeNode) (nodes : List Node) (i k : ℕ) (n : TreeNode) (seen : nodes_view ns ≡ nodes) (found : n ≡ get_or ns i n) (same : i ≡ k) (within : k < length nodes) where
-  inside : i < length ns
-  inside = omega (arith, length-nodes_view ns, ap length seen)
+-- a node of the code was read at the place of a node
+pub record IsNodeRead (ns : List TreeNode) (nodes : List Node) (index node : ℕ) (n : TreeNode) : Type 0 where
+  pub seen : nodes_view ns ≡ nodes
+  pub found : n ≡ get_or ns index n
+  pub same : index ≡ node
+  pub within : node < length nodes
 
-  pub name_at : string_bytes n.name ≡ node_name nodes k
-  name_at = ap (λ (m : TreeNode). string_bytes m.name) found ∙ sym (node_name-nodes_view ns i n inside) ∙ ap (λ xs. node_name xs i) seen ∙ ap (node_name nodes) same
+-- what is read of it
+module _ {ns : List TreeNode} {nodes : List Node} {index node : ℕ} {n : TreeNode} (read : IsNodeRead ns nodes index node n) where
+  inside : index < length ns
+  inside = omega (arith, length-nodes_view ns, ap length read.seen, read.same, read.within)
 
-  pub parent_at : n.parent ≡ parent_of nodes k
-  parent_at = ap (λ (m : TreeNode). m.parent) found ∙ sym (parent_of-nodes_view ns i n inside) ∙ ap (λ xs. parent_of xs i) seen ∙ ap (parent_of nodes) same
+  pub name_at : string_bytes n.name ≡ node_name nodes node
+  name_at = ap (λ (m : TreeNode). string_bytes m.name) read.found ∙ sym (node_name-nodes_view ns index n inside) ∙ ap (λ xs. node_name xs index) read.seen ∙ ap (node_name nodes) read.same
 
-  pub terms_at : n.terms ≡ terms_of nodes k
-  terms_at = ap (λ (m : TreeNode). m.terms) found ∙ sym (terms_of-nodes_view ns i n inside) ∙ ap (λ xs. terms_of xs i) seen ∙ ap (terms_of nodes) same
+  pub parent_at : n.parent ≡ parent_of nodes node
+  parent_at = ap (λ (m : TreeNode). m.parent) read.found ∙ sym (parent_of-nodes_view ns index n inside) ∙ ap (λ xs. parent_of xs index) read.seen ∙ ap (parent_of nodes) read.same
+
+  pub terms_at : n.terms ≡ terms_of nodes node
+  terms_at = ap (λ (m : TreeNode). m.terms) read.found ∙ sym (terms_of-nodes_view ns index n inside) ∙ ap (λ xs. terms_of xs index) read.seen ∙ ap (terms_of nodes) read.same
 
   -- what is kept of it
-  pub summed_at : ((j : ℕ) (m : TreeNode) → slice_get ns j ≡ Some m → IsSummed (nodes_view ns) j m) → IsSummed nodes k n
+  pub summed_at : ((j : ℕ) (m : TreeNode) → slice_get ns j ≡ Some m → IsSummed (nodes_view ns) j m) → IsSummed nodes node n
   summed_at sums =
-      let here : IsSummed (nodes_view ns) i n = sums i n (slice_get_read ns (length ns) i n refl inside found) in
-      subst (λ xs. IsSummed xs k n) seen (subst (λ j. IsSummed (nodes_view ns) j n) same here)
+      let here : IsSummed (nodes_view ns) index n = sums index n (slice_get_read ns (length ns) index n refl inside read.found) in
+      subst (λ xs. IsSummed xs node n) read.seen (subst (λ j. IsSummed (nodes_view ns) j n) read.same here)
 
 -- a parent stands before its node
 pub parent_before : (nodes : List Node) → IsTree nodes → (m : ℕ) (parent : Option ℕ) → parent ≡ parent_of nodes m → IfSome parent (λ p. p < m)

@@ -5,5 +5,5 @@ use Rattle.hpb_tree.proofs.building.build_node.Goals as goal
 
 pub returns-clause-view : goal.returns-clause-view
 returns-clause-view c =
-    node_from c.args.nodes.now c.args.place c.index-nodes-place.result _ _ _ c.requires.within c.index-nodes-place.is
+    node_from c.args.nodes.now c.args.place c.index-nodes-place.result c.requires.within c.index-nodes-place.is
     (c.in_ok-name.ensures.ok ∙ c.as_str.ensures.value ∙ ap (λ (m : NodeDraft). string_bytes m.name) (sym c.index-nodes-place.is)) c.parent.ensures c.terms.ensures

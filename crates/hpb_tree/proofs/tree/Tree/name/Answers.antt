@@ -1,7 +1,10 @@
 use Rattle.std.proofs.Common.{ap, ◌∙◌}
 use Rattle.hpb_rules.specs.Tree.{TreeRules}
-use Rattle.hpb_tree.proofs.Views.{name_at}
+use Rattle.hpb_tree.proofs.Views.{IsNodeRead, name_at}
 use Rattle.hpb_tree.proofs.tree.Tree.name.Goals as goal
 
 pub returns : goal.returns
-returns c = c.as_str.ensures.value ∙ name_at c.self.inside.nodes.items _ _ _ c.index.result.now (ap (λ (t : TreeRules). t.nodes) c.self.view_is) c.index.ensures c.place-index.ensures.value c.requires
+returns c =
+    let read : IsNodeRead c.self.inside.nodes.items c.args.self.now.nodes c.place-index.result c.args.node c.index.result.now =
+    record { seen = ap (λ (t : TreeRules). t.nodes) c.self.view_is; found = c.index.ensures; same = c.place-index.ensures.value; within = c.requires } in
+    c.as_str.ensures.value ∙ name_at read
