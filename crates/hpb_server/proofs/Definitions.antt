@@ -5,10 +5,11 @@ use Rattle.std.proofs.KnownBytes.{Consumes-nil, Consumes-trans}
 use Rattle.std.proofs.lemmas.Bool.{cases_lt}
 use Rattle.std.proofs.lemmas.List.{take-append-le, length-take}
 use Rattle.std.proofs.lemmas.List.Elements.{All-append}
+use Rattle.hpb_server.specs.declared.input.DefinitionText.{DefinitionText}
 use Rattle.hpb_server.specs.declared.input.TheConstants.{LINE_FEED, KEPT_DEFINITION_BYTES}
 use Rattle.hpb_define.specs.declared.reading.TheConstants.{MOST_BYTES}
 use Rattle.hpb_rules.specs.Lines.{is_line_feed}
-use Rattle.hpb_server.specs.Reading.{Pending, HasNoEnd, TakesPart, TakesWithin, EndsDefinition, ReadsInVain}
+use Rattle.hpb_server.specs.Reading.{Pending, HasNoEnd, TakesToEnd, TakesAll, TakesWithin, EndsDefinition, GivesDefinition, ReadsWithin}
 
 -- so many bytes were taken and have no end, and so many of them are kept; the rest is unread
 pub record Taken (old new : Option (List ℕ)) (budget : ℕ) (input : Pending) (text : List ℕ) : Type 0 where
@@ -17,8 +18,8 @@ pub record Taken (old new : Option (List ℕ)) (budget : ℕ) (input : Pending) 
   pub kept : text ≡ take KEPT_DEFINITION_BYTES bytes
   pub consumed : TakesWithin old new budget input.budget (bytes ++ input.unread)
 
-pub within_taken : (old new : Option (List ℕ)) (budget : ℕ) (input : Pending) (text : List ℕ) → Taken old new budget input text → length text ≤ KEPT_DEFINITION_BYTES
-within_taken old new budget input text t = omega (arith, ap length t.kept, length-take KEPT_DEFINITION_BYTES t.bytes)
+pub within_taken : {old new : Option (List ℕ)} {budget : ℕ} {input : Pending} {text : List ℕ} → Taken old new budget input text → length text ≤ KEPT_DEFINITION_BYTES
+within_taken t = omega (arith, ap length t.kept, length-take KEPT_DEFINITION_BYTES t.bytes)
 
 pub none_taken : (old : Option (List ℕ)) (input : Pending) (text : List ℕ) → input.unread ≡ [] → text ≡ [] → Taken old old input.budget input text
 none_taken old input text none empty = record {
@@ -27,6 +28,10 @@ none_taken old input text none empty = record {
   kept = empty;
   consumed = subst (TakesWithin old old input.budget input.budget) (sym none) (Consumes-nil old, omega arith);
 }
+
+-- some bytes were taken, and no more than may be
+pub taken_within : {old new : Option (List ℕ)} {budget : ℕ} {input : Pending} {text : List ℕ} → Taken old new budget input text → ReadsWithin old new budget
+taken_within {input = input} t = (t.bytes ++ input.unread, t.consumed.0, omega (arith, t.consumed.1))
 
 -- the same bytes are taken within the same budget
 same_taken : (old new : Option (List ℕ)) (budget before after : ℕ) (xs ys : List ℕ) → before ≡ after → xs ≡ ys → TakesWithin old new budget before xs → TakesWithin old new budget after ys
@@ -39,54 +44,62 @@ take-take-append n xs ys = ⊎_elim
     (λ long. take-append-le n (take n xs) ys (omega (arith, length-take n xs)) ∙ take_all n (take n xs) (omega (arith, length-take n xs)) ∙ sym (take-append-le n xs ys long))
     (cases_lt (length xs) n)
 
--- where no end was met, all that was unread is taken
-pub taken_all : (old new : Option (List ℕ)) (budget : ℕ) (before after : Pending) (text more : List ℕ) → Taken old new budget before text → TakesPart KEPT_DEFINITION_BYTES before after text more false → Taken old new budget after more
-taken_all old new budget before after text more t part = record {
-  bytes = t.bytes ++ before.unread;
-  no_end = All-append (λ b. is_line_feed b ≡ false) t.bytes before.unread t.no_end part.0;
-  kept = part.2 ∙ ap (λ zs. take KEPT_DEFINITION_BYTES (zs ++ before.unread)) t.kept ∙ take-take-append KEPT_DEFINITION_BYTES t.bytes before.unread;
-  consumed = same_taken old new budget before.budget after.budget _ _ (sym part.3) (sym (ap (λ zs. (t.bytes ++ before.unread) ++ zs) part.1 ∙ append-nil (t.bytes ++ before.unread))) t.consumed;
+-- where an end was met, the definition is whole
+pub taken_line : {old new : Option (List ℕ)} {budget : ℕ} {before after : Pending} {kept : List ℕ} {text : DefinitionText} → Taken old new budget before kept → TakesToEnd KEPT_DEFINITION_BYTES before after kept text.bytes.items → text.has_end ≡ true
+    → GivesDefinition old new budget after text
+taken_line {old = old} {new = new} {budget = budget} {before = before} {after = after} {text = text} t part end = record {
+  bytes = t.bytes ++ part.bytes;
+  no_end = All-append (λ b. is_line_feed b ≡ false) t.bytes part.bytes t.no_end part.no_end;
+  kept = part.kept ∙ ap (λ zs. take KEPT_DEFINITION_BYTES (zs ++ part.bytes)) t.kept ∙ take-take-append KEPT_DEFINITION_BYTES t.bytes part.bytes;
+  ends = subst (EndsDefinition old new budget after (t.bytes ++ part.bytes)) (sym end)
+      (same_taken old new budget before.budget after.budget (t.bytes ++ before.unread) ((t.bytes ++ part.bytes) ++ LINE_FEED ∷ after.unread) (sym part.nothing_read) (ap (λ zs. t.bytes ++ zs) part.parts ∙ sym (append_assoc t.bytes part.bytes (LINE_FEED ∷ after.unread))) t.consumed);
 }
 
--- where an end was met, the definition is whole
-pub taken_line : (old new : Option (List ℕ)) (budget : ℕ) (before after : Pending) (text more : List ℕ) → Taken old new budget before text → TakesPart KEPT_DEFINITION_BYTES before after text more true
-    → (bytes : List ℕ) × HasNoEnd bytes × (more ≡ take KEPT_DEFINITION_BYTES bytes) × EndsDefinition old new budget after bytes true
-taken_line old new budget before after text more t part = (
-  t.bytes ++ part.0,
-  All-append (λ b. is_line_feed b ≡ false) t.bytes part.0 t.no_end part.1,
-  part.3 ∙ ap (λ zs. take KEPT_DEFINITION_BYTES (zs ++ part.0)) t.kept ∙ take-take-append KEPT_DEFINITION_BYTES t.bytes part.0,
-  same_taken old new budget before.budget after.budget _ _ (sym part.4) (ap (λ zs. t.bytes ++ zs) part.2 ∙ sym (append_assoc t.bytes part.0 (LINE_FEED ∷ after.unread))) t.consumed,
-)
+-- where no end was met
+module _ {old new : Option (List ℕ)} {budget : ℕ} {before between : Pending} {kept more : List ℕ} (t : Taken old new budget before kept) (part : TakesAll KEPT_DEFINITION_BYTES before between kept more) where
+  all_bytes : List ℕ
+  all_bytes = t.bytes ++ before.unread
 
--- where no end was met, and the reader was asked for more
-module _ (old new now : Option (List ℕ)) (budget : ℕ) (before between after : Pending) (text more : List ℕ) (t : Taken old new budget before text) (part : TakesPart KEPT_DEFINITION_BYTES before between text more false) where
-  all : Taken old new budget between more
-  all = taken_all old new budget before between text more t part
+  all_no_end : HasNoEnd all_bytes
+  unfolding all_bytes
+  all_no_end = All-append (λ b. is_line_feed b ≡ false) t.bytes before.unread t.no_end part.no_end
 
-  consumed : TakesWithin old new budget between.budget all.bytes
-  consumed = same_taken old new budget between.budget between.budget _ _ refl (ap (λ zs. all.bytes ++ zs) part.1 ∙ append-nil all.bytes) all.consumed
+  all_kept : more ≡ take KEPT_DEFINITION_BYTES all_bytes
+  unfolding all_bytes
+  all_kept = part.kept ∙ ap (λ zs. take KEPT_DEFINITION_BYTES (zs ++ before.unread)) t.kept ∙ take-take-append KEPT_DEFINITION_BYTES t.bytes before.unread
+
+  all_consumed : TakesWithin old new budget between.budget all_bytes
+  unfolding all_bytes
+  all_consumed = same_taken old new budget before.budget between.budget (t.bytes ++ before.unread) (t.bytes ++ before.unread) (sym part.nothing_read) refl t.consumed
 
   -- more was read
-  pub taken_more : Consumes new now after.unread → after.budget + length after.unread ≡ between.budget → Taken old now budget after more
-  taken_more next less = record {
-    bytes = all.bytes;
-    no_end = all.no_end;
-    kept = all.kept;
-    consumed = (Consumes-trans old new now all.bytes after.unread consumed.0 next, omega (arith, consumed.1, less, length-append all.bytes after.unread));
+  pub taken_more : {now : Option (List ℕ)} {after : Pending} → Consumes new now after.unread → after.budget + length after.unread ≡ between.budget → Taken old now budget after more
+  taken_more {now = now} {after = after} next less = record {
+    bytes = all_bytes;
+    no_end = all_no_end;
+    kept = all_kept;
+    consumed = (Consumes-trans old new now all_bytes after.unread all_consumed.0 next, omega (arith, all_consumed.1, less, length-append all_bytes after.unread));
   }
 
+  -- some bytes more were read in vain
+  pub taken_in_vain : (now : Option (List ℕ)) → ReadsWithin new now between.budget → ReadsWithin old now budget
+  taken_in_vain now vain = (all_bytes ++ vain.0, Consumes-trans old new now all_bytes vain.0 all_consumed.0 vain.1, omega (arith, all_consumed.1, vain.2, length-append all_bytes vain.0))
+
   -- so much was read that it is no definition
-  pub taken_too_much : MOST_BYTES < length more
-      → (bytes : List ℕ) × HasNoEnd bytes × (more ≡ take KEPT_DEFINITION_BYTES bytes) × EndsDefinition old new budget between bytes false
-  taken_too_much long =
-      (all.bytes, all.no_end, all.kept, (consumed, inl (omega (arith, long, ap length all.kept, length-take KEPT_DEFINITION_BYTES all.bytes))))
+  pub taken_too_much : {text : DefinitionText} → more ≡ text.bytes.items → text.has_end ≡ false → MOST_BYTES < length more → GivesDefinition old new budget between text
+  taken_too_much {text = text} is end long = record {
+    bytes = all_bytes;
+    no_end = all_no_end;
+    kept = sym is ∙ all_kept;
+    ends = subst (EndsDefinition old new budget between all_bytes) (sym end) (all_consumed, inl (omega (arith, long, ap length all_kept, length-take KEPT_DEFINITION_BYTES all_bytes)));
+  }
 
   -- the reader has ended
-  pub taken_to_end : Consumes new now [] → IsAtEnd now → after ≡ between
-      → (bytes : List ℕ) × HasNoEnd bytes × (more ≡ take KEPT_DEFINITION_BYTES bytes) × EndsDefinition old now budget after bytes false
-  taken_to_end nothing end same =
-      (all.bytes, all.no_end, all.kept, ((subst (Consumes old now) (append-nil all.bytes) (Consumes-trans old new now all.bytes [] consumed.0 nothing), omega (arith, consumed.1, ap (λ (p : Pending). p.budget) same)), inr end))
-
-  -- some bytes were read, and then the reader failed
-  pub taken_in_vain : ReadsInVain new now → ReadsInVain old now
-  taken_in_vain next = (all.bytes ++ next.0, Consumes-trans old new now all.bytes next.0 consumed.0 next.1)
+  pub taken_to_end : {now : Option (List ℕ)} {after : Pending} {text : DefinitionText} → more ≡ text.bytes.items → text.has_end ≡ false → Consumes new now [] → IsAtEnd now → after ≡ between → GivesDefinition old now budget after text
+  taken_to_end {now = now} {after = after} {text = text} is end nothing at_end same = record {
+    bytes = all_bytes;
+    no_end = all_no_end;
+    kept = sym is ∙ all_kept;
+    ends = subst (EndsDefinition old now budget after all_bytes) (sym end)
+        ((subst (Consumes old now) (append-nil all_bytes) (Consumes-trans old new now all_bytes [] all_consumed.0 nothing), omega (arith, all_consumed.1, ap (λ (p : Pending). p.budget) same)), inr at_end);
+  }

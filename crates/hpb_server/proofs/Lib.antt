@@ -1,7 +1,13 @@
+mod Errors
 mod Cut
 mod Kept
-mod Streams
+mod Writing
+mod Passing
 mod Definitions
+mod WholeLines
 mod Sessions
+mod Chunks
 mod Scripts
+mod ScriptTexts
+mod Refusals
 mod ScriptRuns

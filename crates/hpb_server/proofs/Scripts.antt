@@ -107,9 +107,9 @@ lines_front rules history done rest whole = ⊎_elim
     whole
 
 pub session_is_text : SessionIsText
-session_is_text budget r0 r1 w0 w1 old new history (Ok done) shows s =
-    (s.taken, s.read, s.ended, subst (Appends w0 w1) (input_is_text old new history s.taken s.text shows s.answers).0 s.written)
-session_is_text budget r0 r1 w0 w1 old new history (Err fault) shows s =
+session_is_text budget before after old new history (Ok done) shows s =
+    (s.taken, s.read, s.ended, subst (Appends before.contents after.contents) (input_is_text old new history s.taken s.text shows s.answers).0 s.written)
+session_is_text budget before after old new history (Err fault) shows s =
     let text : IsFront s.sent (lines_text old.rules history s.done) = subst (IsFront s.sent) (input_is_text old new history s.done s.text shows s.answers).0 s.front in
     let all : IsFront (lines_text old.rules history s.done) (lines_text old.rules history (s.done ++ s.rest)) = ⊎_elim
     (λ whole. lines_front old.rules history s.done s.rest whole)

@@ -1,11 +1,11 @@
 pub mod Fault
+pub mod Streams
 pub mod Reading
 pub mod Input
 pub mod Writing
-pub mod Words
-pub mod Program
 pub mod Desk
 pub mod Serving
 pub mod Session
 pub mod Script
 pub mod ScriptLaws
+pub mod Program

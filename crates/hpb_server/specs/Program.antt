@@ -1,20 +1,41 @@
--- What the program does with its streams.
-use Rattle.std.specs.Prelude.{◌≡◌, ℕ, List, Option, Result, Ok, Err, ◌⊎◌}
-use Rattle.std.specs.Io.KnownBytes.{Keeps}
+-- What the program does with its streams, and its status.
+use Rattle.std.specs.Prelude.{◌≡◌, ℕ, Result, Ok, Err, ◌⊎◌}
 use Rattle.hpb_server.specs.declared.fault.Fault.{Fault}
-use Rattle.hpb_server.specs.declared.running.TheConstants.{WELL, ILL}
 use Rattle.hpb_server.specs.declared.script.ScriptEnd.{ScriptEnd}
-use Rattle.hpb_server.specs.declared.script.ScriptEnd.TheVariants.{Answered, Refused}
+use Rattle.hpb_server.specs.declared.script.ScriptEnd.TheVariants as ends
+use Rattle.hpb_server.specs.declared.status.TheConstants.{WELL, ILL, WRONG_WORDS}
+use Rattle.hpb_server.specs.declared.words.Job.{Job}
+use Rattle.hpb_server.specs.declared.words.Job.TheVariants.{Script}
+use Rattle.hpb_server.specs.declared.words.WordsFault.{WordsFault}
+use Rattle.hpb_server.specs.declared.words.WordsFault.TheVariants.{Memory, Refused}
 use Rattle.hpb_server.specs.Script.{RunsScript}
+use Rattle.hpb_server.specs.Streams.{Streams, AreKept}
 
 -- The status by the end of a script.
-abbrev pub status_of : Result ScriptEnd Fault → ℕ
-status_of (Ok Answered) = WELL
-status_of (Ok (Refused code)) = ILL
-status_of (Err fault) = ILL
+abbrev pub status_of_script : Result ScriptEnd Fault → ℕ
+status_of_script (Ok ends.Answered) = WELL
+status_of_script (Ok (ends.Refused code)) = ILL
+status_of_script (Err fault) = ILL
 
--- The input and the output are as they were, where the words ask for no script or memory is refused; or a script was run, and the status is by its end.
-abbrev pub RunsProgram : (reader_old reader_new writer_old writer_new : Option (List ℕ)) → ℕ → Type 0
-RunsProgram reader_old reader_new writer_old writer_new status =
-    (Keeps reader_old reader_new × Keeps writer_old writer_new)
-    ⊎ ((end : Result ScriptEnd Fault) × RunsScript reader_old reader_new writer_old writer_new end × (status ≡ status_of end))
+-- The status where words ask for no job.
+abbrev pub status_of_words : WordsFault → ℕ
+status_of_words Memory = ILL
+status_of_words (Refused text status) = status
+
+-- Words are wrong, or they ask for help.
+abbrev pub HasStatus : WordsFault → Type 0
+HasStatus Memory = Unit {0}
+HasStatus (Refused text status) = (status ≡ WELL) ⊎ (status ≡ WRONG_WORDS)
+
+-- What a job does with the streams, and the status that it gives.
+abbrev pub RunsJob : Job → (before after : Streams) → ℕ → Type 0
+RunsJob Script before after status = (end : Result ScriptEnd Fault) × RunsScript before after end × (status ≡ status_of_script end)
+
+-- What is done by what words ask for: their job, or nothing.
+abbrev pub RunsAsked : Result Job WordsFault → (before after : Streams) → ℕ → Type 0
+RunsAsked (Ok job) before after status = RunsJob job before after status
+RunsAsked (Err fault) before after status = AreKept before after × HasStatus fault × (status ≡ status_of_words fault)
+
+-- What some words ask for is done.
+abbrev pub RunsProgram : (before after : Streams) → ℕ → Type 0
+RunsProgram before after status = (asked : Result Job WordsFault) × RunsAsked asked before after status

@@ -18,7 +18,8 @@ use Rattle.hpb_server.specs.declared.input.TheConstants.{LINE_FEED, MOST_READ}
 use Rattle.hpb_server.specs.declared.script.ScriptEnd.{ScriptEnd}
 use Rattle.hpb_server.specs.declared.script.ScriptEnd.TheVariants.{Answered, Refused}
 use Rattle.hpb_server.specs.Desk.{rules_in, RepliesIn, ShowsItself}
-use Rattle.hpb_server.specs.Reading.{Pending, HasNoEnd, ReadsInVain}
+use Rattle.hpb_server.specs.Reading.{Pending, HasNoEnd, most_taken, ReadsWithin}
+use Rattle.hpb_server.specs.Streams.{Streams}
 use Rattle.hpb_server.specs.Serving.{AreLines, Serves}
 
 -- The number of a refusal. Want of memory is no refusal.
@@ -26,28 +27,29 @@ abbrev pub IsTold : DefineFault → ℕ → Type 0
 IsTold Memory code = ⊥
 IsTold fault code = code ≡ code_of fault
 
-module _ (reader_old reader_new writer_old writer_new : Option (List ℕ)) where
+module _ (before after : Streams) where
   -- The first line is a definition. All was read, and what is written is the text of the script, by any reading of definitions that reads this line so.
   pub record AnswersScript : Type 0 where
     pub input : List ℕ
     pub first : List ℕ
     pub lines : List (List ℕ)
     pub rules : Rules
-    pub read : Consumes reader_old reader_new input
-    pub ended : IsAtEnd reader_new
+    pub read : Consumes before.remaining after.remaining input
+    pub ended : IsAtEnd after.remaining
     pub within : length input ≤ MOST_READ
     pub parts : slice_split is_line_feed input ≡ first ∷ lines
     pub accepted : Answers first (Ok rules)
-    pub written : (define : List ℕ → Result Rules ℕ) → define first ≡ Ok rules → Appends writer_old writer_new (script_text define input)
+    pub written : (define : List ℕ → Result Rules ℕ) → define first ≡ Ok rules → Appends before.contents after.contents (script_text define input)
 
   -- The first line is refused as a definition. It was read to its end, or to the end of the reader, or so far that it is too long.
   pub record RefusesScript (code : ℕ) : Type 0 where
     pub taken : List ℕ
     pub first : List ℕ
     pub fault : DefineFault
-    pub read : Consumes reader_old reader_new taken
+    pub read : Consumes before.remaining after.remaining taken
+    pub within : length taken ≤ MOST_READ
     pub line : HasNoEnd first
-    pub ends : ((rest : List ℕ) × (taken ≡ first ++ LINE_FEED ∷ rest)) ⊎ ((taken ≡ first) × ((MOST_BYTES < length first) ⊎ IsAtEnd reader_new))
+    pub ends : ((rest : List ℕ) × (taken ≡ first ++ LINE_FEED ∷ rest)) ⊎ ((taken ≡ first) × ((MOST_BYTES < length first) ⊎ IsAtEnd after.remaining))
     pub refused : Answers first (Err fault)
     pub told : IsTold fault code
 
@@ -56,7 +58,7 @@ module _ (reader_old reader_new writer_old writer_new : Option (List ℕ)) where
     pub code : ℕ
     pub sent : List ℕ
     pub refuses : RefusesScript code
-    pub written : Appends writer_old writer_new sent
+    pub written : Appends before.contents after.contents sent
     pub front : IsFront sent (line_of (refusal_text code))
 
   -- The first line is a definition. Whole lines of what was read were answered, or all that the reader had, and a front of the text of the script so far was written. It is a front of the text of all that was read, too.
@@ -67,28 +69,29 @@ module _ (reader_old reader_new writer_old writer_new : Option (List ℕ)) where
     pub rest : List ℕ
     pub rules : Rules
     pub sent : List ℕ
-    pub read : Consumes reader_old reader_new taken
+    pub read : Consumes before.remaining after.remaining taken
+    pub within : length taken ≤ most_taken MOST_READ
     pub line : HasNoEnd first
     pub parts : taken ≡ (first ++ LINE_FEED ∷ done) ++ rest
-    pub whole : AreLines done ⊎ ((rest ≡ []) × IsAtEnd reader_new)
+    pub whole : AreLines done ⊎ ((rest ≡ []) × IsAtEnd after.remaining)
     pub accepted : Answers first (Ok rules)
-    pub written : Appends writer_old writer_new sent
+    pub written : Appends before.contents after.contents sent
     pub front : (define : List ℕ → Result Rules ℕ) → define first ≡ Ok rules → IsFront sent (script_text define (first ++ LINE_FEED ∷ done))
     pub text : (define : List ℕ → Result Rules ℕ) → define first ≡ Ok rules → IsFront sent (script_text define taken)
 
   -- Nothing was written.
   abbrev pub WritesNothing : Type 0
-  WritesNothing = ReadsInVain reader_old reader_new × Appends writer_old writer_new []
+  WritesNothing = ReadsWithin before.remaining after.remaining MOST_READ × Appends before.contents after.contents []
 
   -- What a run of a script reads and writes.
   abbrev pub RunsScript : Result ScriptEnd Fault → Type 0
   RunsScript (Ok Answered) = AnswersScript
-  RunsScript (Ok (Refused code)) = RefusesScript code × Appends writer_old writer_new (line_of (refusal_text code))
+  RunsScript (Ok (Refused code)) = RefusesScript code × Appends before.contents after.contents (line_of (refusal_text code))
   RunsScript (Err fault) = WritesNothing ⊎ (RefusesFront ⊎ AnswersScriptFront)
 
   -- The lines of a script are answered from this value on.
   abbrev pub ServesScript : Pending → Quantities → Result ⊤ Fault → Type 0
-  ServesScript input value result = (new : Quantities) × Serves rules_in RepliesIn ShowsItself input.unread input.budget reader_old reader_new writer_old writer_new value new result
+  ServesScript input value result = (new : Quantities) × Serves rules_in RepliesIn ShowsItself input.unread input.budget before after value new result
 
 -- The line of a refusal was written, or a front of it.
 abbrev pub WritesRefusal : (writer_old writer_new : Option (List ℕ)) (code : ℕ) → Result ScriptEnd Fault → Type 0

@@ -12,6 +12,8 @@ use Rattle.hpb_rules.specs.Rendering.{refusal_text, reply_text}
 use Rattle.hpb_rules.specs.Text.{line_of, unfinished_text}
 use Rattle.hpb_rules.specs.ValueText.{shown_in, node_shown_in, bidder_shown_in}
 use Rattle.hpb_server.specs.declared.fault.Fault.{Fault}
+use Rattle.hpb_server.specs.Reading.{most_taken}
+use Rattle.hpb_server.specs.Streams.{Streams}
 use Rattle.hpb_server.specs.declared.input.TheConstants.{LINE_FEED}
 use Rattle.hpb_rules.specs.declared.refusal.TheConstants.{FAILED}
 
@@ -53,16 +55,16 @@ module _ {Desk : Type 0} (rules : Desk → Rules) (asks : Desk → Command → R
   abbrev pub AnswersInput : Desk → List ℕ → List ℕ → Desk → Type 0
   AnswersInput old input text new = AnswersLines old (slice_split is_line_feed input) text new
 
-  module _ (unread : List ℕ) (budget : ℕ) (reader_old reader_new writer_old writer_new : Option (List ℕ)) (old new : Desk) where
+  module _ (unread : List ℕ) (budget : ℕ) (before after : Streams) (old new : Desk) where
     -- All was read, to the end of the reader and within the budget, and answered.
     pub record AnswersAll : Type 0 where
       pub taken : List ℕ
       pub text : List ℕ
-      pub read : Consumes reader_old reader_new taken
-      pub ended : IsAtEnd reader_new
+      pub read : Consumes before.remaining after.remaining taken
+      pub ended : IsAtEnd after.remaining
       pub within : length taken ≤ budget
       pub answers : AnswersInput old (unread ++ taken) text new
-      pub written : Appends writer_old writer_new text
+      pub written : Appends before.contents after.contents text
 
     -- Whole lines of what was read were answered, or all that the reader had, and a front of the answers was written.
     pub record AnswersFront : Type 0 where
@@ -71,11 +73,12 @@ module _ {Desk : Type 0} (rules : Desk → Rules) (asks : Desk → Command → R
       pub rest : List ℕ
       pub text : List ℕ
       pub sent : List ℕ
-      pub read : Consumes reader_old reader_new taken
+      pub read : Consumes before.remaining after.remaining taken
+      pub within : length taken ≤ most_taken budget
       pub parts : unread ++ taken ≡ done ++ rest
-      pub whole : AreLines done ⊎ ((rest ≡ []) × IsAtEnd reader_new)
+      pub whole : AreLines done ⊎ ((rest ≡ []) × IsAtEnd after.remaining)
       pub answers : AnswersInput old done text new
-      pub written : Appends writer_old writer_new sent
+      pub written : Appends before.contents after.contents sent
       pub front : IsFront sent text
 
     -- What a session does with what is unread and all that comes after it.

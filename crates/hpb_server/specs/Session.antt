@@ -8,10 +8,11 @@ use Rattle.hpb_rules.specs.Fronts.{IsFront}
 use Rattle.hpb_rules.specs.Seen.{Quantities}
 use Rattle.hpb_rules.specs.Lines.{Request}
 use Rattle.hpb_rules.specs.Text.{line_of, unfinished_text}
+use Rattle.hpb_wire.specs.Responses.{Adds}
 use Rattle.hpb_server.specs.declared.fault.Fault.{Fault}
 use Rattle.hpb_server.specs.declared.line.TheConstants.{KEPT_BYTES}
 use Rattle.hpb_server.specs.Reading.{HasNoEnd}
-use Rattle.hpb_server.specs.Writing.{Adds, Sends}
+use Rattle.hpb_server.specs.Writing.{Sends}
 use Rattle.hpb_server.specs.Serving.{AreLines, AnswersLook, AnswersRequest, AnswersInput}
 
 -- A front of the bytes was written, and the rest is left; or a front was written.

@@ -1,7 +1,7 @@
 ghost use Rattle.std.specs.Prelude.{◌≡◌, ◌<◌, ◌≤◌, [], ◌++◌, take, length, vec_len, IfOk, OnOk, OnErr};
 ghost use Rattle.std.specs.Io.{ReadsAtMost};
 ghost use Rattle.std.specs.Io.KnownBytes.{Consumes, IsAtEnd, Keeps};
-ghost use Rattle.hpb_server.specs.Reading.{Fills, FindsEnd, GivesDefinition, ReadsInVain, TakesPart};
+ghost use Rattle.hpb_server.specs.Reading.{Fills, FindsEnd, GivesDefinition, ReadsWithin, TakesPart};
 
 use crate::fault::Fault;
 use crate::line::{KEPT_BYTES, Line};
@@ -93,7 +93,7 @@ impl Input {
     ) -> Result<DefinitionText, Fault>
         requires { self.old.unread ≡ [] }
         ensures ok { IfOk result (GivesDefinition (R.remaining reader.old) (R.remaining reader.new) self.old.budget self.new) }
-        ensures err { OnErr result (ReadsInVain (R.remaining reader.old) (R.remaining reader.new)) }
+        ensures err { OnErr result (ReadsWithin (R.remaining reader.old) (R.remaining reader.new) self.old.budget) }
     {
         let mut bytes = Vec::new(alloc);
         'chunks: loop {

@@ -10,6 +10,7 @@ mod output;
 mod running;
 mod script;
 mod serving;
+mod status;
 mod words;
 
 pub use desk::{Desk, ScriptDesk};

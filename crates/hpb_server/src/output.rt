@@ -1,78 +1,79 @@
-ghost use Rattle.std.specs.Prelude.{◌≡◌, [], IfOk, string_bytes};
+ghost use Rattle.std.specs.Prelude.{◌≡◌, [], IfOk};
 ghost use Rattle.std.specs.Io.KnownBytes.{Keeps};
 ghost use Rattle.hpb_rules.specs.Rendering.{refusal_text};
-ghost use Rattle.hpb_wire.specs.Answers.{text_of};
-ghost use Rattle.hpb_server.specs.Writing.{Adds, Sends, Writes};
+ghost use Rattle.hpb_wire.specs.Responses.{Adds, text_of};
+ghost use Rattle.hpb_server.specs.Writing.{Sends, Writes};
 
 use crate::fault::Fault;
 use hpb_rules::Reply;
-use hpb_wire::{Answer, render};
+use hpb_wire::{RESPONSE_BYTES, Response, ResponseText};
 use std::alloc::{AllocError, Global};
 use std::io;
 use std::io::{ErrorKind, Write};
+use std::marker::Model;
 
-/// How many bytes of answers are kept before they are written.
+/// How many bytes of responses are kept before they are written.
 const OUTPUT_BYTES: usize = 65_536;
 
-/// More bytes than any answer has.
-const ANSWER_BYTES: usize = 256;
-
-/// Answers that are still to be written. Their room is made once.
+/// Responses that are still to be written. Their room is made once.
 #[derive(Drop)]
 pub(crate) struct Output {
-    pub(crate) answers: String,
-    /// The newest answer, whole or in part.
-    newest: String,
+    waiting: ResponseText,
+}
+
+impl Model for Output {
+    ghost use Rattle.std.specs.Prelude.{ℕ, List};
+
+    ghost Value = { List ℕ };
+
+    ghost view = { λ o. o.waiting };
 }
 
 impl Output {
     pub(crate) fn new(alloc: Global) -> Result<Self, AllocError>
-        ensures { IfOk result (λ o. string_bytes o.answers ≡ []) }
+        ensures { IfOk result (λ o. o ≡ []) }
     {
         Ok(Output {
-            answers: String::with_capacity(alloc, OUTPUT_BYTES)?,
-            newest: String::with_capacity(alloc, ANSWER_BYTES)?,
+            waiting: ResponseText::new(alloc, OUTPUT_BYTES)?,
         })
     }
 
-    /// Adds an answer, or nothing where memory is refused.
-    pub(crate) fn add(&mut self, answer: &Answer<'_>) -> Result<(), AllocError>
-        ensures { Adds (string_bytes self.old.answers) (string_bytes self.new.answers) (text_of answer.now) result }
+    /// Adds a response, or nothing where memory is refused.
+    pub(crate) fn add(&mut self, response: &Response<'_>) -> Result<(), AllocError>
+        ensures { Adds self.old self.new (text_of response.now) result }
     {
-        self.newest.clear();
-        render(&mut self.newest, answer)?;
-        self.answers.push_str(self.newest.as_str())?;
-        Ok(())
+        self.waiting.render(response)
     }
 
     /// Adds a refusal by its number.
     pub(crate) fn refuse(&mut self, code: u8) -> Result<(), AllocError>
-        ensures { Adds (string_bytes self.old.answers) (string_bytes self.new.answers) (refusal_text code) result }
+        ensures { Adds self.old self.new (refusal_text code) result }
     {
-        self.add(&Answer::Reply(Reply::Refused(code)))
+        self.add(&Response::Reply(Reply::Refused(code)))
     }
 
-    /// Whether room may be missing for one more answer.
+    /// Whether room may be missing for one more response.
     pub(crate) fn is_nearly_full(&self) -> bool {
-        self.answers.len() > OUTPUT_BYTES - ANSWER_BYTES
+        self.waiting.len() > OUTPUT_BYTES - RESPONSE_BYTES
     }
 
-    /// Writes the answers and has the writer hand them on. Where the writer fails, a front of them is written.
-    #[tactic(auto, using(crate::proofs::Streams::none_sent))]
+    /// Writes the responses and has the writer hand them on. Where the writer fails, a front of them is
+    /// written.
+    #[tactic(auto, using(crate::proofs::Writing::none_sent))]
     pub(crate) fn send<W: Write>(&mut self, writer: &mut W) -> Result<(), Fault>
-        ensures bytes { Sends (W.contents writer.old) (W.contents writer.new) (string_bytes self.old.answers) result }
-        ensures empty { string_bytes self.new.answers ≡ [] }
+        ensures bytes { Sends (W.contents writer.old) (W.contents writer.new) self.old result }
+        ensures empty { self.new ≡ [] }
     {
-        if self.answers.is_empty() {
+        if self.waiting.as_bytes().is_empty() {
             return Ok(());
         }
-        let sent = send_bytes(writer, self.answers.as_bytes());
-        self.answers.clear();
+        let sent = send_bytes(writer, self.waiting.as_bytes());
+        self.waiting.clear();
         sent
     }
 }
 
-#[tactic(auto, using(crate::proofs::Streams::sent))]
+#[tactic(auto, using(crate::proofs::Writing::sent))]
 fn send_bytes<W: Write>(writer: &mut W, bytes: &[u8]) -> Result<(), Fault>
     ensures { Sends (W.contents writer.old) (W.contents writer.new) bytes.now result }
 {

@@ -1,6 +1,7 @@
-ghost use Rattle.std.specs.Prelude.{◌≡◌, [], string_bytes};
+ghost use Rattle.std.specs.Prelude.{◌≡◌, []};
 ghost use Rattle.hpb_rules.specs.Values.{first_value};
 ghost use Rattle.hpb_server.specs.Script.{Refuses, RunsScript, ServesScript, WritesRefusal};
+ghost use Rattle.hpb_server.specs.Streams.{streams};
 
 use crate::desk::ScriptDesk;
 use crate::fault::Fault;
@@ -30,7 +31,7 @@ pub fn run_script<R: Read, W: Write>(
     reader: &mut R,
     writer: &mut W,
 ) -> Result<ScriptEnd, Fault>
-    ensures { RunsScript (R.remaining reader.old) (R.remaining reader.new) (W.contents writer.old) (W.contents writer.new) result }
+    ensures { RunsScript (streams (R.remaining reader.old) (W.contents writer.old)) (streams (R.remaining reader.new) (W.contents writer.new)) result }
 {
     let mut input = Input::new(alloc, MOST_READ)?;
     let mut output = Output::new(alloc)?;
@@ -56,8 +57,8 @@ fn answer_script<R: Read, W: Write>(
     input: &mut Input,
     output: &mut Output,
 ) -> Result<(), Fault>
-    requires { string_bytes output.old.answers ≡ [] }
-    ensures { ServesScript (R.remaining reader.old) (R.remaining reader.new) (W.contents writer.old) (W.contents writer.new)
+    requires { output.old ≡ [] }
+    ensures { ServesScript (streams (R.remaining reader.old) (W.contents writer.old)) (streams (R.remaining reader.new) (W.contents writer.new))
         input.old (first_value definition.now) result }
 {
     let mut desk = ScriptDesk::new(Auction::new(alloc, definition)?);
@@ -70,7 +71,7 @@ fn refuse_script<W: Write>(
     fault: DefineFault,
     output: &mut Output,
 ) -> Result<ScriptEnd, Fault>
-    requires { string_bytes output.old.answers ≡ [] }
+    requires { output.old ≡ [] }
     ensures { Refuses (W.contents writer.old) (W.contents writer.new) fault result }
 {
     match fault {
@@ -84,7 +85,7 @@ fn write_refusal<W: Write>(
     code: u8,
     output: &mut Output,
 ) -> Result<ScriptEnd, Fault>
-    requires { string_bytes output.old.answers ≡ [] }
+    requires { output.old ≡ [] }
     ensures { WritesRefusal (W.contents writer.old) (W.contents writer.new) code result }
 {
     output.refuse(code)?;

@@ -1,9 +1,10 @@
-ghost use Rattle.std.specs.Prelude.{◌≡◌, ◌<◌, ℕ, List, [], ◌++◌, take, Ok, OnOk, length, string_bytes};
+ghost use Rattle.std.specs.Prelude.{◌≡◌, ◌<◌, ℕ, List, [], ◌++◌, take, Ok, OnOk, length};
 ghost use Rattle.hpb_rules.specs.Lines.{request_of};
 ghost use Rattle.hpb_rules.specs.ValueText.{shown_in, node_shown_in, bidder_shown_in};
 ghost use Rattle.hpb_wire.specs.Requests.{IsRequestOf, request_view};
 ghost use Rattle.hpb_server.specs.Reading.{HasNoEnd};
 ghost use Rattle.hpb_server.specs.Serving.{Serves};
+ghost use Rattle.hpb_server.specs.Streams.{streams};
 ghost use Rattle.hpb_server.specs.Session.{AddsAnswer, AddsLook, Ends, PassesAnswer, Proceeds};
 
 use crate::desk::Desk;
@@ -12,7 +13,7 @@ use crate::input::{Input, MOST_READ};
 use crate::line::{KEPT_BYTES, Line};
 use crate::output::Output;
 use hpb_rules::{BidderId, NodeId, refusal};
-use hpb_wire::{Answer, Request, parse_line};
+use hpb_wire::{Request, Response, parse_line};
 use std::alloc::{AllocError, Global};
 use std::io::{Read, Write};
 
@@ -21,16 +22,17 @@ use std::io::{Read, Write};
 ///
 /// A line has at most 128 bytes and a line feed; any other, a last one without line feed too, is refused
 /// by `ERR 10 line`. No line tells of a fault: 90 where memory is refused, 92 where the reader or the writer
-/// fails or more than 1,000,000,000 bytes are read. Where memory is refused or the reader fails, what was
-/// answered before is written first; where the writer fails, a front of it. What was accepted stands.
+/// fails or more than 1,000,000,000 bytes are read: one byte more is taken at most, which shows that there
+/// is more. Where memory is refused or the reader fails, what was answered before is written first; where
+/// the writer fails, a front of it. What was accepted stands.
 pub fn serve<R: Read, W: Write, D: Desk>(
     alloc: Global,
     reader: &mut R,
     writer: &mut W,
     desk: &mut D,
 ) -> Result<(), Fault>
-    ensures served { Serves D.rules D.asks D.looks [] MOST_READ (R.remaining reader.old) (R.remaining reader.new)
-        (W.contents writer.old) (W.contents writer.new) desk.old desk.new result }
+    ensures served { Serves D.rules D.asks D.looks [] MOST_READ
+        (streams (R.remaining reader.old) (W.contents writer.old)) (streams (R.remaining reader.new) (W.contents writer.new)) desk.old desk.new result }
     ensures rules { D.rules desk.new ≡ D.rules desk.old }
 {
     let mut input = Input::new(alloc, MOST_READ)?;
@@ -46,9 +48,9 @@ pub(crate) fn answer_lines<R: Read, W: Write, D: Desk>(
     input: &mut Input,
     output: &mut Output,
 ) -> Result<(), Fault>
-    requires { string_bytes output.old.answers ≡ [] }
-    ensures served { Serves D.rules D.asks D.looks input.old.unread input.old.budget (R.remaining reader.old) (R.remaining reader.new)
-        (W.contents writer.old) (W.contents writer.new) desk.old desk.new result }
+    requires { output.old ≡ [] }
+    ensures served { Serves D.rules D.asks D.looks input.old.unread input.old.budget
+        (streams (R.remaining reader.old) (W.contents writer.old)) (streams (R.remaining reader.new) (W.contents writer.new)) desk.old desk.new result }
     ensures rules { D.rules desk.new ≡ D.rules desk.old }
 {
     let mut line = Line::new();
@@ -64,7 +66,7 @@ pub(crate) fn answer_lines<R: Read, W: Write, D: Desk>(
 
 /// Answers a last line without its end, where it has a byte.
 fn end_lines<W: Write>(writer: &mut W, line: &Line, output: &mut Output) -> Result<(), Fault>
-    requires { string_bytes output.old.answers ≡ [] }
+    requires { output.old ≡ [] }
     ensures { Ends (W.contents writer.old) (W.contents writer.new) line.now result }
 {
     if line.is_empty() {
@@ -84,8 +86,8 @@ fn answer_unread<W: Write, D: Desk>(
 ) -> Result<(), Fault>
     ensures lines { (partial : List ℕ) → HasNoEnd partial → line.old ≡ take KEPT_BYTES partial
         → Proceeds D.rules D.asks D.looks (partial ++ input.old.unread) desk.old desk.new
-        (W.contents writer.old) (W.contents writer.new) (string_bytes output.old.answers)
-        line.new input.new.unread (string_bytes output.new.answers) result }
+        (W.contents writer.old) (W.contents writer.new) output.old
+        line.new input.new.unread output.new result }
     ensures rules { D.rules desk.new ≡ D.rules desk.old }
     ensures taken { OnOk result (input.new.unread ≡ []) }
     ensures read { OnOk result (input.new.budget ≡ input.old.budget) }
@@ -106,7 +108,7 @@ fn pass_answer<W: Write, D: Desk>(
     output: &mut Output,
 ) -> Result<(), Fault>
     ensures answer { PassesAnswer D.rules D.asks D.looks desk.old (request_of (D.rules desk.old) line.now) desk.new
-        (W.contents writer.old) (W.contents writer.new) (string_bytes output.old.answers) (string_bytes output.new.answers) result }
+        (W.contents writer.old) (W.contents writer.new) output.old output.new result }
     ensures rules { D.rules desk.new ≡ D.rules desk.old }
 {
     match answer_line(desk, line, output) {
@@ -127,7 +129,7 @@ fn pass_answer<W: Write, D: Desk>(
 /// Adds the answer to a line.
 fn answer_line<D: Desk>(desk: &mut D, line: &[u8], output: &mut Output) -> Result<(), AllocError>
     ensures answer { AddsAnswer D.rules D.asks D.looks desk.old (request_of (D.rules desk.old) line.now) desk.new
-        (string_bytes output.old.answers) (string_bytes output.new.answers) result }
+        output.old output.new result }
     ensures rules { D.rules desk.new ≡ D.rules desk.old }
 {
     match parse_line(line, desk.definition()) {
@@ -144,11 +146,11 @@ fn answer_request<D: Desk>(
 ) -> Result<(), AllocError>
     requires { IsRequestOf (D.rules desk.old) request }
     ensures answer { AddsAnswer D.rules D.asks D.looks desk.old (Ok (request_view request)) desk.new
-        (string_bytes output.old.answers) (string_bytes output.new.answers) result }
+        output.old output.new result }
     ensures rules { D.rules desk.new ≡ D.rules desk.old }
 {
     match request {
-        Request::Command(command) => output.add(&Answer::Reply(desk.ask(&command))),
+        Request::Command(command) => output.add(&Response::Reply(desk.ask(&command))),
         Request::Show => answer_show(desk, output),
         Request::Node(node) => answer_node(desk, node, output),
         Request::Who(bidder) => answer_who(desk, bidder, output),
@@ -158,7 +160,7 @@ fn answer_request<D: Desk>(
 /// Adds the answer to `SHOW`.
 fn answer_show<D: Desk>(desk: &mut D, output: &mut Output) -> Result<(), AllocError>
     ensures answer { AddsLook D.looks shown_in desk.old desk.new
-        (string_bytes output.old.answers) (string_bytes output.new.answers) result }
+        output.old output.new result }
     ensures rules { D.rules desk.new ≡ D.rules desk.old }
 {
     match desk.look() {
@@ -171,7 +173,7 @@ fn answer_show<D: Desk>(desk: &mut D, output: &mut Output) -> Result<(), AllocEr
 fn answer_node<D: Desk>(desk: &mut D, node: NodeId, output: &mut Output) -> Result<(), AllocError>
     requires { node < length (D.rules desk.old).nodes }
     ensures answer { AddsLook D.looks (λ value. node_shown_in value node) desk.old desk.new
-        (string_bytes output.old.answers) (string_bytes output.new.answers) result }
+        output.old output.new result }
     ensures rules { D.rules desk.new ≡ D.rules desk.old }
 {
     match desk.look() {
@@ -188,7 +190,7 @@ fn answer_who<D: Desk>(
 ) -> Result<(), AllocError>
     requires { bidder < length (D.rules desk.old).bidders }
     ensures answer { AddsLook D.looks (λ value. bidder_shown_in value bidder) desk.old desk.new
-        (string_bytes output.old.answers) (string_bytes output.new.answers) result }
+        output.old output.new result }
     ensures rules { D.rules desk.new ≡ D.rules desk.old }
 {
     match desk.look() {

@@ -1,15 +1,13 @@
 ghost use Rattle.std.specs.Prelude.{◌≡◌, IfErr, IfOk};
 ghost use Rattle.hpb_server.specs.declared.words.WordsFault.TheVariants.{Memory};
-ghost use Rattle.hpb_server.specs.Words.{HasStatus};
+ghost use Rattle.hpb_server.specs.Program.{HasStatus};
 
+use crate::status::{WELL, WRONG_WORDS};
 use clap::Command;
 use clap::error::ErrorKind;
 use std::alloc::{AllocError, Global};
 use std::convert::AsStr;
 use thiserror::Error;
-
-/// The status of the program where its words are wrong.
-pub(crate) const WRONG_WORDS: u8 = 2;
 
 const ABOUT: &str = "Runs a simultaneous ascending auction with bids on packages.";
 
@@ -88,7 +86,11 @@ fn refused(alloc: Global, error: &clap::Error) -> Result<WordsFault, AllocError>
         return Ok(WordsFault::Memory);
     }
     let text = error.to_string(alloc)?;
-    let status = if error.use_stderr() { WRONG_WORDS } else { 0 };
+    let status = if error.use_stderr() {
+        WRONG_WORDS
+    } else {
+        WELL
+    };
     Ok(WordsFault::Refused { text, status })
 }
 

@@ -1,6 +1,6 @@
 use Rattle.std.proofs.Common.{arith, length-drop}
 use Rattle.std.proofs.lemmas.List.{take_rest}
-use Rattle.hpb_server.proofs.Streams.{wrote_more}
+use Rattle.hpb_server.proofs.Writing.{wrote_more}
 use Rattle.hpb_server.proofs.output.put.Goals as goal
 
 pub tries-preserved : goal.tries-preserved

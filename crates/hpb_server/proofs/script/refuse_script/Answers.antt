@@ -1,4 +1,4 @@
-use Rattle.hpb_server.proofs.ScriptRuns.{refusal_told, told_by}
+use Rattle.hpb_server.proofs.Refusals.{refusal_told, told_by}
 use Rattle.hpb_server.proofs.script.refuse_script.Goals as goal
 
 pub returns-in_default : goal.returns-in_default

@@ -1,21 +1,21 @@
-use Rattle.std.proofs.Common.{refl, ◌++◌, ◌∙◌, string_bytes}
+use Rattle.std.proofs.Common.{refl, ◌++◌, ◌∙◌}
 use Rattle.hpb_server.specs.Session.{Proceeds}
-use Rattle.hpb_server.proofs.Sessions.{err_case, session_begins, lines_ended, line_passed, line_stopped}
+use Rattle.hpb_server.proofs.Errors.{err_case}
+use Rattle.hpb_server.proofs.Sessions.{session_begins, lines_ended, line_passed, line_broken}
 use Rattle.hpb_server.proofs.serving.answer_unread.Goals as goal
 
 pub lines-init : goal.lines-init
-lines-init g c = (refl, refl, λ partial no_end kept. session_begins g.D.Desk.rules g.D.Desk.asks g.D.Desk.looks partial _ _ _ _ _ no_end kept)
+lines-init g c = (refl, refl, λ partial no_end kept. session_begins partial no_end kept)
 
 pub lines-preserved : goal.lines-preserved
 lines-preserved g c =
     let inv = c.lines.invariant in
-    let answer = c.pass_answer.ensures.answer in
     let passed = c.in_ok-pass_answer.ensures.answer in
     let part = rw c.lines-test.true at c.take_line.ensures in (
       c.pass_answer.ensures.rules ∙ inv.0,
-      part.4 ∙ inv.1,
-      λ partial no_end kept. line_passed g.D.Desk.rules g.D.Desk.asks g.D.Desk.looks _ _ _ _ _ _ _ _ _ _ _ _ _ passed.0
-          (inv.2 partial no_end kept) part c.as_slice.ensures passed.1 _ passed.2.0 _ _ passed.2.1 passed.2.2 c.clear.ensures,
+      part.nothing_read ∙ inv.1,
+      λ partial no_end kept. line_passed part (inv.2 partial no_end kept) c.pass_answer.new.desk c.as_slice.result.now passed.0 c.as_slice.ensures passed.1
+          (g.W.Write.contents c.pass_answer.new.writer) passed.2.0 passed.2.1 passed.2.2 c.clear.ensures,
     )
 
 pub returns-in_err-pass_answer-clause-lines : goal.returns-in_err-pass_answer-clause-lines
@@ -24,12 +24,13 @@ returns-in_err-pass_answer-clause-lines g c =
     let stopped = c.in_err-pass_answer.ensures.answer in
     let part = rw c.lines-test.true at c.take_line.ensures in
     λ partial no_end kept. err_case
-    (Proceeds g.D.Desk.rules g.D.Desk.asks g.D.Desk.looks (partial ++ c.args.input.now.unread) c.args.desk.now c.pass_answer.new.desk (g.W.Write.contents c.args.writer.now) (g.W.Write.contents c.pass_answer.new.writer) (string_bytes c.args.output.now.answers) c.take_line.new.line c.take_line.new.self.unread (string_bytes c.pass_answer.new.output.answers))
+    (Proceeds g.D.Desk.rules g.D.Desk.asks g.D.Desk.looks (partial ++ c.args.input.now.unread) c.args.desk.now c.pass_answer.new.desk (g.W.Write.contents c.args.writer.now) (g.W.Write.contents c.pass_answer.new.writer) c.args.output.now c.take_line.new.line c.take_line.new.self.unread c.pass_answer.new.output)
     c.from_residual.result c.from_residual.ensures.0
-    (λ fault. line_stopped g.D.Desk.rules g.D.Desk.asks g.D.Desk.looks _ _ _ _ _ _ _ _ _ _ _ _ _ stopped.0
-    (inv.2 partial no_end kept) part c.as_slice.ensures stopped.1 _ stopped.2.0 stopped.2.1 stopped.2.2)
+    (λ fault. line_broken part (inv.2 partial no_end kept) c.pass_answer.new.desk c.as_slice.result.now stopped.0 c.as_slice.ensures stopped.1
+    (g.W.Write.contents c.pass_answer.new.writer) stopped.2.0 stopped.2.1 stopped.2.2)
 
 pub returns-clause-lines : goal.returns-clause-lines
 returns-clause-lines g c =
     let inv = c.lines.invariant in
-    λ partial no_end kept. lines_ended g.D.Desk.rules g.D.Desk.asks g.D.Desk.looks _ _ _ _ _ _ _ _ _ _ _ (inv.2 partial no_end kept) (rw c.lines-test.false at c.take_line.ensures)
+    let all = rw c.lines-test.false at c.take_line.ensures in
+    λ partial no_end kept. lines_ended all (inv.2 partial no_end kept)

@@ -1,4 +1,4 @@
-use Rattle.std.proofs.Common.{◌≡◌, ℕ, List, ◌++◌, take, length, string_bytes}
+use Rattle.std.proofs.Common.{◌≡◌, ℕ, List, ◌++◌, take, length}
 use Rattle.hpb_server.specs.declared.line.TheConstants.{KEPT_BYTES}
 use Rattle.hpb_server.specs.Reading.{HasNoEnd}
 use Rattle.hpb_server.specs.Session.{Session}
@@ -10,8 +10,8 @@ invariant-lines g l =
     (g.D.Desk.rules l.desk ≡ g.D.Desk.rules l.initial.desk) × (l.input.budget ≡ l.initial.input.budget)
     × ((partial : List ℕ) → HasNoEnd partial → l.initial.line ≡ take KEPT_BYTES partial
     → Session g.D.Desk.rules g.D.Desk.asks g.D.Desk.looks (partial ++ l.initial.input.unread) l.initial.desk l.desk
-    (g.W.Write.contents l.initial.writer) (g.W.Write.contents l.writer) (string_bytes l.initial.output.answers)
-    l.line l.input.unread (string_bytes l.output.answers))
+    (g.W.Write.contents l.initial.writer) (g.W.Write.contents l.writer) l.initial.output
+    l.line l.input.unread l.output)
 
 abbrev pub decreases-lines : goal.decreases-lines
 decreases-lines g l = length l.input.unread

@@ -1,13 +1,12 @@
-use Rattle.std.proofs.Common.{string_bytes}
-use Rattle.hpb_server.proofs.Sessions.{sent_passes, front_passes}
+use Rattle.hpb_server.proofs.Passing.{sent_passes, front_passes}
 use Rattle.hpb_server.proofs.serving.pass_answer.Goals as goal
 
 pub returns-in_err-send-in-Err-clause-answer : goal.returns-in_err-send-in-Err-clause-answer
 returns-in_err-send-in-Err-clause-answer g c =
     let answer = c.in-Err.ensures.answer in
-    (answer.0, answer.1, front_passes _ _ _ _ _ (string_bytes c.send-in-Err.new.self.answers) c.in_err-send-in-Err.field-0.0 c.from_residual.result c.from_residual.ensures.0 answer.2 c.in_err-send-in-Err.ensures.bytes)
+    (answer.0, answer.1, front_passes _ _ _ c.send-in-Err.new.self c.in_err-send-in-Err.field-0.0 c.from_residual.result c.from_residual.ensures.0 answer.2 c.in_err-send-in-Err.ensures.bytes)
 
 pub returns-then-is_nearly_full-clause-answer : goal.returns-then-is_nearly_full-clause-answer
 returns-then-is_nearly_full-clause-answer g c =
     let answer = c.in-Ok.ensures.answer in
-    (answer.0, answer.1, sent_passes _ _ _ _ _ c.send.result answer.2 c.send.ensures.bytes c.send.ensures.empty)
+    (answer.0, answer.1, sent_passes _ _ c.send.result answer.2 c.send.ensures.bytes c.send.ensures.empty)

@@ -1,7 +1,7 @@
 use Rattle.std.proofs.Common.{[]}
 use Rattle.hpb_server.specs.declared.input.TheConstants.{MOST_READ}
 use Rattle.hpb_server.specs.Reading.{Pending}
-use Rattle.hpb_server.proofs.Sessions.{never_served}
+use Rattle.hpb_server.proofs.Chunks.{never_served}
 use Rattle.hpb_server.proofs.serving.serve.Goals as goal
 
 -- a session that has read nothing
@@ -10,8 +10,8 @@ nothing = record { unread = []; budget = MOST_READ }
 
 pub returns-in_err-input-clause-served : goal.returns-in_err-input-clause-served
 unfolding nothing
-returns-in_err-input-clause-served g c = never_served g.D.Desk.rules g.D.Desk.asks g.D.Desk.looks nothing _ _ _ c.from_residual.result c.from_residual.ensures.0
+returns-in_err-input-clause-served g c = never_served g.D.Desk.rules g.D.Desk.asks g.D.Desk.looks nothing _ _ c.from_residual.result c.from_residual.ensures.0
 
 pub returns-in_err-output-clause-served : goal.returns-in_err-output-clause-served
 unfolding nothing
-returns-in_err-output-clause-served g c = never_served g.D.Desk.rules g.D.Desk.asks g.D.Desk.looks nothing _ _ _ c.from_residual-in_err-output.result c.from_residual-in_err-output.ensures.0
+returns-in_err-output-clause-served g c = never_served g.D.Desk.rules g.D.Desk.asks g.D.Desk.looks nothing _ _ c.from_residual-in_err-output.result c.from_residual-in_err-output.ensures.0

@@ -11,4 +11,10 @@ returns-in_ok-keep-in-Some c =
     let found = c.in-Some.ensures in
     let n = c.in-Some.length in
     let unread = ap (λ (p : Pending). p.unread) c.self.view_is in
-    (take n (slice_range xs i.start i.end), found.2, cut_part i.chunk.items xs _ i.start i.end n _ c.deref.ensures.value unread found.0 found.1, c.in_ok-keep-in-Some.ensures, ap (λ (p : Pending). p.budget) c.self.view_is)
+    record {
+      bytes = take n (slice_range xs i.start i.end);
+      no_end = found.2;
+      parts = cut_part i.chunk.items xs _ i.start i.end n _ c.deref.ensures.value unread found.0 found.1;
+      kept = c.in_ok-keep-in-Some.ensures;
+      nothing_read = ap (λ (p : Pending). p.budget) c.self.view_is;
+    }
