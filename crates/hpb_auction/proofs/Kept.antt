@@ -5,8 +5,8 @@ use Rattle.hpb_rules.specs.declared.command.Offer.{Offer}
 use Rattle.hpb_rules.specs.History.{greater}
 use Rattle.hpb_rules.specs.Tree.{Rules, tree_of}
 use Rattle.hpb_bids.specs.View.{BooksView, bid_of}
-use Rattle.hpb_winners.specs.Outcome.{OutcomeView, IsOutcome}
-use Rattle.hpb_prices.specs.View.{PricesView, IsSized, HasPrices, HasMinima}
+use Rattle.hpb_winners.specs.View.{OutcomeView, IsOutcome}
+use Rattle.hpb_prices.specs.View.{PricesView, AreSizedPrices, HasPrices, HasMinima}
 use Rattle.hpb_auction.specs.Inside.{IsOfferOf, AreTablesOf}
 
 -- the greater of two bids on a node is one of them
@@ -19,7 +19,7 @@ greater_kept rules n older newer h k = pick _
 
 -- tables of the high bids of some books are those of the books
 pub tables_by : {rules : Rules} {books : BooksView} {outcome : OutcomeView} {priced : PricesView} {bid : ℕ → ℕ} → bid_of books ≡ bid
-    → IsOutcome rules.nodes bid outcome → IsSized rules.nodes priced → HasPrices rules.nodes bid priced → HasMinima (tree_of rules) bid priced → AreTablesOf rules books outcome priced
+    → IsOutcome rules.nodes bid outcome → AreSizedPrices rules.nodes priced → HasPrices rules.nodes bid priced → HasMinima (tree_of rules) bid priced → AreTablesOf rules books outcome priced
 tables_by {rules = rules} {outcome = outcome} {priced = priced} high reached sized prices minima = record {
   reached = subst (λ (bid : ℕ → ℕ). IsOutcome rules.nodes bid outcome) (sym high) reached;
   sized = sized;

@@ -3,7 +3,7 @@ use Rattle.std.specs.Prelude.{ℕ, ◌*◌, ◌/◌, List, map, min, None}
 use Rattle.hpb_rules.specs.Tree.{Rules, Node}
 use Rattle.hpb_rules.specs.History.{bidder_units}
 use Rattle.hpb_bids.specs.View.{BooksView}
-use Rattle.hpb_winners.specs.Outcome.{OutcomeView}
+use Rattle.hpb_winners.specs.View.{OutcomeView}
 use Rattle.hpb_units.specs.Activity.{activity_of}
 use Rattle.hpb_auction.specs.declared.sender.BidderRow.{BidderRow}
 use Rattle.hpb_auction.specs.Inside.{bidder_places}

@@ -9,7 +9,7 @@ use Rattle.std.proofs.lemmas.List.{length-take}
 use Rattle.hpb_rules.specs.declared.command.Command.{Command}
 use Rattle.hpb_rules.specs.declared.reply.Reply.{Reply}
 use Rattle.hpb_rules.specs.Tree.{Rules}
-use Rattle.hpb_rules.specs.Seen.{Quantities}
+use Rattle.hpb_rules.specs.AuctionValue.{AuctionValue}
 use Rattle.hpb_rules.specs.Text.{unfinished_text}
 use Rattle.hpb_server.specs.declared.fault.Fault.{Fault}
 use Rattle.hpb_server.specs.declared.line.TheConstants.{KEPT_BYTES}
@@ -29,7 +29,7 @@ same_empty line (x ∷ bytes) e =
     ne_eqb (length line) 0 (λ z. absurd (omega (arith, z, ap length e, length-take KEPT_BYTES (x ∷ bytes))))
     ∙ sym (ne_eqb (length (x ∷ bytes)) 0 (λ z. absurd (omega (arith, z))))
 
-module _ {Desk : Type 0} (rules : Desk → Rules) (asks : Desk → Command → Reply → Desk → Type 0) (looks : Desk → Option Quantities → Desk → Type 0) where
+module _ {Desk : Type 0} (rules : Desk → Rules) (asks : Desk → Command → Reply → Desk → Type 0) (looks : Desk → Option AuctionValue → Desk → Type 0) where
   -- so much was taken of the reader within the budget, and the session stands there
   pub record Comes (first : Pending) (before : Streams) (old : Desk) (now : Streams) (desk : Desk) (input : Pending) (line output : List ℕ) : Type 0 where
     pub taken : List ℕ
@@ -37,7 +37,7 @@ module _ {Desk : Type 0} (rules : Desk → Rules) (asks : Desk → Command → R
     pub within : length taken + input.budget ≡ first.budget
     pub session : Session rules asks looks (first.unread ++ taken) old desk before.contents now.contents [] line input.unread output
 
-module _ {Desk : Type 0} {rules : Desk → Rules} {asks : Desk → Command → Reply → Desk → Type 0} {looks : Desk → Option Quantities → Desk → Type 0} {first : Pending} {before : Streams} {old : Desk} where
+module _ {Desk : Type 0} {rules : Desk → Rules} {asks : Desk → Command → Reply → Desk → Type 0} {looks : Desk → Option AuctionValue → Desk → Type 0} {first : Pending} {before : Streams} {old : Desk} where
   pub comes_begins : {line output : List ℕ} → line ≡ [] → output ≡ [] → Comes rules asks looks first before old before old first line output
   comes_begins {line = line} {output = output} none empty = record {
     taken = [];
@@ -141,7 +141,7 @@ module _ {Desk : Type 0} {rules : Desk → Rules} {asks : Desk → Command → R
             }
 
 -- nothing is read and nothing is written
-pub never_served : {Desk : Type 0} (rules : Desk → Rules) (asks : Desk → Command → Reply → Desk → Type 0) (looks : Desk → Option Quantities → Desk → Type 0)
+pub never_served : {Desk : Type 0} (rules : Desk → Rules) (asks : Desk → Command → Reply → Desk → Type 0) (looks : Desk → Option AuctionValue → Desk → Type 0)
     (first : Pending) (before : Streams) (old : Desk) (r : Result ⊤ Fault) → IsErr r → Serves rules asks looks first.unread first.budget before before old old r
 never_served rules asks looks first before old r bad =
     let come : Comes rules asks looks first before old before old first [] [] = comes_begins refl refl in

@@ -3,11 +3,12 @@ use Rattle.std.proofs.Common.{◌≡◌, ℕ, List, take, drop, Option, refl, sy
 use Rattle.std.specs.Prelude.{Result, Ok, Err}
 use Rattle.std.specs.Result.{IsErr}
 use Rattle.std.specs.Io.KnownBytes.{Appends}
+use Rattle.hpb_rules.specs.declared.refusal.Refusal.{Refusal}
 use Rattle.hpb_rules.specs.Rendering.{refusal_text}
 use Rattle.hpb_rules.specs.Text.{line_of}
 use Rattle.hpb_define.specs.declared.fault.DefineFault.{DefineFault}
 use Rattle.hpb_define.specs.declared.fault.DefineFault.TheVariants as faults
-use Rattle.hpb_define.specs.Fault.{code_of}
+use Rattle.hpb_define.specs.Fault.{refusal_of}
 use Rattle.hpb_server.specs.declared.fault.Fault.{Fault}
 use Rattle.hpb_server.specs.declared.script.ScriptEnd.{ScriptEnd}
 use Rattle.hpb_server.specs.declared.script.ScriptEnd.TheVariants.{Answered, Refused}
@@ -15,18 +16,18 @@ use Rattle.hpb_server.specs.Script.{IsTold, WritesRefusal, Refuses}
 use Rattle.hpb_server.specs.Writing.{Sends}
 use Rattle.hpb_server.proofs.Errors.{err_case}
 
-pub refusal_cut : (old new : Option (List ℕ)) {output : List ℕ} (code : ℕ) (fault : Fault) (r : Result ScriptEnd Fault) → IsErr r → output ≡ line_of (refusal_text code) → Sends old new output (Err fault) → WritesRefusal old new code r
-refusal_cut old new {output = output} code fault r bad is s = err_case (WritesRefusal old new code) r bad (λ other. (take s.0 output, s.1, (drop s.0 output, sym is ∙ sym (take-append-drop s.0 output))))
+pub refusal_cut : (old new : Option (List ℕ)) {output : List ℕ} (refusal : Refusal) (fault : Fault) (r : Result ScriptEnd Fault) → IsErr r → output ≡ line_of (refusal_text refusal) → Sends old new output (Err fault) → WritesRefusal old new refusal r
+refusal_cut old new {output = output} refusal fault r bad is s = err_case (WritesRefusal old new refusal) r bad (λ other. (take s.0 output, s.1, (drop s.0 output, sym is ∙ sym (take-append-drop s.0 output))))
 
-pub refusal_told : (old new : Option (List ℕ)) (fault : DefineFault) (code : ℕ) (r : Result ScriptEnd Fault) → IsTold fault code → WritesRefusal old new code r → Refuses old new fault r
-refusal_told old new fault code (Ok Answered) told w = absurd w
-refusal_told old new fault code (Ok (Refused other)) told w = (subst (IsTold fault) (sym w.0) told, subst (λ (n : ℕ). Appends old new (line_of (refusal_text n))) (sym w.0) w.1)
-refusal_told old new fault code (Err broken) told w = inr (code, w.0, told, w.1, w.2)
+pub refusal_told : (old new : Option (List ℕ)) (fault : DefineFault) (refusal : Refusal) (r : Result ScriptEnd Fault) → IsTold fault refusal → WritesRefusal old new refusal r → Refuses old new fault r
+refusal_told old new fault refusal (Ok Answered) told w = absurd w
+refusal_told old new fault refusal (Ok (Refused other)) told w = (subst (IsTold fault) (sym w.0) told, subst (λ (refusal : Refusal). Appends old new (line_of (refusal_text refusal))) (sym w.0) w.1)
+refusal_told old new fault refusal (Err broken) told w = inr (refusal, w.0, told, w.1, w.2)
 
 -- what is no want of memory is told by its number
-pub told_by : (fault : DefineFault) (code : ℕ) → (fault ≡ faults.Memory → ⊥) → code ≡ code_of fault → IsTold fault code
-told_by faults.Memory code other is = absurd (other refl)
-told_by faults.Json code other is = is
-told_by faults.Field code other is = is
-told_by faults.Number code other is = is
-told_by (faults.Refused fault) code other is = is
+pub told_by : (fault : DefineFault) (refusal : Refusal) → (fault ≡ faults.Memory → ⊥) → refusal ≡ refusal_of fault → IsTold fault refusal
+told_by faults.Memory refusal other is = absurd (other refl)
+told_by faults.Json refusal other is = is
+told_by faults.Field refusal other is = is
+told_by faults.Number refusal other is = is
+told_by (faults.Refused fault) refusal other is = is

@@ -8,6 +8,7 @@ use Rattle.std.proofs.KnownBytes.{Appends-nil, Consumes-nil, Consumes-trans}
 use Rattle.std.proofs.lemmas.Bool.{cases_lt}
 use Rattle.std.proofs.lemmas.List.{length-take}
 use Rattle.std.proofs.lemmas.List.Splits.{slice_split_at, slice_split_none}
+use Rattle.hpb_rules.specs.declared.refusal.Refusal.{Refusal}
 use Rattle.hpb_rules.specs.Tree.{Rules}
 use Rattle.hpb_rules.specs.Fronts.{IsFront}
 use Rattle.hpb_rules.specs.Values.{first_value}
@@ -73,8 +74,8 @@ module _ {reader_old reader_now : Option (List ℕ)} {input : Pending} {text : D
 
   -- ---- a definition that is refused
   module _ (writer_old writer_new : Option (List ℕ)) (fault : DefineFault) (refused : Answers given.bytes (Err fault)) where
-    refuses : (code : ℕ) (has_end : Bool) → text.has_end ≡ has_end → IsTold fault code → RefusesScript (streams reader_old writer_old) (streams reader_now writer_new) code
-    refuses code true is told =
+    refuses : (refusal : Refusal) (has_end : Bool) → text.has_end ≡ has_end → IsTold fault refusal → RefusesScript (streams reader_old writer_old) (streams reader_now writer_new) refusal
+    refuses refusal true is told =
         let ends : EndsDefinition reader_old reader_now MOST_READ input given.bytes true = ends_as true is in record {
           taken = given.bytes ++ LINE_FEED ∷ input.unread;
           first = given.bytes;
@@ -86,7 +87,7 @@ module _ {reader_old reader_now : Option (List ℕ)} {input : Pending} {text : D
           refused = refused;
           told = told;
         }
-    refuses code false is told =
+    refuses refusal false is told =
         let ends : EndsDefinition reader_old reader_now MOST_READ input given.bytes false = ends_as false is in record {
           taken = given.bytes;
           first = given.bytes;
@@ -110,11 +111,11 @@ module _ {reader_old reader_now : Option (List ℕ)} {input : Pending} {text : D
 
     pub refused_run : (r : Result ScriptEnd Fault) → Refuses writer_old writer_new fault r → RunsScript (streams reader_old writer_old) (streams reader_now writer_new) r
     refused_run (Ok Answered) w = absurd w
-    refused_run (Ok (Refused code)) w = (refuses code text.has_end refl w.0, w.1)
+    refused_run (Ok (Refused refusal)) w = (refuses refusal text.has_end refl w.0, w.1)
     refused_run (Err broken) w = ⊎_elim
         (λ none. inl (taken_some text.has_end refl, none))
         (λ some. inr (inl (record {
-          code = some.0;
+          refusal = some.0;
           sent = some.1;
           refuses = refuses some.0 text.has_end refl some.2;
           written = some.3;
@@ -190,7 +191,7 @@ module _ {reader_old reader_now : Option (List ℕ)} {input : Pending} {text : D
             (text_grows define given.bytes s.1.done s.1.rest (⊎_elim (λ whole. inl whole) (λ all. inr all.0) s.1.whole)));
       })))
         where
-          so_far : (define : List ℕ → Result Rules ℕ) → define given.bytes ≡ Ok rules → IsFront s.1.sent (script_text define (after_line s.1.done))
+          so_far : (define : List ℕ → Result Rules Refusal) → define given.bytes ≡ Ok rules → IsFront s.1.sent (script_text define (after_line s.1.done))
           so_far define is = subst (IsFront s.1.sent) (text_is define given.bytes s.1.done s.1.text rules s.0 given.no_end is s.1.answers) s.1.front
 
           parts : after_line (input.unread ++ s.1.taken) ≡ after_line s.1.done ++ s.1.rest

@@ -7,7 +7,7 @@ use Rattle.hpb_rules.specs.declared.command.Command.{Command}
 use Rattle.hpb_rules.specs.declared.reply.Reply.{Reply}
 use Rattle.hpb_rules.specs.Tree.{Rules}
 use Rattle.hpb_rules.specs.Fronts.{IsFront}
-use Rattle.hpb_rules.specs.Seen.{Quantities}
+use Rattle.hpb_rules.specs.AuctionValue.{AuctionValue}
 use Rattle.hpb_rules.specs.Text.{line_of}
 use Rattle.hpb_rules.specs.Lines.{request_of, is_line_feed}
 use Rattle.hpb_server.specs.declared.input.TheConstants.{LINE_FEED}
@@ -18,7 +18,7 @@ use Rattle.hpb_server.specs.Session.{Leads, Session, Broken}
 use Rattle.hpb_server.proofs.Definitions.{take-take-append}
 use Rattle.hpb_server.proofs.WholeLines.{leads_none, leads_append, leads_line, front_answered}
 
-module _ {Desk : Type 0} {rules : Desk → Rules} {asks : Desk → Command → Reply → Desk → Type 0} {looks : Desk → Option Quantities → Desk → Type 0} where
+module _ {Desk : Type 0} {rules : Desk → Rules} {asks : Desk → Command → Reply → Desk → Type 0} {looks : Desk → Option AuctionValue → Desk → Type 0} where
   -- where a session begins
   pub session_begins : (partial : List ℕ) {line unread output : List ℕ} {desk : Desk} {writer : Option (List ℕ)} → HasNoEnd partial → line ≡ take KEPT_BYTES partial
       → Session rules asks looks (partial ++ unread) desk desk writer writer output line unread output

@@ -3,13 +3,15 @@ use Rattle.std.proofs.Common.{ℕ, Bool, true, false, cond, eqb, List, [], ◌�
 use Rattle.std.specs.Prelude.{Result, if◌then◌else◌}
 use Rattle.std.specs.List.{slice_split, onto_first}
 use Rattle.std.proofs.lemmas.List.Splits.{slice_split_at, slice_split_none}
+use Rattle.hpb_rules.specs.declared.refusal.Refusal.{Refusal}
 use Rattle.hpb_rules.specs.declared.command.Command.{Command}
 use Rattle.hpb_rules.specs.declared.reply.Reply.{Reply}
 use Rattle.hpb_rules.specs.Tree.{Rules}
-use Rattle.hpb_rules.specs.Seen.{Quantities}
+use Rattle.hpb_rules.specs.AuctionValue.{AuctionValue}
 use Rattle.hpb_rules.specs.Text.{line_of, unfinished_text}
-use Rattle.hpb_rules.specs.Lines.{Request, request_of, is_line_feed}
-use Rattle.hpb_rules.proofs.Texts.{request_of_front}
+use Rattle.hpb_rules.specs.declared.request.Request.{Request}
+use Rattle.hpb_rules.specs.Lines.{request_of, is_line_feed}
+use Rattle.hpb_rules.proofs.TextLaws.{request_of_front}
 use Rattle.hpb_server.specs.declared.input.TheConstants.{LINE_FEED}
 use Rattle.hpb_server.specs.declared.line.TheConstants.{KEPT_BYTES}
 use Rattle.hpb_server.specs.Reading.{HasNoEnd}
@@ -42,16 +44,16 @@ whole_append a b p q = ⊎_elim
     q
 
 -- ---- answers
-module _ {Desk : Type 0} (rules : Desk → Rules) (asks : Desk → Command → Reply → Desk → Type 0) (looks : Desk → Option Quantities → Desk → Type 0) where
+module _ {Desk : Type 0} (rules : Desk → Rules) (asks : Desk → Command → Reply → Desk → Type 0) (looks : Desk → Option AuctionValue → Desk → Type 0) where
   before_parts : (a b end : Desk) (line answer rest : List ℕ) (parts : List (List ℕ)) → IsFilled parts → AnswersLine rules asks looks a line answer b
       → AnswersLines rules asks looks b parts rest end → AnswersLines rules asks looks a (line ∷ parts) (line_of answer ++ rest) end
   before_parts a b end line answer rest parts (filled piece pieces) h k = (answer, rest, b, h, k, refl)
 
   -- a line is answered by its first bytes
   pub front_answered : (a b : Desk) (bytes answer : List ℕ) → AnswersRequest rules asks looks a (request_of (rules a) (take KEPT_BYTES bytes)) answer b → AnswersLine rules asks looks a bytes answer b
-  front_answered a b bytes answer h = subst (λ (request : Result Request ℕ). AnswersRequest rules asks looks a request answer b) (request_of_front (rules a) bytes) h
+  front_answered a b bytes answer h = subst (λ (request : Result Request Refusal). AnswersRequest rules asks looks a request answer b) (request_of_front (rules a) bytes) h
 
-module _ {Desk : Type 0} {rules : Desk → Rules} {asks : Desk → Command → Reply → Desk → Type 0} {looks : Desk → Option Quantities → Desk → Type 0} where
+module _ {Desk : Type 0} {rules : Desk → Rules} {asks : Desk → Command → Reply → Desk → Type 0} {looks : Desk → Option AuctionValue → Desk → Type 0} where
   pub leads_none : (d : Desk) → Leads rules asks looks d [] [] d
   leads_none d = record { whole = none_whole; goes_on = λ more rest end h. h }
 

@@ -4,22 +4,22 @@ use Rattle.std.specs.Borrow.{Bor}
 use Rattle.hpb_rules.specs.declared.command.Command.{Command}
 use Rattle.hpb_rules.specs.declared.reply.Reply.{Reply}
 use Rattle.hpb_rules.specs.Tree.{Rules}
-use Rattle.hpb_rules.specs.Seen.{Quantities}
+use Rattle.hpb_rules.specs.AuctionValue.{AuctionValue}
 use Rattle.hpb_rules.specs.Values.{reply_in, next_value}
 
 -- What is known of the auction that is shown, if one is.
-abbrev pub seen : Option (Bor Quantities) → Option Quantities
+abbrev pub seen : Option (Bor AuctionValue) → Option AuctionValue
 seen None = None
 seen (Some auction) = Some auction.now
 
 -- The rules of an auction in memory.
-abbrev pub rules_in : Quantities → Rules
+abbrev pub rules_in : AuctionValue → Rules
 rules_in value = value.rules
 
 -- An auction in memory replies by what it shows, and becomes what follows from that.
-abbrev pub RepliesIn : Quantities → Command → Reply → Quantities → Type 0
+abbrev pub RepliesIn : AuctionValue → Command → Reply → AuctionValue → Type 0
 RepliesIn old command reply new = (reply ≡ reply_in old command) × (new ≡ next_value old command)
 
 -- It shows itself, and stays as it is.
-abbrev pub ShowsItself : Quantities → Option Quantities → Quantities → Type 0
+abbrev pub ShowsItself : AuctionValue → Option AuctionValue → AuctionValue → Type 0
 ShowsItself old shown new = (shown ≡ Some old) × (new ≡ old)

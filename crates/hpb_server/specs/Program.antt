@@ -14,7 +14,7 @@ use Rattle.hpb_server.specs.Streams.{Streams, AreKept}
 -- The status by the end of a script.
 abbrev pub status_of_script : Result ScriptEnd Fault → ℕ
 status_of_script (Ok ends.Answered) = WELL
-status_of_script (Ok (ends.Refused code)) = ILL
+status_of_script (Ok (ends.Refused refusal)) = ILL
 status_of_script (Err fault) = ILL
 
 -- The status where words ask for no job.

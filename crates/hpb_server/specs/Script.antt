@@ -2,16 +2,17 @@
 use Rattle.std.specs.Prelude.{◌≡◌, ℕ, ◌<◌, ◌≤◌, List, [], ◌∷◌, ◌++◌, length, Option, Result, Ok, Err, ⊤, ◌⊎◌}
 use Rattle.std.specs.List.{slice_split}
 use Rattle.std.specs.Io.KnownBytes.{Appends, Consumes, IsAtEnd}
+use Rattle.hpb_rules.specs.declared.refusal.Refusal.{Refusal}
 use Rattle.hpb_rules.specs.Tree.{Rules}
 use Rattle.hpb_rules.specs.Fronts.{IsFront}
-use Rattle.hpb_rules.specs.Seen.{Quantities}
+use Rattle.hpb_rules.specs.AuctionValue.{AuctionValue}
 use Rattle.hpb_rules.specs.Lines.{is_line_feed}
 use Rattle.hpb_rules.specs.Rendering.{refusal_text}
 use Rattle.hpb_rules.specs.Text.{line_of, script_text}
 use Rattle.hpb_define.specs.declared.fault.DefineFault.{DefineFault}
 use Rattle.hpb_define.specs.declared.fault.DefineFault.TheVariants.{Memory}
 use Rattle.hpb_define.specs.declared.reading.TheConstants.{MOST_BYTES}
-use Rattle.hpb_define.specs.Fault.{code_of}
+use Rattle.hpb_define.specs.Fault.{refusal_of}
 use Rattle.hpb_define.specs.Text.{Answers}
 use Rattle.hpb_server.specs.declared.fault.Fault.{Fault}
 use Rattle.hpb_server.specs.declared.input.TheConstants.{LINE_FEED, MOST_READ}
@@ -23,9 +24,9 @@ use Rattle.hpb_server.specs.Streams.{Streams}
 use Rattle.hpb_server.specs.Serving.{AreLines, Serves}
 
 -- The number of a refusal. Want of memory is no refusal.
-abbrev pub IsTold : DefineFault → ℕ → Type 0
-IsTold Memory code = ⊥
-IsTold fault code = code ≡ code_of fault
+abbrev pub IsTold : DefineFault → Refusal → Type 0
+IsTold Memory refusal = ⊥
+IsTold fault refusal = refusal ≡ refusal_of fault
 
 module _ (before after : Streams) where
   -- The first line is a definition. All was read, and what is written is the text of the script, by any reading of definitions that reads this line so.
@@ -39,10 +40,10 @@ module _ (before after : Streams) where
     pub within : length input ≤ MOST_READ
     pub parts : slice_split is_line_feed input ≡ first ∷ lines
     pub accepted : Answers first (Ok rules)
-    pub written : (define : List ℕ → Result Rules ℕ) → define first ≡ Ok rules → Appends before.contents after.contents (script_text define input)
+    pub written : (define : List ℕ → Result Rules Refusal) → define first ≡ Ok rules → Appends before.contents after.contents (script_text define input)
 
   -- The first line is refused as a definition. It was read to its end, or to the end of the reader, or so far that it is too long.
-  pub record RefusesScript (code : ℕ) : Type 0 where
+  pub record RefusesScript (refusal : Refusal) : Type 0 where
     pub taken : List ℕ
     pub first : List ℕ
     pub fault : DefineFault
@@ -51,15 +52,15 @@ module _ (before after : Streams) where
     pub line : HasNoEnd first
     pub ends : ((rest : List ℕ) × (taken ≡ first ++ LINE_FEED ∷ rest)) ⊎ ((taken ≡ first) × ((MOST_BYTES < length first) ⊎ IsAtEnd after.remaining))
     pub refused : Answers first (Err fault)
-    pub told : IsTold fault code
+    pub told : IsTold fault refusal
 
   -- The refusal of the first line was written, or a front of it.
   pub record RefusesFront : Type 0 where
-    pub code : ℕ
+    pub refusal : Refusal
     pub sent : List ℕ
-    pub refuses : RefusesScript code
+    pub refuses : RefusesScript refusal
     pub written : Appends before.contents after.contents sent
-    pub front : IsFront sent (line_of (refusal_text code))
+    pub front : IsFront sent (line_of (refusal_text refusal))
 
   -- The first line is a definition. Whole lines of what was read were answered, or all that the reader had, and a front of the text of the script so far was written. It is a front of the text of all that was read, too.
   pub record AnswersScriptFront : Type 0 where
@@ -76,8 +77,8 @@ module _ (before after : Streams) where
     pub whole : AreLines done ⊎ ((rest ≡ []) × IsAtEnd after.remaining)
     pub accepted : Answers first (Ok rules)
     pub written : Appends before.contents after.contents sent
-    pub front : (define : List ℕ → Result Rules ℕ) → define first ≡ Ok rules → IsFront sent (script_text define (first ++ LINE_FEED ∷ done))
-    pub text : (define : List ℕ → Result Rules ℕ) → define first ≡ Ok rules → IsFront sent (script_text define taken)
+    pub front : (define : List ℕ → Result Rules Refusal) → define first ≡ Ok rules → IsFront sent (script_text define (first ++ LINE_FEED ∷ done))
+    pub text : (define : List ℕ → Result Rules Refusal) → define first ≡ Ok rules → IsFront sent (script_text define taken)
 
   -- Nothing was written.
   abbrev pub WritesNothing : Type 0
@@ -86,22 +87,22 @@ module _ (before after : Streams) where
   -- What a run of a script reads and writes.
   abbrev pub RunsScript : Result ScriptEnd Fault → Type 0
   RunsScript (Ok Answered) = AnswersScript
-  RunsScript (Ok (Refused code)) = RefusesScript code × Appends before.contents after.contents (line_of (refusal_text code))
+  RunsScript (Ok (Refused refusal)) = RefusesScript refusal × Appends before.contents after.contents (line_of (refusal_text refusal))
   RunsScript (Err fault) = WritesNothing ⊎ (RefusesFront ⊎ AnswersScriptFront)
 
   -- The lines of a script are answered from this value on.
-  abbrev pub ServesScript : Pending → Quantities → Result ⊤ Fault → Type 0
-  ServesScript input value result = (new : Quantities) × Serves rules_in RepliesIn ShowsItself input.unread input.budget before after value new result
+  abbrev pub ServesScript : Pending → AuctionValue → Result ⊤ Fault → Type 0
+  ServesScript input value result = (new : AuctionValue) × Serves rules_in RepliesIn ShowsItself input.unread input.budget before after value new result
 
 -- The line of a refusal was written, or a front of it.
-abbrev pub WritesRefusal : (writer_old writer_new : Option (List ℕ)) (code : ℕ) → Result ScriptEnd Fault → Type 0
-WritesRefusal writer_old writer_new code (Ok Answered) = ⊥
-WritesRefusal writer_old writer_new code (Ok (Refused told)) = (told ≡ code) × Appends writer_old writer_new (line_of (refusal_text code))
-WritesRefusal writer_old writer_new code (Err fault) = (sent : List ℕ) × Appends writer_old writer_new sent × IsFront sent (line_of (refusal_text code))
+abbrev pub WritesRefusal : (writer_old writer_new : Option (List ℕ)) (refusal : Refusal) → Result ScriptEnd Fault → Type 0
+WritesRefusal writer_old writer_new refusal (Ok Answered) = ⊥
+WritesRefusal writer_old writer_new refusal (Ok (Refused told)) = (told ≡ refusal) × Appends writer_old writer_new (line_of (refusal_text refusal))
+WritesRefusal writer_old writer_new refusal (Err fault) = (sent : List ℕ) × Appends writer_old writer_new sent × IsFront sent (line_of (refusal_text refusal))
 
 -- The same by the fault of a definition; nothing was written where memory was refused.
 abbrev pub Refuses : (writer_old writer_new : Option (List ℕ)) → DefineFault → Result ScriptEnd Fault → Type 0
 Refuses writer_old writer_new fault (Ok Answered) = ⊥
-Refuses writer_old writer_new fault (Ok (Refused code)) = IsTold fault code × Appends writer_old writer_new (line_of (refusal_text code))
+Refuses writer_old writer_new fault (Ok (Refused refusal)) = IsTold fault refusal × Appends writer_old writer_new (line_of (refusal_text refusal))
 Refuses writer_old writer_new fault (Err broken) =
-    Appends writer_old writer_new [] ⊎ ((code : ℕ) × (sent : List ℕ) × IsTold fault code × Appends writer_old writer_new sent × IsFront sent (line_of (refusal_text code)))
+    Appends writer_old writer_new [] ⊎ ((refusal : Refusal) × (sent : List ℕ) × IsTold fault refusal × Appends writer_old writer_new sent × IsFront sent (line_of (refusal_text refusal)))

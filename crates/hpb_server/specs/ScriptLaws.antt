@@ -4,7 +4,7 @@ use Rattle.std.specs.Io.KnownBytes.{Appends, Consumes, IsAtEnd}
 use Rattle.hpb_rules.specs.declared.command.Command.{Command}
 use Rattle.hpb_rules.specs.Tree.{Rules}
 use Rattle.hpb_rules.specs.Fronts.{IsFront}
-use Rattle.hpb_rules.specs.Seen.{Quantities, Shows}
+use Rattle.hpb_rules.specs.AuctionValue.{AuctionValue, Shows}
 use Rattle.hpb_rules.specs.Text.{lines_text}
 use Rattle.hpb_server.specs.declared.fault.Fault.{Fault}
 use Rattle.hpb_server.specs.Desk.{rules_in, RepliesIn, ShowsItself}
@@ -13,7 +13,7 @@ use Rattle.hpb_server.specs.Serving.{AnswersInput, Serves}
 
 -- An auction in memory that shows a history answers an input by the text of lines after this history, and shows a history that goes on from it.
 abbrev pub InputIsText : Type 0
-InputIsText = (old new : Quantities) (history : List Command) (input text : List ℕ)
+InputIsText = (old new : AuctionValue) (history : List Command) (input text : List ℕ)
     → Shows old history → AnswersInput rules_in RepliesIn ShowsItself old input text new
     → (text ≡ lines_text old.rules history input) × ((longer : List Command) × IsFront history longer × Shows new longer)
 
@@ -26,6 +26,6 @@ WritesText rules history before after (Err fault) =
 
 -- A session with an auction in memory writes the text by each history that the auction shows.
 abbrev pub SessionIsText : Type 0
-SessionIsText = (budget : ℕ) (before after : Streams) (old new : Quantities) (history : List Command) (result : Result ⊤ Fault)
+SessionIsText = (budget : ℕ) (before after : Streams) (old new : AuctionValue) (history : List Command) (result : Result ⊤ Fault)
     → Shows old history → Serves rules_in RepliesIn ShowsItself [] budget before after old new result
     → WritesText old.rules history before after result

@@ -2,12 +2,15 @@
 use Rattle.std.specs.Prelude.{◌≡◌, ℕ, ◌≤◌, ◌==◌, List, [], ◌∷◌, ◌++◌, length, Option, Some, None, Result, Ok, Err, if◌then◌else◌, ⊤, ◌⊎◌}
 use Rattle.std.specs.List.{slice_split}
 use Rattle.std.specs.Io.KnownBytes.{Appends, Consumes, IsAtEnd}
+use Rattle.hpb_rules.specs.declared.refusal.Refusal.{Refusal}
 use Rattle.hpb_rules.specs.declared.command.Command.{Command}
 use Rattle.hpb_rules.specs.declared.reply.Reply.{Reply}
 use Rattle.hpb_rules.specs.Tree.{Rules}
 use Rattle.hpb_rules.specs.Fronts.{IsFront}
-use Rattle.hpb_rules.specs.Seen.{Quantities}
-use Rattle.hpb_rules.specs.Lines.{Request, command, show, node, who, request_of, is_line_feed}
+use Rattle.hpb_rules.specs.AuctionValue.{AuctionValue}
+use Rattle.hpb_rules.specs.declared.request.Request.{Request}
+use Rattle.hpb_rules.specs.declared.request.Request.TheVariants as requests
+use Rattle.hpb_rules.specs.Lines.{request_of, is_line_feed}
 use Rattle.hpb_rules.specs.Rendering.{refusal_text, reply_text}
 use Rattle.hpb_rules.specs.Text.{line_of, unfinished_text}
 use Rattle.hpb_rules.specs.ValueText.{shown_in, node_shown_in, bidder_shown_in}
@@ -15,11 +18,11 @@ use Rattle.hpb_server.specs.declared.fault.Fault.{Fault}
 use Rattle.hpb_server.specs.Reading.{most_taken}
 use Rattle.hpb_server.specs.Streams.{Streams}
 use Rattle.hpb_server.specs.declared.input.TheConstants.{LINE_FEED}
-use Rattle.hpb_rules.specs.declared.refusal.TheConstants.{FAILED}
+use Rattle.hpb_rules.specs.declared.refusal.Refusal.TheVariants as refusals
 
 -- What is shown of a desk's auction, or that it can show none any more.
-abbrev pub shown_by : (Quantities → List ℕ) → Option Quantities → List ℕ
-shown_by how None = refusal_text FAILED
+abbrev pub shown_by : (AuctionValue → List ℕ) → Option AuctionValue → List ℕ
+shown_by how None = refusal_text refusals.Failed
 shown_by how (Some value) = how value
 
 -- Bytes that are whole lines: none, or the last of them ends a line.
@@ -27,18 +30,18 @@ abbrev pub AreLines : List ℕ → Type 0
 AreLines bytes = (bytes ≡ []) ⊎ ((front : List ℕ) × (bytes ≡ front ++ LINE_FEED ∷ []))
 
 -- A question is answered by what the desk shows.
-abbrev pub AnswersLook : {Desk : Type 0} (looks : Desk → Option Quantities → Desk → Type 0) → (Quantities → List ℕ) → Desk → List ℕ → Desk → Type 0
-AnswersLook looks how old answer new = (shown : Option Quantities) × looks old shown new × (answer ≡ shown_by how shown)
+abbrev pub AnswersLook : {Desk : Type 0} (looks : Desk → Option AuctionValue → Desk → Type 0) → (AuctionValue → List ℕ) → Desk → List ℕ → Desk → Type 0
+AnswersLook looks how old answer new = (shown : Option AuctionValue) × looks old shown new × (answer ≡ shown_by how shown)
 
 -- A desk has rules that lines are read by; a command makes it reply and become another; a look shows what it has.
-module _ {Desk : Type 0} (rules : Desk → Rules) (asks : Desk → Command → Reply → Desk → Type 0) (looks : Desk → Option Quantities → Desk → Type 0) where
+module _ {Desk : Type 0} (rules : Desk → Rules) (asks : Desk → Command → Reply → Desk → Type 0) (looks : Desk → Option AuctionValue → Desk → Type 0) where
   -- A request, or a line that is refused, gets this answer.
-  abbrev pub AnswersRequest : Desk → Result Request ℕ → List ℕ → Desk → Type 0
-  AnswersRequest old (Err code) answer new = (new ≡ old) × (answer ≡ refusal_text code)
-  AnswersRequest old (Ok (command asked)) answer new = (reply : Reply) × asks old asked reply new × (answer ≡ reply_text reply)
-  AnswersRequest old (Ok show) answer new = AnswersLook looks shown_in old answer new
-  AnswersRequest old (Ok (node place)) answer new = AnswersLook looks (λ value. node_shown_in value place) old answer new
-  AnswersRequest old (Ok (who from)) answer new = AnswersLook looks (λ value. bidder_shown_in value from) old answer new
+  abbrev pub AnswersRequest : Desk → Result Request Refusal → List ℕ → Desk → Type 0
+  AnswersRequest old (Err refusal) answer new = (new ≡ old) × (answer ≡ refusal_text refusal)
+  AnswersRequest old (Ok (requests.Command asked)) answer new = (reply : Reply) × asks old asked reply new × (answer ≡ reply_text reply)
+  AnswersRequest old (Ok requests.Show) answer new = AnswersLook looks shown_in old answer new
+  AnswersRequest old (Ok (requests.Node place)) answer new = AnswersLook looks (λ value. node_shown_in value place) old answer new
+  AnswersRequest old (Ok (requests.Who from)) answer new = AnswersLook looks (λ value. bidder_shown_in value from) old answer new
 
   -- A line gets this answer.
   abbrev pub AnswersLine : Desk → List ℕ → List ℕ → Desk → Type 0

@@ -1,12 +1,13 @@
 -- How far a session has come: the words of private clauses.
 use Rattle.std.specs.Prelude.{◌≡◌, ℕ, ◌==◌, List, [], ◌++◌, length, take, Option, Result, Ok, Err, if◌then◌else◌, ⊤}
 use Rattle.std.specs.Io.KnownBytes.{Appends}
+use Rattle.hpb_rules.specs.declared.refusal.Refusal.{Refusal}
 use Rattle.hpb_rules.specs.declared.command.Command.{Command}
 use Rattle.hpb_rules.specs.declared.reply.Reply.{Reply}
 use Rattle.hpb_rules.specs.Tree.{Rules}
 use Rattle.hpb_rules.specs.Fronts.{IsFront}
-use Rattle.hpb_rules.specs.Seen.{Quantities}
-use Rattle.hpb_rules.specs.Lines.{Request}
+use Rattle.hpb_rules.specs.AuctionValue.{AuctionValue}
+use Rattle.hpb_rules.specs.declared.request.Request.{Request}
 use Rattle.hpb_rules.specs.Text.{line_of, unfinished_text}
 use Rattle.hpb_wire.specs.Responses.{Adds}
 use Rattle.hpb_server.specs.declared.fault.Fault.{Fault}
@@ -25,16 +26,16 @@ abbrev pub Ends : (writer_old writer_new : Option (List ℕ)) (line : List ℕ) 
 Ends writer_old writer_new line result = Sends writer_old writer_new (if length line == 0 then [] else unfinished_text) result
 
 -- A question was answered by what the desk shows, and the answer was added, or nothing where memory was refused.
-abbrev pub AddsLook : {Desk E : Type 0} (looks : Desk → Option Quantities → Desk → Type 0) (how : Quantities → List ℕ) (old new : Desk) (output_old output_new : List ℕ) → Result ⊤ E → Type 0
+abbrev pub AddsLook : {Desk E : Type 0} (looks : Desk → Option AuctionValue → Desk → Type 0) (how : AuctionValue → List ℕ) (old new : Desk) (output_old output_new : List ℕ) → Result ⊤ E → Type 0
 AddsLook looks how old new output_old output_new result = (answer : List ℕ) × AnswersLook looks how old answer new × Adds output_old output_new answer result
 
-module _ {Desk : Type 0} (rules : Desk → Rules) (asks : Desk → Command → Reply → Desk → Type 0) (looks : Desk → Option Quantities → Desk → Type 0) where
+module _ {Desk : Type 0} (rules : Desk → Rules) (asks : Desk → Command → Reply → Desk → Type 0) (looks : Desk → Option AuctionValue → Desk → Type 0) where
   -- A request, or a line that is refused, was answered, and its answer was added, or nothing where memory was refused.
-  abbrev pub AddsAnswer : {E : Type 0} → Desk → Result Request ℕ → Desk → (output_old output_new : List ℕ) → Result ⊤ E → Type 0
+  abbrev pub AddsAnswer : {E : Type 0} → Desk → Result Request Refusal → Desk → (output_old output_new : List ℕ) → Result ⊤ E → Type 0
   AddsAnswer old request new output_old output_new result = (answer : List ℕ) × AnswersRequest rules asks looks old request answer new × Adds output_old output_new answer result
 
   -- A line was answered: a front of the output with its answer was written, and the rest is in the output. Where the session is broken off, a front was written.
-  abbrev pub PassesAnswer : Desk → Result Request ℕ → Desk → (writer_old writer_new : Option (List ℕ)) (output_old output_new : List ℕ) → Result ⊤ Fault → Type 0
+  abbrev pub PassesAnswer : Desk → Result Request Refusal → Desk → (writer_old writer_new : Option (List ℕ)) (output_old output_new : List ℕ) → Result ⊤ Fault → Type 0
   PassesAnswer old request new writer_old writer_new output_old output_new result = (answer : List ℕ) × AnswersRequest rules asks looks old request answer new × Passes writer_old writer_new (output_old ++ line_of answer) output_new result
 
   -- Whole lines were answered: whatever comes after them is answered from here on.

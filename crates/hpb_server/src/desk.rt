@@ -10,7 +10,7 @@ use std::marker::Model;
 pub trait Desk {
     ghost use Rattle.std.specs.Prelude.{Option};
     ghost use Rattle.hpb_rules.specs.Tree.{Rules};
-    ghost use Rattle.hpb_rules.specs.Seen.{Quantities};
+    ghost use Rattle.hpb_rules.specs.AuctionValue.{AuctionValue};
     ghost use Rattle.hpb_rules.specs.declared.command.Command.{Command as Asked};
     ghost use Rattle.hpb_rules.specs.declared.reply.Reply.{Reply as Answered};
     ghost use Rattle.hpb_server.specs.Desk.{seen};
@@ -22,7 +22,7 @@ pub trait Desk {
     ghost asks: { Self → Asked → Answered → Self → Type 0 };
 
     /// A desk may show this, or nothing any more, and be this desk afterwards.
-    ghost looks: { Self → Option Quantities → Self → Type 0 };
+    ghost looks: { Self → Option AuctionValue → Self → Type 0 };
 
     /// The definition that lines are read by.
     fn definition(&self) -> &Definition
@@ -46,9 +46,9 @@ pub struct ScriptDesk {
 }
 
 impl Model for ScriptDesk {
-    ghost use Rattle.hpb_rules.specs.Seen.{Quantities};
+    ghost use Rattle.hpb_rules.specs.AuctionValue.{AuctionValue};
 
-    ghost Value = { Quantities };
+    ghost Value = { AuctionValue };
 
     ghost view = { λ d. d.auction };
 }

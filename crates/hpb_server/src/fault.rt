@@ -1,8 +1,8 @@
 ghost use Rattle.std.specs.Prelude.{◌≡◌};
 ghost use Rattle.hpb_server.specs.declared.fault.Fault.TheVariants.{Memory};
-ghost use Rattle.hpb_server.specs.Fault.{code_of};
+ghost use Rattle.hpb_server.specs.Fault.{refusal_of};
 
-use hpb_rules::refusal;
+use hpb_rules::Refusal;
 use std::alloc::{AllocError, AllocFailed};
 use thiserror::Error;
 
@@ -18,13 +18,13 @@ pub enum Fault {
 }
 
 impl Fault {
-    /// Its number in the table of refusals.
-    pub fn code(self) -> u8
-        ensures { result ≡ code_of self }
+    /// The refusal that it is told by.
+    pub fn refusal(self) -> Refusal
+        ensures { result ≡ refusal_of self }
     {
         match self {
-            Fault::Memory => refusal::MEMORY,
-            Fault::Stream => refusal::STREAM,
+            Fault::Memory => Refusal::Memory,
+            Fault::Stream => Refusal::Stream,
         }
     }
 }

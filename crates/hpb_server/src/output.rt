@@ -5,7 +5,7 @@ ghost use Rattle.hpb_wire.specs.Responses.{Adds, text_of};
 ghost use Rattle.hpb_server.specs.Writing.{Sends, Writes};
 
 use crate::fault::Fault;
-use hpb_rules::Reply;
+use hpb_rules::{Refusal, Reply};
 use hpb_wire::{RESPONSE_BYTES, Response, ResponseText};
 use std::alloc::{AllocError, Global};
 use std::io;
@@ -46,10 +46,10 @@ impl Output {
     }
 
     /// Adds a refusal by its number.
-    pub(crate) fn refuse(&mut self, code: u8) -> Result<(), AllocError>
-        ensures { Adds self.old self.new (refusal_text code) result }
+    pub(crate) fn refuse(&mut self, refusal: Refusal) -> Result<(), AllocError>
+        ensures { Adds self.old self.new (refusal_text refusal) result }
     {
-        self.add(&Response::Reply(Reply::Refused(code)))
+        self.add(&Response::Reply(Reply::Refused(refusal)))
     }
 
     /// Whether room may be missing for one more response.

@@ -10,6 +10,7 @@ use crate::output::Output;
 use crate::serving::answer_lines;
 use hpb_auction::Auction;
 use hpb_define::{DefineFault, read_definition};
+use hpb_rules::Refusal;
 use hpb_tree::Definition;
 use std::alloc::Global;
 use std::io::{Read, Write};
@@ -20,7 +21,7 @@ pub enum ScriptEnd {
     /// Each line got its answer.
     Answered,
     /// The definition was refused by this number, and its `ERR` line is all that was written.
-    Refused(u8),
+    Refused(Refusal),
 }
 
 /// Runs an auction in memory by a script. Its first line is the definition in JSON; each line after it
@@ -76,19 +77,19 @@ fn refuse_script<W: Write>(
 {
     match fault {
         DefineFault::Memory => Err(Fault::Memory),
-        fault => write_refusal(writer, fault.code(), output),
+        fault => write_refusal(writer, fault.refusal(), output),
     }
 }
 
 fn write_refusal<W: Write>(
     writer: &mut W,
-    code: u8,
+    refusal: Refusal,
     output: &mut Output,
 ) -> Result<ScriptEnd, Fault>
     requires { output.old ≡ [] }
-    ensures { WritesRefusal (W.contents writer.old) (W.contents writer.new) code result }
+    ensures { WritesRefusal (W.contents writer.old) (W.contents writer.new) refusal result }
 {
-    output.refuse(code)?;
+    output.refuse(refusal)?;
     output.send(writer)?;
-    Ok(ScriptEnd::Refused(code))
+    Ok(ScriptEnd::Refused(refusal))
 }

@@ -1,7 +1,7 @@
 ghost use Rattle.std.specs.Prelude.{◌≡◌, ◌<◌, ℕ, List, [], ◌++◌, take, Ok, OnOk, length};
 ghost use Rattle.hpb_rules.specs.Lines.{request_of};
 ghost use Rattle.hpb_rules.specs.ValueText.{shown_in, node_shown_in, bidder_shown_in};
-ghost use Rattle.hpb_wire.specs.Requests.{IsRequestOf, request_view};
+ghost use Rattle.hpb_wire.specs.Requests.{IsRequestOf};
 ghost use Rattle.hpb_server.specs.Reading.{HasNoEnd};
 ghost use Rattle.hpb_server.specs.Serving.{Serves};
 ghost use Rattle.hpb_server.specs.Streams.{streams};
@@ -12,8 +12,8 @@ use crate::fault::Fault;
 use crate::input::{Input, MOST_READ};
 use crate::line::{KEPT_BYTES, Line};
 use crate::output::Output;
-use hpb_rules::{BidderId, NodeId, refusal};
-use hpb_wire::{Request, Response, parse_line};
+use hpb_rules::{BidderId, NodeId, Refusal, Request};
+use hpb_wire::{Response, parse_line};
 use std::alloc::{AllocError, Global};
 use std::io::{Read, Write};
 
@@ -72,7 +72,7 @@ fn end_lines<W: Write>(writer: &mut W, line: &Line, output: &mut Output) -> Resu
     if line.is_empty() {
         return Ok(());
     }
-    output.refuse(refusal::LINE)?;
+    output.refuse(Refusal::Line)?;
     output.send(writer)
 }
 
@@ -134,7 +134,7 @@ fn answer_line<D: Desk>(desk: &mut D, line: &[u8], output: &mut Output) -> Resul
 {
     match parse_line(line, desk.definition()) {
         Ok(request) => answer_request(desk, request, output),
-        Err(code) => output.refuse(code),
+        Err(refusal) => output.refuse(refusal),
     }
 }
 
@@ -145,7 +145,7 @@ fn answer_request<D: Desk>(
     output: &mut Output,
 ) -> Result<(), AllocError>
     requires { IsRequestOf (D.rules desk.old) request }
-    ensures answer { AddsAnswer D.rules D.asks D.looks desk.old (Ok (request_view request)) desk.new
+    ensures answer { AddsAnswer D.rules D.asks D.looks desk.old (Ok request) desk.new
         output.old output.new result }
     ensures rules { D.rules desk.new ≡ D.rules desk.old }
 {
@@ -165,7 +165,7 @@ fn answer_show<D: Desk>(desk: &mut D, output: &mut Output) -> Result<(), AllocEr
 {
     match desk.look() {
         Some(auction) => output.add(&hpb_wire::show(auction)),
-        None => output.refuse(refusal::FAILED),
+        None => output.refuse(Refusal::Failed),
     }
 }
 
@@ -178,7 +178,7 @@ fn answer_node<D: Desk>(desk: &mut D, node: NodeId, output: &mut Output) -> Resu
 {
     match desk.look() {
         Some(auction) => output.add(&hpb_wire::node(auction, node)),
-        None => output.refuse(refusal::FAILED),
+        None => output.refuse(Refusal::Failed),
     }
 }
 
@@ -195,6 +195,6 @@ fn answer_who<D: Desk>(
 {
     match desk.look() {
         Some(auction) => output.add(&hpb_wire::who(auction, bidder)),
-        None => output.refuse(refusal::FAILED),
+        None => output.refuse(Refusal::Failed),
     }
 }

@@ -1,5 +1,5 @@
 use Rattle.std.proofs.Common.{◌∙◌, subst}
-use Rattle.hpb_rules.specs.Seen.{Quantities}
+use Rattle.hpb_rules.specs.AuctionValue.{AuctionValue}
 use Rattle.hpb_rules.specs.Values.{first_value}
 use Rattle.hpb_server.specs.Desk.{rules_in, RepliesIn, ShowsItself}
 use Rattle.hpb_server.specs.Serving.{Serves}
@@ -13,7 +13,7 @@ returns-in_err-new g c = (first_value c.args.definition.now, never_served rules_
 pub returns : goal.returns
 returns g c = (
   c.answer_lines.new.desk,
-  subst (λ (value : Quantities). Serves rules_in RepliesIn ShowsItself c.args.input.now.unread c.args.input.now.budget (streams (g.R.Read.remaining c.args.reader.now) (g.W.Write.contents c.args.writer.now))
+  subst (λ (value : AuctionValue). Serves rules_in RepliesIn ShowsItself c.args.input.now.unread c.args.input.now.budget (streams (g.R.Read.remaining c.args.reader.now) (g.W.Write.contents c.args.writer.now))
       (streams (g.R.Read.remaining c.answer_lines.new.reader) (g.W.Write.contents c.answer_lines.new.writer)) value c.answer_lines.new.desk c.answer_lines.result)
       (c.new-desk.ensures ∙ c.in_ok-new.ensures.value)
       c.answer_lines.ensures.served,

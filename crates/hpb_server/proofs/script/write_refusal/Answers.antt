@@ -6,5 +6,5 @@ use Rattle.hpb_server.proofs.script.write_refusal.Goals as goal
 
 pub returns-in_err-send : goal.returns-in_err-send
 returns-in_err-send g c =
-    refusal_cut _ _ c.args.code c.in_err-send.field-0.0 c.from_residual-in_err-send.result c.from_residual-in_err-send.ensures.0
-    (c.in_ok-refuse.ensures ∙ ap (λ (xs : List ℕ). xs ++ line_of (refusal_text c.args.code)) c.requires) c.in_err-send.ensures.bytes
+    refusal_cut _ _ c.args.refusal c.in_err-send.field-0.0 c.from_residual-in_err-send.result c.from_residual-in_err-send.ensures.0
+    (c.in_ok-refuse.ensures ∙ ap (λ (xs : List ℕ). xs ++ line_of (refusal_text c.args.refusal)) c.requires) c.in_err-send.ensures.bytes

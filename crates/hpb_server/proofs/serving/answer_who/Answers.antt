@@ -1,6 +1,6 @@
 use Rattle.std.proofs.Common.{refl}
 use Rattle.hpb_rules.specs.Rendering.{refusal_text}
-use Rattle.hpb_rules.specs.declared.refusal.TheConstants.{FAILED}
+use Rattle.hpb_rules.specs.declared.refusal.Refusal.TheVariants as refusals
 use Rattle.hpb_server.specs.Desk.{seen}
 use Rattle.hpb_server.proofs.serving.answer_who.Goals as goal
 
@@ -8,4 +8,4 @@ pub returns-in-Some-clause-answer : goal.returns-in-Some-clause-answer
 returns-in-Some-clause-answer g c = (_, (seen c.look.result, c.look.follows.holds-at-none.0, rw c.in-Some.is c.who.ensures), c.add.ensures)
 
 pub returns-in-None-clause-answer : goal.returns-in-None-clause-answer
-returns-in-None-clause-answer g c = (refusal_text FAILED, (seen c.look.result, c.look.follows.holds-at-none.0, rw c.in-None.is refl), c.refuse.ensures)
+returns-in-None-clause-answer g c = (refusal_text refusals.Failed, (seen c.look.result, c.look.follows.holds-at-none.0, rw c.in-None.is refl), c.refuse.ensures)
