@@ -5,10 +5,10 @@ use hpb_auction::{Auction, BidderId, Command, NodeId, Offer, Reply, run_commands
 use hpb_bids::Books;
 use hpb_define::read_definition;
 use hpb_prices::{Prices, downward};
-use hpb_server::{Job, ScriptDesk, ScriptEnd, program, read_words, run_script, serve};
+use hpb_server::{Job, ScriptDesk, ScriptEnd, program, read_arguments, run_script, serve};
 use hpb_tree::{BidderDraft, Definition, Draft, NodeDraft, TermsDraft};
 use hpb_winners::{Outcome, upward};
-use hpb_wire::{Answer, render};
+use hpb_wire::{Response, ResponseText};
 use std::alloc::{AllocError, Global};
 use std::test::Fail;
 
@@ -163,11 +163,11 @@ fn commands_are_run(rt: HostRuntime) -> Result<(), Fail> {
 }
 
 #[test]
-fn answers_are_rendered(rt: HostRuntime) -> Result<(), Fail> {
-    let mut text = String::new(rt.alloc());
-    render(&mut text, &Answer::Reply(Reply::Ok(7)))?;
-    render(&mut text, &Answer::Reply(Reply::Refused(25)))?;
-    assert_eq!(rt; text.as_str(), "OK 7\nERR 25 eligibility\n");
+fn responses_are_rendered(rt: HostRuntime) -> Result<(), Fail> {
+    let mut text = ResponseText::new(rt.alloc(), 0)?;
+    text.render(&Response::Reply(Reply::Ok(7)))?;
+    text.render(&Response::Reply(Reply::Refused(25)))?;
+    assert_eq!(rt; text.as_bytes(), b"OK 7\nERR 25 eligibility\n".as_slice());
     Ok(())
 }
 
@@ -200,14 +200,14 @@ fn a_script_is_run(rt: HostRuntime) -> Result<(), Fail> {
 }
 
 #[test]
-fn words_are_read_and_the_program_runs(rt: HostRuntime) -> Result<(), Fail> {
+fn arguments_are_read_and_the_program_runs(rt: HostRuntime) -> Result<(), Fail> {
     let alloc = rt.alloc();
-    let words = ["hpb"];
-    assert_eq!(rt; read_words(alloc, &words)?, Job::Script);
+    let arguments = ["hpb"];
+    assert_eq!(rt; read_arguments(alloc, &arguments)?, Job::Script);
     let mut input = SIX_NODES.as_bytes();
     let mut output = Vec::new(alloc);
     let mut errors = Vec::new(alloc);
-    let status = program(&rt, alloc, &words, &mut input, &mut output, &mut errors);
+    let status = program(&rt, alloc, &arguments, &mut input, &mut output, &mut errors);
     assert_eq!(rt; status, 0);
     assert!(rt; output.is_empty());
     assert!(rt; errors.is_empty());

@@ -10,7 +10,7 @@ use std::alloc::{AllocError, Global};
 use std::io::{ErrorKind, Read};
 use std::marker::Model;
 
-/// How many bytes a session reads at most.
+/// How many bytes a session may read. At most one more is taken of its reader, which shows that there is more.
 pub const MOST_READ: u64 = 1_000_000_000;
 
 /// How many bytes are asked of a reader at a time.

@@ -1,6 +1,7 @@
 //! Sessions: lines in, answers out, over readers and writers; and the whole of the program.
 #![tactic(auto)]
 
+mod arguments;
 mod desk;
 mod fault;
 mod input;
@@ -11,8 +12,8 @@ mod running;
 mod script;
 mod serving;
 mod status;
-mod words;
 
+pub use arguments::{ArgumentsFault, Job, read_arguments};
 pub use desk::{Desk, ScriptDesk};
 pub use fault::Fault;
 pub use input::MOST_READ;
@@ -20,7 +21,6 @@ pub use laws::{input_is_text, session_is_text};
 pub use running::program;
 pub use script::{ScriptEnd, run_script};
 pub use serving::serve;
-pub use words::{Job, WordsFault, read_words};
 
 #[cfg(test)]
 mod tests;

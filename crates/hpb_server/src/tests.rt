@@ -371,7 +371,7 @@ fn inputs_end_early(rt: HostRuntime) -> Result<(), Fail> {
 }
 
 #[test]
-fn words_are_read(rt: HostRuntime) -> Result<(), Fail> {
+fn arguments_are_read(rt: HostRuntime) -> Result<(), Fail> {
     let alloc = rt.alloc();
     let table: [(&[&str], u8, &str, &str); 5] = [
         (&["hpb"], 1, "ERR 60 json\n", ""),
@@ -380,15 +380,15 @@ fn words_are_read(rt: HostRuntime) -> Result<(), Fail> {
         (&["hpb", "bogus"], 2, "", "error: "),
         (&["hpb", "--bogus"], 2, "", "error: "),
     ];
-    for (words, want, line, said) in table {
+    for (arguments, want, line, said) in table {
         let mut input = b"{".as_slice();
         let mut output = Vec::new(alloc);
         let mut errors = Vec::new(alloc);
-        let status = program(&rt, alloc, words, &mut input, &mut output, &mut errors);
-        assert_eq!(rt; status, want, "{words:?}");
-        assert_eq!(rt; output.as_slice(), line.as_bytes(), "{words:?}");
+        let status = program(&rt, alloc, arguments, &mut input, &mut output, &mut errors);
+        assert_eq!(rt; status, want, "{arguments:?}");
+        assert_eq!(rt; output.as_slice(), line.as_bytes(), "{arguments:?}");
         let text = String::from_utf8(errors)?;
-        assert!(rt; text.contains(said), "{words:?} gives {text}");
+        assert!(rt; text.contains(said), "{arguments:?} gives {text}");
     }
     Ok(())
 }

@@ -1,8 +1,8 @@
 ghost use Rattle.std.specs.Prelude.{◌≡◌, IfErr, IfOk};
-ghost use Rattle.hpb_server.specs.declared.words.WordsFault.TheVariants.{Memory};
+ghost use Rattle.hpb_server.specs.declared.arguments.ArgumentsFault.TheVariants.{Memory};
 ghost use Rattle.hpb_server.specs.Program.{HasStatus};
 
-use crate::status::{WELL, WRONG_WORDS};
+use crate::status::{WELL, WRONG_ARGUMENTS};
 use clap::Command;
 use clap::error::ErrorKind;
 use std::alloc::{AllocError, Global};
@@ -26,7 +26,7 @@ Each bidder numbers its commands 1, 2, .. by tickets, and so does who closes rou
 What is refused gets ERR with a number and a word.
 
 Status: 0 each line got its answer; 1 the definition or memory was refused, or reading or writing
-failed; 2 the words were wrong.
+failed; 2 the arguments were wrong.
 
 Example: the lines
 
@@ -47,51 +47,54 @@ pub enum Job {
     Script,
 }
 
-/// Why words ask for nothing.
+/// Why arguments ask for no job.
 #[derive(Debug, Drop, Error)]
-pub enum WordsFault {
+pub enum ArgumentsFault {
     /// 90: memory was refused.
     #[error("memory")]
     Memory,
-    /// The words are wrong, or ask for help. The text is for whoever wrote them, and the status is the
-    /// program's: 2 for wrong words, else 0.
+    /// The arguments are wrong, or ask for help. The text is for whoever wrote them, and the status is the
+    /// program's: 2 for wrong arguments, else 0.
     #[error("{text}")]
     Refused { text: String, status: u8 },
 }
 
-impl From<AllocError> for WordsFault {
+impl From<AllocError> for ArgumentsFault {
     ghost from_gives = { λ _ e. e ≡ Memory };
 
-    fn from(_error: AllocError) -> WordsFault {
-        WordsFault::Memory
+    fn from(_error: AllocError) -> ArgumentsFault {
+        ArgumentsFault::Memory
     }
 }
 
-/// The job that a command line asks for. Its first word is the program's name.
-pub fn read_words<'a, S: AsStr>(alloc: Global, words: &'a [S]) -> Result<Job, WordsFault>
+/// The job that a command line asks for. Its first argument is the program's name.
+pub fn read_arguments<'a, S: AsStr>(
+    alloc: Global,
+    arguments: &'a [S],
+) -> Result<Job, ArgumentsFault>
     ensures { IfErr result HasStatus }
 {
     let command = command(alloc);
-    match command.try_get_matches_from(words) {
+    match command.try_get_matches_from(arguments) {
         Ok(_) => Ok(Job::Script),
         Err(error) => Err(refused(alloc, &error)?),
     }
 }
 
-/// What becomes of words that `clap` gives no matches for.
-fn refused(alloc: Global, error: &clap::Error) -> Result<WordsFault, AllocError>
+/// What becomes of arguments that `clap` gives no matches for.
+fn refused(alloc: Global, error: &clap::Error) -> Result<ArgumentsFault, AllocError>
     ensures { IfOk result HasStatus }
 {
     if error.kind() == ErrorKind::OutOfMemory {
-        return Ok(WordsFault::Memory);
+        return Ok(ArgumentsFault::Memory);
     }
     let text = error.to_string(alloc)?;
     let status = if error.use_stderr() {
-        WRONG_WORDS
+        WRONG_ARGUMENTS
     } else {
         WELL
     };
-    Ok(WordsFault::Refused { text, status })
+    Ok(ArgumentsFault::Refused { text, status })
 }
 
 fn command<'a>(alloc: Global) -> Command<'a> {
