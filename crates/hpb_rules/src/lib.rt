@@ -39,8 +39,8 @@ pub use laws_of_rounds::{
     incoming_is_greatest, over_is_quiet_round, rounds_are_cut,
 };
 pub use laws_of_text::{
-    lines_keep_history, lines_text_joins, names_are_found, script_text_grows, script_text_is_one,
-    spelling_is_one,
+    lines_keep_history, lines_text_joins, names_are_found, number_is_one, request_is_one,
+    script_text_grows, script_text_is_one, spelling_is_one,
 };
 pub use laws_of_values::{
     next_is_shown, reply_is_answer, run_is_shown, text_is_shown, value_is_best_choice,
