@@ -23,6 +23,8 @@ pub mod Drafts
 pub mod Definitions
 pub mod Lines
 pub mod RequestLines
+pub mod Limits
+pub mod Words
 pub mod Rendering
 pub mod Text
 pub mod RowRules
