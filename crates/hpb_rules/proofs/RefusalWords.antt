@@ -53,7 +53,7 @@ found_in test (first ∷ items) item e = by (test first) e (found_in test items 
     by true f more = (0, omega arith, let same : first ≡ item = cc in same)
     by false f more = let rest : Contains items item = more f in (suc rest.0, omega (arith, rest.1), rest.2)
 
--- what two have alike, and each is found by, they are found by as one
+-- two that are each found by a key are one where their keys are
 same_found : {A : Type 0} (one other : Refusal) (key : Refusal → A) (by : A → Option Refusal) → by (key one) ≡ Some one → by (key other) ≡ Some other → key one ≡ key other → one ≡ other
 same_found one other key by e f h = let same : ◌≡◌ {A = Option Refusal} (Some one) (Some other) = sym e ∙ ap by h ∙ f in cc
 
