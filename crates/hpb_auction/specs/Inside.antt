@@ -3,8 +3,7 @@ use Rattle.std.specs.Prelude.{◌≡◌, ℕ, ◌+◌, ◌<◌, ◌≤◌, true,
 use Rattle.std.specs.List.{range_with_len}
 use Rattle.hpb_rules.specs.declared.command.Command.{Command}
 use Rattle.hpb_rules.specs.declared.command.Offer.{Offer}
-use Rattle.hpb_rules.specs.declared.id.TheConstants.{MOST_BIDDERS}
-use Rattle.hpb_rules.specs.declared.reply.TheConstants.{MOST_COMMANDS}
+use Rattle.hpb_rules.specs.declared.limits.TheConstants.{MOST_BIDDERS, MOST_COMMANDS}
 use Rattle.hpb_rules.specs.Tree.{Rules, IsTree, places, tree_of}
 use Rattle.hpb_rules.specs.AuctionValue.{AuctionValue, NodeBids, BidderState}
 use Rattle.hpb_bids.specs.View.{BooksView, offer_at, has_bid, bid_of}

@@ -6,7 +6,7 @@ use Rattle.hpb_rules.specs.declared.reply.Reply.{Reply}
 use Rattle.hpb_rules.specs.declared.reply.Reply.TheVariants as replies
 use Rattle.hpb_rules.specs.declared.refusal.Refusal.{Refusal}
 use Rattle.hpb_rules.specs.declared.refusal.Refusal.TheVariants as refusals
-use Rattle.hpb_rules.specs.declared.reply.TheConstants.{MOST_COMMANDS}
+use Rattle.hpb_rules.specs.declared.limits.TheConstants.{MOST_COMMANDS}
 use Rattle.hpb_rules.specs.Answer
 use Rattle.hpb_rules.specs.History.{ticket_of, ticket_of_last}
 use Rattle.hpb_auction.specs.declared.sender.Accepted.{Accepted}

@@ -1,7 +1,7 @@
 ghost use Rattle.std.specs.Prelude.{◌≡◌, ℕ, ◌+◌, ◌≤◌, List, false};
 ghost use Rattle.hpb_rules.specs.declared.command.Command.TheVariants.{Bid, Close, Stage};
 ghost use Rattle.hpb_rules.specs.declared.refusal.Refusal.{Refusal};
-ghost use Rattle.hpb_rules.specs.declared.reply.TheConstants.{MOST_AMOUNT, MOST_COMMANDS};
+ghost use Rattle.hpb_rules.specs.declared.limits.TheConstants.{MOST_AMOUNT, MOST_COMMANDS};
 ghost use Rattle.hpb_rules.specs.Answer.{answer, history_after, is_reply_new};
 ghost use Rattle.hpb_rules.specs.AuctionValue.{Shows};
 ghost use Rattle.hpb_rules.specs.History.{ticket_of};

@@ -1,5 +1,5 @@
 ghost use Rattle.std.specs.Prelude.{◌≡◌, ◌+◌, ◌<◌, ◌≤◌, List, [], length, IfOk, IfSome};
-ghost use Rattle.hpb_rules.specs.declared.reply.TheConstants.{MOST_COMMANDS};
+ghost use Rattle.hpb_rules.specs.declared.limits.TheConstants.{MOST_COMMANDS};
 
 use crate::sender::{Accepted, BidderRow, bidder_rows, last_ticket};
 use crate::views::{BidderView, NodeView};

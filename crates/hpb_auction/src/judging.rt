@@ -1,6 +1,6 @@
 ghost use Rattle.std.specs.Prelude.{◌≡◌, ℕ, ◌+◌, ◌<◌, ◌≤◌, List, length, Ok, None, IfOk, IfErr};
 ghost use Rattle.hpb_rules.specs.declared.command.Command.TheVariants.{Bid, Stage};
-ghost use Rattle.hpb_rules.specs.declared.reply.TheConstants.{MOST_AMOUNT, MOST_COMMANDS};
+ghost use Rattle.hpb_rules.specs.declared.limits.TheConstants.{MOST_AMOUNT, MOST_COMMANDS};
 ghost use Rattle.hpb_rules.specs.Answer.{answer, unknown};
 ghost use Rattle.hpb_rules.specs.AuctionValue.{Shows};
 ghost use Rattle.hpb_rules.specs.History.{bidder as bidder_sender, sender_of};

@@ -1,6 +1,6 @@
 ghost use Rattle.std.specs.Prelude.{◌≡◌, ℕ, ◌<◌, ◌≤◌, length, IfOk};
 ghost use Rattle.hpb_rules.specs.History.{ticket_of, ticket_of_last};
-ghost use Rattle.hpb_rules.specs.declared.id.TheConstants.{MOST_BIDDERS};
+ghost use Rattle.hpb_rules.specs.declared.limits.TheConstants.{MOST_BIDDERS};
 ghost use Rattle.hpb_winners.specs.View.{IsSizedOutcome};
 ghost use Rattle.hpb_auction.specs.Verdicts.{read_last};
 ghost use Rattle.hpb_auction.specs.Inside.{row_at};

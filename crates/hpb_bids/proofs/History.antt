@@ -8,7 +8,7 @@ use Rattle.std.proofs.lemmas.Nat.Bits.{bit_at_or, bit_at-pow_same, bit_at-pow_ot
 use Rattle.hpb_rules.specs.declared.command.Offer.{Offer}
 use Rattle.hpb_rules.specs.declared.command.Command.{Command}
 use Rattle.hpb_rules.specs.declared.command.Command.TheVariants.{Bid, Close}
-use Rattle.hpb_rules.specs.declared.id.TheConstants.{MOST_BIDDERS, MOST_NODES}
+use Rattle.hpb_rules.specs.declared.limits.TheConstants.{MOST_BIDDERS, MOST_NODES}
 use Rattle.hpb_rules.specs.History.{amount_of, greater, high, incoming, bid_on}
 use Rattle.hpb_rules.proofs.RunLaws.{close_takes_greater}
 use Rattle.hpb_rules.proofs.Tests.{no_bit}

@@ -6,7 +6,7 @@ use Rattle.std.proofs.lemmas.List.Elements.{All-map}
 use Rattle.std.proofs.lemmas.Nat.{one_shl}
 use Rattle.std.proofs.Math.Seq.{map-set_same, take-append_seam}
 use Rattle.hpb_rules.specs.declared.command.Offer.{Offer}
-use Rattle.hpb_rules.specs.declared.reply.TheConstants.{MOST_AMOUNT}
+use Rattle.hpb_rules.specs.declared.limits.TheConstants.{MOST_AMOUNT}
 use Rattle.hpb_rules.specs.History.{amount_of, greater}
 use Rattle.hpb_bids.specs.View.{BooksView, IsBooks, merged, placed, folded, IsQuiet}
 use Rattle.hpb_bids.specs.Inside.{tables_view, books_view, received, closed, IsSmall, IsKept}

@@ -1,7 +1,6 @@
 -- The books of the code as definitions see them.
 use Rattle.std.specs.Prelude.{◌≡◌, ℕ, ◌≤◌, List, map, length, Some, None, IfSome, All}
-use Rattle.hpb_rules.specs.declared.id.TheConstants.{MOST_BIDDERS, MOST_NODES}
-use Rattle.hpb_rules.specs.declared.reply.TheConstants.{MOST_AMOUNT}
+use Rattle.hpb_rules.specs.declared.limits.TheConstants.{MOST_BIDDERS, MOST_NODES, MOST_AMOUNT}
 use Rattle.hpb_rules.specs.declared.command.Offer.{Offer}
 use Rattle.hpb_rules.specs.History.{greater}
 use Rattle.hpb_bids.specs.View.{BooksView}

@@ -1,7 +1,7 @@
 -- What the books are to a list of accepted commands, the newest first.
 use Rattle.std.specs.Prelude.{◌≡◌, ℕ, ◌<◌, List}
 use Rattle.hpb_rules.specs.declared.command.Command.{Command}
-use Rattle.hpb_rules.specs.declared.id.TheConstants.{MOST_BIDDERS, MOST_NODES}
+use Rattle.hpb_rules.specs.declared.limits.TheConstants.{MOST_BIDDERS, MOST_NODES}
 use Rattle.hpb_rules.specs.History.{high, incoming, bid_on}
 use Rattle.hpb_bids.specs.View.{BooksView, offer_at, has_bid}
 

@@ -2,8 +2,7 @@
 use Rattle.std.specs.Prelude.{length, ◌≤◌, ◌≡◌, ℕ, ◌^◌, Bool, ◌==◌, List, [], ◌∷◌, map, Option, Some, None, IfSome, slice_index, slice_index_or, slice_set, bit_or}
 use Rattle.std.specs.Int.{bit_at}
 use Rattle.hpb_rules.specs.declared.command.Offer.{Offer}
-use Rattle.hpb_rules.specs.declared.id.TheConstants.{MOST_BIDDERS, MOST_NODES}
-use Rattle.hpb_rules.specs.declared.reply.TheConstants.{MOST_AMOUNT}
+use Rattle.hpb_rules.specs.declared.limits.TheConstants.{MOST_BIDDERS, MOST_NODES, MOST_AMOUNT}
 use Rattle.hpb_rules.specs.History.{amount_of, greater}
 
 -- Of each node the high bid of closed rounds and the greatest of the open round, and of each bidder the nodes on which it bid in the open round: bit n of its number is for node n.

@@ -10,6 +10,7 @@ use Rattle.std.proofs.lemmas.List.Folds.{list_any_none}
 use Rattle.std.proofs.lemmas.Str.Parse.{IsNumeralModel, numerals_by_value, tells_all_ascii_digits, digit_at}
 use Rattle.std.proofs.lemmas.Fmt.{decimal-digits_value, digits_decimal, digits_value-decimal, decimal_nonempty, first_decimal, decimal_digit}
 use Rattle.hpb_rules.specs.Lines.{space, line_feed, is_space, is_line_feed, is_number, number_up_to}
+use Rattle.hpb_rules.specs.TextLaws.{NumberIsOne}
 use Rattle.hpb_rules.proofs.LineWords.{IsClean}
 
 -- a zero stands alone
@@ -52,6 +53,12 @@ number_read most number small within =
     let value = digits_value-decimal own number (omega arith) in
     let filled : ltb 0 (length (decimal number)) ≡ true = lt-ltb _ _ (decimal_nonempty number (omega arith)) in
     rw (digits_decimal own number (omega arith), filled, zero_alone number (omega arith), value, le-leb number most within) refl
+
+pub number_is_one : NumberIsOne
+number_is_one most number word small = (
+  λ e. let is : (word ≡ decimal number) × (number ≤ most) = number_is most word number small e in (is.1, is.0),
+  λ h. ap (number_up_to most) h.1 ∙ number_read most number small h.0,
+)
 
 digit_in : (digits : List ℕ) (k d : ℕ) → all_ascii_digits digits ≡ true → k < length digits → 48 ≤ get_or digits k d
 digit_in digits k d h l = omega (arith, (digit_at digits k (own.to digits h) l).0, get_or_default_zero digits k d l)

@@ -3,7 +3,7 @@
 use Rattle.std.specs.Prelude.{ℕ, zero, suc, ◌%◌, Bool, true, false, not, ◌&&◌, ◌||◌, ◌==◌, nat_lt, nat_le, if◌then◌else◌, List, [], ◌∷◌, map, length, Option, Some, None, is_some, is_none, count_by}
 use Rattle.std.specs.List.{list_any, list_all}
 use Rattle.std.specs.Str.{bytes_eq}
-use Rattle.hpb_rules.specs.declared.id.TheConstants.{MOST_NODES, MOST_BIDDERS}
+use Rattle.hpb_rules.specs.declared.limits.TheConstants.{MOST_NODES, MOST_BIDDERS}
 use Rattle.hpb_rules.specs.declared.licence.Terms.{Terms}
 use Rattle.hpb_rules.specs.declared.refusal.Refusal.{Refusal}
 use Rattle.hpb_rules.specs.declared.refusal.Refusal.TheVariants as refusals

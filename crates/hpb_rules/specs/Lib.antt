@@ -22,6 +22,9 @@ pub mod Refusals
 pub mod Drafts
 pub mod Definitions
 pub mod Lines
+pub mod RequestLines
+pub mod Limits
+pub mod Words
 pub mod Rendering
 pub mod Text
 pub mod RowRules

@@ -1,13 +1,15 @@
 -- The laws of lines and of texts.
-use Rattle.std.specs.Prelude.{◌≡◌, ℕ, ◌<◌, ◌↔◌, List, [], ◌∷◌, ◌++◌, length, Some, None, Result}
+use Rattle.std.specs.Prelude.{◌≡◌, ℕ, ◌^◌, ◌<◌, ◌≤◌, ◌↔◌, List, [], ◌∷◌, ◌++◌, length, decimal, Some, None, Result, Ok}
 use Rattle.hpb_rules.specs.declared.command.Command.{Command}
 use Rattle.hpb_rules.specs.declared.refusal.Refusal.{Refusal}
+use Rattle.hpb_rules.specs.declared.request.Request.{Request}
 use Rattle.hpb_rules.specs.Tree.{Rules}
 use Rattle.hpb_rules.specs.Answer.{IsHistory}
 use Rattle.hpb_rules.specs.Laws.{HoldsAlone}
 use Rattle.hpb_rules.specs.Drafts.{draft_refusal}
 use Rattle.hpb_rules.specs.Fronts.{IsFront}
-use Rattle.hpb_rules.specs.Lines.{Spelled, spelled, line_spelling, IsSpellable, IsSpellableName, line_feed, node_named, bidder_named}
+use Rattle.hpb_rules.specs.Lines.{Spelled, spelled, line_spelling, IsSpellable, IsSpellableName, line_feed, number_up_to, node_named, bidder_named, request_of}
+use Rattle.hpb_rules.specs.RequestLines.{request_line, CanBeAsked}
 use Rattle.hpb_rules.specs.Text.{lines_text, history_after_lines, IsText, script_text, node_name, bidder_name}
 
 -- The text of whole lines with more behind them is the text of the lines, and then that of the rest after the history that the lines lead to.
@@ -39,3 +41,12 @@ abbrev pub NamesAreFound : Type 0
 NamesAreFound = (rules : Rules) (place : ℕ) → draft_refusal rules ≡ None
     → (place < length rules.nodes → IsSpellableName (node_name rules.nodes place) × (node_named rules (node_name rules.nodes place) ≡ Some place))
     × (place < length rules.bidders → IsSpellableName (bidder_name rules.bidders place) × (bidder_named rules (bidder_name rules.bidders place) ≡ Some place))
+
+-- A word is a number, up to a greatest of 64 bits, exactly where it is the number's decimal.
+abbrev pub NumberIsOne : Type 0
+NumberIsOne = (most number : ℕ) (word : List ℕ) → most < 2 ^ 64 → (number_up_to most word ≡ Some number) ↔ ((number ≤ most) × (word ≡ decimal number))
+
+-- Under a definition a line asks for a request exactly where it is the line of that request, and the request is one that can be asked.
+abbrev pub RequestIsOne : Type 0
+RequestIsOne = (rules : Rules) (line : List ℕ) (request : Request) → draft_refusal rules ≡ None
+    → (request_of rules line ≡ Ok request) ↔ (CanBeAsked rules request × (line ≡ request_line rules request))

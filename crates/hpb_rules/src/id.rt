@@ -1,13 +1,7 @@
 ghost use Rattle.std.specs.Prelude.{◌≡◌, ◌<◌};
-ghost use Rattle.hpb_rules.specs.declared.id.TheConstants.{MOST_BIDDERS, MOST_NODES};
+ghost use Rattle.hpb_rules.specs.declared.limits.TheConstants.{MOST_BIDDERS, MOST_NODES};
 
 use std::marker::Model;
-
-/// How many nodes a definition has at most.
-pub const MOST_NODES: usize = 127;
-
-/// How many bidders a definition has at most.
-pub const MOST_BIDDERS: usize = 64;
 
 /// A node, by its place in the definition, from 0.
 #[derive(Clone, Copy, Debug, PartialEq, Eq)]
@@ -17,7 +11,7 @@ pub struct NodeId {
 
 impl Model for NodeId {
     ghost use Rattle.std.specs.Prelude.{ℕ, ◌<◌};
-    ghost use Rattle.hpb_rules.specs.declared.id.TheConstants.{MOST_NODES};
+    ghost use Rattle.hpb_rules.specs.declared.limits.TheConstants.{MOST_NODES};
 
     ghost Value = { ℕ };
 
@@ -54,7 +48,7 @@ pub struct BidderId {
 
 impl Model for BidderId {
     ghost use Rattle.std.specs.Prelude.{ℕ, ◌<◌};
-    ghost use Rattle.hpb_rules.specs.declared.id.TheConstants.{MOST_BIDDERS};
+    ghost use Rattle.hpb_rules.specs.declared.limits.TheConstants.{MOST_BIDDERS};
 
     ghost Value = { ℕ };
 

@@ -1,5 +1,6 @@
 ghost use Rattle.hpb_rules.specs.CertificateRow.{Certificates};
 ghost use Rattle.hpb_rules.specs.Laws.{SharesAreOne, MinimumIsOne, WinnersAreOne, BestIsOne, CoverProves, PricesProve, TestDecides, RevenueIsGreatest, PriceIsValue, DisjointIsApart, AcceptedIsDefinition, DepthIsOneMore, CarriedIsShare};
+ghost use Rattle.hpb_rules.specs.Limits.{LimitsAre};
 
 /// The shares are the one list that never rises, whose first is at most one more than its last, with that sum.
 pub fn shares_are_one()
@@ -69,4 +70,9 @@ pub fn depth_is_one_more()
 /// What is carried down to a node is its share of what its parent passes down.
 pub fn carried_is_share()
     ensures { CarriedIsShare }
+{}
+
+/// Each limit of the code is the number that the written rules name.
+pub fn limits_are()
+    ensures { LimitsAre }
 {}

@@ -1,4 +1,5 @@
-ghost use Rattle.hpb_rules.specs.TextLaws.{LinesTextJoins, LinesKeepHistory, ScriptTextIsOne, ScriptTextGrows, SpellingIsOne, NamesAreFound};
+ghost use Rattle.hpb_rules.specs.TextLaws.{LinesTextJoins, LinesKeepHistory, ScriptTextIsOne, ScriptTextGrows, SpellingIsOne, NamesAreFound, NumberIsOne, RequestIsOne};
+ghost use Rattle.hpb_rules.specs.Words.{WordsAre};
 
 /// The text of whole lines with more behind them is the text of the lines, and then that of the rest after them.
 pub fn lines_text_joins()
@@ -28,4 +29,19 @@ pub fn spelling_is_one()
 /// In a definition each name can stand in a line, and is found at its own place.
 pub fn names_are_found()
     ensures { NamesAreFound }
+{}
+
+/// A word is a number exactly where it is the number's decimal.
+pub fn number_is_one()
+    ensures { NumberIsOne }
+{}
+
+/// A line asks for a request exactly where it is the one line of that request.
+pub fn request_is_one()
+    ensures { RequestIsOne }
+{}
+
+/// Each refusal has the number and the word that are written for it, and no two have one number or one word.
+pub fn words_are()
+    ensures { WordsAre }
 {}

@@ -16,15 +16,16 @@ mod laws_of_text;
 mod laws_of_values;
 mod letter;
 mod licence;
+mod limits;
 mod refusal;
 mod reply;
 mod request;
 
 pub use command::{Command, Offer};
-pub use id::{BidderId, MOST_BIDDERS, MOST_NODES, NodeId};
+pub use id::{BidderId, NodeId};
 pub use laws::{
     accepted_is_definition, best_is_one, carried_is_share, certificates, cover_proves,
-    depth_is_one_more, disjoint_is_apart, minimum_is_one, price_is_value, prices_prove,
+    depth_is_one_more, disjoint_is_apart, limits_are, minimum_is_one, price_is_value, prices_prove,
     revenue_is_greatest, shares_are_one, test_decides, winners_are_one,
 };
 pub use laws_of_history::{
@@ -39,14 +40,20 @@ pub use laws_of_rounds::{
     incoming_is_greatest, over_is_quiet_round, rounds_are_cut,
 };
 pub use laws_of_text::{
-    lines_keep_history, lines_text_joins, names_are_found, script_text_grows, script_text_is_one,
-    spelling_is_one,
+    lines_keep_history, lines_text_joins, names_are_found, number_is_one, request_is_one,
+    script_text_grows, script_text_is_one, spelling_is_one, words_are,
 };
 pub use laws_of_values::{
     next_is_shown, reply_is_answer, run_is_shown, text_is_shown, value_is_best_choice,
 };
 pub use letter::{Answer, Letter};
 pub use licence::Terms;
+pub use limits::{
+    LEAST_PERCENTAGE, MOST_AMOUNT, MOST_BIDDER_UNITS, MOST_BIDDERS, MOST_COMMANDS,
+    MOST_DEFINITION_BYTES, MOST_LEVELS, MOST_LICENCE_OPENING, MOST_LICENCE_UNITS, MOST_LICENCES,
+    MOST_LINE_BYTES, MOST_NAME_BYTES, MOST_NODES, MOST_PERCENT, MOST_PERCENTAGE, MOST_READ_BYTES,
+    MOST_STAGES, MOST_STEP,
+};
 pub use refusal::Refusal;
-pub use reply::{MOST_AMOUNT, MOST_COMMANDS, Reply};
+pub use reply::Reply;
 pub use request::Request;

@@ -1,11 +1,5 @@
 use crate::refusal::Refusal;
 
-/// How many commands an auction accepts at most.
-pub const MOST_COMMANDS: u32 = 1_000_000;
-
-/// The greatest amount that may be bid, in whole dollars.
-pub const MOST_AMOUNT: u64 = 1_000_000_000_000;
-
 /// What a command is answered.
 #[derive(Clone, Copy, Debug, PartialEq, Eq)]
 pub enum Reply {

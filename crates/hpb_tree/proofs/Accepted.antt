@@ -4,7 +4,7 @@ use Rattle.std.specs.List.{list_any, slice_get}
 use Rattle.std.proofs.lemmas.Bool.{or_parts, not-false, and_parts, leb-true, ltb-false, both_ways, false_from_ne_true}
 use Rattle.std.proofs.lemmas.List.{length-map, get_or-map}
 use Rattle.std.proofs.lemmas.List.Folds.{list_any_at}
-use Rattle.hpb_rules.specs.declared.id.TheConstants.{MOST_NODES, MOST_BIDDERS}
+use Rattle.hpb_rules.specs.declared.limits.TheConstants.{MOST_NODES, MOST_BIDDERS}
 use Rattle.hpb_rules.specs.declared.licence.Terms.{Terms}
 use Rattle.hpb_rules.specs.Drafts.{is_within, is_empty, is_name, has_bad_number, lacks_something, has_bad_name, has_duplicate, has_late_parent, has_thin_package, has_licence_with_child, is_over_limits, are_bad_terms, has_bad_terms, draft_faults, draft_refusal}
 use Rattle.hpb_rules.specs.Lines.{node_named, bidder_named}

@@ -1,6 +1,6 @@
 -- What the sums of a tree need of its nodes.
 use Rattle.std.specs.Prelude.{◌≡◌, ℕ, ◌<◌, ◌≤◌, false, List, length}
-use Rattle.hpb_rules.specs.declared.id.TheConstants.{MOST_NODES}
+use Rattle.hpb_rules.specs.declared.limits.TheConstants.{MOST_NODES}
 use Rattle.hpb_rules.specs.Drafts.{has_late_parent, has_thin_package, has_licence_with_child}
 use Rattle.hpb_rules.specs.Tree.{Node, units_at, opening_at}
 use Rattle.hpb_tree.specs.Licences.{licence_count}

@@ -4,7 +4,7 @@ use Rattle.std.proofs.Math.Nat.{mul-le-mul}
 use Rattle.std.proofs.lemmas.Bool.{cases_lt, ne_eqb}
 use Rattle.std.proofs.lemmas.Grind.{get_or-set_at}
 use Rattle.std.proofs.lemmas.List.{get_or-set_same, get_or-set_other, get_or_past, length-set, length-drop}
-use Rattle.hpb_rules.specs.declared.reply.TheConstants.{MOST_AMOUNT}
+use Rattle.hpb_rules.specs.declared.limits.TheConstants.{MOST_AMOUNT}
 use Rattle.hpb_rules.specs.Tree.{Node, parent_of, IsTree}
 use Rattle.hpb_rules.specs.Choices.{is_node, no_node, total, values_from, best, winners, revenue as revenue_of}
 use Rattle.hpb_rules.proofs.Loops.{Test, Below, below_is, winners_all}

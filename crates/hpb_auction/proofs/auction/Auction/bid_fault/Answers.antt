@@ -1,6 +1,6 @@
 use Rattle.std.proofs.Common.{true, false, not, refl, sym, ap, ◌∙◌, arith}
 use Rattle.std.proofs.lemmas.Bool.{lt-ltb, le-ltb}
-use Rattle.hpb_rules.specs.declared.reply.TheConstants.{MOST_AMOUNT}
+use Rattle.hpb_rules.specs.declared.limits.TheConstants.{MOST_AMOUNT}
 use Rattle.hpb_auction.proofs.Faults.{fault_is, stepped_at, low_found, again_found, over}
 use Rattle.hpb_auction.proofs.auction.Auction.bid_fault.Goals as goal
 
