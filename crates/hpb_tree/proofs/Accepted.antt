@@ -118,6 +118,7 @@ module _ (d : Rules) (a : Accepted d) where
   checked t step percent seen ids sums = record {
     some_step = omega (arith, step_within);
     most_step = omega (arith, step_within);
+    some_percent = omega (arith, percent_within);
     most_percent = omega (arith, percent_within);
     some_node = omega (arith, ap length seen, length-nodes_view t.nodes.items, some_node);
     most_nodes = omega (arith, ap length seen, length-nodes_view t.nodes.items, few.0.0);

@@ -33,6 +33,7 @@ pub checked_copy : (old new : Inside) → new.step ≡ old.step → new.percent 
 checked_copy old new step percent e ids c = record {
   some_step = omega (arith, c.some_step);
   most_step = omega (arith, c.most_step);
+  some_percent = omega (arith, c.some_percent);
   most_percent = omega (arith, c.most_percent);
   some_node = omega (arith, count, c.some_node);
   most_nodes = omega (arith, count, c.most_nodes);

@@ -36,6 +36,7 @@ pub record IsSummed (nodes : List Node) (place : ℕ) (node : TreeNode) : Type 0
 pub record IsChecked (t : Inside) : Type 0 where
   pub some_step : 0 < t.step
   pub most_step : t.step ≤ MOST_STEP
+  pub some_percent : 0 < t.percent
   pub most_percent : t.percent ≤ MOST_PERCENT
   pub some_node : 0 < length t.nodes.items
   pub most_nodes : length t.nodes.items ≤ MOST_NODES

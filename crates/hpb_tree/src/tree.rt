@@ -98,6 +98,7 @@ impl Tree {
     pub fn facts(&self)
         ensures some_step { 0 < self.now.step }
         ensures most_step { self.now.step ≤ MOST_STEP }
+        ensures some_percent { 0 < self.now.percent }
         ensures most_percent { self.now.percent ≤ MOST_PERCENT }
         ensures some_node { 0 < length self.now.nodes }
         ensures most_nodes { length self.now.nodes ≤ MOST_NODES }
