@@ -2,8 +2,7 @@
 use Rattle.std.specs.Prelude.{◌<◌, ◌≤◌, length}
 use Rattle.hpb_rules.specs.declared.command.Command.{Command}
 use Rattle.hpb_rules.specs.declared.command.Command.TheVariants.{Bid, Close, Stage}
-use Rattle.hpb_rules.specs.declared.limits.TheConstants.{MOST_AMOUNT}
-use Rattle.hpb_tree.specs.declared.definition.TheConstants.{MOST_STAGES}
+use Rattle.hpb_rules.specs.declared.limits.TheConstants.{MOST_AMOUNT, MOST_STAGES}
 use Rattle.hpb_rules.specs.AuctionValue.{AuctionValue}
 
 -- A bid's bidder and node are the definition's.

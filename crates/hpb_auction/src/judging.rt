@@ -1,11 +1,10 @@
 ghost use Rattle.std.specs.Prelude.{◌≡◌, ℕ, ◌+◌, ◌<◌, ◌≤◌, List, length, Ok, None, IfOk, IfErr};
 ghost use Rattle.hpb_rules.specs.declared.command.Command.TheVariants.{Bid, Stage};
-ghost use Rattle.hpb_rules.specs.declared.limits.TheConstants.{MOST_AMOUNT, MOST_COMMANDS};
+ghost use Rattle.hpb_rules.specs.declared.limits.TheConstants.{MOST_AMOUNT, MOST_COMMANDS, MOST_STAGES};
 ghost use Rattle.hpb_rules.specs.Answer.{answer, unknown};
 ghost use Rattle.hpb_rules.specs.AuctionValue.{Shows};
 ghost use Rattle.hpb_rules.specs.History.{bidder as bidder_sender, sender_of};
 ghost use Rattle.hpb_rules.specs.Values.{last_at, fault_in, reply_in};
-ghost use Rattle.hpb_tree.specs.declared.definition.TheConstants.{MOST_STAGES};
 ghost use Rattle.hpb_auction.specs.Acceptable.{CanTake, IsKnown};
 ghost use Rattle.hpb_auction.specs.Verdicts.{reply_of, state_reply, IfNew, IfRepeat, IsFoundIn};
 

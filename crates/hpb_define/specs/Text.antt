@@ -3,18 +3,18 @@ use Rattle.std.specs.Prelude.{◌≡◌, ◌≤◌, ℕ, List, false, IsTrue, le
 use Rattle.std.specs.Str.{IsUtf8}
 use Rattle.serde_json.specs.Data.{Data}
 use Rattle.serde_json.specs.Read.{read}
+use Rattle.hpb_rules.specs.declared.limits.TheConstants.{MOST_DEFINITION_BYTES}
 use Rattle.hpb_rules.specs.Drafts.{draft_refusal}
 use Rattle.hpb_rules.specs.Tree.{Rules}
 use Rattle.hpb_tree.specs.Fault.{refusal_of}
 use Rattle.hpb_define.specs.declared.fault.DefineFault.{DefineFault}
 use Rattle.hpb_define.specs.declared.fault.DefineFault.TheVariants.{Memory, Json, Field, Number, Refused}
-use Rattle.hpb_define.specs.declared.reading.TheConstants.{MOST_BYTES}
 use Rattle.hpb_define.specs.Shape.{has_shape}
 use Rattle.hpb_define.specs.Spelling.{rules_in}
 
 -- The bytes are the text of a JSON value, and not too many.
 abbrev pub IsJson : List ℕ → Data → Type 0
-IsJson bytes value = (length bytes ≤ MOST_BYTES) × IsUtf8 bytes × (read bytes ≡ Some value)
+IsJson bytes value = (length bytes ≤ MOST_DEFINITION_BYTES) × IsUtf8 bytes × (read bytes ≡ Some value)
 
 -- The bytes spell rules: a value with the fields of a definition, whose numbers are whole.
 abbrev pub Spells : List ℕ → Rules → Type 0

@@ -8,7 +8,7 @@ use std::alloc::Global;
 /// Reads a definition from its JSON text. A parent's name that no earlier node bears gives a parent that
 /// doesn't stand before its node. Of the refusals the first that holds is told:
 ///
-/// - 60 (json): the bytes aren't UTF-8, aren't JSON as `serde_json` reads it, or are more than `MOST_BYTES`;
+/// - 60 (json): the bytes aren't UTF-8, aren't JSON as `serde_json` reads it, or are more than `MOST_DEFINITION_BYTES`;
 /// - 61 (field): a field is missing, unknown or of another type;
 /// - 62 (number): a number isn't whole, doesn't fit 64 bits or is out of range;
 /// - 50 to 57: as `Definition::check` tells them.

@@ -9,7 +9,6 @@ mod shape;
 
 pub use definition::read_definition;
 pub use fault::DefineFault;
-pub use reading::MOST_BYTES;
 
 #[cfg(test)]
 mod tests;

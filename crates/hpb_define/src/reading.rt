@@ -11,19 +11,17 @@ ghost use Rattle.hpb_define.specs.Reading.{Gives, ReadsBytes, ReadsValue};
 use crate::fault::DefineFault;
 use crate::places::{NodePlaces, note_place, place_named};
 use crate::shape::{is_definition, items_at};
+use hpb_rules::MOST_DEFINITION_BYTES;
 use hpb_tree::{BidderDraft, Draft, NodeDraft, TermsDraft};
 use indexmap::IndexMap;
 use serde_json::Value;
 use std::alloc::Global;
 
-/// How many bytes a definition has at most.
-pub const MOST_BYTES: usize = 65_536;
-
 /// The draft that bytes spell.
 pub(crate) fn read_draft(alloc: Global, bytes: &[u8]) -> Result<Draft, DefineFault>
     ensures { ReadsBytes bytes.now result }
 {
-    if bytes.len() > MOST_BYTES {
+    if bytes.len() > MOST_DEFINITION_BYTES {
         return Err(DefineFault::Json);
     }
     let value = Value::from_slice(alloc, bytes)?;

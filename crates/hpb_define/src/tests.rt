@@ -1,6 +1,6 @@
 use super::*;
 use Refusal::{Children, Duplicate, Empty, Field, Json, Leaf, Limits, Name, Number, Parent, Terms};
-use hpb_rules::{NodeId, Refusal};
+use hpb_rules::{MOST_DEFINITION_BYTES, NodeId, Refusal};
 use hpb_tree::Definition;
 use std::alloc::{AllocError, Global};
 use std::test::Fail;
@@ -163,9 +163,9 @@ fn nested(alloc: Global, depth: usize) -> Result<String, AllocError> {
 #[test]
 fn hostile_definitions(rt: HostRuntime) -> Result<(), Fail> {
     let alloc = rt.alloc();
-    let most = padded(alloc, WORKED, MOST_BYTES)?;
+    let most = padded(alloc, WORKED, MOST_DEFINITION_BYTES)?;
     assert_eq!(rt; refusal(alloc, most.as_str()), None);
-    let long = padded(alloc, WORKED, MOST_BYTES + 1)?;
+    let long = padded(alloc, WORKED, MOST_DEFINITION_BYTES + 1)?;
     assert_eq!(rt; refusal(alloc, long.as_str()), Some(Json));
     let deepest = nested(alloc, 127)?;
     assert_eq!(rt; refusal(alloc, deepest.as_str()), Some(Field));

@@ -21,7 +21,6 @@ module _ (nodes : List Node) (bid : ℕ → ℕ) where
     pub prices_are : (n : ℕ) → n < i → get_or prices n 0 ≡ price nodes bid n
     pub small : (n : ℕ) → n < i → get_or prices n 0 ≤ 2 * MOST_VALUE
 
-
   module _ (tree : IsTree nodes) where
     -- what a parent passes on
     module _ {node parent p inside extra : ℕ} {carried : List ℕ} (so_far : IsCarried nodes bid node carried) (up : Some parent ≡ parent_of nodes node) (same : p ≡ parent)
@@ -69,4 +68,3 @@ module _ (nodes : List Node) (bid : ℕ → ℕ) where
           (λ le. let same : n ≡ i = omega arith in omega (arith, get_or-set_at prices i n (value + from_above) 0 same (omega (arith, s.prices_count))))
           (cases_lt n i);
     }
-

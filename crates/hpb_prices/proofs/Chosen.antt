@@ -32,7 +32,6 @@ module _ (nodes : List Node) (winners : ℕ) where
       pub have_bids : (n : ℕ) → n < i → bit_at winners n ≡ 1 → 0 < get_or highs n 0
       pub apart : (n : ℕ) → n < i → bit_at winners n ≡ 1 → IsBelowWinner nodes winners n → ⊥
 
-
     pub chosen_more : (i : ℕ) → (bit_at winners i ≡ 1 → 0 < get_or highs i 0) → (bit_at winners i ≡ 1 → IsBelowWinner nodes winners i → ⊥) → Chosen i → Chosen (i + 1)
     chosen_more i bid alone s = record {
       have_bids = λ n h bit. ⊎_elim (λ less. s.have_bids n less bit) (λ le. let same : i ≡ n = omega arith in subst (λ k. bit_at winners k ≡ 1 → 0 < get_or highs k 0) same bid bit) (cases_lt n i);

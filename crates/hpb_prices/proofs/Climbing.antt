@@ -46,4 +46,3 @@ module _ (nodes : List Node) (winners node : ℕ) where
           = up nodes (subst (IsAtOrUnder nodes m) same last.2) (λ met. missed (shr_and_one winners k ∙ ap (bit_at winners) (at ∙ met) ∙ bit)) in
           (step.0, e ∙ step.1, step.2);
     }
-

@@ -3,8 +3,8 @@ ghost use Rattle.hpb_rules.specs.Tree.{opening as opening_of};
 ghost use Rattle.hpb_rules.specs.Prices.{IsMinimum, minimum_of};
 
 use hpb_money::{Dollars, MOST_DOLLARS, ceil_percent, round_up};
-use hpb_rules::NodeId;
-use hpb_tree::{MOST_STEP, Tree};
+use hpb_rules::{MOST_STEP, NodeId};
+use hpb_tree::Tree;
 
 /// Sets the least bid on each node, by the prices of the nodes.
 pub(crate) fn set_minima(tree: &Tree, prices: &[Dollars], minima: &mut [Dollars])

@@ -5,9 +5,9 @@ use Rattle.std.proofs.KnownBytes.{Consumes-nil, Consumes-trans}
 use Rattle.std.proofs.lemmas.Bool.{cases_lt}
 use Rattle.std.proofs.lemmas.List.{take-append-le, length-take}
 use Rattle.std.proofs.lemmas.List.Elements.{All-append}
+use Rattle.hpb_rules.specs.declared.limits.TheConstants.{MOST_DEFINITION_BYTES}
 use Rattle.hpb_server.specs.declared.input.DefinitionText.{DefinitionText}
 use Rattle.hpb_server.specs.declared.input.TheConstants.{LINE_FEED, KEPT_DEFINITION_BYTES}
-use Rattle.hpb_define.specs.declared.reading.TheConstants.{MOST_BYTES}
 use Rattle.hpb_rules.specs.Lines.{is_line_feed}
 use Rattle.hpb_server.specs.Reading.{Pending, HasNoEnd, TakesToEnd, TakesAll, TakesWithin, EndsDefinition, GivesDefinition, ReadsWithin}
 
@@ -86,7 +86,7 @@ module _ {old new : Option (List ℕ)} {budget : ℕ} {before between : Pending}
   taken_in_vain now vain = (all_bytes ++ vain.0, Consumes-trans old new now all_bytes vain.0 all_consumed.0 vain.1, omega (arith, all_consumed.1, vain.2, length-append all_bytes vain.0))
 
   -- so much was read that it is no definition
-  pub taken_too_much : {text : DefinitionText} → more ≡ text.bytes.items → text.has_end ≡ false → MOST_BYTES < length more → GivesDefinition old new budget between text
+  pub taken_too_much : {text : DefinitionText} → more ≡ text.bytes.items → text.has_end ≡ false → MOST_DEFINITION_BYTES < length more → GivesDefinition old new budget between text
   taken_too_much {text = text} is end long = record {
     bytes = all_bytes;
     no_end = all_no_end;

@@ -8,6 +8,7 @@ use Rattle.std.proofs.KnownBytes.{Appends-nil, Consumes-nil, Consumes-trans}
 use Rattle.std.proofs.lemmas.Bool.{cases_lt}
 use Rattle.std.proofs.lemmas.List.{length-take}
 use Rattle.std.proofs.lemmas.List.Splits.{slice_split_at, slice_split_none}
+use Rattle.hpb_rules.specs.declared.limits.TheConstants.{MOST_DEFINITION_BYTES, MOST_READ_BYTES}
 use Rattle.hpb_rules.specs.declared.refusal.Refusal.{Refusal}
 use Rattle.hpb_rules.specs.Tree.{Rules}
 use Rattle.hpb_rules.specs.Fronts.{IsFront}
@@ -17,11 +18,10 @@ use Rattle.hpb_rules.specs.Text.{script_text}
 use Rattle.hpb_rules.proofs.Lists.{front_trans}
 use Rattle.hpb_define.specs.declared.fault.DefineFault.{DefineFault}
 use Rattle.hpb_define.specs.declared.fault.DefineFault.TheVariants as faults
-use Rattle.hpb_define.specs.declared.reading.TheConstants.{MOST_BYTES}
 use Rattle.hpb_define.specs.Text.{Answers}
 use Rattle.hpb_server.specs.declared.fault.Fault.{Fault}
 use Rattle.hpb_server.specs.declared.input.DefinitionText.{DefinitionText}
-use Rattle.hpb_server.specs.declared.input.TheConstants.{LINE_FEED, KEPT_DEFINITION_BYTES, MOST_READ}
+use Rattle.hpb_server.specs.declared.input.TheConstants.{LINE_FEED, KEPT_DEFINITION_BYTES}
 use Rattle.hpb_server.specs.declared.script.ScriptEnd.{ScriptEnd}
 use Rattle.hpb_server.specs.declared.script.ScriptEnd.TheVariants.{Answered, Refused}
 use Rattle.hpb_server.specs.Reading.{Pending, EndsDefinition, GivesDefinition, ReadsWithin}
@@ -31,7 +31,7 @@ use Rattle.hpb_server.proofs.Errors.{err_case}
 use Rattle.hpb_server.proofs.ScriptTexts.{script_is, text_is, text_grows}
 
 -- ---- the kept bytes of the first line tell what it is
-json_short : (bytes : List ℕ) → KEPT_DEFINITION_BYTES < length bytes → length (take KEPT_DEFINITION_BYTES bytes) ≤ MOST_BYTES → ⊥
+json_short : (bytes : List ℕ) → KEPT_DEFINITION_BYTES < length bytes → length (take KEPT_DEFINITION_BYTES bytes) ≤ MOST_DEFINITION_BYTES → ⊥
 json_short bytes long short = absurd (omega (arith, long, short, length-take KEPT_DEFINITION_BYTES bytes))
 
 long_answers : (bytes : List ℕ) (r : Result Rules DefineFault) → KEPT_DEFINITION_BYTES < length bytes → Answers (take KEPT_DEFINITION_BYTES bytes) r → Answers bytes r
@@ -52,31 +52,31 @@ pub given_answers : {old new : Option (List ℕ)} {budget : ℕ} {after : Pendin
 given_answers given {kept = kept} r same h = kept_answers kept given.bytes r (same ∙ given.kept) h
 
 -- ---- the first line is read within what may be read
-module _ {before : Pending} (is : before ≡ record { unread = []; budget = MOST_READ }) where
-  pub given_script : {old new : Option (List ℕ)} {after : Pending} {text : DefinitionText} → GivesDefinition old new before.budget after text → GivesDefinition old new MOST_READ after text
+module _ {before : Pending} (is : before ≡ record { unread = []; budget = MOST_READ_BYTES }) where
+  pub given_script : {old new : Option (List ℕ)} {after : Pending} {text : DefinitionText} → GivesDefinition old new before.budget after text → GivesDefinition old new MOST_READ_BYTES after text
   given_script {old = old} {new = new} {after = after} {text = text} = subst (λ (budget : ℕ). GivesDefinition old new budget after text) (ap (λ (p : Pending). p.budget) is)
 
-  pub vain_script : (old new : Option (List ℕ)) → ReadsWithin old new before.budget → ReadsWithin old new MOST_READ
+  pub vain_script : (old new : Option (List ℕ)) → ReadsWithin old new before.budget → ReadsWithin old new MOST_READ_BYTES
   vain_script old new = subst (ReadsWithin old new) (ap (λ (p : Pending). p.budget) is)
 
 -- ---- the end of a run
 -- nothing was written
-pub nothing_run : (before after : Streams) (r : Result ScriptEnd Fault) → IsErr r → ReadsWithin before.remaining after.remaining MOST_READ → Appends before.contents after.contents [] → RunsScript before after r
+pub nothing_run : (before after : Streams) (r : Result ScriptEnd Fault) → IsErr r → ReadsWithin before.remaining after.remaining MOST_READ_BYTES → Appends before.contents after.contents [] → RunsScript before after r
 nothing_run before after r bad vain none = err_case (RunsScript before after) r bad (λ fault. inl (vain, none))
 
 -- nothing was read either
 pub never_run : (before : Streams) (r : Result ScriptEnd Fault) → IsErr r → RunsScript before before r
 never_run before r bad = nothing_run before before r bad ([], Consumes-nil before.remaining, omega arith) (Appends-nil before.contents)
 
-module _ {reader_old reader_now : Option (List ℕ)} {input : Pending} {text : DefinitionText} (given : GivesDefinition reader_old reader_now MOST_READ input text) where
-  ends_as : (has_end : Bool) → text.has_end ≡ has_end → EndsDefinition reader_old reader_now MOST_READ input given.bytes has_end
-  ends_as has_end is = subst (EndsDefinition reader_old reader_now MOST_READ input given.bytes) is given.ends
+module _ {reader_old reader_now : Option (List ℕ)} {input : Pending} {text : DefinitionText} (given : GivesDefinition reader_old reader_now MOST_READ_BYTES input text) where
+  ends_as : (has_end : Bool) → text.has_end ≡ has_end → EndsDefinition reader_old reader_now MOST_READ_BYTES input given.bytes has_end
+  ends_as has_end is = subst (EndsDefinition reader_old reader_now MOST_READ_BYTES input given.bytes) is given.ends
 
   -- ---- a definition that is refused
   module _ (writer_old writer_new : Option (List ℕ)) (fault : DefineFault) (refused : Answers given.bytes (Err fault)) where
     refuses : (refusal : Refusal) (has_end : Bool) → text.has_end ≡ has_end → IsTold fault refusal → RefusesScript (streams reader_old writer_old) (streams reader_now writer_new) refusal
     refuses refusal true is told =
-        let ends : EndsDefinition reader_old reader_now MOST_READ input given.bytes true = ends_as true is in record {
+        let ends : EndsDefinition reader_old reader_now MOST_READ_BYTES input given.bytes true = ends_as true is in record {
           taken = given.bytes ++ LINE_FEED ∷ input.unread;
           first = given.bytes;
           fault = fault;
@@ -88,7 +88,7 @@ module _ {reader_old reader_now : Option (List ℕ)} {input : Pending} {text : D
           told = told;
         }
     refuses refusal false is told =
-        let ends : EndsDefinition reader_old reader_now MOST_READ input given.bytes false = ends_as false is in record {
+        let ends : EndsDefinition reader_old reader_now MOST_READ_BYTES input given.bytes false = ends_as false is in record {
           taken = given.bytes;
           first = given.bytes;
           fault = fault;
@@ -101,12 +101,12 @@ module _ {reader_old reader_now : Option (List ℕ)} {input : Pending} {text : D
         }
 
     -- some bytes were taken
-    taken_some : (has_end : Bool) → text.has_end ≡ has_end → ReadsWithin reader_old reader_now MOST_READ
+    taken_some : (has_end : Bool) → text.has_end ≡ has_end → ReadsWithin reader_old reader_now MOST_READ_BYTES
     taken_some true is =
-        let ends : EndsDefinition reader_old reader_now MOST_READ input given.bytes true = ends_as true is in
+        let ends : EndsDefinition reader_old reader_now MOST_READ_BYTES input given.bytes true = ends_as true is in
         (given.bytes ++ LINE_FEED ∷ input.unread, ends.0, omega (arith, ends.1))
     taken_some false is =
-        let ends : EndsDefinition reader_old reader_now MOST_READ input given.bytes false = ends_as false is in
+        let ends : EndsDefinition reader_old reader_now MOST_READ_BYTES input given.bytes false = ends_as false is in
         (given.bytes, ends.0.0, omega (arith, ends.0.1))
 
     pub refused_run : (r : Result ScriptEnd Fault) → Refuses writer_old writer_new fault r → RunsScript (streams reader_old writer_old) (streams reader_now writer_new) r
@@ -128,7 +128,7 @@ module _ {reader_old reader_now : Option (List ℕ)} {input : Pending} {text : D
     -- no line comes after the definition
     pub ended_run : (writer : Option (List ℕ)) → text.has_end ≡ false → AnswersScript (streams reader_old writer) (streams reader_now writer)
     ended_run writer is =
-        let ends : EndsDefinition reader_old reader_now MOST_READ input given.bytes false = ends_as false is in record {
+        let ends : EndsDefinition reader_old reader_now MOST_READ_BYTES input given.bytes false = ends_as false is in record {
           input = given.bytes;
           first = given.bytes;
           lines = [];
@@ -146,7 +146,7 @@ module _ {reader_old reader_now : Option (List ℕ)} {input : Pending} {text : D
       abbrev after_line : List ℕ → List ℕ
       after_line bytes = given.bytes ++ LINE_FEED ∷ bytes
 
-      ends : EndsDefinition reader_old reader_now MOST_READ input given.bytes true
+      ends : EndsDefinition reader_old reader_now MOST_READ_BYTES input given.bytes true
       ends = ends_as true has_end
 
       read_all : (taken : List ℕ) → Consumes reader_now reader_new taken → Consumes reader_old reader_new (after_line (input.unread ++ taken))

@@ -2,10 +2,10 @@
 use Rattle.std.specs.Prelude.{◌≡◌, ℕ, ◌+◌, ◌<◌, ◌≤◌, Bool, true, false, List, [], ◌∷◌, ◌++◌, length, take, slice_index, Option, Some, None, Result, Ok, Err, ◌⊎◌}
 use Rattle.std.specs.List.{All}
 use Rattle.std.specs.Io.KnownBytes.{Consumes, IsAtEnd}
+use Rattle.hpb_rules.specs.declared.limits.TheConstants.{MOST_DEFINITION_BYTES}
 use Rattle.hpb_rules.specs.Lines.{is_line_feed}
 use Rattle.hpb_server.specs.declared.fault.Fault.{Fault}
 use Rattle.hpb_server.specs.declared.input.TheConstants.{LINE_FEED, KEPT_DEFINITION_BYTES}
-use Rattle.hpb_define.specs.declared.reading.TheConstants.{MOST_BYTES}
 use Rattle.hpb_server.specs.declared.input.DefinitionText.{DefinitionText}
 
 -- What has been read and not been taken, and how much may still be read.
@@ -63,7 +63,7 @@ TakesWithin old new before after bytes = Consumes old new bytes × (length bytes
 -- What stands behind the bytes of a definition: its end, or nothing more that is of use.
 abbrev pub EndsDefinition : (old new : Option (List ℕ)) (budget : ℕ) (after : Pending) (bytes : List ℕ) → Bool → Type 0
 EndsDefinition old new budget after bytes true = TakesWithin old new budget after.budget (bytes ++ LINE_FEED ∷ after.unread)
-EndsDefinition old new budget after bytes false = TakesWithin old new budget after.budget bytes × ((MOST_BYTES < length bytes) ⊎ IsAtEnd new)
+EndsDefinition old new budget after bytes false = TakesWithin old new budget after.budget bytes × ((MOST_DEFINITION_BYTES < length bytes) ⊎ IsAtEnd new)
 
 -- The first line was read, and so much of it is kept.
 pub record GivesDefinition (old new : Option (List ℕ)) (budget : ℕ) (after : Pending) (text : DefinitionText) : Type 0 where

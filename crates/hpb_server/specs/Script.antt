@@ -2,6 +2,7 @@
 use Rattle.std.specs.Prelude.{◌≡◌, ℕ, ◌<◌, ◌≤◌, List, [], ◌∷◌, ◌++◌, length, Option, Result, Ok, Err, ⊤, ◌⊎◌}
 use Rattle.std.specs.List.{slice_split}
 use Rattle.std.specs.Io.KnownBytes.{Appends, Consumes, IsAtEnd}
+use Rattle.hpb_rules.specs.declared.limits.TheConstants.{MOST_DEFINITION_BYTES, MOST_READ_BYTES}
 use Rattle.hpb_rules.specs.declared.refusal.Refusal.{Refusal}
 use Rattle.hpb_rules.specs.Tree.{Rules}
 use Rattle.hpb_rules.specs.Fronts.{IsFront}
@@ -11,11 +12,10 @@ use Rattle.hpb_rules.specs.Rendering.{refusal_text}
 use Rattle.hpb_rules.specs.Text.{line_of, script_text}
 use Rattle.hpb_define.specs.declared.fault.DefineFault.{DefineFault}
 use Rattle.hpb_define.specs.declared.fault.DefineFault.TheVariants.{Memory}
-use Rattle.hpb_define.specs.declared.reading.TheConstants.{MOST_BYTES}
 use Rattle.hpb_define.specs.Fault.{refusal_of}
 use Rattle.hpb_define.specs.Text.{Answers}
 use Rattle.hpb_server.specs.declared.fault.Fault.{Fault}
-use Rattle.hpb_server.specs.declared.input.TheConstants.{LINE_FEED, MOST_READ}
+use Rattle.hpb_server.specs.declared.input.TheConstants.{LINE_FEED}
 use Rattle.hpb_server.specs.declared.script.ScriptEnd.{ScriptEnd}
 use Rattle.hpb_server.specs.declared.script.ScriptEnd.TheVariants.{Answered, Refused}
 use Rattle.hpb_server.specs.Desk.{rules_in, RepliesIn, ShowsItself}
@@ -37,7 +37,7 @@ module _ (before after : Streams) where
     pub rules : Rules
     pub read : Consumes before.remaining after.remaining input
     pub ended : IsAtEnd after.remaining
-    pub within : length input ≤ MOST_READ
+    pub within : length input ≤ MOST_READ_BYTES
     pub parts : slice_split is_line_feed input ≡ first ∷ lines
     pub accepted : Answers first (Ok rules)
     pub written : (define : List ℕ → Result Rules Refusal) → define first ≡ Ok rules → Appends before.contents after.contents (script_text define input)
@@ -48,9 +48,9 @@ module _ (before after : Streams) where
     pub first : List ℕ
     pub fault : DefineFault
     pub read : Consumes before.remaining after.remaining taken
-    pub within : length taken ≤ MOST_READ
+    pub within : length taken ≤ MOST_READ_BYTES
     pub line : HasNoEnd first
-    pub ends : ((rest : List ℕ) × (taken ≡ first ++ LINE_FEED ∷ rest)) ⊎ ((taken ≡ first) × ((MOST_BYTES < length first) ⊎ IsAtEnd after.remaining))
+    pub ends : ((rest : List ℕ) × (taken ≡ first ++ LINE_FEED ∷ rest)) ⊎ ((taken ≡ first) × ((MOST_DEFINITION_BYTES < length first) ⊎ IsAtEnd after.remaining))
     pub refused : Answers first (Err fault)
     pub told : IsTold fault refusal
 
@@ -71,7 +71,7 @@ module _ (before after : Streams) where
     pub rules : Rules
     pub sent : List ℕ
     pub read : Consumes before.remaining after.remaining taken
-    pub within : length taken ≤ most_taken MOST_READ
+    pub within : length taken ≤ most_taken MOST_READ_BYTES
     pub line : HasNoEnd first
     pub parts : taken ≡ (first ++ LINE_FEED ∷ done) ++ rest
     pub whole : AreLines done ⊎ ((rest ≡ []) × IsAtEnd after.remaining)
@@ -82,7 +82,7 @@ module _ (before after : Streams) where
 
   -- Nothing was written.
   abbrev pub WritesNothing : Type 0
-  WritesNothing = ReadsWithin before.remaining after.remaining MOST_READ × Appends before.contents after.contents []
+  WritesNothing = ReadsWithin before.remaining after.remaining MOST_READ_BYTES × Appends before.contents after.contents []
 
   -- What a run of a script reads and writes.
   abbrev pub RunsScript : Result ScriptEnd Fault → Type 0

@@ -5,19 +5,16 @@ ghost use Rattle.hpb_server.specs.Reading.{Fills, FindsEnd, GivesDefinition, Rea
 
 use crate::fault::Fault;
 use crate::line::{KEPT_BYTES, Line};
-use hpb_define::MOST_BYTES;
+use hpb_rules::MOST_DEFINITION_BYTES;
 use std::alloc::{AllocError, Global};
 use std::io::{ErrorKind, Read};
 use std::marker::Model;
-
-/// How many bytes a session may read. At most one more is taken of its reader, which shows that there is more.
-pub const MOST_READ: u64 = 1_000_000_000;
 
 /// How many bytes are asked of a reader at a time.
 const CHUNK_BYTES: usize = 65_536;
 
 /// How many bytes of a definition are kept: one more than it may have, which shows that it is too long.
-const KEPT_DEFINITION_BYTES: usize = MOST_BYTES + 1;
+const KEPT_DEFINITION_BYTES: usize = MOST_DEFINITION_BYTES + 1;
 
 /// What ends a line.
 const LINE_FEED: u8 = b'\n';
@@ -101,7 +98,7 @@ impl Input {
             if has_end {
                 return Ok(DefinitionText { bytes, has_end });
             }
-            let is_too_long = bytes.len() > MOST_BYTES;
+            let is_too_long = bytes.len() > MOST_DEFINITION_BYTES;
             if is_too_long {
                 return Ok(DefinitionText { bytes, has_end });
             }

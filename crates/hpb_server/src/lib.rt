@@ -16,7 +16,6 @@ mod status;
 pub use arguments::{ArgumentsFault, Job, read_arguments};
 pub use desk::{Desk, ScriptDesk};
 pub use fault::Fault;
-pub use input::MOST_READ;
 pub use laws::{input_is_text, session_is_text};
 pub use running::program;
 pub use script::{ScriptEnd, run_script};

@@ -1,10 +1,10 @@
 ghost use Rattle.std.specs.Prelude.{◌≡◌, ◌==◌, [], ◌++◌, take, length};
 
-use hpb_wire::MOST_LINE;
+use hpb_rules::MOST_LINE_BYTES;
 use std::marker::Model;
 
 /// How many bytes of a line are kept: one more than it may have, which shows that it is too long.
-pub(crate) const KEPT_BYTES: usize = MOST_LINE + 1;
+pub(crate) const KEPT_BYTES: usize = MOST_LINE_BYTES + 1;
 
 /// The kept bytes of a line, as far as it has been read.
 #[derive(Drop)]

@@ -5,12 +5,12 @@ ghost use Rattle.hpb_server.specs.Streams.{streams};
 
 use crate::desk::ScriptDesk;
 use crate::fault::Fault;
-use crate::input::{Input, MOST_READ};
+use crate::input::Input;
 use crate::output::Output;
 use crate::serving::answer_lines;
 use hpb_auction::Auction;
 use hpb_define::{DefineFault, read_definition};
-use hpb_rules::Refusal;
+use hpb_rules::{MOST_READ_BYTES, Refusal};
 use hpb_tree::Definition;
 use std::alloc::Global;
 use std::io::{Read, Write};
@@ -34,7 +34,7 @@ pub fn run_script<R: Read, W: Write>(
 ) -> Result<ScriptEnd, Fault>
     ensures { RunsScript (streams (R.remaining reader.old) (W.contents writer.old)) (streams (R.remaining reader.new) (W.contents writer.new)) result }
 {
-    let mut input = Input::new(alloc, MOST_READ)?;
+    let mut input = Input::new(alloc, MOST_READ_BYTES)?;
     let mut output = Output::new(alloc)?;
     let text = input.take_definition(alloc, reader)?;
     match read_definition(alloc, text.bytes.as_slice()) {

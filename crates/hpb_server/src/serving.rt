@@ -9,10 +9,10 @@ ghost use Rattle.hpb_server.specs.Session.{AddsAnswer, AddsLook, Ends, PassesAns
 
 use crate::desk::Desk;
 use crate::fault::Fault;
-use crate::input::{Input, MOST_READ};
+use crate::input::Input;
 use crate::line::{KEPT_BYTES, Line};
 use crate::output::Output;
-use hpb_rules::{BidderId, NodeId, Refusal, Request};
+use hpb_rules::{BidderId, MOST_READ_BYTES, NodeId, Refusal, Request};
 use hpb_wire::{Response, parse_line};
 use std::alloc::{AllocError, Global};
 use std::io::{Read, Write};
@@ -31,11 +31,11 @@ pub fn serve<R: Read, W: Write, D: Desk>(
     writer: &mut W,
     desk: &mut D,
 ) -> Result<(), Fault>
-    ensures served { Serves D.rules D.asks D.looks [] MOST_READ
+    ensures served { Serves D.rules D.asks D.looks [] MOST_READ_BYTES
         (streams (R.remaining reader.old) (W.contents writer.old)) (streams (R.remaining reader.new) (W.contents writer.new)) desk.old desk.new result }
     ensures rules { D.rules desk.new ≡ D.rules desk.old }
 {
-    let mut input = Input::new(alloc, MOST_READ)?;
+    let mut input = Input::new(alloc, MOST_READ_BYTES)?;
     let mut output = Output::new(alloc)?;
     answer_lines(reader, writer, desk, &mut input, &mut output)
 }

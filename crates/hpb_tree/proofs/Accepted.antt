@@ -4,7 +4,7 @@ use Rattle.std.specs.List.{list_any, slice_get}
 use Rattle.std.proofs.lemmas.Bool.{or_parts, not-false, and_parts, leb-true, ltb-false, both_ways, false_from_ne_true}
 use Rattle.std.proofs.lemmas.List.{length-map, get_or-map}
 use Rattle.std.proofs.lemmas.List.Folds.{list_any_at}
-use Rattle.hpb_rules.specs.declared.limits.TheConstants.{MOST_NODES, MOST_BIDDERS}
+use Rattle.hpb_rules.specs.declared.limits.TheConstants.{MOST_NODES, MOST_BIDDERS, MOST_STEP, MOST_PERCENT, MOST_LICENCES, MOST_LICENCE_UNITS, MOST_LICENCE_OPENING, MOST_STAGES, LEAST_PERCENTAGE, MOST_PERCENTAGE, MOST_BIDDER_UNITS}
 use Rattle.hpb_rules.specs.declared.licence.Terms.{Terms}
 use Rattle.hpb_rules.specs.Drafts.{is_within, is_empty, is_name, has_bad_number, lacks_something, has_bad_name, has_duplicate, has_late_parent, has_thin_package, has_licence_with_child, is_over_limits, are_bad_terms, has_bad_terms, draft_faults, draft_refusal}
 use Rattle.hpb_rules.specs.Lines.{node_named, bidder_named}
@@ -12,8 +12,6 @@ use Rattle.hpb_rules.specs.Text.{node_name, bidder_name}
 use Rattle.hpb_rules.specs.Tree.{Rules, Node, Bidder, places, terms_of, units_at, opening_at}
 use Rattle.hpb_rules.proofs.Accepted.{fault_at, no_fault}
 use Rattle.hpb_rules.proofs.Places.{none_at, terms_in}
-use Rattle.hpb_tree.specs.declared.tree.TheConstants.{MOST_STEP, MOST_PERCENT, MOST_LICENCES, MOST_LICENCE_UNITS, MOST_LICENCE_OPENING}
-use Rattle.hpb_tree.specs.declared.definition.TheConstants.{MOST_STAGES, LEAST_PERCENTAGE, MOST_PERCENTAGE, MOST_BIDDER_UNITS}
 use Rattle.hpb_tree.specs.declared.tree.Tree.TheInside.{Inside}
 use Rattle.hpb_tree.specs.declared.tree.TreeNode.{TreeNode}
 use Rattle.hpb_tree.specs.declared.draft.Draft.{Draft}

@@ -2,10 +2,9 @@
 use Rattle.std.proofs.Common.{◌≡◌, ℕ, ◌<◌, ◌≤◌, length, get_or, None, ap, subst, arith}
 use Rattle.std.specs.List.{All}
 use Rattle.std.proofs.lemmas.List.{length-map, get_or-map}
-use Rattle.hpb_rules.specs.declared.limits.TheConstants.{MOST_BIDDERS}
+use Rattle.hpb_rules.specs.declared.limits.TheConstants.{MOST_BIDDERS, MOST_STAGES, LEAST_PERCENTAGE, MOST_PERCENTAGE, MOST_BIDDER_UNITS}
 use Rattle.hpb_rules.specs.Drafts.{draft_refusal}
 use Rattle.hpb_rules.specs.Tree.{Rules, Bidder}
-use Rattle.hpb_tree.specs.declared.definition.TheConstants.{MOST_STAGES, LEAST_PERCENTAGE, MOST_PERCENTAGE, MOST_BIDDER_UNITS}
 use Rattle.hpb_tree.specs.declared.definition.Bidder.{Bidder as Entry}
 use Rattle.hpb_tree.specs.declared.definition.Definition.TheInside.{Inside}
 use Rattle.hpb_tree.specs.Definition.{bidder_view, bidders_view, rules_view, IsDefined}

@@ -4,11 +4,11 @@ use Rattle.std.proofs.Math.Numerals.{add-one}
 use Rattle.std.proofs.Math.Nat.{mul-le-mul_left}
 use Rattle.std.specs.Option.{is_some}
 use Rattle.std.specs.List.{sum_by, range_with_len}
+use Rattle.hpb_rules.specs.declared.limits.TheConstants.{MOST_LICENCES, MOST_LICENCE_UNITS, MOST_LICENCE_OPENING}
 use Rattle.hpb_rules.specs.declared.licence.Terms.{Terms}
 use Rattle.hpb_rules.specs.Tree.{Node, IsTree, terms_of, at_or_under, units_at, opening_at}
 use Rattle.hpb_rules.proofs.TreeLaws.{full_tree}
 use Rattle.hpb_rules.proofs.Places.{sum_more, sum_grows, sum_has}
-use Rattle.hpb_tree.specs.declared.tree.TheConstants.{MOST_LICENCES, MOST_LICENCE_UNITS, MOST_LICENCE_OPENING}
 use Rattle.hpb_tree.specs.Licences.{licences_among, part_over}
 use Rattle.hpb_tree.specs.Sound.{AreSound}
 use Rattle.hpb_tree.proofs.Walks.{Ordered, ordered}

@@ -1,10 +1,9 @@
 -- What the sums of a tree need of its nodes.
 use Rattle.std.specs.Prelude.{◌≡◌, ℕ, ◌<◌, ◌≤◌, false, List, length}
-use Rattle.hpb_rules.specs.declared.limits.TheConstants.{MOST_NODES}
+use Rattle.hpb_rules.specs.declared.limits.TheConstants.{MOST_NODES, MOST_LICENCES, MOST_LICENCE_UNITS, MOST_LICENCE_OPENING}
 use Rattle.hpb_rules.specs.Drafts.{has_late_parent, has_thin_package, has_licence_with_child}
 use Rattle.hpb_rules.specs.Tree.{Node, units_at, opening_at}
 use Rattle.hpb_tree.specs.Licences.{licence_count}
-use Rattle.hpb_tree.specs.declared.tree.TheConstants.{MOST_LICENCES, MOST_LICENCE_UNITS, MOST_LICENCE_OPENING}
 
 -- Nodes against which nothing speaks, as far as it matters for what is kept of them.
 pub record AreSound (nodes : List Node) : Type 0 where

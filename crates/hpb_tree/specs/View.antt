@@ -4,9 +4,8 @@ use Rattle.std.specs.List.{range_with_len}
 use Rattle.hpb_rules.specs.Tree as tree
 use Rattle.hpb_rules.specs.Tree.{TreeRules, Node, IsTree, parent_of, places}
 use Rattle.hpb_rules.specs.Prices.{children_among}
-use Rattle.hpb_rules.specs.declared.limits.TheConstants.{MOST_NODES}
+use Rattle.hpb_rules.specs.declared.limits.TheConstants.{MOST_NODES, MOST_STEP, MOST_PERCENT, MOST_LICENCES, MOST_LICENCE_UNITS, MOST_LICENCE_OPENING}
 use Rattle.hpb_tree.specs.Licences.{IsMask, licence_count}
-use Rattle.hpb_tree.specs.declared.tree.TheConstants.{MOST_STEP, MOST_PERCENT, MOST_LICENCES, MOST_LICENCE_UNITS, MOST_LICENCE_OPENING}
 use Rattle.hpb_tree.specs.declared.tree.TreeNode.{TreeNode}
 use Rattle.hpb_tree.specs.declared.tree.Tree.TheInside.{Inside}
 

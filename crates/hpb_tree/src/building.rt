@@ -9,12 +9,12 @@ ghost use Rattle.hpb_tree.specs.Definition.{bidders_view};
 ghost use Rattle.hpb_tree.specs.Draft.{rules_of, nodes_said, bidders_said};
 ghost use Rattle.hpb_tree.specs.Sound.{AreSound};
 
-use crate::definition::{Bidder, Definition, MOST_BIDDER_UNITS, MOST_PERCENTAGE};
+use crate::definition::{Bidder, Definition};
 use crate::draft::{BidderDraft, Draft, NodeDraft};
 use crate::outline::{children_before, parent_at, terms_at};
 use crate::summing::{licences, sums};
 use crate::tree::{Tree, TreeNode};
-use hpb_rules::{MOST_NODES, NodeId, Terms};
+use hpb_rules::{MOST_BIDDER_UNITS, MOST_NODES, MOST_PERCENTAGE, NodeId, Terms};
 use std::alloc::{AllocError, Global};
 
 /// The definition that a draft spells.

@@ -7,24 +7,13 @@ ghost use Rattle.hpb_rules.specs.Units.{bidder_units};
 ghost use Rattle.hpb_tree.specs.Definition.{bidders_view};
 
 use crate::named::place_named;
-use crate::tree::{MOST_STEP, Tree};
-use hpb_rules::{BidderId, MOST_BIDDERS, MOST_NODES, NodeId};
+use crate::tree::Tree;
+use hpb_rules::{
+    BidderId, LEAST_PERCENTAGE, MOST_BIDDER_UNITS, MOST_BIDDERS, MOST_NODES, MOST_PERCENTAGE,
+    MOST_STAGES, MOST_STEP, NodeId,
+};
 use std::alloc::{AllocError, Global};
 use std::marker::Model;
-
-/// How many stages there are at most.
-pub const MOST_STAGES: usize = 4;
-/// The least percentage of a stage.
-pub(crate) const LEAST_PERCENTAGE: u8 = 50;
-/// The greatest percentage of a stage.
-pub(crate) const MOST_PERCENTAGE: u8 = 100;
-/// The greatest bidding units that a bidder starts with.
-pub(crate) const MOST_BIDDER_UNITS: u32 = 64_000_000;
-
-/// The longest name, in bytes.
-pub(crate) const MOST_NAME: usize = 16;
-/// How many levels a tree has at most.
-pub(crate) const MOST_DEPTH: usize = 8;
 
 /// A bidder, with the units that it starts with.
 #[derive(Debug, Drop)]

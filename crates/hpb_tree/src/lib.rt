@@ -12,7 +12,7 @@ mod summing;
 mod tree;
 mod walking;
 
-pub use definition::{Definition, MOST_STAGES};
+pub use definition::Definition;
 pub use draft::{BidderDraft, Draft, NodeDraft, TermsDraft};
 pub use fault::DefinitionFault;
-pub use tree::{MOST_LICENCE_UNITS, MOST_LICENCES, MOST_STEP, Tree};
+pub use tree::Tree;

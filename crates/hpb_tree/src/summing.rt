@@ -6,8 +6,8 @@ ghost use Rattle.hpb_tree.specs.Sound.{AreSound};
 
 use crate::draft::{NodeDraft, TermsDraft};
 use crate::outline::{is_licence, terms_at};
-use crate::tree::{MOST_LICENCE_OPENING, MOST_LICENCE_UNITS, MOST_LICENCES};
 use crate::walking::is_at_or_under;
+use hpb_rules::{MOST_LICENCE_OPENING, MOST_LICENCE_UNITS, MOST_LICENCES};
 
 /// The units and the opening of a node: the sums over its licences.
 pub(crate) fn sums(nodes: &[NodeDraft], node: usize) -> TermsDraft

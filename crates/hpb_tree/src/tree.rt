@@ -8,20 +8,12 @@ ghost use Rattle.hpb_tree.specs.View.{AreCopies};
 ghost use Rattle.hpb_tree.specs.Licences.{IsMask, licence_count};
 
 use crate::named::place_named;
-use hpb_rules::{MOST_NODES, NodeId, Terms};
+use hpb_rules::{
+    MOST_LICENCE_OPENING, MOST_LICENCE_UNITS, MOST_LICENCES, MOST_NODES, MOST_PERCENT, MOST_STEP,
+    NodeId, Terms,
+};
 use std::alloc::{AllocError, Global};
 use std::marker::Model;
-
-/// The greatest step, in whole dollars.
-pub const MOST_STEP: u32 = 1_000_000;
-/// The greatest percent.
-pub(crate) const MOST_PERCENT: u8 = 50;
-/// How many nodes are licences at most.
-pub const MOST_LICENCES: usize = 64;
-/// The greatest bidding units of a licence.
-pub const MOST_LICENCE_UNITS: u32 = 1_000_000;
-/// The greatest opening of a licence, in whole dollars.
-pub(crate) const MOST_LICENCE_OPENING: u64 = 10_000_000_000;
 
 /// A node with what is known of it once the whole tree is read.
 #[derive(Debug, Drop)]

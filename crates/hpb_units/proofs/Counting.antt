@@ -6,9 +6,9 @@ use Rattle.std.specs.List.{sum_by, range_with_len}
 use Rattle.std.proofs.Math.Numerals.{add-one}
 use Rattle.std.proofs.lemmas.Bool.{both_ways, cases_lt, eqb-true, eq-eqb, ne_eqb, false_from_ne_true}
 use Rattle.std.proofs.lemmas.Nat.Bits.{shr_and_one}
+use Rattle.hpb_rules.specs.declared.limits.TheConstants.{MOST_LICENCES, MOST_LICENCE_UNITS}
 use Rattle.hpb_rules.specs.declared.licence.Terms.{Terms}
 use Rattle.hpb_rules.specs.Tree.{Node, IsTree, parent_of, terms_of, places, at_parent, at_or_under, at_or_under_within, sum_over, units, units_at}
-use Rattle.hpb_tree.specs.declared.tree.TheConstants.{MOST_LICENCES, MOST_LICENCE_UNITS}
 use Rattle.hpb_tree.specs.Licences.{licence_count, licence_number, part_over}
 use Rattle.hpb_rules.proofs.Places.{sum_more, sum_has, count_yes, count_no, terms_in}
 use Rattle.hpb_units.specs.Activity.{is_marked}

@@ -10,7 +10,6 @@ mod text;
 mod views;
 
 pub use line::parse_line;
-pub use named::MOST_LINE;
 pub use response::Response;
 pub use text::{RESPONSE_BYTES, ResponseText};
 pub use views::{node, show, who};

@@ -4,9 +4,7 @@ ghost use Rattle.hpb_wire.specs.Requests.{spelled_as, name_as};
 
 use crate::cut::cut;
 use crate::number::number;
-
-/// How many bytes a line has at most, its end not counted.
-pub const MOST_LINE: usize = 128;
+use hpb_rules::MOST_LINE_BYTES;
 
 /// What a line spells, before its names are looked up.
 #[derive(Clone, Copy)]
@@ -28,7 +26,7 @@ pub(crate) enum NamedRequest<'a> {
 pub(crate) fn read_line(line: &[u8]) -> Option<NamedRequest<'_>>
     ensures { spelled_as result ≡ spelled line.now }
 {
-    if line.len() > MOST_LINE || line.contains(&b'\n') {
+    if line.len() > MOST_LINE_BYTES || line.contains(&b'\n') {
         return None;
     }
     read_spaced(line)

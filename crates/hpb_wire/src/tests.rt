@@ -157,7 +157,10 @@ fn responses_are_written(rt: HostRuntime) -> Result<(), Fail> {
     };
     let table = [
         (Response::Reply(Reply::Ok(1_000_000)), "OK 1000000\n"),
-        (Response::Reply(Reply::Refused(Refusal::Eligibility)), "ERR 25 eligibility\n"),
+        (
+            Response::Reply(Reply::Refused(Refusal::Eligibility)),
+            "ERR 25 eligibility\n",
+        ),
         (
             Response::Show(round),
             "ROUND 2 STAGE 1 OPEN REVENUE 64000000000000 COUNT 65\n",

@@ -4,12 +4,10 @@ ghost use Rattle.hpb_rules.specs.Drafts.{has_late_parent, is_over_limits, depth}
 ghost use Rattle.hpb_rules.specs.Tree.{places};
 ghost use Rattle.hpb_tree.specs.Draft.{rules_of, nodes_said};
 
-use crate::definition::{MOST_DEPTH, MOST_STAGES};
 use crate::draft::{Draft, NodeDraft};
 use crate::outline::licence_count;
-use crate::tree::MOST_LICENCES;
 use crate::walking::depth;
-use hpb_rules::{MOST_BIDDERS, MOST_NODES};
+use hpb_rules::{MOST_BIDDERS, MOST_LEVELS, MOST_LICENCES, MOST_NODES, MOST_STAGES};
 
 /// Whether there are too many nodes, licences, bidders, stages or levels.
 pub(crate) fn is_over_limits(draft: &Draft) -> bool
@@ -27,10 +25,10 @@ pub(crate) fn is_over_limits(draft: &Draft) -> bool
 fn is_too_deep(nodes: &[NodeDraft]) -> bool
     requires before { has_late_parent (nodes_said nodes.now) ≡ false }
     requires most { length nodes.now ≤ MOST_NODES }
-    ensures { result ≡ list_any (λ n. nat_lt MOST_DEPTH (depth (nodes_said nodes.now) n)) (places (nodes_said nodes.now)) }
+    ensures { result ≡ list_any (λ n. nat_lt MOST_LEVELS (depth (nodes_said nodes.now) n)) (places (nodes_said nodes.now)) }
 {
     for place in 0..nodes.len() {
-        if MOST_DEPTH < depth(nodes, place) {
+        if MOST_LEVELS < depth(nodes, place) {
             return true;
         }
     }

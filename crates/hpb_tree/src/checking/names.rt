@@ -3,9 +3,9 @@ ghost use Rattle.std.specs.List.{list_all, list_any};
 ghost use Rattle.hpb_rules.specs.Drafts.{is_name, is_name_byte, has_bad_name, has_twice, has_duplicate};
 ghost use Rattle.hpb_tree.specs.Draft.{rules_of};
 
-use crate::definition::MOST_NAME;
 use crate::draft::Draft;
 use crate::named::Named;
+use hpb_rules::MOST_NAME_BYTES;
 use std::alloc::{AllocError, Global};
 use std::collections::HashSet;
 
@@ -46,7 +46,7 @@ fn has_name_twice<T: Named>(alloc: Global, items: &[T]) -> Result<bool, AllocErr
 fn is_name(name: &str) -> bool
     ensures { result ≡ is_name name.now }
 {
-    1 <= name.len() && name.len() <= MOST_NAME && has_name_bytes(name.as_bytes())
+    1 <= name.len() && name.len() <= MOST_NAME_BYTES && has_name_bytes(name.as_bytes())
 }
 
 fn has_name_bytes(bytes: &[u8]) -> bool

@@ -3,9 +3,8 @@ ghost use Rattle.std.specs.List.{list_any};
 ghost use Rattle.hpb_rules.specs.Drafts.{is_within, has_bad_number, lacks_something};
 ghost use Rattle.hpb_tree.specs.Draft.{rules_of};
 
-use crate::definition::{LEAST_PERCENTAGE, MOST_BIDDER_UNITS, MOST_PERCENTAGE};
 use crate::draft::{BidderDraft, Draft};
-use crate::tree::{MOST_PERCENT, MOST_STEP};
+use hpb_rules::{LEAST_PERCENTAGE, MOST_BIDDER_UNITS, MOST_PERCENT, MOST_PERCENTAGE, MOST_STEP};
 
 /// Whether a number lies in a range.
 pub(crate) fn is_within(least: u64, most: u64, number: u64) -> bool

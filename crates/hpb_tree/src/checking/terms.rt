@@ -5,7 +5,7 @@ ghost use Rattle.hpb_tree.specs.Draft.{rules_of, terms_said};
 use crate::checking::ranges::is_within;
 use crate::draft::{Draft, TermsDraft};
 use crate::outline::terms_at;
-use crate::tree::{MOST_LICENCE_OPENING, MOST_LICENCE_UNITS};
+use hpb_rules::{MOST_LICENCE_OPENING, MOST_LICENCE_UNITS};
 
 /// Whether a licence's units or opening are out of range. The step isn't 0.
 pub(crate) fn has_bad_terms(draft: &Draft) -> bool

@@ -1,12 +1,12 @@
 use Rattle.std.proofs.Common.{[]}
-use Rattle.hpb_server.specs.declared.input.TheConstants.{MOST_READ}
+use Rattle.hpb_rules.specs.declared.limits.TheConstants.{MOST_READ_BYTES}
 use Rattle.hpb_server.specs.Reading.{Pending}
 use Rattle.hpb_server.proofs.Chunks.{never_served}
 use Rattle.hpb_server.proofs.serving.serve.Goals as goal
 
 -- a session that has read nothing
 nothing : Pending
-nothing = record { unread = []; budget = MOST_READ }
+nothing = record { unread = []; budget = MOST_READ_BYTES }
 
 pub returns-in_err-input-clause-served : goal.returns-in_err-input-clause-served
 unfolding nothing
