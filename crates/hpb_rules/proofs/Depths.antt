@@ -5,19 +5,16 @@ use Rattle.hpb_rules.specs.Prices.{of_parent}
 use Rattle.hpb_rules.specs.Drafts.{depth_within, depth}
 use Rattle.hpb_rules.specs.Definitions.{IsOnLevel, top, below}
 use Rattle.hpb_rules.specs.Laws.{DepthIsOneMore}
+use Rattle.hpb_rules.proofs.Under.{none_above}
 
 module _ (nodes : List Node) (tree : IsTree nodes) where
-  none_above : (c : Option ℕ) → parent_of nodes 0 ≡ c → (f : ℕ → ℕ) → of_parent c f ≡ 0
-  none_above None e f = refl
-  none_above (Some parent) e f = absurd (omega (arith, tree.parents 0 parent e))
-
   -- more levels than stand above change nothing
   enough : (k m node : ℕ) → node ≤ k → node ≤ m → depth_within nodes k node ≡ depth_within nodes m node
   enough zero zero node a b = refl
   enough zero (suc m) node a b = let z : node ≡ 0 = omega arith in
-      subst (λ n. 1 ≡ depth_within nodes (suc m) n) (sym z) (ap (λ n. suc n) (sym (none_above (parent_of nodes 0) refl (depth_within nodes m))))
+      subst (λ n. 1 ≡ depth_within nodes (suc m) n) (sym z) (ap (λ n. suc n) (sym (none_above nodes tree (parent_of nodes 0) refl (depth_within nodes m))))
   enough (suc k) zero node a b = let z : node ≡ 0 = omega arith in
-      subst (λ n. depth_within nodes (suc k) n ≡ 1) (sym z) (ap (λ n. suc n) (none_above (parent_of nodes 0) refl (depth_within nodes k)))
+      subst (λ n. depth_within nodes (suc k) n ≡ 1) (sym z) (ap (λ n. suc n) (none_above nodes tree (parent_of nodes 0) refl (depth_within nodes k)))
   enough (suc k) (suc m) node a b = ap (λ n. suc n) (by (enough k m) (parent_of nodes node) refl)
     where
       by : ((parent : ℕ) → parent ≤ k → parent ≤ m → depth_within nodes k parent ≡ depth_within nodes m parent) → (c : Option ℕ) → parent_of nodes node ≡ c → of_parent c (depth_within nodes k) ≡ of_parent c (depth_within nodes m)

@@ -17,10 +17,10 @@ use Rattle.hpb_rules.proofs.Lists.{front_self, append_nil}
 
 -- ---- lines of two pieces of input
 -- a list with one item at least
-data IsFilled {A : Type 0} : List A → Type 0 where
+pub data IsFilled {A : Type 0} : List A → Type 0 where
   filled : (x : A) (xs : List A) → IsFilled (x ∷ xs)
 
-split_filled : (p : ℕ → Bool) (xs : List ℕ) → IsFilled (slice_split p xs)
+pub split_filled : (p : ℕ → Bool) (xs : List ℕ) → IsFilled (slice_split p xs)
 split_filled p [] = filled [] []
 split_filled p (x ∷ xs) = by (p x) (slice_split p xs) (split_filled p xs)
   where
