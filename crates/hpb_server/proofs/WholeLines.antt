@@ -11,7 +11,7 @@ use Rattle.hpb_rules.specs.AuctionValue.{AuctionValue}
 use Rattle.hpb_rules.specs.Text.{line_of, unfinished_text}
 use Rattle.hpb_rules.specs.declared.request.Request.{Request}
 use Rattle.hpb_rules.specs.Lines.{request_of, is_line_feed}
-use Rattle.hpb_rules.proofs.TextLaws.{request_of_front}
+use Rattle.hpb_rules.proofs.TextLaws.{request_of_front, IsFilled, filled, split_filled}
 use Rattle.hpb_server.specs.declared.input.TheConstants.{LINE_FEED}
 use Rattle.hpb_server.specs.declared.line.TheConstants.{KEPT_BYTES}
 use Rattle.hpb_server.specs.Reading.{HasNoEnd}
@@ -19,18 +19,6 @@ use Rattle.hpb_server.specs.Serving.{AreLines, AnswersRequest, AnswersLine, Answ
 use Rattle.hpb_server.specs.Session.{Leads}
 
 -- ---- pieces
--- a list with one item at least
-data IsFilled {A : Type 0} : List A → Type 0 where
-  filled : (x : A) (xs : List A) → IsFilled (x ∷ xs)
-
-split_filled : (p : ℕ → Bool) (xs : List ℕ) → IsFilled (slice_split p xs)
-split_filled p [] = filled [] []
-split_filled p (x ∷ xs) = by (p x) (slice_split p xs) (split_filled p xs)
-  where
-    by : (b : Bool) (parts : List (List ℕ)) → IsFilled parts → IsFilled (cond b ([] ∷ parts) (onto_first x parts))
-    by true parts h = filled [] parts
-    by false parts (filled y ys) = filled (x ∷ y) ys
-
 none_whole : AreLines []
 none_whole = inl refl
 

@@ -10,7 +10,7 @@ use Rattle.hpb_rules.specs.Drafts.{is_within, is_empty, is_name, has_bad_number,
 use Rattle.hpb_rules.specs.Lines.{node_named, bidder_named}
 use Rattle.hpb_rules.specs.Text.{node_name, bidder_name}
 use Rattle.hpb_rules.specs.Tree.{Rules, Node, Bidder, places, terms_of, units_at, opening_at}
-use Rattle.hpb_rules.proofs.Accepted.{fault_at, no_fault}
+use Rattle.hpb_rules.proofs.TreeLaws.{fault_at, no_fault}
 use Rattle.hpb_rules.proofs.Places.{none_at, terms_in}
 use Rattle.hpb_tree.specs.declared.tree.Tree.TheInside.{Inside}
 use Rattle.hpb_tree.specs.declared.tree.TreeNode.{TreeNode}

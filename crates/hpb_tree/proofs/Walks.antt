@@ -4,7 +4,7 @@ use Rattle.std.proofs.lemmas.Bool.{leb-false, eq-eqb, ne_eqb}
 use Rattle.hpb_rules.specs.Drafts.{is_late, has_late_parent, depth_within, depth}
 use Rattle.hpb_rules.specs.Tree.{Node, parent_of, at_parent, at_or_under, at_or_under_within}
 use Rattle.hpb_rules.specs.Prices.{of_parent}
-use Rattle.hpb_rules.proofs.Under.{parent_in}
+use Rattle.hpb_rules.proofs.Above.{parent_in}
 use Rattle.hpb_rules.proofs.Places.{none_at}
 
 -- each parent stands before its children
