@@ -11,7 +11,7 @@ use Rattle.hpb_rules.specs.Values.{first_value}
 use Rattle.hpb_rules.specs.Lines.{is_line_feed}
 use Rattle.hpb_rules.specs.Text.{lines_after, text_by, text_of_lines, script_text}
 use Rattle.hpb_rules.proofs.Lists.{append_nil, front_self}
-use Rattle.hpb_rules.proofs.Texts.{script_text_grows}
+use Rattle.hpb_rules.proofs.TextLaws.{script_text_grows}
 use Rattle.hpb_rules.proofs.RunLaws.{text_is_shown}
 use Rattle.hpb_server.specs.declared.input.TheConstants.{LINE_FEED}
 use Rattle.hpb_server.specs.Desk.{rules_in, RepliesIn, ShowsItself}
