@@ -14,7 +14,12 @@ pub(crate) const FIRST_ROUND: &str =
 pub(crate) const FIRST_ANSWERS: &str = "OK 1\nOK 2\nOK 3\nOK 4\nOK 5\n";
 
 /// Three texts, one after another.
-pub(crate) fn joined(alloc: Global, first: &str, second: &str, third: &str) -> Result<String, Fail> {
+pub(crate) fn joined(
+    alloc: Global,
+    first: &str,
+    second: &str,
+    third: &str,
+) -> Result<String, Fail> {
     let mut text = String::from_str(alloc, first)?;
     text.push_str(second)?;
     text.push_str(third)?;

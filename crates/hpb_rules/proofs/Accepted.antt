@@ -5,7 +5,8 @@ use Rattle.std.proofs.lemmas.Bool.{ltb-false, le-ltb, or_parts, or_from}
 use Rattle.hpb_rules.specs.declared.refusal.Refusal.{Refusal}
 use Rattle.hpb_rules.specs.Tree.{Rules}
 use Rattle.hpb_rules.specs.Definitions.{IsDefinition}
-use Rattle.hpb_rules.specs.Drafts.{depth, licence_count, is_over_limits, draft_faults, first_fault, draft_refusal}
+use Rattle.hpb_rules.specs.Refusals.{first_that_applies}
+use Rattle.hpb_rules.specs.Drafts.{depth, licence_count, is_over_limits, draft_faults, draft_refusal}
 use Rattle.hpb_rules.specs.Laws.{AcceptedIsDefinition}
 use Rattle.hpb_rules.proofs.Places.{none_at, none_here}
 use Rattle.hpb_rules.proofs.DraftNumbers.{HasNumbers, numbers_of, no_bad_number, HasAll, all_of, lacks_nothing}
@@ -22,11 +23,11 @@ fault_at (fault ∷ faults) zero = fault.0
 fault_at (fault ∷ faults) (suc place) = fault_at faults place
 
 -- where no fault is found each test fails
-pub no_fault : (faults : List (Bool × Refusal)) → first_fault faults ≡ None → (place : ℕ) → fault_at faults place ≡ false
+pub no_fault : (faults : List (Bool × Refusal)) → first_that_applies faults ≡ None → (place : ℕ) → fault_at faults place ≡ false
 no_fault [] e place = refl
 no_fault (fault ∷ faults) e place = by (no_fault faults) fault.0 refl e place
   where
-    by : (first_fault faults ≡ None → (place : ℕ) → fault_at faults place ≡ false) → (b : Bool) → fault.0 ≡ b → (if b then Some fault.1 else first_fault faults) ≡ None → (place : ℕ) → fault_at (fault ∷ faults) place ≡ false
+    by : (first_that_applies faults ≡ None → (place : ℕ) → fault_at faults place ≡ false) → (b : Bool) → fault.0 ≡ b → (if b then Some fault.1 else first_that_applies faults) ≡ None → (place : ℕ) → fault_at (fault ∷ faults) place ≡ false
     by rec true p f place = absurd (cc)
     by rec false p f zero = p
     by rec false p f (suc place) = rec f place
@@ -36,9 +37,9 @@ abbrev AllFail : List (Bool × Refusal) → Type 0
 AllFail [] = Unit {0}
 AllFail (fault ∷ faults) = (fault.0 ≡ false) × AllFail faults
 
-none_found : (faults : List (Bool × Refusal)) → AllFail faults → first_fault faults ≡ None
+none_found : (faults : List (Bool × Refusal)) → AllFail faults → first_that_applies faults ≡ None
 none_found [] h = refl
-none_found (fault ∷ faults) h = ap (λ b. if b then Some fault.1 else first_fault faults) h.0 ∙ none_found faults h.1
+none_found (fault ∷ faults) h = ap (λ b. if b then Some fault.1 else first_that_applies faults) h.0 ∙ none_found faults h.1
 
 -- ---- limits
 pub record IsInLimits (rules : Rules) : Type 0 where

@@ -79,13 +79,13 @@ module _ (rules : Rules) (past : List Command) (is : IsPast rules past) where
     where
       shown_by : Option Offer → (ℕ → ℕ) → List ℕ
       shown_by high bid = node_text (node_name rules.nodes place) (high_in rules high) (price rules.nodes bid place) (minimum rules bid place) (is_in (winners rules.nodes bid) place)
-  response_shown (Ok (requests.Who from)) h = same _ _ _ _ _ _
+  response_shown (Ok (requests.Who from)) h = same
       (ap (λ (v : BidderState). v.eligibility) (bidder_read rules past from h))
       (activity_read rules past is from h)
       (ap ticket_of_last (last_read rules past from h) ∙ sym (ticket_is_last rules past is (bidder from)))
     where
-      same : (e e' a a' t t' : ℕ) → e ≡ e' → a ≡ a' → t ≡ t' → who_text (bidder_name rules.bidders from) e a t ≡ who_text (bidder_name rules.bidders from) e' a' t'
-      same e e' a a' t t' p q r = ap (λ x. who_text (bidder_name rules.bidders from) x a t) p ∙ ap (λ x. who_text (bidder_name rules.bidders from) e' x t) q ∙ ap (λ x. who_text (bidder_name rules.bidders from) e' a' x) r
+      same : {e e' a a' t t' : ℕ} → e ≡ e' → a ≡ a' → t ≡ t' → who_text (bidder_name rules.bidders from) e a t ≡ who_text (bidder_name rules.bidders from) e' a' t'
+      same p q r = cc
 
   after_shown : (request : Result Request Refusal)
       → (value_after_request (value_of rules past) request ≡ value_of rules (past_after rules past request)) × IsPast rules (past_after rules past request)

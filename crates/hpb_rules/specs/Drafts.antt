@@ -1,12 +1,13 @@
 -- Which definitions are refused, and why. A draft is a definition whose numbers and names may be anything.
 -- Source: this project's own.
-use Rattle.std.specs.Prelude.{ℕ, zero, suc, ◌%◌, Bool, true, false, not, ◌&&◌, ◌||◌, ◌==◌, nat_lt, nat_le, if◌then◌else◌, List, [], ◌∷◌, map, length, Option, Some, None, is_some, is_none, count_by}
+use Rattle.std.specs.Prelude.{ℕ, zero, suc, ◌%◌, Bool, true, false, not, ◌&&◌, ◌||◌, ◌==◌, nat_lt, nat_le, List, [], ◌∷◌, map, length, Option, Some, None, is_some, is_none, count_by}
 use Rattle.std.specs.List.{list_any, list_all}
 use Rattle.std.specs.Str.{bytes_eq}
 use Rattle.hpb_rules.specs.declared.limits.TheConstants.{MOST_NODES, MOST_BIDDERS}
 use Rattle.hpb_rules.specs.declared.licence.Terms.{Terms}
 use Rattle.hpb_rules.specs.declared.refusal.Refusal.{Refusal}
 use Rattle.hpb_rules.specs.declared.refusal.Refusal.TheVariants as refusals
+use Rattle.hpb_rules.specs.Refusals.{first_that_applies}
 use Rattle.hpb_rules.specs.Tree.{Rules, Node, parent_of, terms_of, places}
 use Rattle.hpb_rules.specs.Prices.{of_parent, children_among}
 
@@ -115,11 +116,6 @@ draft_faults rules =
     ∷ (is_over_limits rules, refusals.Limits)
     ∷ (has_bad_terms rules, refusals.Terms) ∷ []
 
--- The refusal of the first fault that there is.
-abbrev pub first_fault : List (Bool × Refusal) → Option Refusal
-first_fault [] = None
-first_fault (fault ∷ faults) = if fault.0 then Some fault.1 else first_fault faults
-
 -- Why a draft is refused. One that is not refused is a definition.
 abbrev pub draft_refusal : Rules → Option Refusal
-draft_refusal rules = first_fault (draft_faults rules)
+draft_refusal rules = first_that_applies (draft_faults rules)
