@@ -5,6 +5,7 @@ use hpb_auction::{Auction, BidderId, Command, NodeId, Offer, Reply, run_commands
 use hpb_bids::Books;
 use hpb_define::read_definition;
 use hpb_prices::{Prices, downward};
+use hpb_rules::Refusal;
 use hpb_server::{Job, ScriptDesk, ScriptEnd, program, read_arguments, run_script, serve};
 use hpb_tree::{BidderDraft, Definition, Draft, NodeDraft, TermsDraft};
 use hpb_winners::{Outcome, upward};
@@ -48,7 +49,7 @@ fn a_draft_is_checked_and_copied(rt: HostRuntime) -> Result<(), Fail> {
         assert_eq!(rt; made.find_node(b"licence"), Some(NodeId::new(0)));
         assert_eq!(rt; made.find_bidder(b"bidder"), Some(BidderId::new(0)));
         assert_eq!(rt; made.node_count(), 1);
-        assert_eq!(rt; made.opening(NodeId::new(0)), 50);
+        assert_eq!(rt; made.tree().opening(NodeId::new(0)), 50);
         assert_eq!(rt; made.bidder_count(), 1);
         assert_eq!(rt; made.bidder_units(BidderId::new(0)), 7);
     }
@@ -60,10 +61,10 @@ fn a_definition_is_read(rt: HostRuntime) -> Result<(), Fail> {
     let definition = read_definition(rt.alloc(), SIX_NODES.as_bytes())?;
     assert_eq!(rt; definition.node_count(), 6);
     assert_eq!(rt; definition.stages(), [80, 95].as_slice());
-    assert_eq!(rt; definition.licences(NodeId::new(0)), 7);
-    assert_eq!(rt; definition.licences(NodeId::new(1)), 3);
-    assert_eq!(rt; definition.licences(NodeId::new(5)), 8);
-    assert_eq!(rt; definition.opening(NodeId::new(0)), 300);
+    assert_eq!(rt; definition.tree().licences(NodeId::new(0)), 7);
+    assert_eq!(rt; definition.tree().licences(NodeId::new(1)), 3);
+    assert_eq!(rt; definition.tree().licences(NodeId::new(5)), 8);
+    assert_eq!(rt; definition.tree().opening(NodeId::new(0)), 300);
     assert_eq!(rt; definition.find_bidder(b"w"), Some(BidderId::new(3)));
     Ok(())
 }
@@ -166,7 +167,7 @@ fn commands_are_run(rt: HostRuntime) -> Result<(), Fail> {
 fn responses_are_rendered(rt: HostRuntime) -> Result<(), Fail> {
     let mut text = ResponseText::new(rt.alloc(), 0)?;
     text.render(&Response::Reply(Reply::Ok(7)))?;
-    text.render(&Response::Reply(Reply::Refused(25)))?;
+    text.render(&Response::Reply(Reply::Refused(Refusal::Eligibility)))?;
     assert_eq!(rt; text.as_bytes(), b"OK 7\nERR 25 eligibility\n".as_slice());
     Ok(())
 }

@@ -76,6 +76,7 @@ fn close_without_bids_ends(rt: HostRuntime) -> Result<(), Fail> {
     Ok(())
 }
 
+// The auctioneer's last command once more, which gets its number again.
 #[test]
 fn second_close_is_old(rt: HostRuntime) -> Result<(), Fail> {
     let written = answers(rt.alloc(), "CLOSE 1\nCLOSE 1\n")?;

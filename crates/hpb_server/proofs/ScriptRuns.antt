@@ -1,20 +1,19 @@
 -- A run of a script: the definition, and what comes after it.
 use Rattle.std.proofs.Common.{◌≡◌, ℕ, ◌+◌, ◌<◌, ◌≤◌, Bool, true, false, List, [], ◌∷◌, ◌++◌, length, take, Option, refl, sym, ap, ◌∙◌, subst, arith, append_assoc, length-append, take_all, ⊎_elim, inl, inr}
-use Rattle.std.specs.Prelude.{Result, Ok, Err}
+use Rattle.std.specs.Prelude.{Result, Ok, Err, ◌⊎◌}
 use Rattle.std.specs.Result.{IsErr}
-use Rattle.std.specs.List.{slice_split}
 use Rattle.std.specs.Io.KnownBytes.{Appends, Consumes}
 use Rattle.std.proofs.KnownBytes.{Appends-nil, Consumes-nil, Consumes-trans}
 use Rattle.std.proofs.lemmas.Bool.{cases_lt}
 use Rattle.std.proofs.lemmas.List.{length-take}
-use Rattle.std.proofs.lemmas.List.Splits.{slice_split_at, slice_split_none}
 use Rattle.hpb_rules.specs.declared.limits.TheConstants.{MOST_DEFINITION_BYTES, MOST_READ_BYTES}
 use Rattle.hpb_rules.specs.declared.refusal.Refusal.{Refusal}
 use Rattle.hpb_rules.specs.Tree.{Rules}
 use Rattle.hpb_rules.specs.Fronts.{IsFront}
 use Rattle.hpb_rules.specs.Values.{first_value}
-use Rattle.hpb_rules.specs.Lines.{is_line_feed}
-use Rattle.hpb_rules.specs.Text.{script_text}
+use Rattle.hpb_rules.specs.Rendering.{refusal_text}
+use Rattle.hpb_rules.specs.Text.{line_of, lines_text}
+use Rattle.hpb_rules.proofs.TextLaws.{one_line}
 use Rattle.hpb_rules.proofs.Lists.{front_trans}
 use Rattle.hpb_define.specs.declared.fault.DefineFault.{DefineFault}
 use Rattle.hpb_define.specs.declared.fault.DefineFault.TheVariants as faults
@@ -25,10 +24,11 @@ use Rattle.hpb_server.specs.declared.input.TheConstants.{LINE_FEED, KEPT_DEFINIT
 use Rattle.hpb_server.specs.declared.script.ScriptEnd.{ScriptEnd}
 use Rattle.hpb_server.specs.declared.script.ScriptEnd.TheVariants.{Answered, Refused}
 use Rattle.hpb_server.specs.Reading.{Pending, EndsDefinition, GivesDefinition, ReadsWithin}
-use Rattle.hpb_server.specs.Script.{IsTold, AnswersScript, RefusesScript, RunsScript, ServesScript, Refuses}
+use Rattle.hpb_server.specs.Script.{IsTold, IsScriptText, AnswersScript, RefusesScript, RunsScript, ServesScript, Refuses}
 use Rattle.hpb_server.specs.Streams.{Streams, streams}
 use Rattle.hpb_server.proofs.Errors.{err_case}
 use Rattle.hpb_server.proofs.ScriptTexts.{script_is, text_is, text_grows}
+use Rattle.hpb_server.specs.Serving.{AreLines}
 
 -- ---- the kept bytes of the first line tell what it is
 json_short : (bytes : List ℕ) → KEPT_DEFINITION_BYTES < length bytes → length (take KEPT_DEFINITION_BYTES bytes) ≤ MOST_DEFINITION_BYTES → ⊥
@@ -74,30 +74,36 @@ module _ {reader_old reader_now : Option (List ℕ)} {input : Pending} {text : D
 
   -- ---- a definition that is refused
   module _ (writer_old writer_new : Option (List ℕ)) (fault : DefineFault) (refused : Answers given.bytes (Err fault)) where
+    -- the line of the refusal is the text of such a script
+    refused_text : (refusal : Refusal) → IsTold fault refusal → (taken rest : List ℕ) → (taken ≡ given.bytes ++ LINE_FEED ∷ rest) ⊎ ((taken ≡ given.bytes) × (rest ≡ [])) → IsScriptText taken (line_of (refusal_text refusal))
+    refused_text refusal told taken rest parts = record {
+      first = given.bytes;
+      rest = rest;
+      reading = Err refusal;
+      one_line = one_line given.bytes given.no_end;
+      parts = parts;
+      read = (fault, refused, told);
+      by_reading = refl;
+    }
+
     refuses : (refusal : Refusal) (has_end : Bool) → text.has_end ≡ has_end → IsTold fault refusal → RefusesScript (streams reader_old writer_old) (streams reader_now writer_new) refusal
     refuses refusal true is told =
         let ends : EndsDefinition reader_old reader_now MOST_READ_BYTES input given.bytes true = ends_as true is in record {
           taken = given.bytes ++ LINE_FEED ∷ input.unread;
-          first = given.bytes;
-          fault = fault;
+          is_text = refused_text refusal told (given.bytes ++ LINE_FEED ∷ input.unread) input.unread (inl refl);
+          refused = refl;
           read = ends.0;
           within = omega (arith, ends.1);
-          line = given.no_end;
           ends = inl (input.unread, refl);
-          refused = refused;
-          told = told;
         }
     refuses refusal false is told =
         let ends : EndsDefinition reader_old reader_now MOST_READ_BYTES input given.bytes false = ends_as false is in record {
           taken = given.bytes;
-          first = given.bytes;
-          fault = fault;
+          is_text = refused_text refusal told given.bytes [] (inr (refl, refl));
+          refused = refl;
           read = ends.0.0;
           within = omega (arith, ends.0.1);
-          line = given.no_end;
           ends = inr (refl, ends.1);
-          refused = refused;
-          told = told;
         }
 
     -- some bytes were taken
@@ -130,15 +136,14 @@ module _ {reader_old reader_now : Option (List ℕ)} {input : Pending} {text : D
     ended_run writer is =
         let ends : EndsDefinition reader_old reader_now MOST_READ_BYTES input given.bytes false = ends_as false is in record {
           input = given.bytes;
-          first = given.bytes;
-          lines = [];
+          text = [];
           rules = rules;
+          is_text = record { first = given.bytes; rest = []; reading = Ok rules; one_line = one_line given.bytes given.no_end; parts = inr (refl, refl); read = accepted; by_reading = refl };
+          accepted = refl;
           read = ends.0.0;
           ended = ⊎_elim (λ long. absurd (omega (arith, long, accepted.0.1.0))) (λ end. end) ends.1;
           within = omega (arith, ends.0.1);
-          parts = slice_split_none is_line_feed given.bytes given.no_end;
-          accepted = accepted;
-          written = λ define is. subst (Appends writer writer) (sym (script_is define given.bytes given.bytes [] rules (slice_split_none is_line_feed given.bytes given.no_end) is)) (Appends-nil writer);
+          written = Appends-nil writer;
         }
 
     -- the lines after it are answered
@@ -158,41 +163,44 @@ module _ {reader_old reader_now : Option (List ℕ)} {input : Pending} {text : D
       pub answered_run : ServesScript (streams reader_now writer_old) (streams reader_new writer_new) input (first_value rules) (Ok tt) → AnswersScript (streams reader_old writer_old) (streams reader_new writer_new)
       answered_run s = record {
         input = after_line (input.unread ++ s.1.taken);
-        first = given.bytes;
-        lines = slice_split is_line_feed (input.unread ++ s.1.taken);
+        text = lines_text rules [] (input.unread ++ s.1.taken);
         rules = rules;
+        is_text = script_is given.bytes rules (input.unread ++ s.1.taken) given.no_end accepted;
+        accepted = refl;
         read = read_all s.1.taken s.1.read;
         ended = s.1.ended;
         within = omega (arith, s.1.within, ends.1, length_all s.1.taken);
-        parts = slice_split_at is_line_feed given.bytes LINE_FEED (input.unread ++ s.1.taken) given.no_end refl;
-        accepted = accepted;
-        written = λ define is. subst (Appends writer_old writer_new) (text_is define given.bytes (input.unread ++ s.1.taken) s.1.text rules s.0 given.no_end is s.1.answers) s.1.written;
+        written = subst (Appends writer_old writer_new) (text_is rules s.0 (input.unread ++ s.1.taken) s.1.text s.1.answers) s.1.written;
       }
 
       pub broken_run : (fault : Fault) (r : Result ScriptEnd Fault) → IsErr r → ServesScript (streams reader_now writer_old) (streams reader_new writer_new) input (first_value rules) (Err fault)
           → RunsScript (streams reader_old writer_old) (streams reader_new writer_new) r
       broken_run fault r bad s = err_case (RunsScript (streams reader_old writer_old) (streams reader_new writer_new)) r bad (λ other. inr (inr (record {
         taken = after_line (input.unread ++ s.1.taken);
-        first = given.bytes;
-        done = s.1.done;
+        answered = after_line s.1.done;
         rest = s.1.rest;
-        rules = rules;
+        so_far = lines_text rules [] s.1.done;
+        text = lines_text rules [] (input.unread ++ s.1.taken);
         sent = s.1.sent;
+        rules = rules;
         read = read_all s.1.taken s.1.read;
         within = omega (arith, s.1.within, ends.1, length_all s.1.taken);
-        line = given.no_end;
-        parts = parts;
-        whole = s.1.whole;
-        accepted = accepted;
+        parts = ap after_line s.1.parts ∙ sym (append_assoc given.bytes (LINE_FEED ∷ s.1.done) s.1.rest);
+        whole = ⊎_elim (λ lines. inl (line_first given.bytes s.1.done lines)) (λ all. inr all) s.1.whole;
+        is_so_far = script_is given.bytes rules s.1.done given.no_end accepted;
+        is_text = script_is given.bytes rules (input.unread ++ s.1.taken) given.no_end accepted;
+        accepted = refl;
         written = s.1.written;
-        front = λ define is. so_far define is;
-        text = λ define is. front_trans s.1.sent (script_text define (after_line s.1.done)) (script_text define (after_line (input.unread ++ s.1.taken))) (so_far define is)
-            (subst (λ (all : List ℕ). IsFront (script_text define (after_line s.1.done)) (script_text define all)) (sym parts)
-            (text_grows define given.bytes s.1.done s.1.rest (⊎_elim (λ whole. inl whole) (λ all. inr all.0) s.1.whole)));
+        front_so_far = so_far;
+        front = front_trans s.1.sent (lines_text rules [] s.1.done) (lines_text rules [] (input.unread ++ s.1.taken)) so_far
+            (subst (λ (all : List ℕ). IsFront (lines_text rules [] s.1.done) (lines_text rules [] all)) (sym s.1.parts)
+            (text_grows rules s.1.done s.1.rest (⊎_elim (λ lines. inl lines) (λ all. inr all.0) s.1.whole)));
       })))
         where
-          so_far : (define : List ℕ → Result Rules Refusal) → define given.bytes ≡ Ok rules → IsFront s.1.sent (script_text define (after_line s.1.done))
-          so_far define is = subst (IsFront s.1.sent) (text_is define given.bytes s.1.done s.1.text rules s.0 given.no_end is s.1.answers) s.1.front
+          so_far : IsFront s.1.sent (lines_text rules [] s.1.done)
+          so_far = subst (IsFront s.1.sent) (text_is rules s.0 s.1.done s.1.text s.1.answers) s.1.front
 
-          parts : after_line (input.unread ++ s.1.taken) ≡ after_line s.1.done ++ s.1.rest
-          parts = ap after_line s.1.parts ∙ sym (append_assoc given.bytes (LINE_FEED ∷ s.1.done) s.1.rest)
+          -- a line before whole lines
+          line_first : (first done : List ℕ) → AreLines done → AreLines (first ++ LINE_FEED ∷ done)
+          line_first first done (inl none) = inr (first, ap (λ xs. first ++ LINE_FEED ∷ xs) none)
+          line_first first done (inr lines) = inr (first ++ LINE_FEED ∷ lines.0, ap (λ xs. first ++ LINE_FEED ∷ xs) lines.1 ∙ sym (append_assoc first (LINE_FEED ∷ lines.0) (LINE_FEED ∷ [])))

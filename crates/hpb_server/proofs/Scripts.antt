@@ -100,7 +100,7 @@ input_is_text old new history input text shows h =
 
 -- ---- sessions
 -- the text of whole lines is a front of the text of these and more
-lines_front : (rules : Rules) (history : List Command) (done rest : List ℕ) → AreLines done → IsFront (lines_text rules history done) (lines_text rules history (done ++ rest))
+pub lines_front : (rules : Rules) (history : List Command) (done rest : List ℕ) → AreLines done → IsFront (lines_text rules history done) (lines_text rules history (done ++ rest))
 lines_front rules history done rest whole = ⊎_elim
     (λ none. subst (λ (xs : List ℕ). IsFront (lines_text rules history xs) (lines_text rules history (xs ++ rest))) (sym none) (lines_text rules history rest, refl))
     (λ some. subst (λ (xs : List ℕ). IsFront (lines_text rules history xs) (lines_text rules history (xs ++ rest))) (sym some.1)

@@ -1,15 +1,13 @@
 -- What a script reads and writes: its first line is a definition, and each line after it gets its answer.
 use Rattle.std.specs.Prelude.{◌≡◌, ℕ, ◌<◌, ◌≤◌, List, [], ◌∷◌, ◌++◌, length, Option, Result, Ok, Err, ⊤, ◌⊎◌}
-use Rattle.std.specs.List.{slice_split}
 use Rattle.std.specs.Io.KnownBytes.{Appends, Consumes, IsAtEnd}
 use Rattle.hpb_rules.specs.declared.limits.TheConstants.{MOST_DEFINITION_BYTES, MOST_READ_BYTES}
 use Rattle.hpb_rules.specs.declared.refusal.Refusal.{Refusal}
 use Rattle.hpb_rules.specs.Tree.{Rules}
 use Rattle.hpb_rules.specs.Fronts.{IsFront}
 use Rattle.hpb_rules.specs.AuctionValue.{AuctionValue}
-use Rattle.hpb_rules.specs.Lines.{is_line_feed}
 use Rattle.hpb_rules.specs.Rendering.{refusal_text}
-use Rattle.hpb_rules.specs.Text.{line_of, script_text}
+use Rattle.hpb_rules.specs.Text.{line_of, IsText}
 use Rattle.hpb_define.specs.declared.fault.DefineFault.{DefineFault}
 use Rattle.hpb_define.specs.declared.fault.DefineFault.TheVariants.{Memory}
 use Rattle.hpb_define.specs.Fault.{refusal_of}
@@ -19,7 +17,7 @@ use Rattle.hpb_server.specs.declared.input.TheConstants.{LINE_FEED}
 use Rattle.hpb_server.specs.declared.script.ScriptEnd.{ScriptEnd}
 use Rattle.hpb_server.specs.declared.script.ScriptEnd.TheVariants.{Answered, Refused}
 use Rattle.hpb_server.specs.Desk.{rules_in, RepliesIn, ShowsItself}
-use Rattle.hpb_server.specs.Reading.{Pending, HasNoEnd, most_taken, ReadsWithin}
+use Rattle.hpb_server.specs.Reading.{Pending, most_taken, ReadsWithin}
 use Rattle.hpb_server.specs.Streams.{Streams}
 use Rattle.hpb_server.specs.Serving.{AreLines, Serves}
 
@@ -28,31 +26,36 @@ abbrev pub IsTold : DefineFault → Refusal → Type 0
 IsTold Memory refusal = ⊥
 IsTold fault refusal = refusal ≡ refusal_of fault
 
+-- What a first line is read as: the definition that it spells, or refused. Want of memory is no reading.
+abbrev pub ReadsFirst : List ℕ → Result Rules Refusal → Type 0
+ReadsFirst line (Ok rules) = Answers line (Ok rules)
+ReadsFirst line (Err refusal) = (fault : DefineFault) × Answers line (Err fault) × IsTold fault refusal
+
+-- The text of a script, by this reading of its first line.
+abbrev pub IsScriptText : (input text : List ℕ) → Type 0
+IsScriptText input text = IsText ReadsFirst input text
+
 module _ (before after : Streams) where
-  -- The first line is a definition. All was read, and what is written is the text of the script, by any reading of definitions that reads this line so.
+  -- The first line is a definition. All was read, to the end of the reader, and its text was written.
   pub record AnswersScript : Type 0 where
     pub input : List ℕ
-    pub first : List ℕ
-    pub lines : List (List ℕ)
+    pub text : List ℕ
     pub rules : Rules
+    pub is_text : IsScriptText input text
+    pub accepted : is_text.reading ≡ Ok rules
     pub read : Consumes before.remaining after.remaining input
     pub ended : IsAtEnd after.remaining
     pub within : length input ≤ MOST_READ_BYTES
-    pub parts : slice_split is_line_feed input ≡ first ∷ lines
-    pub accepted : Answers first (Ok rules)
-    pub written : (define : List ℕ → Result Rules Refusal) → define first ≡ Ok rules → Appends before.contents after.contents (script_text define input)
+    pub written : Appends before.contents after.contents text
 
-  -- The first line is refused as a definition. It was read to its end, or to the end of the reader, or so far that it is too long.
+  -- The first line is refused as a definition, so that its text is the line of that refusal. It was read to its end, or to the end of the reader, or so far that it is too long.
   pub record RefusesScript (refusal : Refusal) : Type 0 where
     pub taken : List ℕ
-    pub first : List ℕ
-    pub fault : DefineFault
+    pub is_text : IsScriptText taken (line_of (refusal_text refusal))
+    pub refused : is_text.reading ≡ Err refusal
     pub read : Consumes before.remaining after.remaining taken
     pub within : length taken ≤ MOST_READ_BYTES
-    pub line : HasNoEnd first
-    pub ends : ((rest : List ℕ) × (taken ≡ first ++ LINE_FEED ∷ rest)) ⊎ ((taken ≡ first) × ((MOST_DEFINITION_BYTES < length first) ⊎ IsAtEnd after.remaining))
-    pub refused : Answers first (Err fault)
-    pub told : IsTold fault refusal
+    pub ends : ((rest : List ℕ) × (taken ≡ is_text.first ++ LINE_FEED ∷ rest)) ⊎ ((taken ≡ is_text.first) × ((MOST_DEFINITION_BYTES < length is_text.first) ⊎ IsAtEnd after.remaining))
 
   -- The refusal of the first line was written, or a front of it.
   pub record RefusesFront : Type 0 where
@@ -62,23 +65,25 @@ module _ (before after : Streams) where
     pub written : Appends before.contents after.contents sent
     pub front : IsFront sent (line_of (refusal_text refusal))
 
-  -- The first line is a definition. Whole lines of what was read were answered, or all that the reader had, and a front of the text of the script so far was written. It is a front of the text of all that was read, too.
+  -- The first line is a definition. Whole lines of what was read were answered, or all that the reader had, and a front of their text was written. It is a front of the text of all that was read, too.
   pub record AnswersScriptFront : Type 0 where
     pub taken : List ℕ
-    pub first : List ℕ
-    pub done : List ℕ
+    pub answered : List ℕ
     pub rest : List ℕ
-    pub rules : Rules
+    pub so_far : List ℕ
+    pub text : List ℕ
     pub sent : List ℕ
+    pub rules : Rules
     pub read : Consumes before.remaining after.remaining taken
     pub within : length taken ≤ most_taken MOST_READ_BYTES
-    pub line : HasNoEnd first
-    pub parts : taken ≡ (first ++ LINE_FEED ∷ done) ++ rest
-    pub whole : AreLines done ⊎ ((rest ≡ []) × IsAtEnd after.remaining)
-    pub accepted : Answers first (Ok rules)
+    pub parts : taken ≡ answered ++ rest
+    pub whole : AreLines answered ⊎ ((rest ≡ []) × IsAtEnd after.remaining)
+    pub is_so_far : IsScriptText answered so_far
+    pub is_text : IsScriptText taken text
+    pub accepted : is_text.reading ≡ Ok rules
     pub written : Appends before.contents after.contents sent
-    pub front : (define : List ℕ → Result Rules Refusal) → define first ≡ Ok rules → IsFront sent (script_text define (first ++ LINE_FEED ∷ done))
-    pub text : (define : List ℕ → Result Rules Refusal) → define first ≡ Ok rules → IsFront sent (script_text define taken)
+    pub front_so_far : IsFront sent so_far
+    pub front : IsFront sent text
 
   -- Nothing was written.
   abbrev pub WritesNothing : Type 0
