@@ -75,7 +75,7 @@ module _ {reader_old reader_now : Option (List ℕ)} {input : Pending} {text : D
   -- ---- a definition that is refused
   module _ (writer_old writer_new : Option (List ℕ)) (fault : DefineFault) (refused : Answers given.bytes (Err fault)) where
     -- the line of the refusal is the text of such a script
-    refused_text : (refusal : Refusal) → IsTold fault refusal → (taken rest : List ℕ) → (taken ≡ given.bytes ++ LINE_FEED ∷ rest) ⊎ ((taken ≡ given.bytes) × (rest ≡ [])) → IsScriptText taken (line_of (refusal_text refusal))
+    abbrev refused_text : (refusal : Refusal) → IsTold fault refusal → (taken rest : List ℕ) → (taken ≡ given.bytes ++ LINE_FEED ∷ rest) ⊎ ((taken ≡ given.bytes) × (rest ≡ [])) → IsScriptText taken (line_of (refusal_text refusal))
     refused_text refusal told taken rest parts = record {
       first = given.bytes;
       rest = rest;

@@ -30,7 +30,7 @@ text_grows rules done rest (inr none) =
     subst (λ (all : List ℕ). IsFront (lines_text rules [] done) (lines_text rules [] all)) (sym (append-nil done) ∙ ap (λ xs. done ++ xs) (sym none)) (front_self (lines_text rules [] done))
 
 -- a script of a definition's line and lines after it
-pub script_is : (first : List ℕ) (rules : Rules) (lines : List ℕ) → HasNoEnd first → Answers first (Ok rules) → IsScriptText (first ++ LINE_FEED ∷ lines) (lines_text rules [] lines)
+abbrev pub script_is : (first : List ℕ) (rules : Rules) (lines : List ℕ) → HasNoEnd first → Answers first (Ok rules) → IsScriptText (first ++ LINE_FEED ∷ lines) (lines_text rules [] lines)
 script_is first rules lines no_end accepted = record {
   first = first;
   rest = lines;
