@@ -3,7 +3,7 @@ use Rattle.std.proofs.Common.{◌≡◌, ℕ, ◌+◌, ◌-◌, ◌*◌, ◌<◌
 use Rattle.std.specs.List.{range_with_len}
 use Rattle.std.proofs.lemmas.Bool.{cases_lt}
 use Rattle.std.proofs.lemmas.Grind.{get_or-set_at}
-use Rattle.std.proofs.lemmas.List.{get_or-set_other, get_or_past, length-set}
+use Rattle.std.proofs.lemmas.List.{get_or-set_other, length-set}
 use Rattle.hpb_rules.specs.declared.limits.TheConstants.{MOST_AMOUNT}
 use Rattle.hpb_rules.specs.Tree.{Node, parent_of, places, IsTree}
 use Rattle.hpb_rules.specs.Choices.{best}

@@ -5,7 +5,6 @@ use Rattle.std.specs.Int.{bit_at}
 use Rattle.std.proofs.lemmas.Nat.Bits.{shr_and_one}
 use Rattle.hpb_rules.specs.Tree.{Node, parent_of, IsAtOrUnder, itself, child, IsInside}
 use Rattle.hpb_rules.proofs.Above.{under_trans}
-use Rattle.hpb_prices.specs.Certificate.{IsBelowWinner}
 
 -- how far it is to the top at most
 abbrev pub steps_up : Option ℕ → ℕ

@@ -43,9 +43,10 @@ fn licence_count(tree: &Tree) -> usize
     ensures value { result ≡ count_of_licences tree.now.nodes }
     ensures most { result ≤ MOST_NODES }
 {
+    tree.facts();
     let mut count = 0;
-    for place in 0..tree.node_count() {
-        if tree.terms(NodeId::new(place)).is_some() {
+    for &node in tree.nodes() {
+        if tree.terms(node).is_some() {
             count += 1;
         }
     }
@@ -58,11 +59,11 @@ fn is_choice(tree: &Tree, highs: &[Dollars], winners: u128) -> bool
     ensures { IsTrue result ↔ IsChoice tree.now.nodes (bid_listed highs.now) (set_of tree.now.nodes winners) }
 {
     tree.facts();
-    for place in 0..tree.node_count() {
+    for (place, &node) in tree.nodes().iter().enumerate() {
         if winners >> place & 1 == 0 {
             continue;
         }
-        if highs[place] == 0 || is_below_winner(tree, winners, NodeId::new(place)) {
+        if highs[place] == 0 || is_below_winner(tree, winners, node) {
             return false;
         }
     }
@@ -91,8 +92,8 @@ fn are_covered(tree: &Tree, highs: &[Dollars], prices: &[Dollars]) -> bool
     requires most { count_of_licences tree.now.nodes ≤ MOST_NODES }
     ensures { IsTrue result ↔ Covers tree.now.nodes (bid_listed highs.now) (price_listed tree.now.nodes prices.now) }
 {
-    for place in 0..tree.node_count() {
-        let licences = tree.licences(NodeId::new(place));
+    for (place, &node) in tree.nodes().iter().enumerate() {
+        let licences = tree.licences(node);
         if u128::from(highs[place]) > sum_where(prices, u128::from(licences)) {
             return false;
         }

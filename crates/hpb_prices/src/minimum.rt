@@ -3,7 +3,7 @@ ghost use Rattle.hpb_rules.specs.Tree.{opening as opening_of};
 ghost use Rattle.hpb_rules.specs.Prices.{IsMinimum, minimum_of};
 
 use hpb_money::{Dollars, MOST_DOLLARS, ceil_percent, round_up};
-use hpb_rules::{MOST_STEP, NodeId};
+use hpb_rules::MOST_STEP;
 use hpb_tree::Tree;
 
 /// Sets the least bid on each node, by the prices of the nodes.
@@ -15,8 +15,8 @@ pub(crate) fn set_minima(tree: &Tree, prices: &[Dollars], minima: &mut [Dollars]
 {
     let step = u64::from(tree.step());
     let percent = u64::from(tree.percent());
-    for place in 0..tree.node_count() {
-        let opening = tree.opening(NodeId::new(place));
+    for (place, &node) in tree.nodes().iter().enumerate() {
+        let opening = tree.opening(node);
         minima[place] = minimum_bid(step, percent, opening, prices[place]);
     }
 }

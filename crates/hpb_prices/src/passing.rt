@@ -50,8 +50,7 @@ fn pass_down(
 {
     tree.facts();
     outcome.facts();
-    for place in 0..tree.node_count() {
-        let node = NodeId::new(place);
+    for (place, &node) in tree.nodes().iter().enumerate() {
         let from_above = carried_to(tree, books, outcome, carried, node);
         carried[place] = from_above;
         prices[place] = outcome.value(node) + from_above;

@@ -43,8 +43,7 @@ fn licences_held(tree: &Tree, books: &Books, outcome: &Outcome, bidder: BidderId
     ensures { (l : ℕ) → IsSome (terms_of tree.now.nodes l) → is_marked tree.now.nodes result l ≡ held tree.now.nodes books.now outcome.now bidder l }
 {
     let mut licences = 0;
-    for place in 0..tree.node_count() {
-        let node = NodeId::new(place);
+    for &node in tree.nodes() {
         if is_active_on(books, outcome, bidder, node) {
             licences |= tree.licences(node);
         }
@@ -78,8 +77,7 @@ fn units_of(tree: &Tree, licences: u64) -> u32
     tree.facts();
     let mut total = 0;
     let mut number: u32 = 0;
-    for place in 0..tree.node_count() {
-        let node = NodeId::new(place);
+    for &node in tree.nodes() {
         if tree.terms(node).is_some() {
             if (licences >> number) & 1 == 1 {
                 total += tree.units(node);

@@ -39,8 +39,9 @@ fn sum_up(tree: &Tree, books: &Books, inside: &mut [u64], values: &mut [u64]) ->
     tree.facts();
     inside.fill(0);
     let mut revenue = 0;
-    for place in (0..tree.node_count()).rev() {
-        let node = NodeId::new(place);
+    let nodes = tree.nodes();
+    for place in (0..nodes.len()).rev() {
+        let node = nodes[place];
         let value = high_bid(books, node).max(inside[place]);
         values[place] = value;
         match tree.parent(node) {
@@ -61,8 +62,7 @@ fn mark_winners(tree: &Tree, books: &Books, inside: &[u64], free: &mut [bool], w
     ensures wins { wins.new ≡ winners tree.now.nodes (bid_of books.now) }
 {
     tree.facts();
-    for place in 0..tree.node_count() {
-        let node = NodeId::new(place);
+    for (place, &node) in tree.nodes().iter().enumerate() {
         let open = match tree.parent(node) {
             Some(parent) => free[parent.place()],
             None => true,

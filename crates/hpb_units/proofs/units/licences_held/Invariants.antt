@@ -2,5 +2,5 @@ use Rattle.hpb_units.specs.Activity.{is_active_on}
 use Rattle.hpb_units.proofs.Marks.{Gathered}
 use Rattle.hpb_units.proofs.units.licences_held.Given as goal
 
-abbrev pub invariant-loop-place : goal.invariant-loop-place
-invariant-loop-place l = Gathered l.tree.nodes (is_active_on l.books l.outcome l.bidder) l.place l.licences
+abbrev pub invariant-loop-node : goal.invariant-loop-node
+invariant-loop-node l = Gathered l.tree.nodes (is_active_on l.books l.outcome l.bidder) l.node-index l.licences
