@@ -6,6 +6,7 @@ use crate::output::Output;
 use crate::serving::answer_lines;
 use hpb_auction::Auction;
 use hpb_define::read_definition;
+use hpb_rules::Refusal;
 use std::alloc::Global;
 use std::cell::Cell;
 use std::io;
@@ -347,10 +348,14 @@ fn inputs_end_early(rt: HostRuntime) -> Result<(), Fail> {
     let definition = &DEFINITION[..DEFINITION.len() - 1];
     let long = script(alloc, b"x", 129)?;
     let table = [
-        (b"".as_slice(), ScriptEnd::Refused(60), "ERR 60 json\n"),
+        (
+            b"".as_slice(),
+            ScriptEnd::Refused(Refusal::Json),
+            "ERR 60 json\n",
+        ),
         (
             b"\nSHOW\n".as_slice(),
-            ScriptEnd::Refused(60),
+            ScriptEnd::Refused(Refusal::Json),
             "ERR 60 json\n",
         ),
         (definition, ScriptEnd::Answered, ""),
