@@ -10,6 +10,5 @@ mod verdict;
 mod views;
 
 pub use auction::Auction;
-pub use hpb_rules::{BidderId, Command, MOST_AMOUNT, MOST_COMMANDS, NodeId, Offer, Reply};
 pub use running::{Run, run_commands};
 pub use views::{BidderView, NodeView};

@@ -1,11 +1,11 @@
 //! Each call that may want memory, with enough of it.
 
 use crate::script::{FIRST_ROUND, SIX_NODES, joined};
-use hpb_auction::{Auction, BidderId, Command, NodeId, Offer, Reply, run_commands};
+use hpb_auction::{Auction, run_commands};
 use hpb_bids::Books;
 use hpb_define::read_definition;
 use hpb_prices::{Prices, downward};
-use hpb_rules::Refusal;
+use hpb_rules::{BidderId, Command, NodeId, Offer, Refusal, Reply};
 use hpb_server::{Job, ScriptDesk, ScriptEnd, program, read_arguments, run_script, serve};
 use hpb_tree::{BidderDraft, Definition, Draft, NodeDraft, TermsDraft};
 use hpb_winners::{Outcome, upward};

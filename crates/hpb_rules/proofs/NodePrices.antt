@@ -5,7 +5,7 @@ use Rattle.std.proofs.Math.Numerals.{add-one}
 use Rattle.std.proofs.lemmas.List.Sums.{sum_by-cons}
 use Rattle.hpb_rules.specs.declared.licence.Terms.{Terms}
 use Rattle.hpb_rules.specs.Tree.{Node, parent_of, terms_of, IsTree, itself, at_or_under}
-use Rattle.hpb_rules.specs.Choices.{total, is_node, no_node, values_from, best, revenue, winners}
+use Rattle.hpb_rules.specs.Choices.{total, is_node, is_top, values_from, best, revenue, winners}
 use Rattle.hpb_rules.specs.Prices.{of_package, surplus, carried, licence_price, price, Covers, price_of_all}
 use Rattle.hpb_rules.specs.Laws.{PricesProve, PriceIsValue}
 use Rattle.hpb_rules.proofs.Sums.{member, below_is}
@@ -90,7 +90,7 @@ module _ (nodes : List Node) (bid : ℕ → ℕ) (tree : IsTree nodes) where
   pub sum_is_revenue : price_of_all nodes (licence_price nodes bid) ≡ revenue bid (winners nodes bid)
   sum_is_revenue =
       let f : ℕ → ℕ = licence_price nodes bid in
-      sym (all_eq nodes f 0 nodes refl) ∙ sym (top_all f nodes tree (flags nodes) (length_flags nodes)) ∙ prices_sum nodes bid tree 0 nodes refl no_node (λ j h. refl)
+      sym (all_eq nodes f 0 nodes refl) ∙ sym (top_all f nodes tree (flags nodes) (length_flags nodes)) ∙ prices_sum nodes bid tree 0 nodes refl is_top (λ j h. refl)
       ∙ omega (arith, total_carried nodes bid tree 0 nodes (from_all nodes tree), winners_all bid nodes tree)
 
   -- no price is more than the revenue, so prices, what is carried and what is passed on are bounded as bids are
@@ -100,7 +100,7 @@ module _ (nodes : List Node) (bid : ℕ → ℕ) (tree : IsTree nodes) where
     sum_le nodes (at_or_under nodes n) (licence_price nodes bid),
     sum_is_revenue,
     winners_all bid nodes tree,
-    total_bound most bid 0 no_node nodes h (λ j l. refl),
+    total_bound most bid 0 is_top nodes h (λ j l. refl),
   )
 
   pub passed_bound : (most n : ℕ) → ((m : ℕ) → bid m ≤ most) → n < length nodes → (carried nodes bid n + surplus nodes bid n) ≤ length nodes * most

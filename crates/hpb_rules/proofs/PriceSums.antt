@@ -7,7 +7,7 @@ use Rattle.std.proofs.lemmas.Bool.{eqb-true, cases_Bool}
 use Rattle.std.proofs.lemmas.List.Sums.{sum_by-cons}
 use Rattle.hpb_rules.specs.declared.licence.Terms.{Terms}
 use Rattle.hpb_rules.specs.Tree.{Node, parent_of, terms_of, IsTree}
-use Rattle.hpb_rules.specs.Choices.{total, is_node, no_node, values_from, best, mark, revenue_from}
+use Rattle.hpb_rules.specs.Choices.{total, is_node, is_top, values_from, best, mark, revenue_from}
 use Rattle.hpb_rules.specs.Prices.{of_package, surplus, carried, licence_price}
 use Rattle.hpb_rules.proofs.Sums.{Test, member, Below, below_is, below_suc, summed, summed_mark}
 use Rattle.hpb_rules.proofs.Under.{From, from_tail, parent_in}
@@ -134,12 +134,12 @@ module _ (nodes : List Node) (bid : ℕ → ℕ) (tree : IsTree nodes) where
       leaf_has_none None s e = cc
       leaf_has_none (Some x) s e = cc
 
-  pub total_carried : (i : ℕ) (ns : List Node) → From nodes tree i ns → total no_node ns (carry_from nodes bid tree i ns) ≡ 0
+  pub total_carried : (i : ℕ) (ns : List Node) → From nodes tree i ns → total is_top ns (carry_from nodes bid tree i ns) ≡ 0
   total_carried i [] f = refl
   total_carried i (n ∷ ns) f =
       let here : parent_of nodes i ≡ n.parent = ap (parent_of nodes) (let z : i ≡ i + 0 = omega arith in z) ∙ f.parents 0 in
       omega (arith, one n.parent here, total_carried (suc i) ns (from_tail nodes tree i n ns f))
     where
-      one : (c : Option ℕ) → parent_of nodes i ≡ c → cond (no_node c) (carried nodes bid i) 0 ≡ ◌+◌ 0 0
+      one : (c : Option ℕ) → parent_of nodes i ≡ c → cond (is_top c) (carried nodes bid i) 0 ≡ ◌+◌ 0 0
       one None e = carried_top nodes bid tree i e ∙ omega arith
       one (Some p) e = omega arith

@@ -2,7 +2,8 @@ ghost use Rattle.std.specs.Prelude.{◌≡◌, IfSome};
 ghost use Rattle.std.specs.Borrow.{sem};
 ghost use Rattle.std.specs.Io.BufRead.{Rests};
 
-use hpb_auction::{Auction, Command, Reply};
+use hpb_auction::Auction;
+use hpb_rules::{Command, Reply};
 use hpb_tree::Definition;
 use std::marker::Model;
 

@@ -18,12 +18,12 @@ use Rattle.hpb_tree.specs.declared.draft.Draft.{Draft}
 use Rattle.hpb_tree.specs.declared.draft.BidderDraft.{BidderDraft}
 use Rattle.hpb_tree.specs.Draft.{rules_of, bidder_said, bidders_said}
 use Rattle.hpb_tree.specs.Licences.{licence_count}
-use Rattle.hpb_tree.specs.View.{nodes_view, IsSummed, IsChecked}
+use Rattle.hpb_tree.specs.Inside.{nodes_inside, IsSummed, IsChecked}
 use Rattle.hpb_tree.specs.Sound.{AreSound}
 use Rattle.hpb_tree.proofs.ByPlace.{count_is, any_over_terms}
 use Rattle.hpb_tree.proofs.Twice.{found_at}
 use Rattle.hpb_tree.proofs.Sound.{is_tree}
-use Rattle.hpb_tree.proofs.Views.{length-nodes_view}
+use Rattle.hpb_tree.proofs.Views.{length-nodes_inside}
 
 -- no test of a draft speaks against the rules
 pub record Accepted (d : Rules) : Type 0 where
@@ -111,15 +111,15 @@ module _ (d : Rules) (a : Accepted d) where
     openings = λ l. (terms_within l).1;
   }
 
-  pub checked : (t : Inside) → t.step ≡ d.step → t.percent ≡ d.percent → nodes_view t.nodes.items ≡ d.nodes
+  pub checked : (t : Inside) → t.step ≡ d.step → t.percent ≡ d.percent → nodes_inside t.nodes.items ≡ d.nodes
       → t.ids.items ≡ places d.nodes → ((i : ℕ) (n : TreeNode) → slice_get t.nodes.items i ≡ Some n → IsSummed d.nodes i n) → IsChecked t
   checked t step percent seen ids sums = record {
     some_step = omega (arith, step_within);
     most_step = omega (arith, step_within);
     some_percent = omega (arith, percent_within);
     most_percent = omega (arith, percent_within);
-    some_node = omega (arith, ap length seen, length-nodes_view t.nodes.items, some_node);
-    most_nodes = omega (arith, ap length seen, length-nodes_view t.nodes.items, few.0.0);
+    some_node = omega (arith, ap length seen, length-nodes_inside t.nodes.items, some_node);
+    most_nodes = omega (arith, ap length seen, length-nodes_inside t.nodes.items, few.0.0);
     tree = rw seen (is_tree d.nodes sound);
     most_licences = rw seen few.0.1;
     ids = rw seen ids;

@@ -4,12 +4,12 @@ use Rattle.std.specs.List.{slice_get}
 use Rattle.std.proofs.lemmas.List.{length-map, get_or-map}
 use Rattle.std.proofs.lemmas.Option.{slice_get_within, slice_get-get_or, get_or_from_slice_get}
 use Rattle.hpb_rules.specs.Tree.{Node}
-use Rattle.hpb_tree.specs.View.{Known, known, AreCopies, nodes_view, IsSummed, IsChecked}
+use Rattle.hpb_tree.specs.Inside.{Known, known, AreCopies, nodes_inside, IsSummed, IsChecked}
 use Rattle.hpb_tree.specs.declared.tree.Tree.TheInside.{Inside}
 use Rattle.hpb_tree.specs.declared.tree.TreeNode.{TreeNode}
 use Rattle.hpb_tree.proofs.Lists.{map_map}
 
-pub copied_views : (old new : List TreeNode) → AreCopies old new → nodes_view new ≡ nodes_view old
+pub copied_views : (old new : List TreeNode) → AreCopies old new → nodes_inside new ≡ nodes_inside old
 copied_views old new e = sym (map_map known (λ (k : Known). k.node) new) ∙ ap (map (λ (k : Known). k.node)) e ∙ map_map known (λ (k : Known). k.node) old
 
 known_at : (old new : List TreeNode) → AreCopies old new → (i : ℕ) (n : TreeNode) → i < length new → known (get_or new i n) ≡ known (get_or old i n)
@@ -43,16 +43,16 @@ checked_copy old new step percent e ids c = record {
   sums = λ i n found. rw seen (one i n found);
 }
   where
-    seen : nodes_view new.nodes.items ≡ nodes_view old.nodes.items
+    seen : nodes_inside new.nodes.items ≡ nodes_inside old.nodes.items
     seen = copied_views old.nodes.items new.nodes.items e
 
     count : length new.nodes.items ≡ length old.nodes.items
     count = omega (arith, length-map new.nodes.items known, length-map old.nodes.items known, ap length e)
 
-    one : (i : ℕ) (n : TreeNode) → slice_get new.nodes.items i ≡ Some n → IsSummed (nodes_view old.nodes.items) i n
+    one : (i : ℕ) (n : TreeNode) → slice_get new.nodes.items i ≡ Some n → IsSummed (nodes_inside old.nodes.items) i n
     one i n found =
         let small : i < length new.nodes.items = slice_get_within new.nodes.items i n found in
         let here : get_or new.nodes.items i n ≡ n = get_or_from_slice_get new.nodes.items i n n found in
-        summed_known (nodes_view old.nodes.items) i (get_or old.nodes.items i n) n
+        summed_known (nodes_inside old.nodes.items) i (get_or old.nodes.items i n) n
         (ap known (sym here) ∙ known_at old.nodes.items new.nodes.items e i n small)
         (c.sums i (get_or old.nodes.items i n) (slice_get-get_or old.nodes.items i n (omega (arith, count))))

@@ -6,7 +6,7 @@ use Rattle.std.specs.List.{position, prefix_len, slice_get}
 use Rattle.std.specs.Str.{bytes_eq}
 use Rattle.hpb_rules.specs.Tree.{Node, Bidder}
 use Rattle.hpb_rules.specs.Text.{bidder_name}
-use Rattle.hpb_tree.specs.View.{nodes_view, node_view}
+use Rattle.hpb_tree.specs.Inside.{nodes_inside, node_inside}
 use Rattle.hpb_tree.specs.Definition.{bidders_view, bidder_view}
 use Rattle.hpb_tree.specs.declared.tree.TreeNode.{TreeNode}
 use Rattle.hpb_tree.specs.declared.definition.Bidder.{Bidder as Entry}
@@ -18,8 +18,8 @@ prefix_len-map f p (x ∷ xs) = ap (λ n. cond (p (f x)) (1 + n) 0) (prefix_len-
 position-map : {X Y : Type 0} (f : X → Y) (p : Y → Bool) (xs : List X) → position p (map f xs) ≡ position (λ x. p (f x)) xs
 position-map f p xs = rw (prefix_len-map f (λ y. not (p y)) xs, length-map xs f) refl
 
-pub node_position : (ns : List TreeNode) (name : List ℕ) → position (λ (n : Node). bytes_eq n.name name) (nodes_view ns) ≡ position (λ (n : TreeNode). bytes_eq (string_bytes n.name) name) ns
-node_position ns name = position-map node_view (λ (n : Node). bytes_eq n.name name) ns
+pub node_position : (ns : List TreeNode) (name : List ℕ) → position (λ (n : Node). bytes_eq n.name name) (nodes_inside ns) ≡ position (λ (n : TreeNode). bytes_eq (string_bytes n.name) name) ns
+node_position ns name = position-map node_inside (λ (n : Node). bytes_eq n.name name) ns
 
 pub bidder_position : (bs : List Entry) (name : List ℕ) → position (λ (b : Bidder). bytes_eq b.name name) (bidders_view bs) ≡ position (λ (b : Entry). bytes_eq (string_bytes b.name) name) bs
 bidder_position bs name = position-map bidder_view (λ (b : Bidder). bytes_eq b.name name) bs

@@ -5,31 +5,31 @@ use Rattle.std.proofs.lemmas.Option.{slice_get_read, get_or_from_slice_get}
 use Rattle.std.proofs.lemmas.List.{map_push, take_more, length-take-le}
 use Rattle.hpb_rules.specs.Tree.{Node, IsTree, parent_of, terms_of}
 use Rattle.hpb_rules.specs.Text.{node_name}
-use Rattle.hpb_tree.specs.View.{node_view, nodes_view, IsSummed}
+use Rattle.hpb_tree.specs.Inside.{node_inside, nodes_inside, IsSummed}
 use Rattle.hpb_tree.specs.declared.tree.TreeNode.{TreeNode}
 
-pub length-nodes_view : (ns : List TreeNode) → length (nodes_view ns) ≡ length ns
-length-nodes_view [] = refl
-length-nodes_view (n ∷ ns) = ap suc (length-nodes_view ns)
+pub length-nodes_inside : (ns : List TreeNode) → length (nodes_inside ns) ≡ length ns
+length-nodes_inside [] = refl
+length-nodes_inside (n ∷ ns) = ap suc (length-nodes_inside ns)
 
-pub parent_of-nodes_view : (ns : List TreeNode) (i : ℕ) (d : TreeNode) → i < length ns → parent_of (nodes_view ns) i ≡ (get_or ns i d).parent
-parent_of-nodes_view [] i d h = absurd (omega arith)
-parent_of-nodes_view (n ∷ ns) zero d h = refl
-parent_of-nodes_view (n ∷ ns) (suc i) d h = parent_of-nodes_view ns i d (omega arith)
+pub parent_of-nodes_inside : (ns : List TreeNode) (i : ℕ) (d : TreeNode) → i < length ns → parent_of (nodes_inside ns) i ≡ (get_or ns i d).parent
+parent_of-nodes_inside [] i d h = absurd (omega arith)
+parent_of-nodes_inside (n ∷ ns) zero d h = refl
+parent_of-nodes_inside (n ∷ ns) (suc i) d h = parent_of-nodes_inside ns i d (omega arith)
 
-pub terms_of-nodes_view : (ns : List TreeNode) (i : ℕ) (d : TreeNode) → i < length ns → terms_of (nodes_view ns) i ≡ (get_or ns i d).terms
-terms_of-nodes_view [] i d h = absurd (omega arith)
-terms_of-nodes_view (n ∷ ns) zero d h = refl
-terms_of-nodes_view (n ∷ ns) (suc i) d h = terms_of-nodes_view ns i d (omega arith)
+pub terms_of-nodes_inside : (ns : List TreeNode) (i : ℕ) (d : TreeNode) → i < length ns → terms_of (nodes_inside ns) i ≡ (get_or ns i d).terms
+terms_of-nodes_inside [] i d h = absurd (omega arith)
+terms_of-nodes_inside (n ∷ ns) zero d h = refl
+terms_of-nodes_inside (n ∷ ns) (suc i) d h = terms_of-nodes_inside ns i d (omega arith)
 
-pub node_name-nodes_view : (ns : List TreeNode) (i : ℕ) (d : TreeNode) → i < length ns → node_name (nodes_view ns) i ≡ string_bytes (get_or ns i d).name
-node_name-nodes_view [] i d h = absurd (omega arith)
-node_name-nodes_view (n ∷ ns) zero d h = refl
-node_name-nodes_view (n ∷ ns) (suc i) d h = node_name-nodes_view ns i d (omega arith)
+pub node_name-nodes_inside : (ns : List TreeNode) (i : ℕ) (d : TreeNode) → i < length ns → node_name (nodes_inside ns) i ≡ string_bytes (get_or ns i d).name
+node_name-nodes_inside [] i d h = absurd (omega arith)
+node_name-nodes_inside (n ∷ ns) zero d h = refl
+node_name-nodes_inside (n ∷ ns) (suc i) d h = node_name-nodes_inside ns i d (omega arith)
 
 -- a node of the code was read at the place of a node
 pub record IsNodeRead (ns : List TreeNode) (nodes : List Node) (index node : ℕ) (n : TreeNode) : Type 0 where
-  pub seen : nodes_view ns ≡ nodes
+  pub seen : nodes_inside ns ≡ nodes
   pub found : n ≡ get_or ns index n
   pub same : index ≡ node
   pub within : node < length nodes
@@ -37,22 +37,22 @@ pub record IsNodeRead (ns : List TreeNode) (nodes : List Node) (index node : ℕ
 -- what is read of it
 module _ {ns : List TreeNode} {nodes : List Node} {index node : ℕ} {n : TreeNode} (read : IsNodeRead ns nodes index node n) where
   inside : index < length ns
-  inside = omega (arith, length-nodes_view ns, ap length read.seen, read.same, read.within)
+  inside = omega (arith, length-nodes_inside ns, ap length read.seen, read.same, read.within)
 
   pub name_at : string_bytes n.name ≡ node_name nodes node
-  name_at = ap (λ (m : TreeNode). string_bytes m.name) read.found ∙ sym (node_name-nodes_view ns index n inside) ∙ ap (λ xs. node_name xs index) read.seen ∙ ap (node_name nodes) read.same
+  name_at = ap (λ (m : TreeNode). string_bytes m.name) read.found ∙ sym (node_name-nodes_inside ns index n inside) ∙ ap (λ xs. node_name xs index) read.seen ∙ ap (node_name nodes) read.same
 
   pub parent_at : n.parent ≡ parent_of nodes node
-  parent_at = ap (λ (m : TreeNode). m.parent) read.found ∙ sym (parent_of-nodes_view ns index n inside) ∙ ap (λ xs. parent_of xs index) read.seen ∙ ap (parent_of nodes) read.same
+  parent_at = ap (λ (m : TreeNode). m.parent) read.found ∙ sym (parent_of-nodes_inside ns index n inside) ∙ ap (λ xs. parent_of xs index) read.seen ∙ ap (parent_of nodes) read.same
 
   pub terms_at : n.terms ≡ terms_of nodes node
-  terms_at = ap (λ (m : TreeNode). m.terms) read.found ∙ sym (terms_of-nodes_view ns index n inside) ∙ ap (λ xs. terms_of xs index) read.seen ∙ ap (terms_of nodes) read.same
+  terms_at = ap (λ (m : TreeNode). m.terms) read.found ∙ sym (terms_of-nodes_inside ns index n inside) ∙ ap (λ xs. terms_of xs index) read.seen ∙ ap (terms_of nodes) read.same
 
   -- what is kept of it
-  pub summed_at : ((j : ℕ) (m : TreeNode) → slice_get ns j ≡ Some m → IsSummed (nodes_view ns) j m) → IsSummed nodes node n
+  pub summed_at : ((j : ℕ) (m : TreeNode) → slice_get ns j ≡ Some m → IsSummed (nodes_inside ns) j m) → IsSummed nodes node n
   summed_at sums =
-      let here : IsSummed (nodes_view ns) index n = sums index n (slice_get_read ns (length ns) index n refl inside read.found) in
-      subst (λ xs. IsSummed xs node n) read.seen (subst (λ j. IsSummed (nodes_view ns) j n) read.same here)
+      let here : IsSummed (nodes_inside ns) index n = sums index n (slice_get_read ns (length ns) index n refl inside read.found) in
+      subst (λ xs. IsSummed xs node n) read.seen (subst (λ j. IsSummed (nodes_inside ns) j n) read.same here)
 
 -- a parent stands before its node
 pub parent_before : (nodes : List Node) → IsTree nodes → (m : ℕ) (parent : Option ℕ) → parent ≡ parent_of nodes m → IfSome parent (λ p. p < m)
@@ -67,10 +67,10 @@ push_get (z ∷ xs) y (suc i) x e = ⊎_elim (λ old. inl old) (λ last. inr (ap
 
 -- one node more of those that are built
 pub built_more : (nodes : List Node) (ns : List TreeNode) (i : ℕ) (n : TreeNode) → i < length nodes
-    → (nodes_view ns ≡ take i nodes) × ((j : ℕ) (m : TreeNode) → slice_get ns j ≡ Some m → IsSummed nodes j m)
-    → slice_get nodes i ≡ Some (node_view n) → IsSummed nodes i n
-    → (nodes_view (ns ++ n ∷ []) ≡ take (i + 1) nodes) × ((j : ℕ) (m : TreeNode) → slice_get (ns ++ n ∷ []) j ≡ Some m → IsSummed nodes j m)
+    → (nodes_inside ns ≡ take i nodes) × ((j : ℕ) (m : TreeNode) → slice_get ns j ≡ Some m → IsSummed nodes j m)
+    → slice_get nodes i ≡ Some (node_inside n) → IsSummed nodes i n
+    → (nodes_inside (ns ++ n ∷ []) ≡ take (i + 1) nodes) × ((j : ℕ) (m : TreeNode) → slice_get (ns ++ n ∷ []) j ≡ Some m → IsSummed nodes j m)
 built_more nodes ns i n h (seen, sums) here kept = (
-  map_push node_view ns n ∙ ap (λ xs. xs ++ node_view n ∷ []) seen ∙ ap (λ x. take i nodes ++ x ∷ []) (sym (get_or_from_slice_get nodes i (node_view n) (node_view n) here)) ∙ sym (take_more nodes i (node_view n) h),
-  λ j m e. ⊎_elim (sums j m) (λ last. let same : i ≡ j = omega (arith, last.0, length-nodes_view ns, ap length seen, length-take-le i nodes) in subst (λ x. IsSummed nodes j x) (sym last.1) (subst (λ k. IsSummed nodes k n) same kept)) (push_get ns n j m e),
+  map_push node_inside ns n ∙ ap (λ xs. xs ++ node_inside n ∷ []) seen ∙ ap (λ x. take i nodes ++ x ∷ []) (sym (get_or_from_slice_get nodes i (node_inside n) (node_inside n) here)) ∙ sym (take_more nodes i (node_inside n) h),
+  λ j m e. ⊎_elim (sums j m) (λ last. let same : i ≡ j = omega (arith, last.0, length-nodes_inside ns, ap length seen, length-take-le i nodes) in subst (λ x. IsSummed nodes j x) (sym last.1) (subst (λ k. IsSummed nodes k n) same kept)) (push_get ns n j m e),
 )

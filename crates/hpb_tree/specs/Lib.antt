@@ -1,5 +1,5 @@
 pub mod Licences
-pub mod View
+pub mod Inside
 pub mod Definition
 pub mod Draft
 pub mod Sound

@@ -3,7 +3,7 @@ ghost use Rattle.std.specs.List.{range_with_len};
 ghost use Rattle.hpb_rules.specs.Drafts.{draft_refusal};
 ghost use Rattle.hpb_rules.specs.Tree.{tree_of, parent_of, terms_of};
 ghost use Rattle.hpb_rules.specs.Prices.{children_among};
-ghost use Rattle.hpb_tree.specs.View.{node_view, nodes_view, IsSummed};
+ghost use Rattle.hpb_tree.specs.Inside.{node_inside, nodes_inside, IsSummed};
 ghost use Rattle.hpb_tree.specs.declared.tree.TreeNode.{TreeNode};
 ghost use Rattle.hpb_tree.specs.Definition.{bidders_view};
 ghost use Rattle.hpb_tree.specs.Draft.{rules_of, nodes_said, bidders_said};
@@ -59,7 +59,7 @@ fn first_nodes(alloc: Global, count: usize) -> Result<Vec<NodeId>, AllocError>
 
 fn build_nodes(alloc: Global, nodes: &[NodeDraft]) -> Result<Vec<TreeNode>, AllocError>
     requires { AreSound (nodes_said nodes.now) }
-    ensures views { IfOk result (λ v. nodes_view v.items ≡ nodes_said nodes.now) }
+    ensures views { IfOk result (λ v. nodes_inside v.items ≡ nodes_said nodes.now) }
     ensures sums { IfOk result (λ v. (i : ℕ) (n : TreeNode) → slice_get v.items i ≡ Some n → IsSummed (nodes_said nodes.now) i n) }
 {
     let mut built = Vec::with_capacity(alloc, nodes.len())?;
@@ -72,7 +72,7 @@ fn build_nodes(alloc: Global, nodes: &[NodeDraft]) -> Result<Vec<TreeNode>, Allo
 fn build_node(alloc: Global, nodes: &[NodeDraft], place: usize) -> Result<TreeNode, AllocError>
     requires sound { AreSound (nodes_said nodes.now) }
     requires within { place < length nodes.now }
-    ensures view { IfOk result (λ n. slice_get (nodes_said nodes.now) place ≡ Some (node_view n)) }
+    ensures view { IfOk result (λ n. slice_get (nodes_said nodes.now) place ≡ Some (node_inside n)) }
     ensures sums { IfOk result (λ n. IsSummed (nodes_said nodes.now) place n) }
 {
     let name = String::from_str(alloc, nodes[place].name.as_str())?;

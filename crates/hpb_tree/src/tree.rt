@@ -4,7 +4,7 @@ ghost use Rattle.std.specs.Str.{bytes_eq};
 ghost use Rattle.hpb_rules.specs.Tree.{IsTree, parent_of, terms_of, places, units, opening};
 ghost use Rattle.hpb_rules.specs.Prices.{children_among};
 ghost use Rattle.hpb_rules.specs.Text.{node_name};
-ghost use Rattle.hpb_tree.specs.View.{AreCopies};
+ghost use Rattle.hpb_tree.specs.Inside.{AreCopies};
 ghost use Rattle.hpb_tree.specs.Licences.{IsMask, licence_count};
 
 use crate::named::place_named;
@@ -47,9 +47,9 @@ impl Model for Tree {
 
     ghost Value = { TreeRules };
 
-    ghost use Rattle.hpb_tree.specs.View.{tree_view, IsChecked};
+    ghost use Rattle.hpb_tree.specs.Inside.{tree_inside, IsChecked};
 
-    ghost view = { tree_view };
+    ghost view = { tree_inside };
 
     ghost invariant = { IsChecked };
 }

@@ -3,7 +3,7 @@ use Rattle.std.proofs.Common.{◌≡◌, ℕ, zero, suc, ◌<◌, Bool, false, n
 use Rattle.std.proofs.lemmas.Bool.{le-ltb, and_right}
 use Rattle.std.proofs.lemmas.List.{length-replicate}
 use Rattle.hpb_rules.specs.Tree.{Node}
-use Rattle.hpb_rules.specs.Choices.{no_node, is_node, mark, total, values_from, best, winners_from, revenue_from, revenue}
+use Rattle.hpb_rules.specs.Choices.{is_top, is_node, mark, total, values_from, best, winners_from, revenue_from, revenue}
 use Rattle.hpb_rules.proofs.Lists.{get_or-replicate_same}
 use Rattle.hpb_rules.proofs.Loops.{Test, below_is, best_from, sum_bound}
 use Rattle.hpb_winners.specs.View.{IsOutcome, no_bid}
@@ -34,6 +34,6 @@ outcome_none nodes {count = count} c i v w = record {
   };
   inside = λ n h. ap (λ xs. get_or xs n 0) i ∙ get_or-replicate_same count n 0 ∙ sym (best_none nodes n h);
   values = λ n h. ap (λ xs. get_or xs n 0) v ∙ get_or-replicate_same count n 0 ∙ sym (ap (max 0) (best_none nodes n h));
-  wins = w ∙ ap (λ k. replicate k false) c ∙ sym (winners_none 0 no_node nodes);
+  wins = w ∙ ap (λ k. replicate k false) c ∙ sym (winners_none 0 is_top nodes);
   revenue = sym (ap (revenue no_bid) w ∙ revenue_none 0 count no_bid);
 }

@@ -6,7 +6,7 @@ use Rattle.std.proofs.lemmas.Grind.{get_or-set_at}
 use Rattle.std.proofs.lemmas.List.{get_or-set_same, get_or-set_other, get_or_past, length-set, length-drop}
 use Rattle.hpb_rules.specs.declared.limits.TheConstants.{MOST_AMOUNT}
 use Rattle.hpb_rules.specs.Tree.{Node, parent_of, IsTree}
-use Rattle.hpb_rules.specs.Choices.{is_node, no_node, total, values_from, best, winners, revenue as revenue_of}
+use Rattle.hpb_rules.specs.Choices.{is_node, is_top, total, values_from, best, winners, revenue as revenue_of}
 use Rattle.hpb_rules.proofs.Loops.{Test, Below, below_is, winners_all}
 use Rattle.hpb_rules.proofs.Loops.{Swept, swept_start, swept_part, swept_top, sum_from, sum_is, sum_all, best_from, sum_bound}
 
@@ -112,12 +112,12 @@ module _ (nodes : List Node) (bid : ℕ → ℕ) where
       }
 
       pub top_small : revenue + value ≤ length nodes * MOST_AMOUNT
-      top_small = omega (arith, top_more.swept.top, sum_small i no_node (λ j le. refl) small_more)
+      top_small = omega (arith, top_more.swept.top, sum_small i is_top (λ j le. refl) small_more)
 
   -- what stands in the end
   module _ {k : ℕ} {inside values : List ℕ} {revenue : ℕ} (so_far : Summed k inside values revenue) (all : k ≡ 0) where
-    revenue_at : revenue ≡ sum_from nodes bid 0 no_node
-    revenue_at = so_far.swept.top ∙ ap (λ j. sum_from nodes bid j no_node) all
+    revenue_at : revenue ≡ sum_from nodes bid 0 is_top
+    revenue_at = so_far.swept.top ∙ ap (λ j. sum_from nodes bid j is_top) all
 
     small_all : SmallFrom 0
     small_all = λ n a b. so_far.small n (omega arith) b
@@ -126,10 +126,10 @@ module _ (nodes : List Node) (bid : ℕ → ℕ) where
     best_small n h = omega (arith, best_from nodes bid n h, sum_small (suc n) (is_node n) (below_is n) (λ m a b. small_all m (omega arith) b))
 
     pub revenue_is : IsTree nodes → revenue ≡ revenue_of bid (winners nodes bid)
-    revenue_is tree = revenue_at ∙ sum_all nodes bid no_node ∙ sym (winners_all bid nodes tree)
+    revenue_is tree = revenue_at ∙ sum_all nodes bid is_top ∙ sym (winners_all bid nodes tree)
 
     pub revenue_small : revenue ≤ length nodes * MOST_AMOUNT
-    revenue_small = omega (arith, revenue_at, sum_small 0 no_node (λ j le. refl) small_all)
+    revenue_small = omega (arith, revenue_at, sum_small 0 is_top (λ j le. refl) small_all)
 
     pub inside_small : (n : ℕ) → get_or inside n 0 ≤ length nodes * MOST_AMOUNT
     inside_small n = ⊎_elim

@@ -3,7 +3,8 @@ ghost use Rattle.hpb_rules.specs.ValueText.{shown_in, node_shown_in, bidder_show
 ghost use Rattle.hpb_wire.specs.Responses.{text_of, high_of};
 
 use crate::response::{BidderLine, HighBid, NodeLine, Response, RoundLine};
-use hpb_auction::{Auction, BidderId, NodeId, Offer};
+use hpb_auction::Auction;
+use hpb_rules::{BidderId, NodeId, Offer};
 use hpb_tree::Definition;
 
 /// What `SHOW` is answered.

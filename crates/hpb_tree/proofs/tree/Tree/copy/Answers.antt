@@ -1,5 +1,5 @@
 use Rattle.std.proofs.Common.{◌≡◌, refl}
-use Rattle.hpb_tree.specs.View.{AreCopies}
+use Rattle.hpb_tree.specs.Inside.{AreCopies}
 use Rattle.hpb_tree.proofs.Copies.{copied_views, checked_copy}
 use Rattle.hpb_tree.proofs.tree.Tree.copy.Goals as goal
 

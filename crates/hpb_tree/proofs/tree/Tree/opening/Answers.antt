@@ -1,6 +1,6 @@
 use Rattle.std.proofs.Common.{ap}
 use Rattle.hpb_rules.specs.Tree.{TreeRules}
-use Rattle.hpb_tree.specs.View.{IsSummed}
+use Rattle.hpb_tree.specs.Inside.{IsSummed}
 use Rattle.hpb_tree.proofs.Views.{IsNodeRead, summed_at}
 use Rattle.hpb_tree.proofs.tree.Tree.opening.Goals as goal
 

@@ -1,7 +1,7 @@
 use Rattle.std.proofs.Common.{ap, ◌∙◌, arith}
 use Rattle.hpb_rules.specs.Tree.{TreeRules}
 use Rattle.hpb_rules.proofs.Loops.{rank_lt}
-use Rattle.hpb_tree.specs.View.{IsSummed}
+use Rattle.hpb_tree.specs.Inside.{IsSummed}
 use Rattle.hpb_tree.proofs.Views.{IsNodeRead, summed_at}
 use Rattle.hpb_tree.proofs.tree.Tree.rank.Goals as goal
 

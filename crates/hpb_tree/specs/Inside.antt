@@ -10,16 +10,16 @@ use Rattle.hpb_tree.specs.declared.tree.TreeNode.{TreeNode}
 use Rattle.hpb_tree.specs.declared.tree.Tree.TheInside.{Inside}
 
 -- A node as it was written.
-abbrev pub node_view : TreeNode → Node
-node_view node = record { name = string_bytes node.name; parent = node.parent; terms = node.terms }
+abbrev pub node_inside : TreeNode → Node
+node_inside node = record { name = string_bytes node.name; parent = node.parent; terms = node.terms }
 
 -- The nodes as they were written.
-abbrev pub nodes_view : List TreeNode → List Node
-nodes_view nodes = map node_view nodes
+abbrev pub nodes_inside : List TreeNode → List Node
+nodes_inside nodes = map node_inside nodes
 
 -- A tree is its nodes with the step and the percent.
-abbrev pub tree_view : Inside → TreeRules
-tree_view t = record { step = t.step; percent = t.percent; nodes = nodes_view t.nodes.items }
+abbrev pub tree_inside : Inside → TreeRules
+tree_inside t = record { step = t.step; percent = t.percent; nodes = nodes_inside t.nodes.items }
 
 -- What is kept of a node beside what was written is what the definitions say of it.
 pub record IsSummed (nodes : List Node) (place : ℕ) (node : TreeNode) : Type 0 where
@@ -39,10 +39,10 @@ pub record IsChecked (t : Inside) : Type 0 where
   pub most_percent : t.percent ≤ MOST_PERCENT
   pub some_node : 0 < length t.nodes.items
   pub most_nodes : length t.nodes.items ≤ MOST_NODES
-  pub tree : IsTree (nodes_view t.nodes.items)
-  pub most_licences : licence_count (nodes_view t.nodes.items) ≤ MOST_LICENCES
-  pub ids : t.ids.items ≡ places (nodes_view t.nodes.items)
-  pub sums : (place : ℕ) (node : TreeNode) → slice_get t.nodes.items place ≡ Some node → IsSummed (nodes_view t.nodes.items) place node
+  pub tree : IsTree (nodes_inside t.nodes.items)
+  pub most_licences : licence_count (nodes_inside t.nodes.items) ≤ MOST_LICENCES
+  pub ids : t.ids.items ≡ places (nodes_inside t.nodes.items)
+  pub sums : (place : ℕ) (node : TreeNode) → slice_get t.nodes.items place ≡ Some node → IsSummed (nodes_inside t.nodes.items) place node
 
 -- All that is known of a node.
 pub record Known : Type 0 where
@@ -56,7 +56,7 @@ pub record Known : Type 0 where
 -- What is known of a node of the code.
 abbrev pub known : TreeNode → Known
 known node = record {
-  node = node_view node;
+  node = node_inside node;
   units = node.units;
   opening = node.opening;
   licences = node.licences;
