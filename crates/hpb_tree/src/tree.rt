@@ -115,8 +115,6 @@ impl Tree {
         ensures value { result ≡ length self.now.nodes }
         ensures some { 0 < result }
         ensures most { result ≤ MOST_NODES }
-        ensures tree { IsTree self.now.nodes }
-        ensures licences { licence_count self.now.nodes ≤ MOST_LICENCES }
     {
         self.nodes.len()
     }
