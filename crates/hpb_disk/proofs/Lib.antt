@@ -1,0 +1,3 @@
+pub mod Pending
+pub mod Steps
+pub mod Stops

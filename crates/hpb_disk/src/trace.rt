@@ -5,6 +5,17 @@ ghost use Rattle.hpb_disk.specs.Events.{Event, event_of};
 
 use std::marker::{Model, PhantomData};
 
+/// The kinds of an entry, as `call_of` of the specifications reads them.
+pub(crate) const READ: u64 = 0;
+
+pub(crate) const WROTE: u64 = 1;
+
+pub(crate) const SYNCED: u64 = 2;
+
+pub(crate) const WRITE_FAILED: u64 = 3;
+
+pub(crate) const FAILED: u64 = 4;
+
 /// A clause reads the image at the start as `first`, and the calls, the newest first, as `events`.
 #[derive(Drop)]
 pub struct Trace {
