@@ -5,3 +5,6 @@ pub mod Devices
 pub mod Fates
 pub mod Records
 pub mod MemoryDisks
+pub mod Faults
+pub mod Behind
+pub mod FaultyDisks

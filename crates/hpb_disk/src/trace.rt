@@ -5,7 +5,7 @@ ghost use Rattle.hpb_disk.specs.Events.{Event, event_of};
 
 use std::marker::{Model, PhantomData};
 
-/// The kinds of an entry, as `call_of` of the specifications reads them.
+/// The kinds of an entry, as `call_of` reads them.
 pub(crate) const READ: u64 = 0;
 
 pub(crate) const WROTE: u64 = 1;
@@ -15,6 +15,13 @@ pub(crate) const SYNCED: u64 = 2;
 pub(crate) const WRITE_FAILED: u64 = 3;
 
 pub(crate) const FAILED: u64 = 4;
+
+/// The kinds of an entry of a device that is made to fail, as `passed_on` and `fault_of` read them.
+pub(crate) const PASSED: u64 = 0;
+
+pub(crate) const HELD: u64 = 1;
+
+pub(crate) const BROKEN: u64 = 2;
 
 /// A clause reads the image at the start as `first`, and the calls, the newest first, as `events`.
 #[derive(Drop)]

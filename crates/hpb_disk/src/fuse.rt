@@ -1,0 +1,116 @@
+//! A device of which all calls fail from one on.
+ghost use Rattle.std.specs.Prelude.{◌≡◌, ◌+◌, ◌-◌, length};
+ghost use Rattle.hpb_disk.specs.Faults.{faults_of, passed_since};
+ghost use Rattle.hpb_disk.specs.Behind.{now_behind};
+ghost use Rattle.std.proofs.Math.Nat.{sub-le};
+
+use crate::trace::{BROKEN, HELD, PASSED};
+use crate::{Disk, DiskFailed, Trace};
+
+/// It passes calls on to the device behind it, until one has the number at which they begin to fail. Where that one is a
+/// write it is passed on too, and answered as failed. No later call is passed on.
+#[derive(Drop)]
+pub struct FuseDisk<D: Disk + Drop> {
+    inner: D,
+    // The number of the first call that fails, and how many calls it is away.
+    first: u64,
+    away: u64,
+    trace: Trace,
+    ghost counted: { away ≡ first - length trace.events },
+    ghost fails: { faults_of trace.events ≡ length trace.events - (first - 1) },
+}
+
+impl<D: Disk + Drop> FuseDisk<D> {
+    ghost use Rattle.hpb_disk.specs.FaultyDisks.{fuse_inner, fuse_first, fuse_calls, fuse_faults};
+
+    /// Fails the call with this number and all later ones. The first call has number 1.
+    pub fn new(inner: D, first: u64) -> FuseDisk<D>
+        ensures inner { fuse_inner result ≡ inner }
+        ensures first { fuse_first result ≡ first }
+        ensures calls { fuse_calls result ≡ 0 }
+    {
+        FuseDisk {
+            inner,
+            first,
+            away: first,
+            trace: Trace::new(&[]),
+        }
+    }
+
+    /// The device behind it.
+    pub fn into_inner(self) -> D
+        ensures { result ≡ fuse_inner self }
+    {
+        self.inner
+    }
+
+    /// The number of the first call that fails. All from that one on fail, and by itself no other.
+    pub fn first_fault(&self) -> u64
+        ensures first { result ≡ fuse_first self.now }
+        ensures faults { fuse_faults self.now ≡ fuse_calls self.now - (result - 1) }
+    {
+        self.first
+    }
+}
+
+impl<D: Disk + Drop> Disk for FuseDisk<D> {
+    ghost seen = { λ f. D.seen f.inner };
+
+    ghost may_leave = { λ f. D.may_leave f.inner };
+
+    ghost moment = { λ f. length f.trace.events };
+
+    ghost left_since = { λ f t. D.left_since f.inner (D.moment f.inner - passed_since f.trace.events t) };
+
+    ghost failures = { λ f. D.failures f.inner + faults_of f.trace.events };
+
+    ghost seen_may_stay = { λ f. D.seen_may_stay f.inner };
+
+    ghost sized = { λ f. D.sized f.inner };
+
+    ghost counts_now = { λ f t image le may. D.counts_now f.inner (D.moment f.inner - passed_since f.trace.events t) image (sub-le (D.moment f.inner) (passed_since f.trace.events t)) may };
+
+    ghost only_now = { λ f image left. D.only_now f.inner image (now_behind (D.left_since f.inner) (D.moment f.inner) f.trace.events image left) };
+
+    fn len(&self) -> usize {
+        self.inner.len()
+    }
+
+    fn read_into(&mut self, at: usize, out: &mut [u8]) -> Result<(), DiskFailed> {
+        if self.away <= 1 {
+            self.away = 0;
+            self.trace.note(&[HELD, 0], &[]);
+            return Err(DiskFailed);
+        }
+        self.away -= 1;
+        self.trace.note(&[PASSED, 0], &[]);
+        self.inner.read_into(at, out)
+    }
+
+    fn write_at(&mut self, at: usize, bytes: &[u8]) -> Result<(), DiskFailed> {
+        if self.away == 0 {
+            self.trace.note(&[HELD, 0], &[]);
+            return Err(DiskFailed);
+        }
+        let fails = self.away == 1;
+        self.away -= 1;
+        let answer = self.inner.write_at(at, bytes);
+        if fails {
+            self.trace.note(&[BROKEN, 0], &[]);
+            return Err(DiskFailed);
+        }
+        self.trace.note(&[PASSED, 0], &[]);
+        answer
+    }
+
+    fn sync(&mut self) -> Result<(), DiskFailed> {
+        if self.away <= 1 {
+            self.away = 0;
+            self.trace.note(&[HELD, 0], &[]);
+            return Err(DiskFailed);
+        }
+        self.away -= 1;
+        self.trace.note(&[PASSED, 0], &[]);
+        self.inner.sync()
+    }
+}
