@@ -1,3 +1,4 @@
 pub mod Pending
 pub mod Steps
 pub mod Stops
+pub mod Regions

@@ -1,4 +1,5 @@
 pub mod Images
+pub mod Gates
 pub mod Events
 pub mod Calls
 pub mod Devices
