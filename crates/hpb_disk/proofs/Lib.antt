@@ -2,3 +2,5 @@ pub mod Pending
 pub mod Steps
 pub mod Stops
 pub mod Regions
+pub mod Runs
+pub mod Replacements

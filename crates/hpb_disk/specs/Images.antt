@@ -28,18 +28,20 @@ Only image images = (other : List ℕ) → images other → other ≡ image
 abbrev pub Within : (List ℕ → Type 0) → (List ℕ → Type 0) → Type 0
 Within images those = (image : List ℕ) → images image → those image
 
--- A run of calls from one moment to another. What a crash may have left since an earlier moment is what it may have left
--- before the run, or an image of the run; and nothing that it may have left is forgotten.
-pub record Spans (before now : ℕ) (past since : ℕ → List ℕ → Type 0) (during : List ℕ → Type 0) : Type 0 where
-  pub later : before ≤ now
-  pub nothing_else : (moment : ℕ) (image : List ℕ) → moment ≤ before → since moment image → past moment image ⊎ during image
-  pub keeps : (moment : ℕ) (image : List ℕ) → moment ≤ before → past moment image → since moment image
-
--- One call: such a run, in which the moment moves on by one.
+-- One call. The moment moves on by one; what a crash may have left since an earlier moment is what it may have left before
+-- the call, or an image of the call, and nothing that it may have left is forgotten.
 pub record Elapses (before now : ℕ) (past since : ℕ → List ℕ → Type 0) (during : List ℕ → Type 0) : Type 0 where
   pub next : now ≡ before + 1
   pub nothing_else : (moment : ℕ) (image : List ℕ) → moment ≤ before → since moment image → past moment image ⊎ during image
   pub keeps : (moment : ℕ) (image : List ℕ) → moment ≤ before → past moment image → since moment image
+
+-- Any number of calls. What a crash may have left since an earlier moment is what it may have left before them, or an image
+-- of this set; and after them a crash leaves one of this set.
+pub record LeavesOnly (before now : ℕ) (past since : ℕ → List ℕ → Type 0) (left images : List ℕ → Type 0) : Type 0 where
+  pub later : before ≤ now
+  pub nothing_else : (moment : ℕ) (image : List ℕ) → moment ≤ before → since moment image → past moment image ⊎ images image
+  pub keeps : (moment : ℕ) (image : List ℕ) → moment ≤ before → past moment image → since moment image
+  pub after : Within left images
 
 -- The number of failures rises exactly in a call that fails.
 abbrev pub CountsFailure : {T E : Type 0} → Result T E → ℕ → ℕ → Type 0

@@ -8,6 +8,7 @@ mod fuse;
 mod gates;
 mod memory;
 mod once;
+mod replacing;
 mod stop;
 mod trace;
 
@@ -18,4 +19,5 @@ pub use fuse::FuseDisk;
 pub use gates::{close_gate, gate_is_open, open_gate};
 pub use memory::MemoryDisk;
 pub use once::OnceDisk;
+pub use replacing::replace_record;
 pub use trace::Trace;
