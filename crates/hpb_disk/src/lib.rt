@@ -4,6 +4,8 @@
 mod disk;
 mod done;
 mod fate;
+mod fault;
+mod file;
 mod fuse;
 mod gates;
 mod memory;
@@ -15,6 +17,8 @@ mod trace;
 pub use disk::{Disk, DiskFailed};
 pub use done::Done;
 pub use fate::Fate;
+pub use fault::FileFault;
+pub use file::{FileDisk, MOST_BYTES};
 pub use fuse::FuseDisk;
 pub use gates::{close_gate, gate_is_open, open_gate};
 pub use memory::MemoryDisk;

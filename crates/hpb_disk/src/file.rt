@@ -1,0 +1,193 @@
+//! A device in a file of the operating system.
+ghost use Rattle.std.specs.Prelude.{◌≡◌, ◌↔◌, length, IsTrue};
+ghost use Rattle.hpb_disk.specs.Calls.{calls_of, seen_of, left_of, since_of, failures_of};
+ghost use Rattle.hpb_disk.specs.Devices as devices;
+
+use crate::memory::overwrite;
+use crate::trace::{FAILED, READ, SYNCED, WRITE_FAILED, WROTE};
+use crate::{Disk, DiskFailed, FileFault, Trace};
+use std::alloc::Global;
+use std::fs::{self, File, Files, TryLockError};
+use std::io;
+use std::os::fd::AsRawFd;
+use std::os::unix::fs::FileExt;
+use std::path::Path;
+
+/// The most bytes that a device in a file may have: they are kept in memory too.
+pub const MOST_BYTES: u64 = 1 << 26;
+
+/// A device whose bytes are those of a file. It holds the file's lock while it lives.
+///
+/// What a read gives is held against a copy in memory: where they differ, the read fails. After a sync that failed every
+/// later call fails, since the system may then have dropped what it could not write, and tell of it only once.
+#[derive(Drop)]
+pub struct FileDisk {
+    file: File,
+    bytes: Vec<u8>,
+    broken: bool,
+    trace: Trace,
+    ghost shown: { bytes.items ≡ seen_of trace.first (calls_of trace.events) },
+}
+
+fn are_same(some: &[u8], others: &[u8]) -> bool
+    ensures { IsTrue result ↔ (some.now ≡ others.now) }
+{
+    some == others
+}
+
+// What was written before is on the medium after this, and what is read from then on comes from there: after a sync that
+// failed an earlier process may have left bytes in the system's memory that the medium doesn't have.
+fn settle(file: &File) -> io::Result<()> {
+    file.sync_data()?;
+    match libc::posix_fadvise(file.as_raw_fd(), 0, 0, libc::POSIX_FADV_DONTNEED) {
+        0 => Ok(()),
+        code => Err(io::Error::from_raw_os_error(code)),
+    }
+}
+
+// The directory that a file's name stands in.
+fn sync_name<R: Files<File = File>>(rt: &R, path: &str) -> io::Result<()> {
+    let folder = match Path::new(path).parent() {
+        Some(folder) if !folder.as_str().is_empty() => folder.as_str(),
+        _ => ".",
+    };
+    fs::open(rt, folder)?.sync_all()
+}
+
+impl FileDisk {
+    // Over a file that holds these bytes, all of them on the medium.
+    pub(crate) fn over(file: File, bytes: Vec<u8>) -> FileDisk {
+        let trace = Trace::new(&bytes);
+        FileDisk {
+            file,
+            bytes,
+            broken: false,
+            trace,
+        }
+    }
+
+    // Locks the file, and reads what is on the medium.
+    fn take(alloc: Global, file: File) -> Result<FileDisk, FileFault> {
+        if !file.metadata()?.is_file() {
+            return Err(FileFault::NotAFile);
+        }
+        match file.try_lock() {
+            Ok(()) => {}
+            Err(TryLockError::WouldBlock) => return Err(FileFault::Busy),
+            Err(TryLockError::Error(error)) => return Err(FileFault::System(error)),
+        }
+        let len = file.metadata()?.len();
+        if len > MOST_BYTES {
+            return Err(FileFault::TooLong);
+        }
+        settle(&file)?;
+        let mut bytes = vec![in alloc; 0; len as usize]?;
+        file.read_exact_at(&mut bytes, 0)?;
+        Ok(FileDisk::over(file, bytes))
+    }
+
+    /// Opens a file that is there. Its length is that of the device.
+    pub fn open<R: Files<File = File>>(
+        rt: &R,
+        alloc: Global,
+        path: &str,
+    ) -> Result<FileDisk, FileFault> {
+        let file = File::options().read(true).write(true).open(rt, path)?;
+        FileDisk::take(alloc, file)
+    }
+
+    /// Makes a file of so many zero bytes where none is, and opens it.
+    pub fn make<R: Files<File = File>>(
+        rt: &R,
+        alloc: Global,
+        path: &str,
+        len: usize,
+    ) -> Result<FileDisk, FileFault> {
+        if len as u64 > MOST_BYTES {
+            return Err(FileFault::TooLong);
+        }
+        let file = File::options()
+            .read(true)
+            .write(true)
+            .create_new(true)
+            .open(rt, path)?;
+        file.set_len(len as u64)?;
+        let disk = FileDisk::take(alloc, file)?;
+        sync_name(rt, path)?;
+        Ok(disk)
+    }
+}
+
+impl Disk for FileDisk {
+    ghost seen = { λ d. d.bytes.items };
+
+    ghost may_leave = { λ d. left_of d.trace.first (calls_of d.trace.events) };
+
+    ghost moment = { λ d. length (calls_of d.trace.events) };
+
+    ghost left_since = { λ d. since_of d.trace.first (calls_of d.trace.events) };
+
+    ghost failures = { λ d. failures_of (calls_of d.trace.events) };
+
+    ghost seen_may_stay = { λ d. Prim.rw d.shown (devices.seen_may_stay d.trace.first (calls_of d.trace.events)) };
+
+    ghost sized = { λ d image left. Prim.rw d.shown (devices.sized d.trace.first (calls_of d.trace.events) image left) };
+
+    ghost counts_now = { λ d t image le now. devices.counts_now d.trace.first (calls_of d.trace.events) t image now };
+
+    ghost only_now = { λ d image left. devices.only_now d.trace.first (calls_of d.trace.events) image left };
+
+    fn len(&self) -> usize {
+        self.bytes.len()
+    }
+
+    fn read_into(&mut self, at: usize, out: &mut [u8]) -> Result<(), DiskFailed> {
+        if self.broken {
+            self.trace.note(&[FAILED, 0], &[]);
+            return Err(DiskFailed);
+        }
+        let read = self.file.read_exact_at(out, at as u64);
+        if read.is_err() || !are_same(out, &self.bytes[at..at + out.len()]) {
+            self.trace.note(&[FAILED, 0], &[]);
+            return Err(DiskFailed);
+        }
+        self.trace.note(&[READ, 0], &[]);
+        Ok(())
+    }
+
+    fn write_at(&mut self, at: usize, bytes: &[u8]) -> Result<(), DiskFailed> {
+        if self.broken {
+            self.trace.note(&[FAILED, 0], &[]);
+            return Err(DiskFailed);
+        }
+        match self.file.write_all_at(bytes, at as u64) {
+            Ok(()) => {
+                overwrite(&mut self.bytes, at, bytes);
+                self.trace.note(&[WROTE, at as u64], bytes);
+                Ok(())
+            }
+            Err(_) => {
+                self.trace.note(&[WRITE_FAILED, at as u64], bytes);
+                Err(DiskFailed)
+            }
+        }
+    }
+
+    fn sync(&mut self) -> Result<(), DiskFailed> {
+        if self.broken {
+            self.trace.note(&[FAILED, 0], &[]);
+            return Err(DiskFailed);
+        }
+        match self.file.sync_data() {
+            Ok(()) => {
+                self.trace.note(&[SYNCED, 0], &[]);
+                Ok(())
+            }
+            Err(_) => {
+                self.broken = true;
+                self.trace.note(&[FAILED, 0], &[]);
+                Err(DiskFailed)
+            }
+        }
+    }
+}
