@@ -1,7 +1,7 @@
 -- What a device in memory shows.
 use Rattle.std.specs.Prelude.{ℕ, List, length}
 use Rattle.hpb_disk.specs.declared.memory.MemoryDisk.{MemoryDisk}
-use Rattle.hpb_disk.specs.Calls.{Call, calls_of, left_of, failures_of, base_of, pending_of}
+use Rattle.hpb_disk.specs.Calls.{Call, calls_of, left_of, since_of, failures_of, base_of, pending_of}
 
 -- Its calls, the newest first.
 abbrev pub memory_calls : MemoryDisk → List Call
@@ -18,6 +18,10 @@ memory_left disk = left_of disk.trace.first (memory_calls disk)
 -- How many calls were made of it: its member `moment`.
 abbrev pub memory_moment : MemoryDisk → ℕ
 memory_moment disk = length (memory_calls disk)
+
+-- What a crash may have left since a moment: its member `left_since`.
+abbrev pub memory_since : MemoryDisk → ℕ → List ℕ → Type 0
+memory_since disk = since_of disk.trace.first (memory_calls disk)
 
 -- How many calls failed: its member `failures`.
 abbrev pub memory_failures : MemoryDisk → ℕ

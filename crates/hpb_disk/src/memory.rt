@@ -1,6 +1,6 @@
 //! A device in memory, which keeps a record of its calls.
-ghost use Rattle.std.specs.Prelude.{◌≡◌, ℕ, ◌+◌, ◌≤◌, List, [], ◌∷◌, ◌++◌, length, drop, replicate, vec_len, OnOk, OnErr, IfOk};
-ghost use Rattle.hpb_disk.specs.Images.{put, Only};
+ghost use Rattle.std.specs.Prelude.{◌≡◌, ℕ, ◌+◌, ◌≤◌, List, [], ◌∷◌, ◌++◌, length, drop, replicate, vec_len, OnOk, OnErr, IfOk, MatchResult};
+ghost use Rattle.hpb_disk.specs.Images.{part, put, Only, TornFrom, Within, Elapses, CountsFailure};
 ghost use Rattle.hpb_disk.specs.Calls.{calls_of, seen_of, left_of, since_of, failures_of, base_of, pending_of};
 ghost use Rattle.hpb_disk.specs.Fates.{stopped};
 ghost use Rattle.hpb_disk.specs.Records.{writes_of};
@@ -119,15 +119,18 @@ impl MemoryDisk {
 }
 
 impl Disk for MemoryDisk {
-    ghost seen = { λ d. d.bytes.items };
+    ghost use Rattle.hpb_disk.specs.MemoryDisks.{memory_calls, memory_seen, memory_left, memory_moment, memory_since, memory_failures};
+    ghost use Rattle.hpb_disk.specs.Calls.Call.{read, wrote, synced, failed};
 
-    ghost may_leave = { λ d. left_of d.trace.first (calls_of d.trace.events) };
+    ghost seen = { memory_seen };
 
-    ghost moment = { λ d. length (calls_of d.trace.events) };
+    ghost may_leave = { memory_left };
 
-    ghost left_since = { λ d. since_of d.trace.first (calls_of d.trace.events) };
+    ghost moment = { memory_moment };
 
-    ghost failures = { λ d. failures_of (calls_of d.trace.events) };
+    ghost left_since = { memory_since };
+
+    ghost failures = { memory_failures };
 
     ghost seen_may_stay = { λ d. Prim.rw d.shown (devices.seen_may_stay d.trace.first (calls_of d.trace.events)) };
 
@@ -141,7 +144,16 @@ impl Disk for MemoryDisk {
         self.bytes.len()
     }
 
-    fn read_into(&mut self, at: usize, out: &mut [u8]) -> Result<(), DiskFailed> {
+    fn read_into(&mut self, at: usize, out: &mut [u8]) -> Result<(), DiskFailed>
+        requires range { at + length out.old ≤ length (memory_seen self.old) }
+        ensures bytes { OnOk result (out.new ≡ part at (length out.old) (memory_seen self.old)) }
+        ensures seen { memory_seen self.new ≡ memory_seen self.old }
+        ensures crash { Within (memory_left self.new) (memory_left self.old) }
+        ensures crash_kept { Within (memory_left self.old) (memory_left self.new) }
+        ensures time { Elapses (memory_moment self.old) (memory_moment self.new) (memory_since self.old) (memory_since self.new) (memory_left self.old) }
+        ensures cause { CountsFailure result (memory_failures self.old) (memory_failures self.new) }
+        ensures called { MatchResult result (λ _. memory_calls self.new ≡ read ∷ memory_calls self.old) (λ _. memory_calls self.new ≡ failed ∷ memory_calls self.old) }
+    {
         match keep(&mut self.done, Done::Read) {
             Ok(()) => {
                 out.copy_from_slice(&self.bytes[at..at + out.len()]);
@@ -155,7 +167,15 @@ impl Disk for MemoryDisk {
         }
     }
 
-    fn write_at(&mut self, at: usize, bytes: &[u8]) -> Result<(), DiskFailed> {
+    fn write_at(&mut self, at: usize, bytes: &[u8]) -> Result<(), DiskFailed>
+        requires range { at + length bytes.now ≤ length (memory_seen self.old) }
+        ensures written { OnOk result (memory_seen self.new ≡ put at bytes.now (memory_seen self.old)) }
+        ensures size { length (memory_seen self.new) ≡ length (memory_seen self.old) }
+        ensures crash { Within (memory_left self.new) (TornFrom at (length bytes.now) (memory_left self.old)) }
+        ensures time { Elapses (memory_moment self.old) (memory_moment self.new) (memory_since self.old) (memory_since self.new) (TornFrom at (length bytes.now) (memory_left self.old)) }
+        ensures cause { CountsFailure result (memory_failures self.old) (memory_failures self.new) }
+        ensures called { MatchResult result (λ _. memory_calls self.new ≡ wrote at bytes.now ∷ memory_calls self.old) (λ _. memory_calls self.new ≡ failed ∷ memory_calls self.old) }
+    {
         match keep_write(self.alloc, &mut self.done, at, bytes) {
             Ok(()) => {
                 overwrite(&mut self.bytes, at, bytes);
@@ -169,7 +189,14 @@ impl Disk for MemoryDisk {
         }
     }
 
-    fn sync(&mut self) -> Result<(), DiskFailed> {
+    fn sync(&mut self) -> Result<(), DiskFailed>
+        ensures durable { OnOk result (Only (memory_seen self.old) (memory_left self.new)) }
+        ensures seen { memory_seen self.new ≡ memory_seen self.old }
+        ensures crash { Within (memory_left self.new) (memory_left self.old) }
+        ensures time { Elapses (memory_moment self.old) (memory_moment self.new) (memory_since self.old) (memory_since self.new) (memory_left self.old) }
+        ensures cause { CountsFailure result (memory_failures self.old) (memory_failures self.new) }
+        ensures called { MatchResult result (λ _. memory_calls self.new ≡ synced ∷ memory_calls self.old) (λ _. memory_calls self.new ≡ failed ∷ memory_calls self.old) }
+    {
         match keep(&mut self.done, Done::Sync) {
             Ok(()) => {
                 self.base.copy_from_slice(&self.bytes);
