@@ -1,5 +1,6 @@
 //! A device of which all calls fail from one on.
-ghost use Rattle.std.specs.Prelude.{◌≡◌, ◌+◌, ◌-◌, length};
+ghost use Rattle.std.specs.Prelude.{◌≡◌, ◌+◌, ◌-◌, ◌<◌, ◌≤◌, length, IsErr, OnOk};
+ghost use Rattle.hpb_disk.specs.Images.{part, put, Only, TornFrom, Within, Elapses, CountsFailure};
 ghost use Rattle.hpb_disk.specs.Faults.{faults_of, passed_since};
 ghost use Rattle.hpb_disk.specs.Behind.{now_behind};
 ghost use Rattle.std.proofs.Math.Nat.{sub-le};
@@ -54,15 +55,17 @@ impl<D: Disk + Drop> FuseDisk<D> {
 }
 
 impl<D: Disk + Drop> Disk for FuseDisk<D> {
-    ghost seen = { λ f. D.seen f.inner };
+    ghost use Rattle.hpb_disk.specs.FaultyDisks.{fuse_inner, fuse_first, fuse_calls, fuse_seen, fuse_left, fuse_since, fuse_failures};
 
-    ghost may_leave = { λ f. D.may_leave f.inner };
+    ghost seen = { fuse_seen };
 
-    ghost moment = { λ f. length f.trace.events };
+    ghost may_leave = { fuse_left };
 
-    ghost left_since = { λ f t. D.left_since f.inner (D.moment f.inner - passed_since f.trace.events t) };
+    ghost moment = { fuse_calls };
 
-    ghost failures = { λ f. D.failures f.inner + faults_of f.trace.events };
+    ghost left_since = { fuse_since };
+
+    ghost failures = { fuse_failures };
 
     ghost seen_may_stay = { λ f. D.seen_may_stay f.inner };
 
@@ -76,7 +79,18 @@ impl<D: Disk + Drop> Disk for FuseDisk<D> {
         self.inner.len()
     }
 
-    fn read_into(&mut self, at: usize, out: &mut [u8]) -> Result<(), DiskFailed> {
+    fn read_into(&mut self, at: usize, out: &mut [u8]) -> Result<(), DiskFailed>
+        requires range { at + length out.old ≤ length (fuse_seen self.old) }
+        ensures bytes { OnOk result (out.new ≡ part at (length out.old) (fuse_seen self.old)) }
+        ensures seen { fuse_seen self.new ≡ fuse_seen self.old }
+        ensures crash { Within (fuse_left self.new) (fuse_left self.old) }
+        ensures crash_kept { Within (fuse_left self.old) (fuse_left self.new) }
+        ensures time { Elapses (fuse_calls self.old) (fuse_calls self.new) (fuse_since self.old) (fuse_since self.new) (fuse_left self.old) }
+        ensures cause { CountsFailure result (fuse_failures self.old) (fuse_failures self.new) }
+        ensures first { fuse_first self.new ≡ fuse_first self.old }
+        ensures fails { fuse_first self.old ≤ fuse_calls self.old + 1 → IsErr result }
+        ensures held { fuse_first self.old ≤ fuse_calls self.old + 1 → fuse_inner self.new ≡ fuse_inner self.old }
+    {
         if self.away <= 1 {
             self.away = 0;
             self.trace.note(&[HELD, 0], &[]);
@@ -87,7 +101,17 @@ impl<D: Disk + Drop> Disk for FuseDisk<D> {
         self.inner.read_into(at, out)
     }
 
-    fn write_at(&mut self, at: usize, bytes: &[u8]) -> Result<(), DiskFailed> {
+    fn write_at(&mut self, at: usize, bytes: &[u8]) -> Result<(), DiskFailed>
+        requires range { at + length bytes.now ≤ length (fuse_seen self.old) }
+        ensures written { OnOk result (fuse_seen self.new ≡ put at bytes.now (fuse_seen self.old)) }
+        ensures size { length (fuse_seen self.new) ≡ length (fuse_seen self.old) }
+        ensures crash { Within (fuse_left self.new) (TornFrom at (length bytes.now) (fuse_left self.old)) }
+        ensures time { Elapses (fuse_calls self.old) (fuse_calls self.new) (fuse_since self.old) (fuse_since self.new) (TornFrom at (length bytes.now) (fuse_left self.old)) }
+        ensures cause { CountsFailure result (fuse_failures self.old) (fuse_failures self.new) }
+        ensures first { fuse_first self.new ≡ fuse_first self.old }
+        ensures fails { fuse_first self.old ≤ fuse_calls self.old + 1 → IsErr result }
+        ensures held { fuse_first self.old < fuse_calls self.old + 1 → fuse_inner self.new ≡ fuse_inner self.old }
+    {
         if self.away == 0 {
             self.trace.note(&[HELD, 0], &[]);
             return Err(DiskFailed);
@@ -103,7 +127,16 @@ impl<D: Disk + Drop> Disk for FuseDisk<D> {
         answer
     }
 
-    fn sync(&mut self) -> Result<(), DiskFailed> {
+    fn sync(&mut self) -> Result<(), DiskFailed>
+        ensures durable { OnOk result (Only (fuse_seen self.old) (fuse_left self.new)) }
+        ensures seen { fuse_seen self.new ≡ fuse_seen self.old }
+        ensures crash { Within (fuse_left self.new) (fuse_left self.old) }
+        ensures time { Elapses (fuse_calls self.old) (fuse_calls self.new) (fuse_since self.old) (fuse_since self.new) (fuse_left self.old) }
+        ensures cause { CountsFailure result (fuse_failures self.old) (fuse_failures self.new) }
+        ensures first { fuse_first self.new ≡ fuse_first self.old }
+        ensures fails { fuse_first self.old ≤ fuse_calls self.old + 1 → IsErr result }
+        ensures held { fuse_first self.old ≤ fuse_calls self.old + 1 → fuse_inner self.new ≡ fuse_inner self.old }
+    {
         if self.away <= 1 {
             self.away = 0;
             self.trace.note(&[HELD, 0], &[]);

@@ -1,5 +1,6 @@
 //! A device of which one call fails.
-ghost use Rattle.std.specs.Prelude.{◌≡◌, ◌+◌, ◌-◌, ◌<◌, ◌≤◌, length};
+ghost use Rattle.std.specs.Prelude.{◌≡◌, ◌+◌, ◌-◌, ◌<◌, ◌≤◌, length, IsErr, OnOk};
+ghost use Rattle.hpb_disk.specs.Images.{part, put, Only, TornFrom, Within, Elapses, CountsFailure};
 ghost use Rattle.hpb_disk.specs.Faults.{faults_of, passed_since};
 ghost use Rattle.hpb_disk.specs.Behind.{now_behind};
 ghost use Rattle.std.proofs.Math.Nat.{sub-le};
@@ -58,15 +59,17 @@ impl<D: Disk + Drop> OnceDisk<D> {
 }
 
 impl<D: Disk + Drop> Disk for OnceDisk<D> {
-    ghost seen = { λ f. D.seen f.inner };
+    ghost use Rattle.hpb_disk.specs.FaultyDisks.{once_inner, once_fault, once_calls, once_seen, once_left, once_since, once_failures};
 
-    ghost may_leave = { λ f. D.may_leave f.inner };
+    ghost seen = { once_seen };
 
-    ghost moment = { λ f. length f.trace.events };
+    ghost may_leave = { once_left };
 
-    ghost left_since = { λ f t. D.left_since f.inner (D.moment f.inner - passed_since f.trace.events t) };
+    ghost moment = { once_calls };
 
-    ghost failures = { λ f. D.failures f.inner + faults_of f.trace.events };
+    ghost left_since = { once_since };
+
+    ghost failures = { once_failures };
 
     ghost seen_may_stay = { λ f. D.seen_may_stay f.inner };
 
@@ -80,7 +83,18 @@ impl<D: Disk + Drop> Disk for OnceDisk<D> {
         self.inner.len()
     }
 
-    fn read_into(&mut self, at: usize, out: &mut [u8]) -> Result<(), DiskFailed> {
+    fn read_into(&mut self, at: usize, out: &mut [u8]) -> Result<(), DiskFailed>
+        requires range { at + length out.old ≤ length (once_seen self.old) }
+        ensures bytes { OnOk result (out.new ≡ part at (length out.old) (once_seen self.old)) }
+        ensures seen { once_seen self.new ≡ once_seen self.old }
+        ensures crash { Within (once_left self.new) (once_left self.old) }
+        ensures crash_kept { Within (once_left self.old) (once_left self.new) }
+        ensures time { Elapses (once_calls self.old) (once_calls self.new) (once_since self.old) (once_since self.new) (once_left self.old) }
+        ensures cause { CountsFailure result (once_failures self.old) (once_failures self.new) }
+        ensures fault { once_fault self.new ≡ once_fault self.old }
+        ensures fails { once_fault self.old ≡ once_calls self.old + 1 → IsErr result }
+        ensures held { once_fault self.old ≡ once_calls self.old + 1 → once_inner self.new ≡ once_inner self.old }
+    {
         if self.away == 1 {
             self.away = 0;
             self.trace.note(&[HELD, 0], &[]);
@@ -91,7 +105,16 @@ impl<D: Disk + Drop> Disk for OnceDisk<D> {
         self.inner.read_into(at, out)
     }
 
-    fn write_at(&mut self, at: usize, bytes: &[u8]) -> Result<(), DiskFailed> {
+    fn write_at(&mut self, at: usize, bytes: &[u8]) -> Result<(), DiskFailed>
+        requires range { at + length bytes.now ≤ length (once_seen self.old) }
+        ensures written { OnOk result (once_seen self.new ≡ put at bytes.now (once_seen self.old)) }
+        ensures size { length (once_seen self.new) ≡ length (once_seen self.old) }
+        ensures crash { Within (once_left self.new) (TornFrom at (length bytes.now) (once_left self.old)) }
+        ensures time { Elapses (once_calls self.old) (once_calls self.new) (once_since self.old) (once_since self.new) (TornFrom at (length bytes.now) (once_left self.old)) }
+        ensures cause { CountsFailure result (once_failures self.old) (once_failures self.new) }
+        ensures fault { once_fault self.new ≡ once_fault self.old }
+        ensures fails { once_fault self.old ≡ once_calls self.old + 1 → IsErr result }
+    {
         let fails = self.away == 1;
         self.away = self.away.saturating_sub(1);
         let answer = self.inner.write_at(at, bytes);
@@ -103,7 +126,16 @@ impl<D: Disk + Drop> Disk for OnceDisk<D> {
         answer
     }
 
-    fn sync(&mut self) -> Result<(), DiskFailed> {
+    fn sync(&mut self) -> Result<(), DiskFailed>
+        ensures durable { OnOk result (Only (once_seen self.old) (once_left self.new)) }
+        ensures seen { once_seen self.new ≡ once_seen self.old }
+        ensures crash { Within (once_left self.new) (once_left self.old) }
+        ensures time { Elapses (once_calls self.old) (once_calls self.new) (once_since self.old) (once_since self.new) (once_left self.old) }
+        ensures cause { CountsFailure result (once_failures self.old) (once_failures self.new) }
+        ensures fault { once_fault self.new ≡ once_fault self.old }
+        ensures fails { once_fault self.old ≡ once_calls self.old + 1 → IsErr result }
+        ensures held { once_fault self.old ≡ once_calls self.old + 1 → once_inner self.new ≡ once_inner self.old }
+    {
         if self.away == 1 {
             self.away = 0;
             self.trace.note(&[HELD, 0], &[]);
