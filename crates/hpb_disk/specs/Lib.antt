@@ -7,6 +7,7 @@ pub mod Devices
 pub mod Fates
 pub mod Records
 pub mod MemoryDisks
+pub mod FileDisks
 pub mod Faults
 pub mod Behind
 pub mod FaultyDisks

@@ -1,5 +1,6 @@
 //! A device in a file of the operating system.
-ghost use Rattle.std.specs.Prelude.{◌≡◌, ◌↔◌, length, IsTrue};
+ghost use Rattle.std.specs.Prelude.{◌≡◌, ◌+◌, ◌≤◌, ◌↔◌, true, length, IsTrue, IsErr, OnOk, OnErr};
+ghost use Rattle.hpb_disk.specs.Images.{part, put, Only, TornFrom, Within, Elapses, CountsFailure};
 ghost use Rattle.hpb_disk.specs.Calls.{calls_of, seen_of, left_of, since_of, failures_of};
 ghost use Rattle.hpb_disk.specs.Devices as devices;
 
@@ -119,15 +120,17 @@ impl FileDisk {
 }
 
 impl Disk for FileDisk {
-    ghost seen = { λ d. d.bytes.items };
+    ghost use Rattle.hpb_disk.specs.FileDisks.{file_seen, file_left, file_moment, file_since, file_failures, file_is_broken};
 
-    ghost may_leave = { λ d. left_of d.trace.first (calls_of d.trace.events) };
+    ghost seen = { file_seen };
 
-    ghost moment = { λ d. length (calls_of d.trace.events) };
+    ghost may_leave = { file_left };
 
-    ghost left_since = { λ d. since_of d.trace.first (calls_of d.trace.events) };
+    ghost moment = { file_moment };
 
-    ghost failures = { λ d. failures_of (calls_of d.trace.events) };
+    ghost left_since = { file_since };
+
+    ghost failures = { file_failures };
 
     ghost seen_may_stay = { λ d. Prim.rw d.shown (devices.seen_may_stay d.trace.first (calls_of d.trace.events)) };
 
@@ -141,7 +144,17 @@ impl Disk for FileDisk {
         self.bytes.len()
     }
 
-    fn read_into(&mut self, at: usize, out: &mut [u8]) -> Result<(), DiskFailed> {
+    fn read_into(&mut self, at: usize, out: &mut [u8]) -> Result<(), DiskFailed>
+        requires range { at + length out.old ≤ length (file_seen self.old) }
+        ensures bytes { OnOk result (out.new ≡ part at (length out.old) (file_seen self.old)) }
+        ensures seen { file_seen self.new ≡ file_seen self.old }
+        ensures crash { Within (file_left self.new) (file_left self.old) }
+        ensures crash_kept { Within (file_left self.old) (file_left self.new) }
+        ensures time { Elapses (file_moment self.old) (file_moment self.new) (file_since self.old) (file_since self.new) (file_left self.old) }
+        ensures cause { CountsFailure result (file_failures self.old) (file_failures self.new) }
+        ensures broken { file_is_broken self.old ≡ true → IsErr result }
+        ensures stays_broken { file_is_broken self.old ≡ true → file_is_broken self.new ≡ true }
+    {
         if self.broken {
             self.trace.note(&[FAILED, 0], &[]);
             return Err(DiskFailed);
@@ -155,7 +168,16 @@ impl Disk for FileDisk {
         Ok(())
     }
 
-    fn write_at(&mut self, at: usize, bytes: &[u8]) -> Result<(), DiskFailed> {
+    fn write_at(&mut self, at: usize, bytes: &[u8]) -> Result<(), DiskFailed>
+        requires range { at + length bytes.now ≤ length (file_seen self.old) }
+        ensures written { OnOk result (file_seen self.new ≡ put at bytes.now (file_seen self.old)) }
+        ensures size { length (file_seen self.new) ≡ length (file_seen self.old) }
+        ensures crash { Within (file_left self.new) (TornFrom at (length bytes.now) (file_left self.old)) }
+        ensures time { Elapses (file_moment self.old) (file_moment self.new) (file_since self.old) (file_since self.new) (TornFrom at (length bytes.now) (file_left self.old)) }
+        ensures cause { CountsFailure result (file_failures self.old) (file_failures self.new) }
+        ensures broken { file_is_broken self.old ≡ true → IsErr result }
+        ensures stays_broken { file_is_broken self.old ≡ true → file_is_broken self.new ≡ true }
+    {
         if self.broken {
             self.trace.note(&[FAILED, 0], &[]);
             return Err(DiskFailed);
@@ -173,7 +195,16 @@ impl Disk for FileDisk {
         }
     }
 
-    fn sync(&mut self) -> Result<(), DiskFailed> {
+    fn sync(&mut self) -> Result<(), DiskFailed>
+        ensures durable { OnOk result (Only (file_seen self.old) (file_left self.new)) }
+        ensures seen { file_seen self.new ≡ file_seen self.old }
+        ensures crash { Within (file_left self.new) (file_left self.old) }
+        ensures time { Elapses (file_moment self.old) (file_moment self.new) (file_since self.old) (file_since self.new) (file_left self.old) }
+        ensures cause { CountsFailure result (file_failures self.old) (file_failures self.new) }
+        ensures broken { file_is_broken self.old ≡ true → IsErr result }
+        ensures stays_broken { file_is_broken self.old ≡ true → file_is_broken self.new ≡ true }
+        ensures breaks { OnErr result (file_is_broken self.new ≡ true) }
+    {
         if self.broken {
             self.trace.note(&[FAILED, 0], &[]);
             return Err(DiskFailed);
