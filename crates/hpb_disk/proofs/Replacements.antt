@@ -1,21 +1,12 @@
 -- What a crash leaves of a record and of the one that replaces it.
-use Rattle.std.proofs.Common.{◌≡◌, ◌≢◌, ◌⊎◌, inl, inr, ⊎_elim, ℕ, ◌+◌, ◌*◌, ◌≤◌, List, [], ◌∷◌, length, sym, ◌∙◌, ap, subst, arith}
-use Rattle.std.proofs.lemmas.Bool.{cases_eq}
+use Rattle.std.proofs.Common.{◌≡◌, inl, inr, ⊎_elim, ℕ, ◌+◌, ◌*◌, ◌≤◌, List, length, sym, ◌∙◌, subst, arith}
 use Rattle.hpb_disk.specs.Devices.{length-put, put_is_torn}
-use Rattle.hpb_disk.specs.Gates.{open_byte, HasOpenGate, HasClosedGate}
+use Rattle.hpb_disk.specs.Gates.{open_byte, HasClosedGate}
 use Rattle.hpb_disk.specs.Images.{part, put, Torn, TornFrom, Within, Only, Elapses, LeavesOnly}
 use Rattle.hpb_disk.specs.Replacing.{HasRecord, HasEither}
+use Rattle.hpb_disk.proofs.GateBytes.{open_or_closed}
 use Rattle.hpb_disk.proofs.Regions.{part_put, part_elsewhere}
 use Rattle.hpb_disk.proofs.Runs.{leaves_join, leaves_call}
-
-is_open_byte : (bytes : List ℕ) → (bytes ≡ open_byte) ⊎ (bytes ≢ open_byte)
-is_open_byte [] = inr (λ is. absurd (cc))
-is_open_byte (byte ∷ []) = ⊎_elim (λ is. inl (ap (λ (n : ℕ). n ∷ []) is)) (λ other. inr (λ is. other (cc))) (cases_eq byte 165)
-is_open_byte (byte ∷ next ∷ bytes) = inr (λ is. absurd (cc))
-
--- A gate is open or closed.
-pub open_or_closed : (at : ℕ) (image : List ℕ) → HasOpenGate at image ⊎ HasClosedGate at image
-open_or_closed at image = is_open_byte (part at 1 image)
 
 -- An image with a record behind its closed gate, and room for another.
 module _ (bytes old : List ℕ) (room : 1 + 2 * length bytes ≤ length old) (closed : HasClosedGate 0 old) where

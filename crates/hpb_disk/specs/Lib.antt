@@ -1,5 +1,6 @@
 pub mod Images
 pub mod Gates
+pub mod Laws
 pub mod Replacing
 pub mod Events
 pub mod Calls
