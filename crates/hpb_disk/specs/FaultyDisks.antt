@@ -18,6 +18,10 @@ module _ {D : Type 0} {behind : Ghosts D} where
   abbrev pub fuse_calls : FuseDisk D behind → ℕ
   fuse_calls disk = length disk.trace.events
 
+  -- The moment of the device behind it.
+  abbrev pub fuse_behind : FuseDisk D behind → ℕ
+  fuse_behind disk = behind.moment disk.inner
+
   -- How many of them it let fail by itself.
   abbrev pub fuse_faults : FuseDisk D behind → ℕ
   fuse_faults disk = faults_of disk.trace.events
@@ -49,6 +53,10 @@ module _ {D : Type 0} {behind : Ghosts D} where
   -- How many calls it had: its member `moment`.
   abbrev pub once_calls : OnceDisk D behind → ℕ
   once_calls disk = length disk.trace.events
+
+  -- The moment of the device behind it.
+  abbrev pub once_behind : OnceDisk D behind → ℕ
+  once_behind disk = behind.moment disk.inner
 
   -- How many of them it let fail by itself.
   abbrev pub once_faults : OnceDisk D behind → ℕ

@@ -1,5 +1,5 @@
 //! A device in a file of the operating system.
-ghost use Rattle.std.specs.Prelude.{◌≡◌, ◌+◌, ◌≤◌, ◌↔◌, true, length, IsTrue, IsErr, OnOk, OnErr};
+ghost use Rattle.std.specs.Prelude.{◌≡◌, ◌+◌, ◌≤◌, ◌↔◌, true, false, ◌∷◌, length, IsTrue, IsErr, OnOk, OnErr, MatchResult};
 ghost use Rattle.hpb_disk.specs.Images.{part, put, Only, TornFrom, Within, Elapses, CountsFailure};
 ghost use Rattle.hpb_disk.specs.Calls.{calls_of, seen_of, left_of, since_of, failures_of};
 ghost use Rattle.hpb_disk.specs.Devices as devices;
@@ -120,7 +120,8 @@ impl FileDisk {
 }
 
 impl Disk for FileDisk {
-    ghost use Rattle.hpb_disk.specs.FileDisks.{file_seen, file_left, file_moment, file_since, file_failures, file_is_broken};
+    ghost use Rattle.hpb_disk.specs.FileDisks.{file_calls, file_seen, file_left, file_moment, file_since, file_failures, file_is_broken};
+    ghost use Rattle.hpb_disk.specs.Calls.Call.{read, wrote, synced, failed, write_failed};
 
     ghost seen = { file_seen };
 
@@ -152,6 +153,7 @@ impl Disk for FileDisk {
         ensures crash_kept { Within (file_left self.old) (file_left self.new) }
         ensures time { Elapses (file_moment self.old) (file_moment self.new) (file_since self.old) (file_since self.new) (file_left self.old) }
         ensures cause { CountsFailure result (file_failures self.old) (file_failures self.new) }
+        ensures called { MatchResult result (λ _. file_calls self.new ≡ read ∷ file_calls self.old) (λ _. file_calls self.new ≡ failed ∷ file_calls self.old) }
         ensures broken { file_is_broken self.old ≡ true → IsErr result }
         ensures stays_broken { file_is_broken self.old ≡ true → file_is_broken self.new ≡ true }
     {
@@ -175,6 +177,7 @@ impl Disk for FileDisk {
         ensures crash { Within (file_left self.new) (TornFrom at (length bytes.now) (file_left self.old)) }
         ensures time { Elapses (file_moment self.old) (file_moment self.new) (file_since self.old) (file_since self.new) (TornFrom at (length bytes.now) (file_left self.old)) }
         ensures cause { CountsFailure result (file_failures self.old) (file_failures self.new) }
+        ensures called { MatchResult result (λ _. file_calls self.new ≡ wrote at bytes.now ∷ file_calls self.old) (λ _. file_is_broken self.old ≡ false → file_calls self.new ≡ write_failed at bytes.now ∷ file_calls self.old) }
         ensures broken { file_is_broken self.old ≡ true → IsErr result }
         ensures stays_broken { file_is_broken self.old ≡ true → file_is_broken self.new ≡ true }
     {
@@ -201,6 +204,7 @@ impl Disk for FileDisk {
         ensures crash { Within (file_left self.new) (file_left self.old) }
         ensures time { Elapses (file_moment self.old) (file_moment self.new) (file_since self.old) (file_since self.new) (file_left self.old) }
         ensures cause { CountsFailure result (file_failures self.old) (file_failures self.new) }
+        ensures called { MatchResult result (λ _. file_calls self.new ≡ synced ∷ file_calls self.old) (λ _. file_calls self.new ≡ failed ∷ file_calls self.old) }
         ensures broken { file_is_broken self.old ≡ true → IsErr result }
         ensures stays_broken { file_is_broken self.old ≡ true → file_is_broken self.new ≡ true }
         ensures breaks { OnErr result (file_is_broken self.new ≡ true) }

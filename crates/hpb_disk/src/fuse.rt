@@ -55,7 +55,7 @@ impl<D: Disk + Drop> FuseDisk<D> {
 }
 
 impl<D: Disk + Drop> Disk for FuseDisk<D> {
-    ghost use Rattle.hpb_disk.specs.FaultyDisks.{fuse_inner, fuse_first, fuse_calls, fuse_seen, fuse_left, fuse_since, fuse_failures};
+    ghost use Rattle.hpb_disk.specs.FaultyDisks.{fuse_inner, fuse_first, fuse_calls, fuse_behind, fuse_seen, fuse_left, fuse_since, fuse_failures};
 
     ghost seen = { fuse_seen };
 
@@ -90,6 +90,7 @@ impl<D: Disk + Drop> Disk for FuseDisk<D> {
         ensures first { fuse_first self.new ≡ fuse_first self.old }
         ensures fails { fuse_first self.old ≤ fuse_calls self.old + 1 → IsErr result }
         ensures held { fuse_first self.old ≤ fuse_calls self.old + 1 → fuse_inner self.new ≡ fuse_inner self.old }
+        ensures passed { fuse_calls self.old + 1 < fuse_first self.old → fuse_behind self.new ≡ fuse_behind self.old + 1 }
     {
         if self.away <= 1 {
             self.away = 0;
@@ -111,6 +112,7 @@ impl<D: Disk + Drop> Disk for FuseDisk<D> {
         ensures first { fuse_first self.new ≡ fuse_first self.old }
         ensures fails { fuse_first self.old ≤ fuse_calls self.old + 1 → IsErr result }
         ensures held { fuse_first self.old < fuse_calls self.old + 1 → fuse_inner self.new ≡ fuse_inner self.old }
+        ensures passed { fuse_calls self.old + 1 ≤ fuse_first self.old → fuse_behind self.new ≡ fuse_behind self.old + 1 }
     {
         if self.away == 0 {
             self.trace.note(&[HELD, 0], &[]);
@@ -136,6 +138,7 @@ impl<D: Disk + Drop> Disk for FuseDisk<D> {
         ensures first { fuse_first self.new ≡ fuse_first self.old }
         ensures fails { fuse_first self.old ≤ fuse_calls self.old + 1 → IsErr result }
         ensures held { fuse_first self.old ≤ fuse_calls self.old + 1 → fuse_inner self.new ≡ fuse_inner self.old }
+        ensures passed { fuse_calls self.old + 1 < fuse_first self.old → fuse_behind self.new ≡ fuse_behind self.old + 1 }
     {
         if self.away <= 1 {
             self.away = 0;

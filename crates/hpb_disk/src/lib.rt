@@ -13,6 +13,8 @@ mod memory;
 mod once;
 mod replacing;
 mod stop;
+#[cfg(test)]
+mod tests;
 mod trace;
 
 pub use disk::{Disk, DiskFailed};

@@ -1,5 +1,5 @@
 //! A device of which one call fails.
-ghost use Rattle.std.specs.Prelude.{◌≡◌, ◌+◌, ◌-◌, ◌<◌, ◌≤◌, length, IsErr, OnOk};
+ghost use Rattle.std.specs.Prelude.{◌≡◌, ◌≢◌, ◌+◌, ◌-◌, ◌<◌, ◌≤◌, length, IsErr, OnOk};
 ghost use Rattle.hpb_disk.specs.Images.{part, put, Only, TornFrom, Within, Elapses, CountsFailure};
 ghost use Rattle.hpb_disk.specs.Faults.{faults_of, passed_since};
 ghost use Rattle.hpb_disk.specs.Behind.{now_behind};
@@ -59,7 +59,7 @@ impl<D: Disk + Drop> OnceDisk<D> {
 }
 
 impl<D: Disk + Drop> Disk for OnceDisk<D> {
-    ghost use Rattle.hpb_disk.specs.FaultyDisks.{once_inner, once_fault, once_calls, once_seen, once_left, once_since, once_failures};
+    ghost use Rattle.hpb_disk.specs.FaultyDisks.{once_inner, once_fault, once_calls, once_behind, once_seen, once_left, once_since, once_failures};
 
     ghost seen = { once_seen };
 
@@ -94,6 +94,7 @@ impl<D: Disk + Drop> Disk for OnceDisk<D> {
         ensures fault { once_fault self.new ≡ once_fault self.old }
         ensures fails { once_fault self.old ≡ once_calls self.old + 1 → IsErr result }
         ensures held { once_fault self.old ≡ once_calls self.old + 1 → once_inner self.new ≡ once_inner self.old }
+        ensures passed { once_fault self.old ≢ once_calls self.old + 1 → once_behind self.new ≡ once_behind self.old + 1 }
     {
         if self.away == 1 {
             self.away = 0;
@@ -114,6 +115,7 @@ impl<D: Disk + Drop> Disk for OnceDisk<D> {
         ensures cause { CountsFailure result (once_failures self.old) (once_failures self.new) }
         ensures fault { once_fault self.new ≡ once_fault self.old }
         ensures fails { once_fault self.old ≡ once_calls self.old + 1 → IsErr result }
+        ensures passed { once_behind self.new ≡ once_behind self.old + 1 }
     {
         let fails = self.away == 1;
         self.away = self.away.saturating_sub(1);
@@ -135,6 +137,7 @@ impl<D: Disk + Drop> Disk for OnceDisk<D> {
         ensures fault { once_fault self.new ≡ once_fault self.old }
         ensures fails { once_fault self.old ≡ once_calls self.old + 1 → IsErr result }
         ensures held { once_fault self.old ≡ once_calls self.old + 1 → once_inner self.new ≡ once_inner self.old }
+        ensures passed { once_fault self.old ≢ once_calls self.old + 1 → once_behind self.new ≡ once_behind self.old + 1 }
     {
         if self.away == 1 {
             self.away = 0;
