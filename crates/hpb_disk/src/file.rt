@@ -1,5 +1,5 @@
 //! A device in a file of the operating system.
-ghost use Rattle.std.specs.Prelude.{◌≡◌, ◌+◌, ◌≤◌, ◌↔◌, true, false, ◌∷◌, length, IsTrue, IsErr, OnOk, OnErr, MatchResult};
+ghost use Rattle.std.specs.Prelude.{◌≡◌, ◌+◌, ◌≤◌, ◌^◌, ◌↔◌, true, false, ◌∷◌, length, replicate, IsTrue, IsErr, IfOk, OnOk, OnErr, MatchResult};
 ghost use Rattle.hpb_disk.specs.Images.{part, put, Only, TornFrom, Within, Elapses, CountsFailure};
 ghost use Rattle.hpb_disk.specs.Calls.{calls_of, seen_of, left_of, since_of, failures_of};
 ghost use Rattle.hpb_disk.specs.Devices as devices;
@@ -56,8 +56,14 @@ fn sync_name<R: Files<File = File>>(rt: &R, path: &str) -> io::Result<()> {
 }
 
 impl FileDisk {
+    ghost use Rattle.hpb_disk.specs.FileDisks.{file_seen, file_left, file_is_broken};
+
     // Over a file that holds these bytes, all of them on the medium.
-    pub(crate) fn over(file: File, bytes: Vec<u8>) -> FileDisk {
+    pub(crate) fn over(file: File, bytes: Vec<u8>) -> FileDisk
+        ensures seen { file_seen result ≡ bytes.items }
+        ensures settled { Only (file_seen result) (file_left result) }
+        ensures works { file_is_broken result ≡ false }
+    {
         let trace = Trace::new(&bytes);
         FileDisk {
             file,
@@ -68,7 +74,11 @@ impl FileDisk {
     }
 
     // Locks the file, and reads what is on the medium.
-    fn take(alloc: Global, file: File) -> Result<FileDisk, FileFault> {
+    fn take(alloc: Global, file: File) -> Result<FileDisk, FileFault>
+        ensures settled { IfOk result (λ disk. Only (file_seen disk) (file_left disk)) }
+        ensures works { IfOk result (λ disk. file_is_broken disk ≡ false) }
+        ensures most { IfOk result (λ disk. length (file_seen disk) ≤ 2 ^ 26) }
+    {
         if !file.metadata()?.is_file() {
             return Err(FileFault::NotAFile);
         }
@@ -87,23 +97,31 @@ impl FileDisk {
         Ok(FileDisk::over(file, bytes))
     }
 
-    /// Opens a file that is there. Its length is that of the device.
+    /// Opens a file that is there. Its length is that of the device. Nothing is pending.
     pub fn open<R: Files<File = File>>(
         rt: &R,
         alloc: Global,
         path: &str,
-    ) -> Result<FileDisk, FileFault> {
+    ) -> Result<FileDisk, FileFault>
+        ensures settled { IfOk result (λ disk. Only (file_seen disk) (file_left disk)) }
+        ensures works { IfOk result (λ disk. file_is_broken disk ≡ false) }
+        ensures most { IfOk result (λ disk. length (file_seen disk) ≤ 2 ^ 26) }
+    {
         let file = File::options().read(true).write(true).open(rt, path)?;
         FileDisk::take(alloc, file)
     }
 
-    /// Makes a file of so many zero bytes where none is, and opens it.
+    /// Makes a file of so many zero bytes where none is, and opens it. Nothing is pending.
     pub fn make<R: Files<File = File>>(
         rt: &R,
         alloc: Global,
         path: &str,
         len: usize,
-    ) -> Result<FileDisk, FileFault> {
+    ) -> Result<FileDisk, FileFault>
+        ensures seen { IfOk result (λ disk. file_seen disk ≡ replicate len 0) }
+        ensures settled { IfOk result (λ disk. Only (file_seen disk) (file_left disk)) }
+        ensures works { IfOk result (λ disk. file_is_broken disk ≡ false) }
+    {
         if len as u64 > MOST_BYTES {
             return Err(FileFault::TooLong);
         }
@@ -115,6 +133,10 @@ impl FileDisk {
         file.set_len(len as u64)?;
         let disk = FileDisk::take(alloc, file)?;
         sync_name(rt, path)?;
+        // Whoever wrote it before it was locked has it still.
+        if !are_same(&disk.bytes, &vec![in alloc; 0; len]?) {
+            return Err(FileFault::Busy);
+        }
         Ok(disk)
     }
 }
