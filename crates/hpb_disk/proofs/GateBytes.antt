@@ -1,9 +1,10 @@
 -- What a gate can be.
-use Rattle.std.proofs.Common.{◌≡◌, ◌≢◌, ◌⊎◌, inl, inr, ⊎_elim, ℕ, ◌+◌, ◌<◌, List, [], ◌∷◌, ◌++◌, length, get_or, take, drop, sym, ◌∙◌, ap, arith, append_assoc, take-append-drop}
+use Rattle.std.proofs.Common.{◌≡◌, ◌≢◌, ◌⊎◌, inl, inr, ⊎_elim, ℕ, ◌+◌, ◌<◌, ◌≤◌, List, [], ◌∷◌, ◌++◌, length, get_or, take, drop, sym, ◌∙◌, ap, arith, append_assoc, take-append-drop}
 use Rattle.std.proofs.lemmas.Bool.{cases_eq}
 use Rattle.std.proofs.lemmas.List.{drop_more}
 use Rattle.hpb_disk.specs.Gates.{open_byte, HasOpenGate, HasClosedGate}
-use Rattle.hpb_disk.specs.Images.{part, put, Torn}
+use Rattle.hpb_disk.specs.Images.{part, put, Torn, TornFrom, Within}
+use Rattle.hpb_disk.proofs.Regions.{stays_elsewhere}
 
 is_open_byte : (bytes : List ℕ) → (bytes ≡ open_byte) ⊎ (bytes ≢ open_byte)
 is_open_byte [] = inr (λ is. absurd (cc))
@@ -25,3 +26,13 @@ torn_gate at old new inside torn =
           ∙ ap (λ (l : List ℕ). take at old ++ l) behind
           ∙ sym (append_assoc (take at old) (byte ∷ []) (drop (at + 1) old)),
     )
+
+-- A gate that is closed in all that a crash may leave stays so over a write elsewhere.
+pub closed_stays : (gate at count : ℕ) (before after : List ℕ → Type 0) → (gate + 1 ≤ at) ⊎ (at + count ≤ gate)
+    → Within after (TornFrom at count before) → Within before (HasClosedGate gate) → Within after (HasClosedGate gate)
+closed_stays gate at count before after apart = stays_elsewhere (λ bytes. bytes ≢ open_byte) gate 1 at count before after apart
+
+-- So does one that is open in all.
+pub open_stays : (gate at count : ℕ) (before after : List ℕ → Type 0) → (gate + 1 ≤ at) ⊎ (at + count ≤ gate)
+    → Within after (TornFrom at count before) → Within before (HasOpenGate gate) → Within after (HasOpenGate gate)
+open_stays gate at count before after apart = stays_elsewhere (λ bytes. bytes ≡ open_byte) gate 1 at count before after apart

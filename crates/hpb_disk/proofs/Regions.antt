@@ -1,7 +1,7 @@
 -- What a write leaves of the parts of an image.
 use Rattle.std.proofs.Common.{◌≡◌, ◌⊎◌, ⊎_elim, ℕ, ◌+◌, ◌-◌, ◌≤◌, List, ◌++◌, length, take, drop, refl, sym, ◌∙◌, ap, subst, arith, append_assoc}
 use Rattle.std.proofs.lemmas.List.{take_at, drop_at, drop-take, take-take, drop-drop, length-take-le}
-use Rattle.hpb_disk.specs.Images.{part, put, Torn, TornFrom, Within}
+use Rattle.hpb_disk.specs.Images.{part, put, Torn, TornFrom, Within, Only}
 
 -- What was put there is there.
 pub part_put : (at : ℕ) (bytes image : List ℕ) → at + length bytes ≤ length image → part at (length bytes) (put at bytes image) ≡ bytes
@@ -35,3 +35,7 @@ pub stays_elsewhere : (P : List ℕ → Type 0) (from many at count : ℕ) (befo
 stays_elsewhere P from many at count before after apart within holds image left =
     let torn = within image left in
     subst P (sym (part_elsewhere from many at count torn.0 image torn.2 apart)) (holds torn.0 torn.1)
+
+-- What the only image has, as after a sync, all have.
+pub all_have : (P : List ℕ → Type 0) (image : List ℕ) (images : List ℕ → Type 0) → Only image images → P image → Within images P
+all_have P image images only holds other left = subst P (sym (only other left)) holds

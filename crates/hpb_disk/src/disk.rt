@@ -43,7 +43,8 @@ pub trait Disk {
         ensures crash { Within (may_leave self.new) (may_leave self.old) }
         ensures crash_kept { Within (may_leave self.old) (may_leave self.new) }
         // So may a crash within it.
-        ensures time { Elapses (moment self.old) (moment self.new) (left_since self.old) (left_since self.new) (may_leave self.old) }
+        ensures time { Elapses (moment self.old) (moment self.new) (left_since self.old) (left_since self.new)
+            (may_leave self.old) }
         // A failure is told, and nothing else is told as one.
         ensures cause { CountsFailure result (failures self.old) (failures self.new) };
 
@@ -57,7 +58,8 @@ pub trait Disk {
         // Until a sync a crash may leave any bytes where it wrote, whether it succeeded or not, and elsewhere what it could.
         ensures crash { Within (may_leave self.new) (TornFrom at (length bytes.now) (may_leave self.old)) }
         // So may a crash within it.
-        ensures time { Elapses (moment self.old) (moment self.new) (left_since self.old) (left_since self.new) (TornFrom at (length bytes.now) (may_leave self.old)) }
+        ensures time { Elapses (moment self.old) (moment self.new) (left_since self.old) (left_since self.new)
+            (TornFrom at (length bytes.now) (may_leave self.old)) }
         // A failure is told, and nothing else is told as one.
         ensures cause { CountsFailure result (failures self.old) (failures self.new) };
 
@@ -69,7 +71,8 @@ pub trait Disk {
         // After a sync that fails a crash may still leave what it could before, and nothing new.
         ensures crash { Within (may_leave self.new) (may_leave self.old) }
         // So may a crash within it.
-        ensures time { Elapses (moment self.old) (moment self.new) (left_since self.old) (left_since self.new) (may_leave self.old) }
+        ensures time { Elapses (moment self.old) (moment self.new) (left_since self.old) (left_since self.new)
+            (may_leave self.old) }
         // A failure is told, and nothing else is told as one.
         ensures cause { CountsFailure result (failures self.old) (failures self.new) };
 

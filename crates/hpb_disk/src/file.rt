@@ -5,8 +5,8 @@ ghost use Rattle.hpb_disk.specs.Calls.{calls_of, seen_of, left_of, since_of, fai
 ghost use Rattle.hpb_disk.specs.Devices as devices;
 
 use crate::memory::overwrite;
-use crate::trace::{FAILED, READ, SYNCED, WRITE_FAILED, WROTE};
-use crate::{Disk, DiskFailed, FileFault, Trace};
+use crate::trace::{FAILED, READ, SYNCED, Trace, WRITE_FAILED, WROTE};
+use crate::{Disk, DiskFailed, FileFault};
 use std::alloc::Global;
 use std::fs::{self, File, Files, TryLockError};
 use std::io;
@@ -173,9 +173,13 @@ impl Disk for FileDisk {
         ensures seen { file_seen self.new ≡ file_seen self.old }
         ensures crash { Within (file_left self.new) (file_left self.old) }
         ensures crash_kept { Within (file_left self.old) (file_left self.new) }
-        ensures time { Elapses (file_moment self.old) (file_moment self.new) (file_since self.old) (file_since self.new) (file_left self.old) }
+        ensures time { Elapses (file_moment self.old) (file_moment self.new) (file_since self.old) (file_since self.new)
+            (file_left self.old) }
         ensures cause { CountsFailure result (file_failures self.old) (file_failures self.new) }
-        ensures called { MatchResult result (λ _. file_calls self.new ≡ read ∷ file_calls self.old) (λ _. file_calls self.new ≡ failed ∷ file_calls self.old) }
+        // Beyond the trait: the call that is noted, and that none succeeds after a sync that failed.
+        ensures called { MatchResult result
+            (λ _. file_calls self.new ≡ read ∷ file_calls self.old)
+            (λ _. file_calls self.new ≡ failed ∷ file_calls self.old) }
         ensures broken { file_is_broken self.old ≡ true → IsErr result }
         ensures stays_broken { file_is_broken self.old ≡ true → file_is_broken self.new ≡ true }
     {
@@ -197,9 +201,13 @@ impl Disk for FileDisk {
         ensures written { OnOk result (file_seen self.new ≡ put at bytes.now (file_seen self.old)) }
         ensures size { length (file_seen self.new) ≡ length (file_seen self.old) }
         ensures crash { Within (file_left self.new) (TornFrom at (length bytes.now) (file_left self.old)) }
-        ensures time { Elapses (file_moment self.old) (file_moment self.new) (file_since self.old) (file_since self.new) (TornFrom at (length bytes.now) (file_left self.old)) }
+        ensures time { Elapses (file_moment self.old) (file_moment self.new) (file_since self.old) (file_since self.new)
+            (TornFrom at (length bytes.now) (file_left self.old)) }
         ensures cause { CountsFailure result (file_failures self.old) (file_failures self.new) }
-        ensures called { MatchResult result (λ _. file_calls self.new ≡ wrote at bytes.now ∷ file_calls self.old) (λ _. file_is_broken self.old ≡ false → file_calls self.new ≡ write_failed at bytes.now ∷ file_calls self.old) }
+        // Beyond the trait: the call that is noted, and that none succeeds after a sync that failed.
+        ensures called { MatchResult result
+            (λ _. file_calls self.new ≡ wrote at bytes.now ∷ file_calls self.old)
+            (λ _. file_is_broken self.old ≡ false → file_calls self.new ≡ write_failed at bytes.now ∷ file_calls self.old) }
         ensures broken { file_is_broken self.old ≡ true → IsErr result }
         ensures stays_broken { file_is_broken self.old ≡ true → file_is_broken self.new ≡ true }
     {
@@ -224,9 +232,13 @@ impl Disk for FileDisk {
         ensures durable { OnOk result (Only (file_seen self.old) (file_left self.new)) }
         ensures seen { file_seen self.new ≡ file_seen self.old }
         ensures crash { Within (file_left self.new) (file_left self.old) }
-        ensures time { Elapses (file_moment self.old) (file_moment self.new) (file_since self.old) (file_since self.new) (file_left self.old) }
+        ensures time { Elapses (file_moment self.old) (file_moment self.new) (file_since self.old) (file_since self.new)
+            (file_left self.old) }
         ensures cause { CountsFailure result (file_failures self.old) (file_failures self.new) }
-        ensures called { MatchResult result (λ _. file_calls self.new ≡ synced ∷ file_calls self.old) (λ _. file_calls self.new ≡ failed ∷ file_calls self.old) }
+        // Beyond the trait: the call that is noted, and that none succeeds after a sync that failed.
+        ensures called { MatchResult result
+            (λ _. file_calls self.new ≡ synced ∷ file_calls self.old)
+            (λ _. file_calls self.new ≡ failed ∷ file_calls self.old) }
         ensures broken { file_is_broken self.old ≡ true → IsErr result }
         ensures stays_broken { file_is_broken self.old ≡ true → file_is_broken self.new ≡ true }
         ensures breaks { OnErr result (file_is_broken self.new ≡ true) }

@@ -5,8 +5,8 @@ ghost use Rattle.hpb_disk.specs.Faults.{faults_of, passed_since};
 ghost use Rattle.hpb_disk.specs.Behind.{now_behind};
 ghost use Rattle.std.proofs.Math.Nat.{sub-le};
 
-use crate::trace::{BROKEN, HELD, PASSED};
-use crate::{Disk, DiskFailed, Trace};
+use crate::trace::{BROKEN, HELD, PASSED, Trace};
+use crate::{Disk, DiskFailed};
 
 /// It passes calls on to the device behind it, until one has the number at which they begin to fail. Where that one is a
 /// write it is passed on too, and answered as failed. No later call is passed on.
@@ -85,8 +85,10 @@ impl<D: Disk + Drop> Disk for FuseDisk<D> {
         ensures seen { fuse_seen self.new ≡ fuse_seen self.old }
         ensures crash { Within (fuse_left self.new) (fuse_left self.old) }
         ensures crash_kept { Within (fuse_left self.old) (fuse_left self.new) }
-        ensures time { Elapses (fuse_calls self.old) (fuse_calls self.new) (fuse_since self.old) (fuse_since self.new) (fuse_left self.old) }
+        ensures time { Elapses (fuse_calls self.old) (fuse_calls self.new) (fuse_since self.old) (fuse_since self.new)
+            (fuse_left self.old) }
         ensures cause { CountsFailure result (fuse_failures self.old) (fuse_failures self.new) }
+        // Beyond the trait: which calls fail, and which the device behind it has.
         ensures first { fuse_first self.new ≡ fuse_first self.old }
         ensures fails { fuse_first self.old ≤ fuse_calls self.old + 1 → IsErr result }
         ensures held { fuse_first self.old ≤ fuse_calls self.old + 1 → fuse_inner self.new ≡ fuse_inner self.old }
@@ -107,8 +109,10 @@ impl<D: Disk + Drop> Disk for FuseDisk<D> {
         ensures written { OnOk result (fuse_seen self.new ≡ put at bytes.now (fuse_seen self.old)) }
         ensures size { length (fuse_seen self.new) ≡ length (fuse_seen self.old) }
         ensures crash { Within (fuse_left self.new) (TornFrom at (length bytes.now) (fuse_left self.old)) }
-        ensures time { Elapses (fuse_calls self.old) (fuse_calls self.new) (fuse_since self.old) (fuse_since self.new) (TornFrom at (length bytes.now) (fuse_left self.old)) }
+        ensures time { Elapses (fuse_calls self.old) (fuse_calls self.new) (fuse_since self.old) (fuse_since self.new)
+            (TornFrom at (length bytes.now) (fuse_left self.old)) }
         ensures cause { CountsFailure result (fuse_failures self.old) (fuse_failures self.new) }
+        // Beyond the trait: which calls fail, and which the device behind it has.
         ensures first { fuse_first self.new ≡ fuse_first self.old }
         ensures fails { fuse_first self.old ≤ fuse_calls self.old + 1 → IsErr result }
         ensures held { fuse_first self.old < fuse_calls self.old + 1 → fuse_inner self.new ≡ fuse_inner self.old }
@@ -133,8 +137,10 @@ impl<D: Disk + Drop> Disk for FuseDisk<D> {
         ensures durable { OnOk result (Only (fuse_seen self.old) (fuse_left self.new)) }
         ensures seen { fuse_seen self.new ≡ fuse_seen self.old }
         ensures crash { Within (fuse_left self.new) (fuse_left self.old) }
-        ensures time { Elapses (fuse_calls self.old) (fuse_calls self.new) (fuse_since self.old) (fuse_since self.new) (fuse_left self.old) }
+        ensures time { Elapses (fuse_calls self.old) (fuse_calls self.new) (fuse_since self.old) (fuse_since self.new)
+            (fuse_left self.old) }
         ensures cause { CountsFailure result (fuse_failures self.old) (fuse_failures self.new) }
+        // Beyond the trait: which calls fail, and which the device behind it has.
         ensures first { fuse_first self.new ≡ fuse_first self.old }
         ensures fails { fuse_first self.old ≤ fuse_calls self.old + 1 → IsErr result }
         ensures held { fuse_first self.old ≤ fuse_calls self.old + 1 → fuse_inner self.new ≡ fuse_inner self.old }

@@ -16,7 +16,8 @@ pub fn gate_is_open<D: Disk>(disk: &mut D, at: usize) -> Result<bool, DiskFailed
     ensures seen { D.seen disk.new ≡ D.seen disk.old }
     ensures crash { Within (D.may_leave disk.new) (D.may_leave disk.old) }
     ensures crash_kept { Within (D.may_leave disk.old) (D.may_leave disk.new) }
-    ensures time { Elapses (D.moment disk.old) (D.moment disk.new) (D.left_since disk.old) (D.left_since disk.new) (D.may_leave disk.old) }
+    ensures time { Elapses (D.moment disk.old) (D.moment disk.new) (D.left_since disk.old) (D.left_since disk.new)
+        (D.may_leave disk.old) }
     ensures cause { CountsFailure result (D.failures disk.old) (D.failures disk.new) }
 {
     let mut gate = [0];
@@ -34,7 +35,8 @@ pub fn open_gate<D: Disk>(disk: &mut D, at: usize) -> Result<(), DiskFailed>
     ensures written { OnOk result (D.seen disk.new ≡ put at open_byte (D.seen disk.old)) }
     ensures size { length (D.seen disk.new) ≡ length (D.seen disk.old) }
     ensures crash { Within (D.may_leave disk.new) (TornFrom at 1 (D.may_leave disk.old)) }
-    ensures time { Elapses (D.moment disk.old) (D.moment disk.new) (D.left_since disk.old) (D.left_since disk.new) (TornFrom at 1 (D.may_leave disk.old)) }
+    ensures time { Elapses (D.moment disk.old) (D.moment disk.new) (D.left_since disk.old) (D.left_since disk.new)
+        (TornFrom at 1 (D.may_leave disk.old)) }
     ensures cause { CountsFailure result (D.failures disk.old) (D.failures disk.new) }
 {
     match disk.write_at(at, &[OPEN]) {
@@ -53,7 +55,8 @@ pub fn close_gate<D: Disk>(disk: &mut D, at: usize, may_be_open: bool) -> Result
     ensures written { may_be_open ≡ true → OnOk result (D.seen disk.new ≡ put at closed_byte (D.seen disk.old)) }
     ensures size { length (D.seen disk.new) ≡ length (D.seen disk.old) }
     ensures crash { may_be_open ≡ true → Within (D.may_leave disk.new) (TornFrom at 1 (D.may_leave disk.old)) }
-    ensures time { may_be_open ≡ true → Elapses (D.moment disk.old) (D.moment disk.new) (D.left_since disk.old) (D.left_since disk.new) (TornFrom at 1 (D.may_leave disk.old)) }
+    ensures time { may_be_open ≡ true → Elapses (D.moment disk.old) (D.moment disk.new) (D.left_since disk.old) (D.left_since disk.new)
+        (TornFrom at 1 (D.may_leave disk.old)) }
     ensures cause { CountsFailure result (D.failures disk.old) (D.failures disk.new) }
 {
     if !may_be_open {

@@ -18,7 +18,6 @@ mod tests;
 mod trace;
 
 pub use disk::{Disk, DiskFailed};
-pub use done::Done;
 pub use fate::Fate;
 pub use fault::FileFault;
 pub use file::{FileDisk, MOST_BYTES};
@@ -28,4 +27,3 @@ pub use laws::{elsewhere_stays, open_or_closed, put_is_read, put_is_torn, torn_g
 pub use memory::MemoryDisk;
 pub use once::OnceDisk;
 pub use replacing::replace_record;
-pub use trace::Trace;

@@ -6,9 +6,10 @@ ghost use Rattle.hpb_disk.specs.Fates.{stopped};
 ghost use Rattle.hpb_disk.specs.Records.{writes_of};
 ghost use Rattle.hpb_disk.specs.Devices as devices;
 
+use crate::done::Done;
 use crate::stop::stop_one;
-use crate::trace::{FAILED, READ, SYNCED, WROTE};
-use crate::{Disk, DiskFailed, Done, Fate, Trace};
+use crate::trace::{FAILED, READ, SYNCED, Trace, WROTE};
+use crate::{Disk, DiskFailed, Fate};
 use std::alloc::{AllocError, Global};
 
 /// A device whose bytes are in memory. A call fails only where its record can't grow; such a call does nothing else.
@@ -150,9 +151,13 @@ impl Disk for MemoryDisk {
         ensures seen { memory_seen self.new ≡ memory_seen self.old }
         ensures crash { Within (memory_left self.new) (memory_left self.old) }
         ensures crash_kept { Within (memory_left self.old) (memory_left self.new) }
-        ensures time { Elapses (memory_moment self.old) (memory_moment self.new) (memory_since self.old) (memory_since self.new) (memory_left self.old) }
+        ensures time { Elapses (memory_moment self.old) (memory_moment self.new) (memory_since self.old) (memory_since self.new)
+            (memory_left self.old) }
         ensures cause { CountsFailure result (memory_failures self.old) (memory_failures self.new) }
-        ensures called { MatchResult result (λ _. memory_calls self.new ≡ read ∷ memory_calls self.old) (λ _. memory_calls self.new ≡ failed ∷ memory_calls self.old) }
+        // Beyond the trait: the call that its record has.
+        ensures called { MatchResult result
+            (λ _. memory_calls self.new ≡ read ∷ memory_calls self.old)
+            (λ _. memory_calls self.new ≡ failed ∷ memory_calls self.old) }
     {
         match keep(&mut self.done, Done::Read) {
             Ok(()) => {
@@ -172,9 +177,13 @@ impl Disk for MemoryDisk {
         ensures written { OnOk result (memory_seen self.new ≡ put at bytes.now (memory_seen self.old)) }
         ensures size { length (memory_seen self.new) ≡ length (memory_seen self.old) }
         ensures crash { Within (memory_left self.new) (TornFrom at (length bytes.now) (memory_left self.old)) }
-        ensures time { Elapses (memory_moment self.old) (memory_moment self.new) (memory_since self.old) (memory_since self.new) (TornFrom at (length bytes.now) (memory_left self.old)) }
+        ensures time { Elapses (memory_moment self.old) (memory_moment self.new) (memory_since self.old) (memory_since self.new)
+            (TornFrom at (length bytes.now) (memory_left self.old)) }
         ensures cause { CountsFailure result (memory_failures self.old) (memory_failures self.new) }
-        ensures called { MatchResult result (λ _. memory_calls self.new ≡ wrote at bytes.now ∷ memory_calls self.old) (λ _. memory_calls self.new ≡ failed ∷ memory_calls self.old) }
+        // Beyond the trait: the call that its record has.
+        ensures called { MatchResult result
+            (λ _. memory_calls self.new ≡ wrote at bytes.now ∷ memory_calls self.old)
+            (λ _. memory_calls self.new ≡ failed ∷ memory_calls self.old) }
     {
         match keep_write(self.alloc, &mut self.done, at, bytes) {
             Ok(()) => {
@@ -193,9 +202,13 @@ impl Disk for MemoryDisk {
         ensures durable { OnOk result (Only (memory_seen self.old) (memory_left self.new)) }
         ensures seen { memory_seen self.new ≡ memory_seen self.old }
         ensures crash { Within (memory_left self.new) (memory_left self.old) }
-        ensures time { Elapses (memory_moment self.old) (memory_moment self.new) (memory_since self.old) (memory_since self.new) (memory_left self.old) }
+        ensures time { Elapses (memory_moment self.old) (memory_moment self.new) (memory_since self.old) (memory_since self.new)
+            (memory_left self.old) }
         ensures cause { CountsFailure result (memory_failures self.old) (memory_failures self.new) }
-        ensures called { MatchResult result (λ _. memory_calls self.new ≡ synced ∷ memory_calls self.old) (λ _. memory_calls self.new ≡ failed ∷ memory_calls self.old) }
+        // Beyond the trait: the call that its record has.
+        ensures called { MatchResult result
+            (λ _. memory_calls self.new ≡ synced ∷ memory_calls self.old)
+            (λ _. memory_calls self.new ≡ failed ∷ memory_calls self.old) }
     {
         match keep(&mut self.done, Done::Sync) {
             Ok(()) => {

@@ -5,8 +5,8 @@ ghost use Rattle.hpb_disk.specs.Faults.{faults_of, passed_since};
 ghost use Rattle.hpb_disk.specs.Behind.{now_behind};
 ghost use Rattle.std.proofs.Math.Nat.{sub-le};
 
-use crate::trace::{BROKEN, HELD, PASSED};
-use crate::{Disk, DiskFailed, Trace};
+use crate::trace::{BROKEN, HELD, PASSED, Trace};
+use crate::{Disk, DiskFailed};
 
 /// It passes all calls on to the device behind it but the one with the number that is to fail. Where that one is a write
 /// it is passed on too, and answered as failed.
@@ -89,8 +89,10 @@ impl<D: Disk + Drop> Disk for OnceDisk<D> {
         ensures seen { once_seen self.new ≡ once_seen self.old }
         ensures crash { Within (once_left self.new) (once_left self.old) }
         ensures crash_kept { Within (once_left self.old) (once_left self.new) }
-        ensures time { Elapses (once_calls self.old) (once_calls self.new) (once_since self.old) (once_since self.new) (once_left self.old) }
+        ensures time { Elapses (once_calls self.old) (once_calls self.new) (once_since self.old) (once_since self.new)
+            (once_left self.old) }
         ensures cause { CountsFailure result (once_failures self.old) (once_failures self.new) }
+        // Beyond the trait: which calls fail, and which the device behind it has.
         ensures fault { once_fault self.new ≡ once_fault self.old }
         ensures fails { once_fault self.old ≡ once_calls self.old + 1 → IsErr result }
         ensures held { once_fault self.old ≡ once_calls self.old + 1 → once_inner self.new ≡ once_inner self.old }
@@ -111,8 +113,10 @@ impl<D: Disk + Drop> Disk for OnceDisk<D> {
         ensures written { OnOk result (once_seen self.new ≡ put at bytes.now (once_seen self.old)) }
         ensures size { length (once_seen self.new) ≡ length (once_seen self.old) }
         ensures crash { Within (once_left self.new) (TornFrom at (length bytes.now) (once_left self.old)) }
-        ensures time { Elapses (once_calls self.old) (once_calls self.new) (once_since self.old) (once_since self.new) (TornFrom at (length bytes.now) (once_left self.old)) }
+        ensures time { Elapses (once_calls self.old) (once_calls self.new) (once_since self.old) (once_since self.new)
+            (TornFrom at (length bytes.now) (once_left self.old)) }
         ensures cause { CountsFailure result (once_failures self.old) (once_failures self.new) }
+        // Beyond the trait: which calls fail, and which the device behind it has.
         ensures fault { once_fault self.new ≡ once_fault self.old }
         ensures fails { once_fault self.old ≡ once_calls self.old + 1 → IsErr result }
         ensures passed { once_behind self.new ≡ once_behind self.old + 1 }
@@ -132,8 +136,10 @@ impl<D: Disk + Drop> Disk for OnceDisk<D> {
         ensures durable { OnOk result (Only (once_seen self.old) (once_left self.new)) }
         ensures seen { once_seen self.new ≡ once_seen self.old }
         ensures crash { Within (once_left self.new) (once_left self.old) }
-        ensures time { Elapses (once_calls self.old) (once_calls self.new) (once_since self.old) (once_since self.new) (once_left self.old) }
+        ensures time { Elapses (once_calls self.old) (once_calls self.new) (once_since self.old) (once_since self.new)
+            (once_left self.old) }
         ensures cause { CountsFailure result (once_failures self.old) (once_failures self.new) }
+        // Beyond the trait: which calls fail, and which the device behind it has.
         ensures fault { once_fault self.new ≡ once_fault self.old }
         ensures fails { once_fault self.old ≡ once_calls self.old + 1 → IsErr result }
         ensures held { once_fault self.old ≡ once_calls self.old + 1 → once_inner self.new ≡ once_inner self.old }

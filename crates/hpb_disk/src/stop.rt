@@ -3,8 +3,9 @@ ghost use Rattle.std.specs.Prelude.{◌≡◌, List, ◌∷◌, OnOk, IfOk};
 ghost use Rattle.hpb_disk.specs.Fates.{struck, stopped};
 ghost use Rattle.hpb_disk.specs.Records.{writes_of};
 
+use crate::Fate;
+use crate::done::Done;
 use crate::memory::overwrite;
-use crate::{Done, Fate};
 use std::alloc::{AllocError, Global};
 
 // A write, by its fate.
@@ -35,7 +36,8 @@ pub(crate) fn stop_one<'a>(
     done: &Done,
     fates: &'a [Fate],
 ) -> Result<&'a [Fate], AllocError>
-    ensures { IfOk result (λ rest. (others : List Done) → stopped (writes_of (done.now ∷ others)) fates.now image.old.items ≡ stopped (writes_of others) rest.now image.new.items) }
+    ensures { IfOk result (λ rest. (others : List Done) →
+        stopped (writes_of (done.now ∷ others)) fates.now image.old.items ≡ stopped (writes_of others) rest.now image.new.items) }
 {
     match done {
         Done::Write(at, bytes) => match fates {
