@@ -1,13 +1,8 @@
 -- One call more in the trace of a device.
 use Rattle.std.proofs.Common.{◌≡◌, ◌⊎◌, inl, inr, ℕ, ◌≤◌, List, ◌∷◌, length, sym, subst, arith}
-use Rattle.hpb_disk.specs.Calls.{Call, calls_of, call_of, seen_of, left_of, since_of}
+use Rattle.hpb_disk.specs.Calls.{Call, calls_of, call_of, left_of, since_of}
 use Rattle.hpb_disk.specs.Events.{Event}
 use Rattle.hpb_disk.specs.Images.{Within, Elapses}
-use Rattle.hpb_disk.specs.Devices.{seen_may_stay}
-
--- What a read gives is one of the images that a crash could leave.
-pub seen_is_left : (first : List ℕ) (calls : List Call) (image : List ℕ) → image ≡ seen_of first calls → left_of first calls image
-seen_is_left first calls image is = subst (left_of first calls) (sym is) (seen_may_stay first calls)
 
 one_elapses : (first : List ℕ) (calls : List Call) (call : Call) (during : List ℕ → Type 0) → Within (left_of first (call ∷ calls)) during
     → Elapses (length calls) (length (call ∷ calls)) (since_of first calls) (since_of first (call ∷ calls)) during

@@ -1,6 +1,6 @@
 -- A device is what its calls made of it: of that the laws of a device hold.
 use Rattle.std.specs.Prelude.{if◌then◌else◌}
-use Rattle.std.proofs.Common.{◌≡◌, inl, inr, ℕ, ◌+◌, ◌≤◌, nat_le, Bool, true, false, List, [], ◌∷◌, ◌++◌, length, take, drop, refl, sym, ◌∙◌, ap, append_assoc, length-append, length-drop}
+use Rattle.std.proofs.Common.{◌≡◌, inl, inr, ℕ, ◌+◌, ◌≤◌, nat_le, Bool, true, false, List, [], ◌∷◌, ◌++◌, length, take, drop, refl, sym, ◌∙◌, ap, subst, append_assoc, length-append, length-drop}
 use Rattle.std.proofs.Math.Nat.{le_trans, le-add_right, add-sub_of_le, not-suc-le_self}
 use Rattle.std.proofs.lemmas.Bool.{leb-true}
 use Rattle.std.proofs.lemmas.List.{take_at, drop_at, length-take-le}
@@ -52,6 +52,9 @@ pub seen_may_stay : (first : List ℕ) (calls : List Call) → left_of first cal
 seen_may_stay first [] = refl
 seen_may_stay first (call ∷ calls) = seen_stays_after call (seen_of first calls) (left_of first calls) (seen_may_stay first calls)
 
+pub shown_may_stay : (first : List ℕ) (calls : List Call) (shown : List ℕ) → shown ≡ seen_of first calls → left_of first calls shown
+shown_may_stay first calls shown is = subst (left_of first calls) (sym is) (seen_may_stay first calls)
+
 sized_after : (call : Call) (seen : List ℕ) (left : List ℕ → Type 0) → ((image : List ℕ) → left image → length image ≡ length seen)
     → (image : List ℕ) → left_after call seen left image → length image ≡ length (seen_after call seen)
 sized_after read seen left same image now = same image now
@@ -64,6 +67,9 @@ sized_after (write_failed at bytes) seen left same image now = now.2.size ∙ sa
 pub sized : (first : List ℕ) (calls : List Call) (image : List ℕ) → left_of first calls image → length image ≡ length (seen_of first calls)
 sized first [] image now = ap length now
 sized first (call ∷ calls) image now = sized_after call (seen_of first calls) (left_of first calls) (sized first calls) image now
+
+pub shown_sized : (first : List ℕ) (calls : List Call) (shown image : List ℕ) → shown ≡ seen_of first calls → left_of first calls image → length image ≡ length shown
+shown_sized first calls shown image is now = sized first calls image now ∙ sym (ap length is)
 
 -- Now is one of the times since an earlier moment.
 pub counts_now : (first : List ℕ) (calls : List Call) (moment : ℕ) (image : List ℕ) → left_of first calls image → since_of first calls moment image

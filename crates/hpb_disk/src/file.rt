@@ -155,9 +155,9 @@ impl Disk for FileDisk {
 
     ghost failures = { file_failures };
 
-    ghost seen_may_stay = { λ d. Prim.rw d.shown (devices.seen_may_stay d.trace.first (calls_of d.trace.events)) };
+    ghost seen_may_stay = { λ d. devices.shown_may_stay d.trace.first (calls_of d.trace.events) d.bytes.items d.shown };
 
-    ghost sized = { λ d image left. Prim.rw d.shown (devices.sized d.trace.first (calls_of d.trace.events) image left) };
+    ghost sized = { λ d image left. devices.shown_sized d.trace.first (calls_of d.trace.events) d.bytes.items image d.shown left };
 
     ghost counts_now = { λ d t image le now. devices.counts_now d.trace.first (calls_of d.trace.events) t image now };
 

@@ -133,13 +133,13 @@ impl Disk for MemoryDisk {
 
     ghost failures = { memory_failures };
 
-    ghost seen_may_stay = { λ d. Prim.rw d.shown (devices.seen_may_stay d.trace.first (calls_of d.trace.events)) };
+    ghost seen_may_stay = { λ d. devices.shown_may_stay d.trace.first (calls_of d.trace.events) d.bytes.items d.shown };
 
-    ghost sized = { λ d c left. Prim.rw d.shown (devices.sized d.trace.first (calls_of d.trace.events) c left) };
+    ghost sized = { λ d image left. devices.shown_sized d.trace.first (calls_of d.trace.events) d.bytes.items image d.shown left };
 
-    ghost counts_now = { λ d t c le now. devices.counts_now d.trace.first (calls_of d.trace.events) t c now };
+    ghost counts_now = { λ d t image le now. devices.counts_now d.trace.first (calls_of d.trace.events) t image now };
 
-    ghost only_now = { λ d c left. devices.only_now d.trace.first (calls_of d.trace.events) c left };
+    ghost only_now = { λ d image left. devices.only_now d.trace.first (calls_of d.trace.events) image left };
 
     fn len(&self) -> usize {
         self.bytes.len()
