@@ -1,0 +1,7 @@
+pub mod Pending
+pub mod Steps
+pub mod Stops
+pub mod Regions
+pub mod GateBytes
+pub mod Runs
+pub mod Replacements

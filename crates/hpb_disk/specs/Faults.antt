@@ -1,0 +1,22 @@
+-- Calls of a device that is made to fail. It stands before another device and passes calls on to it.
+use Rattle.std.specs.Prelude.{ℕ, ◌+◌, nat_le, ◌==◌, List, [], ◌∷◌, length, if◌then◌else◌}
+use Rattle.hpb_disk.specs.Events.{Event}
+
+-- The kinds of an entry are 0, a call that was passed on; 1, one that failed and was not; 2, a write that was passed on
+-- and answered as failed. So many calls of the device behind it is an entry.
+abbrev pub passed_on : Event → ℕ
+passed_on event = if event.0 == 1 then 0 else 1
+
+-- So many failures of its own.
+abbrev pub fault_of : Event → ℕ
+fault_of event = if event.0 == 0 then 0 else 1
+
+-- How many calls it let fail by itself.
+abbrev pub faults_of : List Event → ℕ
+faults_of [] = 0
+faults_of (event ∷ events) = fault_of event + faults_of events
+
+-- How many calls the device behind it has had since so many calls of this one.
+abbrev pub passed_since : List Event → ℕ → ℕ
+passed_since [] moment = 0
+passed_since (event ∷ events) moment = if nat_le moment (length events) then passed_on event + passed_since events moment else 0

@@ -1,0 +1,32 @@
+-- What a device in a file shows.
+use Rattle.std.specs.Prelude.{ℕ, Bool, List, length}
+use Rattle.hpb_disk.specs.declared.file.FileDisk.{FileDisk}
+use Rattle.hpb_disk.specs.Calls.{Call, calls_of, left_of, since_of, failures_of}
+
+-- Its calls, the newest first.
+abbrev pub file_calls : FileDisk → List Call
+file_calls disk = calls_of disk.trace.events
+
+-- What a read gives: its member `seen`.
+abbrev pub file_seen : FileDisk → List ℕ
+file_seen disk = disk.bytes.items
+
+-- What a crash now may leave: its member `may_leave`.
+abbrev pub file_left : FileDisk → List ℕ → Type 0
+file_left disk = left_of disk.trace.first (file_calls disk)
+
+-- How many calls were made of it: its member `moment`.
+abbrev pub file_moment : FileDisk → ℕ
+file_moment disk = length (file_calls disk)
+
+-- What a crash may have left since a moment: its member `left_since`.
+abbrev pub file_since : FileDisk → ℕ → List ℕ → Type 0
+file_since disk = since_of disk.trace.first (file_calls disk)
+
+-- How many calls failed: its member `failures`.
+abbrev pub file_failures : FileDisk → ℕ
+file_failures disk = failures_of (file_calls disk)
+
+-- A sync of it has failed.
+abbrev pub file_is_broken : FileDisk → Bool
+file_is_broken disk = disk.broken

@@ -1,0 +1,19 @@
+-- A gate is a byte that says whether what stands behind it counts. It is open at one value alone.
+use Rattle.std.specs.Prelude.{◌≡◌, ◌≢◌, ℕ, List, [], ◌∷◌}
+use Rattle.hpb_disk.specs.Images.{part}
+
+-- The byte of an open gate.
+abbrev pub open_byte : List ℕ
+open_byte = 165 ∷ []
+
+-- The byte that closes a gate.
+abbrev pub closed_byte : List ℕ
+closed_byte = 0 ∷ []
+
+-- The gate at this offset is open.
+abbrev pub HasOpenGate : ℕ → List ℕ → Type 0
+HasOpenGate at image = part at 1 image ≡ open_byte
+
+-- It has any other value.
+abbrev pub HasClosedGate : ℕ → List ℕ → Type 0
+HasClosedGate at image = part at 1 image ≢ open_byte

@@ -1,0 +1,14 @@
+pub mod Images
+pub mod Gates
+pub mod Laws
+pub mod Replacing
+pub mod Events
+pub mod Calls
+pub mod Devices
+pub mod Fates
+pub mod Records
+pub mod MemoryDisks
+pub mod FileDisks
+pub mod Faults
+pub mod Behind
+pub mod FaultyDisks

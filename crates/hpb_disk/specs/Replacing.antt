@@ -1,0 +1,14 @@
+-- A gate and two places for a record behind it: while the gate is closed the first counts, and while it is open the second.
+use Rattle.std.specs.Prelude.{◌≡◌, ◌⊎◌, ℕ, ◌+◌, List}
+use Rattle.hpb_disk.specs.Gates.{HasOpenGate, HasClosedGate}
+use Rattle.hpb_disk.specs.Images.{part}
+
+-- The record of this size that counts is these bytes.
+abbrev pub HasRecord : ℕ → List ℕ → List ℕ → Type 0
+HasRecord size bytes image =
+    (HasClosedGate 0 image × (part 1 size image ≡ bytes))
+    ⊎ (HasOpenGate 0 image × (part (1 + size) size image ≡ bytes))
+
+-- It is the one or the other.
+abbrev pub HasEither : ℕ → List ℕ → List ℕ → List ℕ → Type 0
+HasEither size one other image = HasRecord size one image ⊎ HasRecord size other image

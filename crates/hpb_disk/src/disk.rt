@@ -1,0 +1,90 @@
+//! A device: what a read gives, and what a crash may leave.
+ghost use Rattle.std.specs.Prelude.{◌≡◌, ◌+◌, ◌≤◌, List, ℕ, length, OnOk};
+ghost use Rattle.hpb_disk.specs.Images.{part, put, Only, TornFrom, Within, Elapses, CountsFailure};
+
+use thiserror::Error;
+
+/// A call of a device failed.
+#[derive(Clone, Copy, Debug, PartialEq, Eq, Error)]
+#[error("device")]
+pub struct DiskFailed;
+
+/// A device of a fixed length. A crash may come at any moment, within a call too, and leaves an image: all its bytes.
+/// Every sentence below is meant of whole images; that a real device keeps to it is the one premise of what is built
+/// on it.
+pub trait Disk {
+    /// What a read gives: all bytes as the calls so far have left them.
+    ghost seen: { Self → List ℕ };
+
+    /// The images that a crash now may leave.
+    ghost may_leave: { Self → List ℕ → Type 0 };
+
+    /// The moment: a clock that each read, write or sync moves on by one.
+    ghost moment: { Self → ℕ };
+
+    /// The images that a crash may have left at any time from that moment on, within a call or between two.
+    ghost left_since: { Self → ℕ → List ℕ → Type 0 };
+
+    /// How many calls have failed.
+    ghost failures: { Self → ℕ };
+
+    fn len(&self) -> usize
+        // A device is as long as what a read of all of it gives.
+        ensures { result ≡ length (seen self.now) };
+
+    fn read_into(&mut self, at: usize, out: &mut [u8]) -> Result<(), DiskFailed>
+        // A caller stays within the device.
+        requires range { at + length out.old ≤ length (seen self.old) }
+        // A read that succeeds gives the bytes there.
+        ensures bytes { OnOk result (out.new ≡ part at (length out.old) (seen self.old)) }
+        // It changes no byte, whether it succeeds or not.
+        ensures seen { seen self.new ≡ seen self.old }
+        // A crash after it may leave what a crash before it could, no more and no less.
+        ensures crash { Within (may_leave self.new) (may_leave self.old) }
+        ensures crash_kept { Within (may_leave self.old) (may_leave self.new) }
+        // So may a crash within it.
+        ensures time { Elapses (moment self.old) (moment self.new) (left_since self.old) (left_since self.new)
+            (may_leave self.old) }
+        // A failure is told, and nothing else is told as one.
+        ensures cause { CountsFailure result (failures self.old) (failures self.new) };
+
+    fn write_at(&mut self, at: usize, bytes: &[u8]) -> Result<(), DiskFailed>
+        // A caller stays within the device.
+        requires range { at + length bytes.now ≤ length (seen self.old) }
+        // After a write that succeeds a read gives what was written there, and elsewhere what it gave.
+        ensures written { OnOk result (seen self.new ≡ put at bytes.now (seen self.old)) }
+        // No write makes a device longer or shorter.
+        ensures size { length (seen self.new) ≡ length (seen self.old) }
+        // Until a sync a crash may leave any bytes where it wrote, whether it succeeded or not, and elsewhere what it could.
+        ensures crash { Within (may_leave self.new) (TornFrom at (length bytes.now) (may_leave self.old)) }
+        // So may a crash within it.
+        ensures time { Elapses (moment self.old) (moment self.new) (left_since self.old) (left_since self.new)
+            (TornFrom at (length bytes.now) (may_leave self.old)) }
+        // A failure is told, and nothing else is told as one.
+        ensures cause { CountsFailure result (failures self.old) (failures self.new) };
+
+    fn sync(&mut self) -> Result<(), DiskFailed>
+        // After a sync that succeeds a crash leaves what a read gives, all of it, whoever wrote it.
+        ensures durable { OnOk result (Only (seen self.old) (may_leave self.new)) }
+        // It changes no byte that a read gives, whether it succeeds or not.
+        ensures seen { seen self.new ≡ seen self.old }
+        // After a sync that fails a crash may still leave what it could before, and nothing new.
+        ensures crash { Within (may_leave self.new) (may_leave self.old) }
+        // So may a crash within it.
+        ensures time { Elapses (moment self.old) (moment self.new) (left_since self.old) (left_since self.new)
+            (may_leave self.old) }
+        // A failure is told, and nothing else is told as one.
+        ensures cause { CountsFailure result (failures self.old) (failures self.new) };
+
+    /// A crash may leave what a read gives: all that was written may be on the medium already.
+    ghost seen_may_stay: { (disk : Self) → may_leave disk (seen disk) };
+
+    /// No crash makes a device longer or shorter.
+    ghost sized: { (disk : Self) (image : List ℕ) → may_leave disk image → length image ≡ length (seen disk) };
+
+    /// Now is one of the times since an earlier moment.
+    ghost counts_now: { (disk : Self) (since : ℕ) (image : List ℕ) → since ≤ moment disk → may_leave disk image → left_since disk since image };
+
+    /// Since this moment there is no other time than now.
+    ghost only_now: { (disk : Self) (image : List ℕ) → left_since disk (moment disk) image → may_leave disk image };
+}

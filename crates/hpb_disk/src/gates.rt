@@ -1,0 +1,69 @@
+//! Gates: a byte that says whether what stands behind it counts.
+ghost use Rattle.std.specs.Prelude.{◌≡◌, ◌+◌, ◌<◌, ◌↔◌, true, false, length, IsTrue, IfOk, OnOk};
+ghost use Rattle.hpb_disk.specs.Gates.{open_byte, closed_byte, HasOpenGate, HasClosedGate};
+ghost use Rattle.hpb_disk.specs.Images.{put, TornFrom, Within, Elapses, CountsFailure};
+
+use crate::{Disk, DiskFailed};
+
+const OPEN: u8 = 0xa5;
+
+const CLOSED: u8 = 0;
+
+/// Reads whether a gate is open.
+pub fn gate_is_open<D: Disk>(disk: &mut D, at: usize) -> Result<bool, DiskFailed>
+    requires { at < length (D.seen disk.old) }
+    ensures open { IfOk result (λ is_open. IsTrue is_open ↔ HasOpenGate at (D.seen disk.old)) }
+    ensures seen { D.seen disk.new ≡ D.seen disk.old }
+    ensures crash { Within (D.may_leave disk.new) (D.may_leave disk.old) }
+    ensures crash_kept { Within (D.may_leave disk.old) (D.may_leave disk.new) }
+    ensures time { Elapses (D.moment disk.old) (D.moment disk.new) (D.left_since disk.old) (D.left_since disk.new)
+        (D.may_leave disk.old) }
+    ensures cause { CountsFailure result (D.failures disk.old) (D.failures disk.new) }
+{
+    let mut gate = [0];
+    match disk.read_into(at, &mut gate) {
+        Ok(()) => Ok(gate == [OPEN]),
+        Err(failed) => Err(failed),
+    }
+}
+
+/// Opens a gate. It counts after the next sync; until then a crash may leave it open or closed, and all else as it
+/// could.
+pub fn open_gate<D: Disk>(disk: &mut D, at: usize) -> Result<(), DiskFailed>
+    requires { at < length (D.seen disk.old) }
+    ensures open { OnOk result (HasOpenGate at (D.seen disk.new)) }
+    ensures written { OnOk result (D.seen disk.new ≡ put at open_byte (D.seen disk.old)) }
+    ensures size { length (D.seen disk.new) ≡ length (D.seen disk.old) }
+    ensures crash { Within (D.may_leave disk.new) (TornFrom at 1 (D.may_leave disk.old)) }
+    ensures time { Elapses (D.moment disk.old) (D.moment disk.new) (D.left_since disk.old) (D.left_since disk.new)
+        (TornFrom at 1 (D.may_leave disk.old)) }
+    ensures cause { CountsFailure result (D.failures disk.old) (D.failures disk.new) }
+{
+    match disk.write_at(at, &[OPEN]) {
+        Ok(()) => Ok(()),
+        Err(failed) => Err(failed),
+    }
+}
+
+/// Closes a gate that may be open. One that is closed in all that a crash may leave isn't written, as a torn byte could
+/// open what stands behind it: its caller says so, and the device has no call.
+pub fn close_gate<D: Disk>(disk: &mut D, at: usize, may_be_open: bool) -> Result<(), DiskFailed>
+    requires range { at < length (D.seen disk.old) }
+    requires told { may_be_open ≡ false → Within (D.may_leave disk.old) (HasClosedGate at) }
+    ensures closed { OnOk result (HasClosedGate at (D.seen disk.new)) }
+    ensures left_alone { may_be_open ≡ false → disk.new ≡ disk.old }
+    ensures written { may_be_open ≡ true → OnOk result (D.seen disk.new ≡ put at closed_byte (D.seen disk.old)) }
+    ensures size { length (D.seen disk.new) ≡ length (D.seen disk.old) }
+    ensures crash { may_be_open ≡ true → Within (D.may_leave disk.new) (TornFrom at 1 (D.may_leave disk.old)) }
+    ensures time { may_be_open ≡ true → Elapses (D.moment disk.old) (D.moment disk.new) (D.left_since disk.old) (D.left_since disk.new)
+        (TornFrom at 1 (D.may_leave disk.old)) }
+    ensures cause { CountsFailure result (D.failures disk.old) (D.failures disk.new) }
+{
+    if !may_be_open {
+        return Ok(());
+    }
+    match disk.write_at(at, &[CLOSED]) {
+        Ok(()) => Ok(()),
+        Err(failed) => Err(failed),
+    }
+}

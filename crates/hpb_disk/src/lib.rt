@@ -1,0 +1,29 @@
+//! A device, and what a crash may leave of it.
+#![tactic(auto)]
+
+mod disk;
+mod done;
+mod fate;
+mod fault;
+mod file;
+mod fuse;
+mod gates;
+mod laws;
+mod memory;
+mod once;
+mod replacing;
+mod stop;
+#[cfg(test)]
+mod tests;
+mod trace;
+
+pub use disk::{Disk, DiskFailed};
+pub use fate::Fate;
+pub use fault::FileFault;
+pub use file::{FileDisk, MOST_BYTES};
+pub use fuse::FuseDisk;
+pub use gates::{close_gate, gate_is_open, open_gate};
+pub use laws::{elsewhere_stays, open_or_closed, put_is_read, put_is_torn, torn_gate_is_a_byte};
+pub use memory::MemoryDisk;
+pub use once::OnceDisk;
+pub use replacing::replace_record;

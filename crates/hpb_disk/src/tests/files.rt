@@ -1,0 +1,139 @@
+//! Devices in files.
+
+use super::using::{all_of, two_at, write};
+use crate::{Disk, FileDisk, FileFault, MOST_BYTES};
+use std::alloc::Global;
+use std::fs::{self, File};
+use std::os::unix::fs::PermissionsExt;
+use std::process::Abort;
+use std::test::Fail;
+
+fn is_busy(opened: Result<FileDisk, FileFault>) -> bool {
+    matches!(opened, Err(FileFault::Busy))
+}
+
+fn is_no_file(opened: Result<FileDisk, FileFault>) -> bool {
+    matches!(opened, Err(FileFault::NotAFile))
+}
+
+fn is_too_long(opened: Result<FileDisk, FileFault>) -> bool {
+    matches!(opened, Err(FileFault::TooLong))
+}
+
+fn is_refused(opened: Result<FileDisk, FileFault>) -> bool {
+    matches!(opened, Err(FileFault::System(_)))
+}
+
+fn check_bytes<R: Abort, D: Disk>(
+    rt: &R,
+    alloc: Global,
+    disk: &mut D,
+    bytes: &[u8],
+) -> Result<(), Fail> {
+    assert_eq!(rt; all_of(alloc, disk)?.as_slice(), bytes);
+    Ok(())
+}
+
+#[test]
+fn a_file_is_made_written_and_opened_again(rt: HostRuntime) -> Result<(), Fail> {
+    let alloc = rt.alloc();
+    let path = "hpb_disk_made";
+    let _ = fs::remove_file(&rt, path);
+    let mut disk = FileDisk::make(&rt, alloc, path, 6)?;
+    check_bytes(&rt, alloc, &mut disk, &[0; 6])?;
+    assert!(rt; write(&mut disk, 1, &[1, 2, 3]));
+    assert!(rt; write(&mut disk, 3, &[4]));
+    assert!(rt; disk.sync().is_ok());
+    check_bytes(&rt, alloc, &mut disk, &[0, 1, 2, 4, 0, 0])?;
+    // While one value has the file no other can.
+    assert!(rt; is_busy(FileDisk::open(&rt, alloc, path)));
+    drop(disk);
+    let mut again = FileDisk::open(&rt, alloc, path)?;
+    check_bytes(&rt, alloc, &mut again, &[0, 1, 2, 4, 0, 0])?;
+    // It is there, so it isn't made.
+    assert!(rt; is_refused(FileDisk::make(&rt, alloc, path, 6)));
+    fs::remove_file(&rt, path)?;
+    Ok(())
+}
+
+#[test]
+fn a_file_that_another_changes_or_cuts_fails(rt: HostRuntime) -> Result<(), Fail> {
+    let path = "hpb_disk_cut";
+    fs::write(&rt, path, [1, 2, 3, 4].as_slice())?;
+    let mut disk = FileDisk::open(&rt, rt.alloc(), path)?;
+    fs::write(&rt, path, [1, 2, 9, 4].as_slice())?;
+    assert_eq!(rt; two_at(&mut disk, 2), None);
+    assert_eq!(rt; two_at(&mut disk, 0), Some([1, 2]));
+    File::options().write(true).open(&rt, path)?.set_len(3)?;
+    assert_eq!(rt; two_at(&mut disk, 2), None);
+    assert_eq!(rt; two_at(&mut disk, 0), Some([1, 2]));
+    assert_eq!(rt; disk.len(), 4);
+    fs::remove_file(&rt, path)?;
+    Ok(())
+}
+
+#[test]
+fn what_is_no_file_is_refused(rt: HostRuntime) -> Result<(), Fail> {
+    let alloc = rt.alloc();
+    let folder = "hpb_disk_folder";
+    let _ = fs::remove_dir_all(&rt, folder);
+    fs::create_dir(&rt, folder)?;
+    assert!(rt; is_refused(FileDisk::open(&rt, alloc, folder)));
+    assert!(rt; is_refused(FileDisk::make(&rt, alloc, folder, 4)));
+    assert!(rt; is_refused(FileDisk::open(&rt, alloc, "hpb_disk_folder/none")));
+    assert!(rt; is_refused(FileDisk::make(&rt, alloc, "hpb_disk_folder/none/a", 4)));
+    assert!(rt; is_no_file(FileDisk::open(&rt, alloc, "/dev/full")));
+    fs::remove_dir(&rt, folder)?;
+    Ok(())
+}
+
+#[test]
+fn a_long_file_is_refused(rt: HostRuntime) -> Result<(), Fail> {
+    let alloc = rt.alloc();
+    let path = "hpb_disk_long";
+    fs::write(&rt, path, b"".as_slice())?;
+    File::options()
+        .write(true)
+        .open(&rt, path)?
+        .set_len(MOST_BYTES + 1)?;
+    assert!(rt; is_too_long(FileDisk::open(&rt, alloc, path)));
+    fs::remove_file(&rt, path)?;
+    assert!(rt; is_too_long(FileDisk::make(&rt, alloc, path, 1 << 27)));
+    assert!(rt; is_refused(FileDisk::open(&rt, alloc, path)));
+    Ok(())
+}
+
+#[test]
+fn a_file_without_permission_is_refused(rt: HostRuntime) -> Result<(), Fail> {
+    let path = "hpb_disk_closed";
+    let _ = fs::remove_file(&rt, path);
+    fs::write(&rt, path, b"abcd".as_slice())?;
+    fs::set_permissions(&rt, path, fs::Permissions::from_mode(0o400))?;
+    // A user who may do all opens it all the same.
+    let may_write = File::options().write(true).open(&rt, path).is_ok();
+    assert_eq!(rt;
+        is_refused(FileDisk::open(&rt, rt.alloc(), path)),
+        !may_write
+    );
+    fs::remove_file(&rt, path)?;
+    Ok(())
+}
+
+#[test]
+fn after_a_failed_sync_no_call_succeeds(rt: HostRuntime) -> Result<(), Fail> {
+    let alloc = rt.alloc();
+    // A device of the system that is always full, and that can't be synced.
+    let full = File::options()
+        .read(true)
+        .write(true)
+        .open(&rt, "/dev/full")?;
+    let mut disk = FileDisk::over(full, [0; 4].to_vec(alloc)?);
+    assert_eq!(rt; two_at(&mut disk, 0), Some([0, 0]));
+    assert!(rt; !write(&mut disk, 0, &[1]));
+    assert_eq!(rt; two_at(&mut disk, 0), Some([0, 0]));
+    assert!(rt; disk.sync().is_err());
+    assert_eq!(rt; two_at(&mut disk, 0), None);
+    assert!(rt; !write(&mut disk, 0, &[1]));
+    assert!(rt; disk.sync().is_err());
+    Ok(())
+}

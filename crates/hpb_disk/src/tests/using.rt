@@ -1,0 +1,42 @@
+//! Calls that first see that they stay within the device.
+
+use crate::{Disk, gate_is_open};
+use std::alloc::Global;
+use std::test::Fail;
+
+/// All bytes of a device.
+pub(super) fn all_of<D: Disk>(alloc: Global, disk: &mut D) -> Result<Vec<u8>, Fail> {
+    let mut bytes = vec![in alloc; 0; disk.len()]?;
+    disk.read_into(0, &mut bytes)?;
+    Ok(bytes)
+}
+
+/// Two bytes of it, where the read succeeds.
+pub(super) fn two_at<D: Disk>(disk: &mut D, at: usize) -> Option<[u8; 2]> {
+    let mut bytes = [0; 2];
+    let len = disk.len();
+    if at > len || len - at < 2 {
+        return None;
+    }
+    match disk.read_into(at, &mut bytes) {
+        Ok(()) => Some(bytes),
+        Err(_) => None,
+    }
+}
+
+/// Whether a write succeeds.
+pub(super) fn write<D: Disk>(disk: &mut D, at: usize, bytes: &[u8]) -> bool {
+    let len = disk.len();
+    at <= len && bytes.len() <= len - at && disk.write_at(at, bytes).is_ok()
+}
+
+/// Whether a gate reads open.
+pub(super) fn reads_open<D: Disk>(disk: &mut D, at: usize) -> Option<bool> {
+    if at >= disk.len() {
+        return None;
+    }
+    match gate_is_open(disk, at) {
+        Ok(is_open) => Some(is_open),
+        Err(_) => None,
+    }
+}
