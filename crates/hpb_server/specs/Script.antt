@@ -21,7 +21,7 @@ use Rattle.hpb_server.specs.Reading.{Pending, most_taken, ReadsWithin}
 use Rattle.hpb_server.specs.Streams.{Streams}
 use Rattle.hpb_server.specs.Serving.{AreLines, Serves}
 
--- The number of a refusal. Want of memory is no refusal.
+-- The refusal that a fault of a definition is told by. Want of memory is told by none.
 abbrev pub IsTold : DefineFault → Refusal → Type 0
 IsTold Memory refusal = ⊥
 IsTold fault refusal = refusal ≡ refusal_of fault

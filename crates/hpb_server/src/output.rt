@@ -45,7 +45,7 @@ impl Output {
         self.waiting.render(response)
     }
 
-    /// Adds a refusal by its number.
+    /// Adds the line of a refusal, or nothing where memory is refused.
     pub(crate) fn refuse(&mut self, refusal: Refusal) -> Result<(), AllocError>
         ensures { Adds self.old self.new (refusal_text refusal) result }
     {

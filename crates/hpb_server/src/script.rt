@@ -20,7 +20,7 @@ use std::io::{Read, Write};
 pub enum ScriptEnd {
     /// Each line got its answer.
     Answered,
-    /// The definition was refused by this number, and its `ERR` line is all that was written.
+    /// The definition was refused, and the `ERR` line of this refusal is all that was written.
     Refused(Refusal),
 }
 

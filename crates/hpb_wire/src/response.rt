@@ -52,7 +52,7 @@ pub struct BidderLine<'a> {
 /// The response to a line. It is written without the end of its line.
 #[derive(Clone, Copy, Debug)]
 pub enum Response<'a> {
-    /// `OK n` or `ERR code word`.
+    /// `OK n` or `ERR number word`.
     Reply(Reply),
     /// `ROUND r STAGE s OPEN REVENUE v COUNT n`, with `CLOSED` once the auction is over.
     Show(RoundLine),
