@@ -1,4 +1,5 @@
-ghost use Rattle.std.specs.Prelude.{◌≡◌, ◌+◌, ◌<◌, ◌≤◌, List, [], length, IfOk, IfSome};
+ghost use Rattle.std.specs.Prelude.{◌≡◌, ◌+◌, ◌<◌, ◌≤◌, List, [], length, reverse, IfOk, IfSome};
+ghost use Rattle.hpb_rules.specs.declared.command.Command.{Command};
 ghost use Rattle.hpb_rules.specs.declared.limits.TheConstants.{MOST_COMMANDS};
 
 use crate::sender::{Accepted, BidderRow, bidder_rows, last_ticket};
@@ -43,6 +44,7 @@ impl Model for Auction {
 impl Auction {
     ghost use Rattle.hpb_rules.specs.AuctionValue.{Shows};
     ghost use Rattle.hpb_rules.specs.Choices.{is_in};
+    ghost use Rattle.hpb_rules.specs.History;
     ghost use Rattle.hpb_rules.specs.History.{bidder as bidder_sender};
     ghost use Rattle.hpb_rules.specs.ValueLaws.{IsBestChoice};
     ghost use Rattle.hpb_rules.specs.Values.{first_value, node_at, bidder_at, ticket_at, wins_in, revenue_in, price_in, minimum_in, activity_in};
@@ -160,12 +162,15 @@ impl Auction {
         }
     }
 
-    /// What is shown of a bidder.
+    /// What is shown of a bidder: what the rules say of it after each history that the auction shows.
     pub fn bidder_view(&self, bidder: BidderId) -> BidderView
         requires { bidder < length self.now.rules.bidders }
         ensures eligibility { result.eligibility ≡ (bidder_at self.now bidder).eligibility }
         ensures activity { result.activity ≡ activity_in self.now bidder }
         ensures ticket { result.ticket ≡ ticket_at self.now (bidder_sender bidder) }
+        ensures eligibility_after { (history : List Command) → Shows self.now history → result.eligibility ≡ History.eligibility self.now.rules (reverse history) bidder }
+        ensures activity_after { (history : List Command) → Shows self.now history → result.activity ≡ History.activity self.now.rules (reverse history) bidder }
+        ensures ticket_after { (history : List Command) → Shows self.now history → result.ticket ≡ History.last_ticket (reverse history) (bidder_sender bidder) }
     {
         let row = &self.bidders[bidder.place()];
         BidderView {

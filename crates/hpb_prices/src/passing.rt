@@ -1,6 +1,7 @@
 ghost use Rattle.std.specs.Prelude.{◌≡◌, ℕ, ◌-◌, ◌+◌, ◌<◌, ◌≤◌, ◌*◌, length, slice_index};
 ghost use Rattle.hpb_rules.specs.Tree.{IsTree};
-ghost use Rattle.hpb_rules.specs.Prices.{carried as carried_of, price};
+ghost use Rattle.hpb_rules.specs.Choices.{winners};
+ghost use Rattle.hpb_rules.specs.Prices.{carried as carried_of, price, IsCertificate};
 ghost use Rattle.hpb_bids.specs.View.{bid_of};
 ghost use Rattle.hpb_winners.specs.View.{IsOutcome};
 ghost use Rattle.hpb_prices.specs.Inside.{IsCarried};
@@ -15,14 +16,17 @@ use hpb_tree::Tree;
 use hpb_winners::{MOST_VALUE, Outcome};
 
 /// Sets the prices and the least bids, from the top down: what a package's high bid is more than the best
-/// inside it is shared among its children.
+/// inside it is shared among its children. The prices prove the winners: they cover each high bid and sum to
+/// the winners' revenue.
 pub fn downward(tree: &Tree, books: &Books, outcome: &Outcome, prices: &mut Prices)
     requires outcome { IsOutcome tree.now.nodes (bid_of books.now) outcome.now }
     requires prices { AreSizedPrices tree.now.nodes prices.old }
     ensures sized { AreSizedPrices tree.now.nodes prices.new }
     ensures prices { HasPrices tree.now.nodes (bid_of books.now) prices.new }
     ensures minima { HasMinima tree.now (bid_of books.now) prices.new }
+    ensures certificate { IsCertificate tree.now.nodes (bid_of books.now) (λ node. slice_index prices.new.prices node) (winners tree.now.nodes (bid_of books.now)) }
 {
+    tree.facts();
     pass_down(
         tree,
         books,

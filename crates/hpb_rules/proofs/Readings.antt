@@ -13,8 +13,8 @@ use Rattle.hpb_rules.specs.Prices.{minimum}
 use Rattle.hpb_rules.specs.History
 use Rattle.hpb_rules.specs.History.{bidder, auctioneer, sender_of, ticket_of, ticket_of_last, last_of, last_ticket}
 use Rattle.hpb_rules.specs.Answer.{unknown, repeated, reply_by, bid_fault, fault, answer_after, IsPast}
-use Rattle.hpb_rules.specs.AuctionValue.{NodeBids, BidderState, AuctionValue, node_bids, bidder_state, value_of}
-use Rattle.hpb_rules.specs.Values.{no_bids, no_bidder, node_at, bidder_at, last_at, high_bid_in, wins_in, is_active, units_under, activity_in, activity_with_bid, fault_in, reply_in}
+use Rattle.hpb_rules.specs.AuctionValue.{NodeBids, BidderState, AuctionValue, node_bids, bidder_state, value_of, ShowsPast}
+use Rattle.hpb_rules.specs.Values.{no_bids, no_bidder, node_at, bidder_at, last_at, ticket_at, high_bid_in, wins_in, is_active, units_under, activity_in, activity_with_bid, fault_in, reply_in}
 use Rattle.hpb_rules.specs.ValueLaws.{ReplyIsAnswer}
 use Rattle.hpb_rules.proofs.Tests.{or_same}
 use Rattle.hpb_rules.proofs.NewCommands.{known_names}
@@ -115,3 +115,17 @@ module _ (rules : Rules) (past : List Command) (is : IsPast rules past) where
 
 pub reply_is_answer : ReplyIsAnswer
 reply_is_answer value past command shows = subst (λ (v : AuctionValue). reply_in v command ≡ answer_after v.rules past command) (sym shows.1) (reply_read value.rules past shows.0 command)
+
+-- a bidder's eligibility, activity and last ticket in a value are those after each past that the value shows
+module _ (value : AuctionValue) (past : List Command) (shows : ShowsPast value past) (from : ℕ) (known : from < length value.rules.bidders) where
+  pub eligibility_is_shown : (bidder_at value from).eligibility ≡ History.eligibility value.rules past from
+  eligibility_is_shown = ap (λ (v : AuctionValue). (bidder_at v from).eligibility) shows.1 ∙ ap (λ (state : BidderState). state.eligibility) (bidder_read value.rules past from known)
+
+  pub activity_is_shown : activity_in value from ≡ History.activity value.rules past from
+  activity_is_shown = ap (λ (v : AuctionValue). activity_in v from) shows.1 ∙ activity_read value.rules past shows.0 from known
+
+  pub ticket_is_shown : ticket_at value (bidder from) ≡ last_ticket past (bidder from)
+  ticket_is_shown =
+      ap (λ (v : AuctionValue). ticket_at v (bidder from)) shows.1
+      ∙ ap ticket_of_last (last_read value.rules past from known)
+      ∙ sym (ticket_is_last value.rules past shows.0 (bidder from))

@@ -10,7 +10,7 @@ pub use Rattle.hpb_rules.proofs.Machines.{machine_keeps}
 pub use Rattle.hpb_rules.proofs.NewCommands.{accepted_is_new}
 pub use Rattle.hpb_rules.proofs.Pasts.{front_is_history, history_grows, repeat_changes_nothing}
 pub use Rattle.hpb_rules.proofs.Percentages.{percentage_is_known}
-pub use Rattle.hpb_rules.proofs.Readings.{reply_is_answer, units_same}
+pub use Rattle.hpb_rules.proofs.Readings.{activity_is_shown, eligibility_is_shown, reply_is_answer, ticket_is_shown, units_same}
 pub use Rattle.hpb_rules.proofs.Runs.{next_is_shown, run_is_shown}
 pub use Rattle.hpb_rules.proofs.Sameness.{same_is_equal}
 pub use Rattle.hpb_rules.proofs.Shown.{answer_is_shown, shown_is_one}

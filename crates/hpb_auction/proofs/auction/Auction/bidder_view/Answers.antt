@@ -1,7 +1,8 @@
-use Rattle.std.proofs.Common.{◌≡◌, ◌<◌, length, ap, sym, ◌∙◌, arith}
+use Rattle.std.proofs.Common.{◌≡◌, ◌<◌, length, reverse, ap, sym, ◌∙◌, arith}
 use Rattle.hpb_rules.specs.Tree.{TreeRules}
 use Rattle.hpb_rules.specs.History.{ticket_of_last}
 use Rattle.hpb_rules.specs.AuctionValue.{AuctionValue, BidderState}
+use Rattle.hpb_rules.proofs.RunLaws.{activity_is_shown, eligibility_is_shown, ticket_is_shown}
 use Rattle.hpb_units.specs.Activity as units
 use Rattle.hpb_auction.specs.Inside.{row_at}
 use Rattle.hpb_auction.specs.declared.sender.BidderRow.{BidderRow}
@@ -30,3 +31,12 @@ returns-clause-activity c =
     c.activity.ensures
     ∙ ap (λ (t : TreeRules). units.activity_of t.nodes c.self.inside.books c.self.inside.outcome c.args.bidder) c.tree.ensures
     ∙ sym (activity_found c.self.inside c.self.invariant c.args.self.now c.self.view_is c.args.bidder c.requires)
+
+pub returns-clause-eligibility_after : goal.returns-clause-eligibility_after
+returns-clause-eligibility_after c = λ history shows. returns-clause-eligibility c ∙ eligibility_is_shown c.args.self.now (reverse history) shows c.args.bidder c.requires
+
+pub returns-clause-activity_after : goal.returns-clause-activity_after
+returns-clause-activity_after c = λ history shows. returns-clause-activity c ∙ activity_is_shown c.args.self.now (reverse history) shows c.args.bidder c.requires
+
+pub returns-clause-ticket_after : goal.returns-clause-ticket_after
+returns-clause-ticket_after c = λ history shows. returns-clause-ticket c ∙ ticket_is_shown c.args.self.now (reverse history) shows c.args.bidder c.requires
