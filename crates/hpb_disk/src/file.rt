@@ -1,7 +1,7 @@
 //! A device in a file of the operating system.
 ghost use Rattle.std.specs.Prelude.{◌≡◌, ◌+◌, ◌≤◌, ◌^◌, ◌↔◌, true, false, ◌∷◌, length, replicate, IsTrue, IsErr, IfOk, OnOk, OnErr, MatchResult};
 ghost use Rattle.hpb_disk.specs.Images.{part, put, Only, TornFrom, Within, Elapses, CountsFailure};
-ghost use Rattle.hpb_disk.specs.Calls.{calls_of, seen_of, left_of, since_of, failures_of};
+ghost use Rattle.hpb_disk.specs.Calls.{calls_of, seen_of};
 ghost use Rattle.hpb_disk.specs.Devices as devices;
 
 use crate::memory::overwrite;

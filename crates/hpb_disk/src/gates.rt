@@ -1,5 +1,5 @@
 //! Gates: a byte that says whether what stands behind it counts.
-ghost use Rattle.std.specs.Prelude.{◌≡◌, ◌+◌, ◌<◌, ◌↔◌, true, false, length, IsTrue, IfOk, OnOk};
+ghost use Rattle.std.specs.Prelude.{◌≡◌, ◌<◌, ◌↔◌, true, false, length, IsTrue, IfOk, OnOk};
 ghost use Rattle.hpb_disk.specs.Gates.{open_byte, closed_byte, HasOpenGate, HasClosedGate};
 ghost use Rattle.hpb_disk.specs.Images.{put, TornFrom, Within, Elapses, CountsFailure};
 

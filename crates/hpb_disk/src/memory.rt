@@ -1,7 +1,7 @@
 //! A device in memory, which keeps a record of its calls.
-ghost use Rattle.std.specs.Prelude.{◌≡◌, ℕ, ◌+◌, ◌≤◌, List, [], ◌∷◌, ◌++◌, length, drop, replicate, vec_len, OnOk, OnErr, IfOk, MatchResult};
+ghost use Rattle.std.specs.Prelude.{◌≡◌, ◌+◌, ◌≤◌, [], ◌∷◌, ◌++◌, length, drop, replicate, vec_len, OnOk, OnErr, IfOk, MatchResult};
 ghost use Rattle.hpb_disk.specs.Images.{part, put, Only, TornFrom, Within, Elapses, CountsFailure};
-ghost use Rattle.hpb_disk.specs.Calls.{calls_of, seen_of, left_of, since_of, failures_of, base_of, pending_of};
+ghost use Rattle.hpb_disk.specs.Calls.{calls_of, seen_of, failures_of, base_of, pending_of};
 ghost use Rattle.hpb_disk.specs.Fates.{stopped};
 ghost use Rattle.hpb_disk.specs.Records.{writes_of};
 ghost use Rattle.hpb_disk.specs.Devices as devices;

@@ -1,5 +1,5 @@
 //! How a record is replaced so that no crash loses it: a caller of a device, to learn from.
-ghost use Rattle.std.specs.Prelude.{◌≡◌, ◌+◌, ◌*◌, ◌≤◌, length, OnOk};
+ghost use Rattle.std.specs.Prelude.{◌+◌, ◌*◌, ◌≤◌, length, OnOk};
 ghost use Rattle.hpb_disk.specs.Gates.{HasClosedGate};
 ghost use Rattle.hpb_disk.specs.Images.{part, Only, Within, LeavesOnly, CountsFailure};
 ghost use Rattle.hpb_disk.specs.Replacing.{HasRecord, HasEither};
