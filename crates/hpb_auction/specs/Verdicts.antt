@@ -43,9 +43,9 @@ state_reply count over fault =
     (if over then replies.Refused refusals.Closed else Answer.ok_or_fault (suc count) fault)
 
 -- What is told, if anything is.
-abbrev pub told : Option Verdict → Option Reply
-told None = None
-told (Some verdict) = Some (reply_of verdict)
+abbrev pub reply_told : Option Verdict → Option Reply
+reply_told None = None
+reply_told (Some verdict) = Some (reply_of verdict)
 
 -- A fact of the number, where the command is newly accepted.
 abbrev pub IfNew : Verdict → (ℕ → Type 0) → Type 0

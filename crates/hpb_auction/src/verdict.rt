@@ -1,7 +1,7 @@
 ghost use Rattle.std.specs.Prelude.{◌≡◌, suc, IfSome, None};
 ghost use Rattle.hpb_rules.specs.Answer.{repeated};
 ghost use Rattle.hpb_rules.specs.History.{ticket_of, ticket_of_last};
-ghost use Rattle.hpb_auction.specs.Verdicts.{reply_of, read_last, number_of_last, ticket_reply, told, IfNew, IfRepeat};
+ghost use Rattle.hpb_auction.specs.Verdicts.{reply_of, read_last, number_of_last, ticket_reply, reply_told, IfNew, IfRepeat};
 
 use crate::sender::{Accepted, last_ticket, ticket};
 use hpb_rules::{Command, Refusal, Reply};
@@ -31,7 +31,7 @@ impl Verdict {
 
 /// What the tickets say of a command whose sender's last one is given: `None` where it is the next.
 pub(crate) fn by_ticket(command: &Command, last: Option<&Accepted>) -> Option<Verdict>
-    ensures reply { told result ≡ ticket_reply command.now (read_last last.entry) }
+    ensures reply { reply_told result ≡ ticket_reply command.now (read_last last.entry) }
     ensures never_new { IfSome result (λ verdict. IfNew verdict (λ _. ⊥)) }
     ensures repeat { IfSome result (λ verdict. IfRepeat verdict (λ number. number ≡ number_of_last (read_last last.entry))) }
     ensures next { result ≡ None → ticket_of command.now ≡ suc (ticket_of_last (read_last last.entry)) }

@@ -5,4 +5,3 @@
 mod books;
 
 pub use books::Books;
-pub use hpb_rules::{BidderId, MOST_AMOUNT, MOST_BIDDERS, MOST_NODES, NodeId, Offer};

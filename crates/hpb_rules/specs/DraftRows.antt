@@ -123,3 +123,33 @@ depth_of_8 = refl
 depth_of_9 : draft_refusal (with_nodes (nested 8)) ≡ Some refusals.Limits
 unfolding digits
 depth_of_9 = refl
+
+empty_before_name : draft_refusal (record (with_name_of 17) { stages = [] }) ≡ Some refusals.Empty
+empty_before_name = refl
+
+name_before_duplicate : draft_refusal (with_nodes (nodes_with east a (licence (codes "D") (Some 0) 20) (licence (codes "D") None 5))) ≡ Some refusals.Name
+name_before_duplicate = refl
+
+duplicate_before_parent : draft_refusal (with_nodes (nodes_with (group (codes "east") (Some 1)) a c (licence (codes "a") None 5))) ≡ Some refusals.Duplicate
+duplicate_before_parent = refl
+
+children_before_leaf : draft_refusal (with_nodes (group (codes "all") None ∷ east ∷ a ∷ licence (codes "b") (Some 1) 10 ∷ licence (codes "c") None 20 ∷ licence (codes "e") (Some 2) 5 ∷ [])) ≡ Some refusals.Children
+children_before_leaf = refl
+
+leaf_before_limits : draft_refusal (record (with_nodes (nodes_with east a c d ++ licence (codes "e") (Some 2) 5 ∷ [])) { stages = 80 ∷ 80 ∷ 80 ∷ 80 ∷ 80 ∷ [] }) ≡ Some refusals.Leaf
+leaf_before_limits = refl
+
+limits_before_terms : draft_refusal (record (with_nodes (nodes_with east (opened (codes "a") (Some 1) 10 105) c d)) { stages = 80 ∷ 80 ∷ 80 ∷ 80 ∷ 80 ∷ [] }) ≡ Some refusals.Limits
+limits_before_terms = refl
+
+percent_of_0 : draft_refusal (record small { percent = 0 }) ≡ Some refusals.Number
+percent_of_0 = refl
+
+stage_of_49 : draft_refusal (record small { stages = 49 ∷ [] }) ≡ Some refusals.Number
+stage_of_49 = refl
+
+opening_of_0 : draft_refusal (with_nodes (nodes_with east (opened (codes "a") (Some 1) 10 0) c d)) ≡ Some refusals.Terms
+opening_of_0 = refl
+
+underscore : draft_refusal (with_nodes (nodes_with east a c (licence (codes "d_0") None 5))) ≡ None
+underscore = refl

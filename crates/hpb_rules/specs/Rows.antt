@@ -1,8 +1,11 @@
 -- The worked rows: lines with the text that they get, computed from the definitions.
-use Rattle.std.specs.Prelude.{◌≡◌, ◌∷◌, [], map, codes}
+use Rattle.std.specs.Prelude.{◌≡◌, ◌∷◌, [], map, codes, true, false, Some, None}
 use Rattle.std.specs.List.{range_with_len}
 use Rattle.std.specs.Fmt.{digits}
 use mathlib.Core.Path.{refl}
+use Rattle.hpb_rules.specs.declared.refusal.Refusal.TheVariants as refusals
+use Rattle.hpb_rules.specs.declared.reply.Reply.TheVariants as replies
+use Rattle.hpb_rules.specs.Answer.{bid_fault, reply_by}
 use Rattle.hpb_rules.specs.Prices.{share}
 use Rattle.hpb_rules.specs.RowRules.{small, twelve, Gets, GetsThen, GetsLast}
 
@@ -79,3 +82,20 @@ first_refusal_that_applies : Gets small
     (codes "ERR 10 line\nERR 11 bidder\nERR 12 node\nERR 13 old\nERR 15 gap\nERR 21 step\nOK 1\nERR 14 ticket\nERR 21 step\nERR 22 low\nERR 21 step\nERR 23 high\nERR 25 eligibility\nERR 24 again\nOK 2\nERR 21 step\nOK 3\nERR 27 stage\nOK 4\nERR 20 closed\nERR 20 closed\n")
 unfolding digits
 first_refusal_that_applies = refl
+
+-- A second bid of a bidder on a node is told before its eligibility. (A second bid on a node leaves the activity as it was, so no lines show this.)
+again_before_eligibility : bid_fault 10 100 100 true 0 10 ≡ Some refusals.Again
+again_before_eligibility = refl
+
+-- The limit is told before the end, a gap before the limit, and what is wrong with a command itself last.
+gap_before_limit : reply_by None 3 1 (replies.Refused refusals.Old) 1000000 true None ≡ replies.Refused refusals.Gap
+gap_before_limit = refl
+
+limit_before_closed : reply_by None 1 0 (replies.Refused refusals.Old) 1000000 true (Some refusals.Step) ≡ replies.Refused refusals.Limit
+limit_before_closed = refl
+
+closed_before_fault : reply_by None 1 0 (replies.Refused refusals.Old) 999999 true (Some refusals.Step) ≡ replies.Refused refusals.Closed
+closed_before_fault = refl
+
+last_command_is_taken : reply_by None 1 0 (replies.Refused refusals.Old) 999999 false None ≡ replies.Ok 1000000
+last_command_is_taken = refl
