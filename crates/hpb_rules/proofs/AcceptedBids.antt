@@ -12,7 +12,7 @@ use Rattle.hpb_rules.specs.Answer.{IsPast}
 use Rattle.hpb_rules.specs.HistoryLaws.{IsNew, MeetsRules, BidsMeetRules}
 use Rattle.hpb_rules.proofs.Money
 use Rattle.hpb_rules.proofs.NewCommands.{next_test, known_names, accepted_new}
-use Rattle.hpb_rules.proofs.Accepted.{accepted_is_definition}
+use Rattle.hpb_rules.proofs.AcceptedDrafts.{accepted_is_definition}
 use Rattle.hpb_rules.proofs.Openings.{opening_positive}
 
 module _ (rules : Rules) (accepted : draft_refusal rules ≡ None) where

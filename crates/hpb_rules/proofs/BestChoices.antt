@@ -6,7 +6,7 @@ use Rattle.hpb_rules.specs.Prices.{price}
 use Rattle.hpb_rules.specs.AuctionValue.{AuctionValue}
 use Rattle.hpb_rules.specs.Values.{high_bid_in}
 use Rattle.hpb_rules.specs.ValueLaws.{IsBestChoice, ValueIsBestChoice}
-use Rattle.hpb_rules.proofs.Accepted.{accepted_is_definition}
+use Rattle.hpb_rules.proofs.AcceptedDrafts.{accepted_is_definition}
 use Rattle.hpb_rules.proofs.Winners.{winners_are_one}
 use Rattle.hpb_rules.proofs.NodeCertificate.{certified}
 

@@ -13,7 +13,7 @@ use Rattle.hpb_rules.specs.Lines.{node_named, bidder_named}
 use Rattle.hpb_rules.specs.Text.{node_name, bidder_name}
 use Rattle.hpb_rules.specs.TextLaws.{NamesAreFound}
 use Rattle.hpb_rules.specs.Definitions.{IsName, AreDistinct, AreNames, IsDefinition}
-use Rattle.hpb_rules.proofs.Accepted.{accepted_is_definition}
+use Rattle.hpb_rules.proofs.AcceptedDrafts.{accepted_is_definition}
 use Rattle.hpb_rules.proofs.DraftNames.{spellable}
 
 -- the name that stands at a place

@@ -8,7 +8,7 @@ use Rattle.std.proofs.lemmas.List.FromFn.{get_or-range_with_len, length-range_wi
 use Rattle.hpb_rules.specs.declared.licence.Terms.{Terms}
 use Rattle.hpb_rules.specs.Tree.{Rules, Node, terms_of, places, at_or_under, sum_over, of_terms, opening_at, opening, Licences, IsTree}
 use Rattle.hpb_rules.specs.Drafts.{is_within, are_bad_terms, draft_faults, draft_refusal}
-use Rattle.hpb_rules.proofs.Accepted.{no_fault, accepted_is_definition}
+use Rattle.hpb_rules.proofs.AcceptedDrafts.{no_fault, accepted_is_definition}
 use Rattle.hpb_rules.proofs.Under.{some_licence}
 use Rattle.hpb_rules.proofs.GoingUp.{under_complete}
 

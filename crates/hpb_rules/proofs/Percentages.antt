@@ -11,7 +11,7 @@ use Rattle.hpb_rules.specs.Answer.{IsPast}
 use Rattle.hpb_rules.specs.Definitions.{IsDefinition}
 use Rattle.hpb_rules.specs.HistoryLaws.{PercentageIsKnown}
 use Rattle.hpb_rules.proofs.NewCommands.{next_test, accepted_new}
-use Rattle.hpb_rules.proofs.Accepted.{no_fault, accepted_is_definition}
+use Rattle.hpb_rules.proofs.AcceptedDrafts.{no_fault, accepted_is_definition}
 
 -- a stage command adds a stage, and no other does
 pub stage_more : (command : Command) (past : List Command) → History.stage (command ∷ past) ≡ cond (History.is_stage command) 1 0 + History.stage past

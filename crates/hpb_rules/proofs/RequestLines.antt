@@ -14,7 +14,7 @@ use Rattle.hpb_rules.specs.Lines.{Spelled, bid_line, close_line, stage_line, sho
 use Rattle.hpb_rules.specs.Text.{node_name, bidder_name}
 use Rattle.hpb_rules.specs.RequestLines.{named, request_line, CanBeAsked}
 use Rattle.hpb_rules.specs.TextLaws.{RequestIsOne}
-use Rattle.hpb_rules.proofs.Accepted.{accepted_is_definition}
+use Rattle.hpb_rules.proofs.AcceptedDrafts.{accepted_is_definition}
 use Rattle.hpb_rules.proofs.DraftNames.{spellable}
 use Rattle.hpb_rules.proofs.FoundNames.{node_found, bidder_found, node_name_is_name, bidder_name_is_name, names_are_found}
 use Rattle.hpb_rules.proofs.Spellings.{spelling_of_spelled, spelled_of_spelling}

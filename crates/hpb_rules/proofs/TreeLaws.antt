@@ -1,5 +1,5 @@
 -- The laws of trees, winners and prices, proved: other crates' proofs cite them here.
-pub use Rattle.hpb_rules.proofs.Accepted.{accepted_is_definition, definition_is_accepted, fault_at, no_fault}
+pub use Rattle.hpb_rules.proofs.AcceptedDrafts.{accepted_is_definition, definition_is_accepted, fault_at, no_fault}
 pub use Rattle.hpb_rules.proofs.CarriedShares.{carried_is_share}
 pub use Rattle.hpb_rules.proofs.CertificateProofs.{certificates}
 pub use Rattle.hpb_rules.proofs.Cover.{cover_proves}

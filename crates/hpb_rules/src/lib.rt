@@ -20,6 +20,7 @@ mod limits;
 mod refusal;
 mod reply;
 mod request;
+mod saved;
 
 pub use command::{Command, Offer};
 pub use id::{BidderId, NodeId};
@@ -57,3 +58,4 @@ pub use limits::{
 pub use refusal::Refusal;
 pub use reply::Reply;
 pub use request::Request;
+pub use saved::{Accepted, Saved, SavedBidder, SavedNode};

@@ -1,5 +1,5 @@
-use Rattle.hpb_rules.proofs.Accepted
+use Rattle.hpb_rules.proofs.AcceptedDrafts
 use Rattle.hpb_rules.proofs.laws.accepted_is_definition.Goals as goal
 
 pub returns : goal.returns
-returns c = Accepted.accepted_exactly
+returns c = AcceptedDrafts.accepted_exactly
