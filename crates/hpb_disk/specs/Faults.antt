@@ -1,5 +1,5 @@
 -- Calls of a device that is made to fail. It stands before another device and passes calls on to it.
-use Rattle.std.specs.Prelude.{ℕ, ◌+◌, nat_le, ◌==◌, List, [], ◌∷◌, length, if◌then◌else◌}
+use Rattle.std.specs.Prelude.{ℕ, zero, suc, ◌+◌, nat_le, nat_lt, ◌==◌, Bool, ◌&&◌, ◌||◌, List, [], ◌∷◌, length, if◌then◌else◌}
 use Rattle.hpb_disk.specs.Events.{Event}
 
 -- The kinds of an entry are 0, a call that was passed on; 1, one that failed and was not; 2, a write that was passed on
@@ -20,3 +20,16 @@ faults_of (event ∷ events) = fault_of event + faults_of events
 abbrev pub passed_since : List Event → ℕ → ℕ
 passed_since [] moment = 0
 passed_since (event ∷ events) moment = if nat_le moment (length events) then passed_on event + passed_since events moment else 0
+
+-- Whether all calls fail that come after the first that fails.
+abbrev pub is_late : Bool → ℕ → ℕ → Bool
+is_late later fault call = later && nat_lt fault call
+
+-- Whether a call fails by its number.
+abbrev pub is_fault : Bool → ℕ → ℕ → Bool
+is_fault later fault call = (call == fault) || is_late later fault call
+
+-- How many of so many calls fail by their numbers.
+abbrev pub faults_among : Bool → ℕ → ℕ → ℕ
+faults_among later fault zero = 0
+faults_among later fault (suc count) = (if is_fault later fault (suc count) then 1 else 0) + faults_among later fault count

@@ -5,7 +5,7 @@ ghost use Rattle.hpb_disk.specs.Calls.{calls_of, seen_of};
 ghost use Rattle.hpb_disk.specs.Devices as devices;
 
 use crate::memory::overwrite;
-use crate::trace::{FAILED, READ, SYNCED, Trace, WRITE_FAILED, WROTE};
+use crate::trace::Trace;
 use crate::{Disk, DiskFailed, FileFault};
 use std::alloc::Global;
 use std::fs::{self, File, Files, TryLockError};
@@ -184,15 +184,15 @@ impl Disk for FileDisk {
         ensures stays_broken { file_is_broken self.old ≡ true → file_is_broken self.new ≡ true }
     {
         if self.broken {
-            self.trace.note(&[FAILED, 0], &[]);
+            self.trace.failed();
             return Err(DiskFailed);
         }
         let read = self.file.read_exact_at(out, at as u64);
         if read.is_err() || !are_same(out, &self.bytes[at..at + out.len()]) {
-            self.trace.note(&[FAILED, 0], &[]);
+            self.trace.failed();
             return Err(DiskFailed);
         }
-        self.trace.note(&[READ, 0], &[]);
+        self.trace.read();
         Ok(())
     }
 
@@ -212,17 +212,17 @@ impl Disk for FileDisk {
         ensures stays_broken { file_is_broken self.old ≡ true → file_is_broken self.new ≡ true }
     {
         if self.broken {
-            self.trace.note(&[FAILED, 0], &[]);
+            self.trace.failed();
             return Err(DiskFailed);
         }
         match self.file.write_all_at(bytes, at as u64) {
             Ok(()) => {
                 overwrite(&mut self.bytes, at, bytes);
-                self.trace.note(&[WROTE, at as u64], bytes);
+                self.trace.wrote(at, bytes);
                 Ok(())
             }
             Err(_) => {
-                self.trace.note(&[WRITE_FAILED, at as u64], bytes);
+                self.trace.write_failed(at, bytes);
                 Err(DiskFailed)
             }
         }
@@ -244,17 +244,17 @@ impl Disk for FileDisk {
         ensures breaks { OnErr result (file_is_broken self.new ≡ true) }
     {
         if self.broken {
-            self.trace.note(&[FAILED, 0], &[]);
+            self.trace.failed();
             return Err(DiskFailed);
         }
         match self.file.sync_data() {
             Ok(()) => {
-                self.trace.note(&[SYNCED, 0], &[]);
+                self.trace.synced();
                 Ok(())
             }
             Err(_) => {
                 self.broken = true;
-                self.trace.note(&[FAILED, 0], &[]);
+                self.trace.failed();
                 Err(DiskFailed)
             }
         }

@@ -8,7 +8,7 @@ ghost use Rattle.hpb_disk.specs.Devices as devices;
 
 use crate::done::Done;
 use crate::stop::stop_one;
-use crate::trace::{FAILED, READ, SYNCED, Trace, WROTE};
+use crate::trace::Trace;
 use crate::{Disk, DiskFailed, Fate};
 use std::alloc::{AllocError, Global};
 
@@ -162,11 +162,11 @@ impl Disk for MemoryDisk {
         match keep(&mut self.done, Done::Read) {
             Ok(()) => {
                 out.copy_from_slice(&self.bytes[at..at + out.len()]);
-                self.trace.note(&[READ, 0], &[]);
+                self.trace.read();
                 Ok(())
             }
             Err(_) => {
-                self.trace.note(&[FAILED, 0], &[]);
+                self.trace.failed();
                 Err(DiskFailed)
             }
         }
@@ -188,11 +188,11 @@ impl Disk for MemoryDisk {
         match keep_write(self.alloc, &mut self.done, at, bytes) {
             Ok(()) => {
                 overwrite(&mut self.bytes, at, bytes);
-                self.trace.note(&[WROTE, at as u64], bytes);
+                self.trace.wrote(at, bytes);
                 Ok(())
             }
             Err(_) => {
-                self.trace.note(&[FAILED, 0], &[]);
+                self.trace.failed();
                 Err(DiskFailed)
             }
         }
@@ -214,11 +214,11 @@ impl Disk for MemoryDisk {
             Ok(()) => {
                 self.base.copy_from_slice(&self.bytes);
                 self.covered = self.done.len();
-                self.trace.note(&[SYNCED, 0], &[]);
+                self.trace.synced();
                 Ok(())
             }
             Err(_) => {
-                self.trace.note(&[FAILED, 0], &[]);
+                self.trace.failed();
                 Err(DiskFailed)
             }
         }

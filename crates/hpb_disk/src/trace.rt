@@ -5,23 +5,23 @@ ghost use Rattle.hpb_disk.specs.Events.{Event, event_of};
 
 use std::marker::{Model, PhantomData};
 
-/// The kinds of an entry, as `call_of` reads them.
-pub(crate) const READ: u64 = 0;
+// The kinds of an entry, as `call_of` reads them.
+const READ: u64 = 0;
 
-pub(crate) const WROTE: u64 = 1;
+const WROTE: u64 = 1;
 
-pub(crate) const SYNCED: u64 = 2;
+const SYNCED: u64 = 2;
 
-pub(crate) const WRITE_FAILED: u64 = 3;
+const WRITE_FAILED: u64 = 3;
 
-pub(crate) const FAILED: u64 = 4;
+const FAILED: u64 = 4;
 
-/// The kinds of an entry of a device that is made to fail, as `passed_on` and `fault_of` read them.
-pub(crate) const PASSED: u64 = 0;
+// The kinds of an entry of a device that is made to fail, as `passed_on` and `fault_of` read them.
+const PASSED: u64 = 0;
 
-pub(crate) const HELD: u64 = 1;
+const HELD: u64 = 1;
 
-pub(crate) const BROKEN: u64 = 2;
+const BROKEN: u64 = 2;
 
 /// A clause reads the image at the start as `first`, and the calls, the newest first, as `events`.
 #[derive(Drop)]
@@ -45,7 +45,63 @@ impl Trace {
     }
 
     /// The numbers are a kind and an offset.
-    pub(crate) fn note(&mut self, _numbers: &[u64], _bytes: &[u8])
+    fn note(&mut self, _numbers: &[u64], _bytes: &[u8])
         ensures { (self.new.first ≡ self.old.first) × (self.new.events ≡ event_of _numbers.now _bytes.now ∷ self.old.events) }
     {}
+
+    /// A read was done.
+    pub(crate) fn read(&mut self)
+        ensures { (self.new.first ≡ self.old.first) × (self.new.events ≡ event_of (0 ∷ 0 ∷ []) [] ∷ self.old.events) }
+    {
+        self.note(&[READ, 0], &[]);
+    }
+
+    /// A write was done.
+    pub(crate) fn wrote(&mut self, at: usize, bytes: &[u8])
+        ensures { (self.new.first ≡ self.old.first) × (self.new.events ≡ event_of (1 ∷ at ∷ []) bytes.now ∷ self.old.events) }
+    {
+        self.note(&[WROTE, at as u64], bytes);
+    }
+
+    /// A sync was done.
+    pub(crate) fn synced(&mut self)
+        ensures { (self.new.first ≡ self.old.first) × (self.new.events ≡ event_of (2 ∷ 0 ∷ []) [] ∷ self.old.events) }
+    {
+        self.note(&[SYNCED, 0], &[]);
+    }
+
+    /// A write failed, and may have been done in part.
+    pub(crate) fn write_failed(&mut self, at: usize, bytes: &[u8])
+        ensures { (self.new.first ≡ self.old.first) × (self.new.events ≡ event_of (3 ∷ at ∷ []) bytes.now ∷ self.old.events) }
+    {
+        self.note(&[WRITE_FAILED, at as u64], bytes);
+    }
+
+    /// A call failed that did nothing.
+    pub(crate) fn failed(&mut self)
+        ensures { (self.new.first ≡ self.old.first) × (self.new.events ≡ event_of (4 ∷ 0 ∷ []) [] ∷ self.old.events) }
+    {
+        self.note(&[FAILED, 0], &[]);
+    }
+
+    /// A call was passed on.
+    pub(crate) fn passed(&mut self)
+        ensures { (self.new.first ≡ self.old.first) × (self.new.events ≡ event_of (0 ∷ 0 ∷ []) [] ∷ self.old.events) }
+    {
+        self.note(&[PASSED, 0], &[]);
+    }
+
+    /// A call failed by its number, and wasn't passed on.
+    pub(crate) fn held(&mut self)
+        ensures { (self.new.first ≡ self.old.first) × (self.new.events ≡ event_of (1 ∷ 0 ∷ []) [] ∷ self.old.events) }
+    {
+        self.note(&[HELD, 0], &[]);
+    }
+
+    /// A write was passed on, and answered as failed.
+    pub(crate) fn broken(&mut self)
+        ensures { (self.new.first ≡ self.old.first) × (self.new.events ≡ event_of (2 ∷ 0 ∷ []) [] ∷ self.old.events) }
+    {
+        self.note(&[BROKEN, 0], &[]);
+    }
 }

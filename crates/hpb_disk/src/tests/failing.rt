@@ -162,7 +162,7 @@ fn check_behind<R: Abort>(rt: &R, alloc: Global, disk: &MemoryDisk, run: &Run) -
 
 fn check_fuse<R: Abort>(rt: &R, alloc: Global, run: &Run) -> Result<(), Fail> {
     let mut fuse = FuseDisk::new(MemoryDisk::zeros(alloc, 4)?, run.fault);
-    assert_eq!(rt; fuse.first_fault(), run.fault);
+    assert_eq!(rt; fuse.fault(), run.fault);
     assert_eq!(rt; script(&mut fuse), run.answers);
     check_behind(rt, alloc, &fuse.into_inner(), run)
 }

@@ -9,11 +9,11 @@ use Rattle.hpb_disk.proofs.file.FileDiskDisk.sync.Goals as goal
 pub returns-in-Ok-clause-crash : goal.returns-in-Ok-clause-crash
 returns-in-Ok-clause-crash c =
     let trace = c.args.self.now.trace in let left = left_of trace.first (calls_of trace.events) in
-    noted trace.first c.note-in-Ok.new.self.first trace.events c.note-in-Ok.new.self.events (event_of (2 ∷ 0 ∷ []) [])
-    (λ (first : List ℕ) (calls : List Call). Within (left_of first calls) left) c.note-in-Ok.ensures (shown_may_stay trace.first (calls_of trace.events))
+    noted trace.first c.synced.new.self.first trace.events c.synced.new.self.events (event_of (2 ∷ 0 ∷ []) [])
+    (λ (first : List ℕ) (calls : List Call). Within (left_of first calls) left) c.synced.ensures (shown_may_stay trace.first (calls_of trace.events))
 
 pub returns-in-Ok-clause-time : goal.returns-in-Ok-clause-time
 returns-in-Ok-clause-time c =
     let trace = c.args.self.now.trace in
-    elapses trace.first c.note-in-Ok.new.self.first trace.events c.note-in-Ok.new.self.events (event_of (2 ∷ 0 ∷ []) [])
-    (left_of trace.first (calls_of trace.events)) c.note-in-Ok.ensures (shown_may_stay trace.first (calls_of trace.events))
+    elapses trace.first c.synced.new.self.first trace.events c.synced.new.self.events (event_of (2 ∷ 0 ∷ []) [])
+    (left_of trace.first (calls_of trace.events)) c.synced.ensures (shown_may_stay trace.first (calls_of trace.events))

@@ -1,0 +1,210 @@
+//! A device that is made to fail: from a call on, or at that call alone.
+ghost use Rattle.std.specs.Prelude.{◌≡◌, ◌+◌, ◌-◌, ◌≤◌, Bool, true, false, length, IsErr, OnOk};
+ghost use Rattle.hpb_disk.specs.Images.{part, put, Only, TornFrom, Within, Elapses, CountsFailure};
+ghost use Rattle.hpb_disk.specs.Faults.{faults_of, faults_among, is_fault, is_late, passed_since};
+ghost use Rattle.hpb_disk.specs.Behind.{now_behind};
+ghost use Rattle.std.proofs.Math.Nat.{sub-le};
+
+use crate::trace::Trace;
+use crate::{Disk, DiskFailed};
+use std::marker::PhantomData;
+
+/// What becomes of the calls after the first that fails.
+pub trait Faults {
+    /// Whether they fail too.
+    const LATER: bool;
+
+    ghost LATER: { Bool };
+}
+
+/// All of them fail too.
+#[derive(Drop)]
+pub struct FromThenOn;
+
+impl Faults for FromThenOn {
+    const LATER: bool = true;
+
+    ghost LATER = { true };
+}
+
+/// They are passed on as those before it.
+#[derive(Drop)]
+pub struct ThatAlone;
+
+impl Faults for ThatAlone {
+    const LATER: bool = false;
+
+    ghost LATER = { false };
+}
+
+/// A device of which all calls fail from one on.
+pub type FuseDisk<D> = FaultyDisk<D, FromThenOn>;
+
+/// A device of which one call fails.
+pub type OnceDisk<D> = FaultyDisk<D, ThatAlone>;
+
+/// It passes calls on to the device behind it, but those that fail by their numbers. Where the first of these is a write
+/// it is passed on too, and answered as failed; no other that fails by its number is.
+#[derive(Drop)]
+pub struct FaultyDisk<D: Disk + Drop, F: Faults> {
+    inner: D,
+    // The number of the first call that fails, and how many calls it is away: 0 where it was.
+    fault: u64,
+    away: u64,
+    trace: Trace,
+    kind: PhantomData<F>,
+    ghost counted: { away ≡ fault - length trace.events },
+    ghost fails: { faults_of trace.events ≡ faults_among F.LATER fault (length trace.events) },
+}
+
+impl<D: Disk + Drop, F: Faults> FaultyDisk<D, F> {
+    ghost use Rattle.hpb_disk.specs.FaultyDisks.{inner as inner_of, fault as fault_of_disk, calls, own_faults};
+
+    /// The call with this number is the first that fails. The first call of all has number 1; so at 0 a `FuseDisk` fails
+    /// all, and a `OnceDisk` none.
+    pub fn new(inner: D, fault: u64) -> FaultyDisk<D, F>
+        ensures inner { inner_of result ≡ inner }
+        ensures fault { fault_of_disk result ≡ fault }
+        ensures calls { calls result ≡ 0 }
+    {
+        FaultyDisk {
+            inner,
+            fault,
+            away: fault,
+            trace: Trace::new(&[]),
+            kind: PhantomData,
+        }
+    }
+
+    /// The device behind it.
+    pub fn into_inner(self) -> D
+        ensures { result ≡ inner_of self }
+    {
+        self.inner
+    }
+
+    /// The number of the first call that fails. Of its calls so many failed by themselves as have to by their numbers.
+    pub fn fault(&self) -> u64
+        ensures fault { result ≡ fault_of_disk self.now }
+        ensures faults { own_faults self.now ≡ faults_among F.LATER result (calls self.now) }
+    {
+        self.fault
+    }
+
+    /// Whether the next call comes after the first that fails, and fails too.
+    fn is_next_late(&self) -> bool
+        ensures { result ≡ is_late F.LATER (fault_of_disk self.now) (calls self.now + 1) }
+    {
+        F::LATER && self.away == 0
+    }
+
+    /// Whether the next call fails by its number.
+    fn is_next_fault(&self) -> bool
+        ensures { result ≡ is_fault F.LATER (fault_of_disk self.now) (calls self.now + 1) }
+    {
+        self.away == 1 || self.is_next_late()
+    }
+}
+
+impl<D: Disk + Drop, F: Faults> Disk for FaultyDisk<D, F> {
+    ghost use Rattle.hpb_disk.specs.FaultyDisks.{inner as inner_of, fault as fault_of_disk, calls, moment_behind, seen_behind, left_behind, since_behind, all_failures};
+
+    ghost seen = { seen_behind };
+
+    ghost may_leave = { left_behind };
+
+    ghost moment = { calls };
+
+    ghost left_since = { since_behind };
+
+    ghost failures = { all_failures };
+
+    ghost seen_may_stay = { λ f. D.seen_may_stay f.inner };
+
+    ghost sized = { λ f. D.sized f.inner };
+
+    ghost counts_now = { λ f t image le may. D.counts_now f.inner (D.moment f.inner - passed_since f.trace.events t) image (sub-le (D.moment f.inner) (passed_since f.trace.events t)) may };
+
+    ghost only_now = { λ f image left. D.only_now f.inner image (now_behind (D.left_since f.inner) (D.moment f.inner) f.trace.events image left) };
+
+    fn len(&self) -> usize {
+        self.inner.len()
+    }
+
+    fn read_into(&mut self, at: usize, out: &mut [u8]) -> Result<(), DiskFailed>
+        requires range { at + length out.old ≤ length (seen_behind self.old) }
+        ensures bytes { OnOk result (out.new ≡ part at (length out.old) (seen_behind self.old)) }
+        ensures seen { seen_behind self.new ≡ seen_behind self.old }
+        ensures crash { Within (left_behind self.new) (left_behind self.old) }
+        ensures crash_kept { Within (left_behind self.old) (left_behind self.new) }
+        ensures time { Elapses (calls self.old) (calls self.new) (since_behind self.old) (since_behind self.new)
+            (left_behind self.old) }
+        ensures cause { CountsFailure result (all_failures self.old) (all_failures self.new) }
+        // Beyond the trait: which calls fail, and which the device behind it has.
+        ensures fault { fault_of_disk self.new ≡ fault_of_disk self.old }
+        ensures fails { is_fault F.LATER (fault_of_disk self.old) (calls self.old + 1) ≡ true → IsErr result }
+        ensures held { is_fault F.LATER (fault_of_disk self.old) (calls self.old + 1) ≡ true → inner_of self.new ≡ inner_of self.old }
+        ensures passed { is_fault F.LATER (fault_of_disk self.old) (calls self.old + 1) ≡ false → moment_behind self.new ≡ moment_behind self.old + 1 }
+    {
+        let fails = self.is_next_fault();
+        self.away = self.away.saturating_sub(1);
+        if fails {
+            self.trace.held();
+            return Err(DiskFailed);
+        }
+        self.trace.passed();
+        self.inner.read_into(at, out)
+    }
+
+    fn write_at(&mut self, at: usize, bytes: &[u8]) -> Result<(), DiskFailed>
+        requires range { at + length bytes.now ≤ length (seen_behind self.old) }
+        ensures written { OnOk result (seen_behind self.new ≡ put at bytes.now (seen_behind self.old)) }
+        ensures size { length (seen_behind self.new) ≡ length (seen_behind self.old) }
+        ensures crash { Within (left_behind self.new) (TornFrom at (length bytes.now) (left_behind self.old)) }
+        ensures time { Elapses (calls self.old) (calls self.new) (since_behind self.old) (since_behind self.new)
+            (TornFrom at (length bytes.now) (left_behind self.old)) }
+        ensures cause { CountsFailure result (all_failures self.old) (all_failures self.new) }
+        // Beyond the trait: which calls fail, and which the device behind it has.
+        ensures fault { fault_of_disk self.new ≡ fault_of_disk self.old }
+        ensures fails { is_fault F.LATER (fault_of_disk self.old) (calls self.old + 1) ≡ true → IsErr result }
+        ensures held { is_late F.LATER (fault_of_disk self.old) (calls self.old + 1) ≡ true → inner_of self.new ≡ inner_of self.old }
+        ensures passed { is_late F.LATER (fault_of_disk self.old) (calls self.old + 1) ≡ false → moment_behind self.new ≡ moment_behind self.old + 1 }
+    {
+        if self.is_next_late() {
+            self.trace.held();
+            return Err(DiskFailed);
+        }
+        let fails = self.is_next_fault();
+        self.away = self.away.saturating_sub(1);
+        let answer = self.inner.write_at(at, bytes);
+        if fails {
+            self.trace.broken();
+            return Err(DiskFailed);
+        }
+        self.trace.passed();
+        answer
+    }
+
+    fn sync(&mut self) -> Result<(), DiskFailed>
+        ensures durable { OnOk result (Only (seen_behind self.old) (left_behind self.new)) }
+        ensures seen { seen_behind self.new ≡ seen_behind self.old }
+        ensures crash { Within (left_behind self.new) (left_behind self.old) }
+        ensures time { Elapses (calls self.old) (calls self.new) (since_behind self.old) (since_behind self.new)
+            (left_behind self.old) }
+        ensures cause { CountsFailure result (all_failures self.old) (all_failures self.new) }
+        // Beyond the trait: which calls fail, and which the device behind it has.
+        ensures fault { fault_of_disk self.new ≡ fault_of_disk self.old }
+        ensures fails { is_fault F.LATER (fault_of_disk self.old) (calls self.old + 1) ≡ true → IsErr result }
+        ensures held { is_fault F.LATER (fault_of_disk self.old) (calls self.old + 1) ≡ true → inner_of self.new ≡ inner_of self.old }
+        ensures passed { is_fault F.LATER (fault_of_disk self.old) (calls self.old + 1) ≡ false → moment_behind self.new ≡ moment_behind self.old + 1 }
+    {
+        let fails = self.is_next_fault();
+        self.away = self.away.saturating_sub(1);
+        if fails {
+            self.trace.held();
+            return Err(DiskFailed);
+        }
+        self.trace.passed();
+        self.inner.sync()
+    }
+}
