@@ -7,7 +7,7 @@ use hpb_define::read_definition;
 use hpb_prices::{Prices, downward};
 use hpb_rules::{BidderId, Command, NodeId, Offer, Refusal, Reply};
 use hpb_server::{Job, ScriptDesk, ScriptEnd, program, read_arguments, run_script, serve};
-use hpb_tree::{BidderDraft, Definition, Draft, NodeDraft, TermsDraft};
+use hpb_tree::{BidderDraft, Definition, Draft, NodeDraft, TermsDraft, Tree};
 use hpb_winners::{Outcome, upward};
 use hpb_wire::{Response, ResponseText};
 use std::alloc::{AllocError, Global};
@@ -88,25 +88,55 @@ fn books_are_made_and_copied(rt: HostRuntime) -> Result<(), Fail> {
     Ok(())
 }
 
+/// The books after a round with one bid.
+fn books_of_one_bid(alloc: Global, tree: &Tree, node: NodeId) -> Result<Books, AllocError> {
+    let mut books = Books::new(alloc, tree)?;
+    books.place(BidderId::new(1), node, 100);
+    books.fold_round();
+    Ok(books)
+}
+
+/// The revenue before and after it.
+fn revenues(alloc: Global, tree: &Tree, books: &Books) -> Result<(u64, u64), AllocError> {
+    let mut outcome = Outcome::new(alloc, tree)?;
+    let first = outcome.revenue();
+    upward(tree, books, &mut outcome);
+    Ok((first, outcome.copy(alloc)?.revenue()))
+}
+
+/// A node's price and minimum after it.
+fn price_and_minimum(
+    alloc: Global,
+    tree: &Tree,
+    books: &Books,
+    node: NodeId,
+) -> Result<(u64, u64), AllocError> {
+    let mut outcome = Outcome::new(alloc, tree)?;
+    upward(tree, books, &mut outcome);
+    let mut prices = Prices::new(alloc, tree)?;
+    downward(tree, books, &outcome, &mut prices);
+    let copy = prices.copy(alloc)?;
+    if node.place() >= tree.node_count() {
+        return Ok((0, 0));
+    }
+    Ok((copy.price(node), copy.minimum(node)))
+}
+
 #[test]
 fn outcome_and_prices_are_made_and_copied(rt: HostRuntime) -> Result<(), Fail> {
     let alloc = rt.alloc();
     let definition = read_definition(alloc, SIX_NODES.as_bytes())?;
-    let tree = definition.tree();
-    let mut books = Books::new(alloc, tree)?;
-    books.place(BidderId::new(1), NodeId::new(2), 100);
-    books.fold_round();
-    let mut outcome = Outcome::new(alloc, tree)?;
-    assert_eq!(rt; outcome.revenue(), 0);
-    upward(tree, &books, &mut outcome);
-    let mut prices = Prices::new(alloc, tree)?;
-    downward(tree, &books, &outcome, &mut prices);
-    assert_eq!(rt; outcome.copy(alloc)?.revenue(), 100);
-    let copy = prices.copy(alloc)?;
-    assert_eq!(rt; tree.node_count(), 6);
-    assert_eq!(rt; copy.price(NodeId::new(2)), 100);
-    assert_eq!(rt; copy.minimum(NodeId::new(2)), 110);
+    let (tree, node) = (definition.tree(), NodeId::new(2));
+    let books = books_of_one_bid(alloc, tree, node)?;
+    assert_eq!(rt; revenues(alloc, tree, &books)?, (0, 100));
+    assert_eq!(rt; price_and_minimum(alloc, tree, &books, node)?, (100, 110));
     Ok(())
+}
+
+/// What a command would be answered, and what it is.
+fn replies(auction: &mut Auction, command: &Command) -> (Reply, Reply) {
+    let judged = auction.judge(command);
+    (judged, auction.apply(command))
 }
 
 #[test]
@@ -114,16 +144,11 @@ fn an_auction_is_made_and_copied(rt: HostRuntime) -> Result<(), Fail> {
     let alloc = rt.alloc();
     let definition = read_definition(alloc, SIX_NODES.as_bytes())?;
     let mut auction = Auction::new(alloc, &definition)?;
-    let bid = Command::Bid {
-        bidder: BidderId::new(0),
-        ticket: 1,
-        node: NodeId::new(2),
-        amount: 100,
-    };
-    assert_eq!(rt; auction.judge(&bid), Reply::Ok(1));
-    assert_eq!(rt; auction.apply(&bid), Reply::Ok(1));
+    let bid = first_bid(BidderId::new(0), NodeId::new(2), 100);
+    assert_eq!(rt; replies(&mut auction, &bid), (Reply::Ok(1), Reply::Ok(1)));
     let mut copy = auction.copy(alloc)?;
-    assert_eq!(rt; copy.apply(&Command::Close { ticket: 1 }), Reply::Ok(2));
+    let close = Command::Close { ticket: 1 };
+    assert_eq!(rt; replies(&mut copy, &close), (Reply::Ok(2), Reply::Ok(2)));
     assert_eq!(rt; copy.revenue(), 100);
     assert_eq!(rt; auction.revenue(), 0);
     Ok(())
@@ -172,14 +197,20 @@ fn responses_are_rendered(rt: HostRuntime) -> Result<(), Fail> {
     Ok(())
 }
 
+/// What a desk of an auction without a command writes.
+fn served(alloc: Global, definition: &Definition, lines: &[u8]) -> Result<Vec<u8>, Fail> {
+    let mut desk = ScriptDesk::new(Auction::new(alloc, definition)?);
+    let mut input = lines;
+    let mut output = Vec::new(alloc);
+    serve(alloc, &mut input, &mut output, &mut desk)?;
+    Ok(output)
+}
+
 #[test]
 fn a_desk_is_served(rt: HostRuntime) -> Result<(), Fail> {
     let alloc = rt.alloc();
     let definition = read_definition(alloc, SIX_NODES.as_bytes())?;
-    let mut desk = ScriptDesk::new(Auction::new(alloc, &definition)?);
-    let mut input = b"CLOSE 1\nSHOW\n".as_slice();
-    let mut output = Vec::new(alloc);
-    serve(alloc, &mut input, &mut output, &mut desk)?;
+    let output = served(alloc, &definition, b"CLOSE 1\nSHOW\n")?;
     let wanted = b"OK 1\nROUND 1 STAGE 1 CLOSED REVENUE 0 COUNT 1\n".as_slice();
     assert_eq!(rt; output.as_slice(), wanted);
     Ok(())
