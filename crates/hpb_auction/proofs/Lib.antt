@@ -10,3 +10,4 @@ pub mod Faults
 pub mod Histories
 pub mod FirstTables
 pub mod Runs
+pub mod Proper
