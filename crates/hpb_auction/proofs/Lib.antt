@@ -11,3 +11,4 @@ pub mod Histories
 pub mod FirstTables
 pub mod Runs
 pub mod Proper
+pub mod SavedEntries

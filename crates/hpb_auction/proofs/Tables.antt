@@ -6,6 +6,7 @@ use Rattle.std.specs.List.{range_with_len}
 use Rattle.std.proofs.lemmas.List.{get_or_past}
 use Rattle.std.proofs.lemmas.List.FromFn.{get_or-map-range_with_len, length-map-range_with_len}
 use Rattle.hpb_rules.specs.Saved.{restored_last}
+use Rattle.hpb_rules.proofs.Ranges.{any_default}
 use Rattle.hpb_rules.specs.Tree.{places}
 use Rattle.hpb_rules.specs.AuctionValue.{AuctionValue, BidderState}
 use Rattle.hpb_rules.specs.Values.{node_at, no_bids, bidder_at, no_bidder}
@@ -19,12 +20,6 @@ use Rattle.hpb_auction.specs.Inside.{value_inside, booked, state_at, row_at, emp
 -- the entry at a place of a table that is made place by place
 pub entry_at : {X : Type 0} (f : ℕ → X) (n i : ℕ) (d : X) → i < n → get_or (map f (range_with_len 0 n)) i d ≡ f i
 entry_at f n i d h = get_or-map-range_with_len f 0 n i i d h (omega arith)
-
--- within a list the default doesn't matter
-any_default : {X : Type 0} (xs : List X) (i : ℕ) (d e : X) → i < length xs → get_or xs i d ≡ get_or xs i e
-any_default [] i d e h = absurd (omega arith)
-any_default (x ∷ xs) zero d e h = refl
-any_default (x ∷ xs) (suc i) d e h = any_default xs i d e (omega arith)
 
 module _ (a : Inside) where
   pub node_here : (n : ℕ) → n < length a.definition.nodes → node_at (value_inside a) n ≡ booked a.books n
