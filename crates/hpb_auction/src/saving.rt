@@ -57,7 +57,8 @@ impl Auction {
     /// Becomes what was saved.
     fn take_on(&mut self, saved: &Saved)
         requires { IsSaved self.old.rules saved.now }
-        ensures { self.new ≡ restored self.old.rules saved.now }
+        ensures value { self.new ≡ restored self.old.rules saved.now }
+        ensures again { saved_of self.new ≡ saved.now }
     {
         self.round = saved.round;
         self.stage = saved.stage;

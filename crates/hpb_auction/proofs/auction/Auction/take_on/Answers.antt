@@ -2,7 +2,7 @@ use Rattle.std.proofs.Common.{◌≡◌, ◌++◌, List, map, take, drop, length
 use Rattle.std.proofs.Math.Seq.{take-append_seam}
 use Rattle.hpb_rules.specs.AuctionValue.{AuctionValue}
 use Rattle.hpb_rules.specs.ProperValues.{IsProper}
-use Rattle.hpb_rules.specs.Saved.{restored, IsSaved}
+use Rattle.hpb_rules.specs.Saved.{saved_of, restored, IsSaved}
 use Rattle.hpb_rules.specs.Tree.{TreeRules}
 use Rattle.hpb_rules.proofs.SavedValues.{restored_is_saved}
 use Rattle.hpb_bids.specs.View.{BooksView, bid_of}
@@ -72,5 +72,8 @@ invariant_of-self c =
       };
     }
 
-pub returns : goal.returns
-returns c = seen c ∙ ap (λ (value : AuctionValue). restored value.rules c.args.saved.now) c.self.view_is
+pub returns-clause-value : goal.returns-clause-value
+returns-clause-value c = seen c ∙ ap (λ (value : AuctionValue). restored value.rules c.args.saved.now) c.self.view_is
+
+pub returns-clause-again : goal.returns-clause-again
+returns-clause-again c = ap saved_of (seen c) ∙ (restored_is_saved c.self.inside.definition c.args.saved.now c.self.invariant.accepted (sound c)).1
