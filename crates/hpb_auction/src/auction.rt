@@ -2,11 +2,11 @@ ghost use Rattle.std.specs.Prelude.{◌≡◌, ◌+◌, ◌<◌, ◌≤◌, List
 ghost use Rattle.hpb_rules.specs.declared.command.Command.{Command};
 ghost use Rattle.hpb_rules.specs.declared.limits.TheConstants.{MOST_COMMANDS};
 
-use crate::sender::{Accepted, BidderRow, bidder_rows, last_ticket};
+use crate::sender::{BidderRow, bidder_rows, last_ticket};
 use crate::views::{BidderView, NodeView};
 use hpb_bids::Books;
 use hpb_prices::Prices;
-use hpb_rules::{BidderId, NodeId};
+use hpb_rules::{Accepted, BidderId, NodeId};
 use hpb_tree::Definition;
 use hpb_units::activity;
 use hpb_winners::Outcome;
@@ -92,6 +92,22 @@ impl Auction {
             stage: self.stage,
             closed: self.closed,
         })
+    }
+
+    /// Becomes the same as another auction of the same definition. Takes no memory.
+    pub fn copy_from(&mut self, other: &Auction)
+        requires { self.old.rules ≡ other.now.rules }
+        ensures { self.new ≡ other.now }
+    {
+        self.books.copy_from(&other.books);
+        self.outcome.copy_from(&other.outcome);
+        self.prices.copy_from(&other.prices);
+        self.bidders.copy_from_slice(other.bidders.as_slice());
+        self.auctioneer = other.auctioneer;
+        self.count = other.count;
+        self.round = other.round;
+        self.stage = other.stage;
+        self.closed = other.closed;
     }
 
     /// What the auction is of.

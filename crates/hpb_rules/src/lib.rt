@@ -6,12 +6,14 @@
 #![tactic(auto)]
 
 mod command;
+mod few;
 mod id;
 mod laws;
 mod laws_of_history;
 mod laws_of_letters;
 mod laws_of_machine;
 mod laws_of_rounds;
+mod laws_of_saved;
 mod laws_of_text;
 mod laws_of_values;
 mod letter;
@@ -23,6 +25,7 @@ mod request;
 mod saved;
 
 pub use command::{Command, Offer};
+pub use few::{Answers, Blank, Commands, Few, Letters};
 pub use id::{BidderId, NodeId};
 pub use laws::{
     accepted_is_definition, best_is_one, carried_is_share, certificates, cover_proves,
@@ -40,6 +43,7 @@ pub use laws_of_rounds::{
     close_takes_greater, eligibility_is_greatest, greatest_is_first, high_is_greatest,
     incoming_is_greatest, over_is_quiet_round, rounds_are_cut,
 };
+pub use laws_of_saved::{next_is_proper, restored_is_saved, saved_is_restored, shown_is_proper};
 pub use laws_of_text::{
     lines_keep_history, lines_text_joins, names_are_found, number_is_one, request_is_one,
     script_text_grows, script_text_is_one, spelling_is_one, words_are,
@@ -51,9 +55,9 @@ pub use letter::{Answer, Letter};
 pub use licence::Terms;
 pub use limits::{
     LEAST_PERCENTAGE, MOST_AMOUNT, MOST_BIDDER_UNITS, MOST_BIDDERS, MOST_COMMANDS,
-    MOST_DEFINITION_BYTES, MOST_LEVELS, MOST_LICENCE_OPENING, MOST_LICENCE_UNITS, MOST_LICENCES,
-    MOST_LINE_BYTES, MOST_NAME_BYTES, MOST_NODES, MOST_PERCENT, MOST_PERCENTAGE, MOST_READ_BYTES,
-    MOST_STAGES, MOST_STEP,
+    MOST_DEFINITION_BYTES, MOST_LETTERS, MOST_LEVELS, MOST_LICENCE_OPENING, MOST_LICENCE_UNITS,
+    MOST_LICENCES, MOST_LINE_BYTES, MOST_NAME_BYTES, MOST_NODES, MOST_PERCENT, MOST_PERCENTAGE,
+    MOST_READ_BYTES, MOST_STAGES, MOST_STEP,
 };
 pub use refusal::Refusal;
 pub use reply::Reply;
