@@ -84,6 +84,9 @@ pub length-rest : (k : ℕ) (bytes : List ℕ) → length (rest k bytes) ≡ len
 unfolding rest
 length-rest k bytes = length-drop k bytes
 
+-- the fields at the front of what is spelled
+pub ruleset fields = (leading-number, rest-number)
+
 pub number-zero : (k : ℕ) → number k 0 ≡ replicate k 0
 unfolding number
 number-zero zero = refl
