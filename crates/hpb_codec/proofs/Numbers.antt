@@ -9,7 +9,7 @@ use Rattle.std.specs.Prelude.{EachIndex}
 use Rattle.std.proofs.lemmas.Nat.{div-add-mod', mod_below, mul-add-lt, mod-mul-add}
 use Rattle.std.proofs.Math.Nat.{add-mul, mul_assoc, one-le-pow, pow-succ', mod-eq_of_lt, zero-div, div-one}
 use Rattle.hpb_codec.specs.Sizes.{length-number}
-use Rattle.hpb_codec.specs.Numbers.{number, value, value_from, leading, rest, before}
+use Rattle.hpb_codec.specs.Numbers.{number, filled, value, value_from, leading, rest, before}
 
 -- a byte
 pub value_1 : (bytes : List ℕ) → 1 ≤ length bytes → leading 1 bytes ≡ get_or bytes 0 0
@@ -105,6 +105,18 @@ whole out old text n e len = sym (take_all n out (omega arith)) ∙ e
 
 pub whole_of : (out old text : List ℕ) (n m : ℕ) → before m out ≡ before 0 old ++ text → length out ≡ n → m ≡ n → out ≡ text
 whole_of out old text n m e len same = whole out old text n (ap (λ (k : ℕ). before k out) (sym same) ∙ e) len
+
+pub before_none : (bytes : List ℕ) → before 0 bytes ≡ []
+unfolding before
+before_none bytes = refl
+
+-- what is filled up with zeros
+pub filled_is : (out old : List ℕ) (at left : ℕ) → before (at + left) out ≡ before at old ++ number left 0 → at + left ≡ length old → length out ≡ length old → out ≡ filled (length old) (before at old)
+unfolding filled before
+filled_is out old at left e all len =
+    let short : length (take at old) ≡ at = omega (arith, length-take at old) in
+    let rest : length old - length (take at old) ≡ left = omega (arith, short) in
+    sym (take_all (at + left) out (omega arith)) ∙ e ∙ ap (λ (k : ℕ). take at old ++ number k 0) (sym rest)
 
 -- bytes that are zero are the number 0
 pub zeros_are : (bytes : List ℕ) → EachIndex bytes (λ k. get_or bytes k 0 ≡ 0) → bytes ≡ number (length bytes) 0

@@ -1,5 +1,5 @@
 -- Numbers as bytes. All numbers of the formats are written with their greatest byte first.
-use Rattle.std.specs.Prelude.{ℕ, zero, suc, ◌+◌, ◌*◌, ◌/◌, ◌%◌, ◌^◌, List, [], ◌∷◌, take, drop}
+use Rattle.std.specs.Prelude.{ℕ, zero, suc, ◌+◌, ◌-◌, ◌*◌, ◌/◌, ◌%◌, ◌^◌, List, [], ◌∷◌, ◌++◌, length, take, drop}
 
 -- A number in k bytes.
 unfoldable pub number : ℕ → ℕ → List ℕ
@@ -9,6 +9,10 @@ number (suc k) n = n / 256 ^ k % 256 ∷ number k n
 -- So many zero bytes.
 abbrev pub zeros : ℕ → List ℕ
 zeros k = number k 0
+
+-- Bytes, and zero bytes behind them up to a size.
+unfoldable pub filled : ℕ → List ℕ → List ℕ
+filled size bytes = bytes ++ zeros (size - length bytes)
 
 -- The number that bytes are, where n stands before them.
 unfoldable pub value_from : ℕ → List ℕ → ℕ

@@ -6,14 +6,16 @@
 //! reader fail in any other way.
 #![tactic(auto)]
 
+mod batch;
 mod reader;
 mod record;
 mod table;
 mod writer;
 
+pub use batch::{BATCH_SIZE, Batch, decode_batch, encode_batch};
 pub use reader::{
     front_bytes, front_u8, front_u16, front_u32, front_u64, front_u128, is_same, is_zero,
 };
 pub use record::RECORD_SIZE;
 pub use table::{Entry, put_table, read_table};
-pub use writer::{put_bytes, put_u8, put_u16, put_u32, put_u64, put_u128, put_zeros};
+pub use writer::{fill_zeros, put_bytes, put_u8, put_u16, put_u32, put_u64, put_u128, put_zeros};

@@ -30,7 +30,7 @@ fn put_fields(
     amount: u64,
 ) -> usize
     requires { at + 16 ≤ length out.old }
-    ensures written { before (at + 16) out.new ≡ before at out.old ++ record_fields kind bidder node ticket amount }
+    ensures written { before result out.new ≡ before at out.old ++ record_fields kind bidder node ticket amount }
     ensures next { result ≡ at + 16 }
 {
     let at = put_u8(out, at, kind);

@@ -19,7 +19,7 @@ pub trait Entry: Copy {
     /// Writes the bytes, and answers the place behind them.
     fn put(&self, out: &mut [u8], at: usize) -> usize
         requires { at + SIZE ≤ length out.old }
-        ensures written { before (at + SIZE) out.new ≡ before at out.old ++ spelling self.now }
+        ensures written { before result out.new ≡ before at out.old ++ spelling self.now }
         ensures next { result ≡ at + SIZE };
 
     /// The value that the bytes spell, if they spell one.
@@ -33,7 +33,7 @@ pub trait Entry: Copy {
 /// Writes entries one behind the other, and answers the place behind them.
 pub fn put_table<T: Entry>(out: &mut [u8], at: usize, table: &[T]) -> usize
     requires { at + length table.now * T.SIZE ≤ length out.old }
-    ensures written { before (at + length table.now * T.SIZE) out.new ≡ before at out.old ++ flat_map T.spelling table.now }
+    ensures written { before result out.new ≡ before at out.old ++ flat_map T.spelling table.now }
     ensures next { result ≡ at + length table.now * T.SIZE }
 {
     let mut next = at;
