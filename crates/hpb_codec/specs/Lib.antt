@@ -1,5 +1,6 @@
 pub mod Batches
 pub mod BidderEntries
+pub mod Laws
 pub mod NodeEntries
 pub mod Numbers
 pub mod Records

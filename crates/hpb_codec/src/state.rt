@@ -1,8 +1,9 @@
 //! The body of a slot: a state.
-ghost use Rattle.std.specs.Prelude.{◌≡◌, ℕ, List, Some, IfSome, IsSomeAnd, length};
+ghost use Rattle.std.specs.Prelude.{◌≡◌, ◌<◌, ℕ, List, Some, IfSome, IsSomeAnd, length};
 ghost use Rattle.hpb_rules.specs.declared.saved.Saved.{Saved};
 ghost use Rattle.hpb_codec.specs.Numbers.{filled};
-ghost use Rattle.hpb_codec.specs.declared.state.TheConstants.{STATE_SIZE};
+ghost use Rattle.hpb_codec.specs.declared.state.TheConstants.{CHUNKS, CHUNK_SIZE, STATE_SIZE};
+ghost use Rattle.hpb_codec.specs.Laws.{chunk_of};
 ghost use Rattle.hpb_codec.specs.States.{head_in, state_fields, state_of, HasState};
 
 use crate::bidder_entry::BIDDER_SIZE;
@@ -83,4 +84,23 @@ fn read_state(bytes: &[u8], saved: &mut Saved) -> Option<u64>
     saved.count = head.count;
     saved.auctioneer = head.auctioneer;
     Some(head.index)
+}
+
+/// How many chunks a body has, of a page each.
+pub const CHUNKS: usize = 4;
+
+/// How many bytes a chunk has.
+pub const CHUNK_SIZE: usize = 4_096;
+
+/// Chunk i of a body, from 0: the bytes that one write brings to a device.
+#[tactic(auto, unfolding(crate::specs::Laws::chunk_of))]
+pub fn chunk(body: &[u8], i: usize) -> &[u8]
+    requires body { length body.now ≡ STATE_SIZE }
+    requires chunk { i < CHUNKS }
+    ensures value { result.now ≡ chunk_of i body.now }
+    ensures size { length result.now ≡ CHUNK_SIZE }
+{
+    let (_, rest) = body.split_at(i * CHUNK_SIZE);
+    let (chunk, _) = rest.split_at(CHUNK_SIZE);
+    chunk
 }
