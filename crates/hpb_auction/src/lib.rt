@@ -5,6 +5,8 @@ mod applying;
 mod auction;
 mod judging;
 mod running;
+mod saved_tests;
+mod saving;
 mod sender;
 mod verdict;
 mod views;
