@@ -1,5 +1,5 @@
 -- Bytes spell at most one value.
-use Rattle.std.proofs.Common.{◌≡◌, ℕ, ◌+◌, ◌-◌, ◌*◌, ◌^◌, ◌<◌, List, [], ◌∷◌, ◌++◌, Option, Some, None, Bool, true, false, length, refl, sym, ap, ◌∙◌, arith}
+use Rattle.std.proofs.Common.{◌≡◌, ℕ, ◌-◌, ◌*◌, ◌^◌, ◌<◌, List, [], ◌∷◌, ◌++◌, Option, Some, None, Bool, true, false, length, refl, sym, ap, ◌∙◌, arith}
 use Rattle.std.specs.List.{flat_map, AllByRecursion}
 use Rattle.std.proofs.lemmas.List.Concat.{flat_map-cons}
 use Rattle.hpb_rules.specs.declared.command.Command.{Command}
@@ -9,7 +9,6 @@ use Rattle.hpb_rules.specs.declared.saved.Accepted.{Accepted}
 use Rattle.hpb_rules.specs.declared.saved.SavedBidder.{SavedBidder}
 use Rattle.hpb_rules.specs.declared.saved.SavedNode.{SavedNode}
 use Rattle.hpb_codec.specs.Numbers.{number}
-use Rattle.hpb_codec.specs.Sizes.{length-number}
 use Rattle.hpb_codec.specs.Records.{record_fields, record_of, record_sized, HasRecord}
 use Rattle.hpb_codec.specs.NodeEntries.{amount_or_zero, bidder_or_zero, node_entry, HasBid, HasNodeEntry}
 use Rattle.hpb_codec.specs.BidderEntries.{bidder_entry, last_number, last_record, last_record_sized, last_ticket, HasBidderEntry, HasLast}
