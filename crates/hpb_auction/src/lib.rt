@@ -13,4 +13,5 @@ mod views;
 
 pub use auction::Auction;
 pub use running::{Run, run_commands};
+pub use saved_tests::is_saved;
 pub use views::{BidderView, NodeView};

@@ -224,7 +224,7 @@ fn is_bidder(
 }
 
 /// Whether what was saved may be restored under the definition.
-pub(crate) fn is_saved(saved: &Saved, definition: &Definition) -> bool
+pub fn is_saved(saved: &Saved, definition: &Definition) -> bool
     ensures found { IsTrue result → IsSaved definition.now saved.now }
     ensures only { IsSaved definition.now saved.now → IsTrue result }
 {

@@ -1,0 +1,9 @@
+pub mod Batches
+pub mod Chunks
+pub mod Fronts
+pub mod Lasts
+pub mod Numbers
+pub mod OneToOne
+pub mod Sound
+pub mod States
+pub mod Tables
