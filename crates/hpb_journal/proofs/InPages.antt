@@ -5,7 +5,7 @@ use Rattle.hpb_rules.specs.Tree.{Rules}
 use Rattle.hpb_codec.specs.Numbers.{leading}
 use Rattle.hpb_codec.specs.declared.batch.Batch.{Batch}
 use Rattle.hpb_codec.specs.Batches.{SpellsBatch}
-use Rattle.hpb_codec.specs.BatchLaws.{BatchBegins}
+use Rattle.hpb_codec.specs.Laws.{BatchBegins}
 use Rattle.hpb_disk.specs.Gates.{open_byte}
 use Rattle.hpb_disk.specs.Images.{part}
 use Rattle.hpb_journal.specs.declared.frame.Frame.{Frame}

@@ -12,7 +12,7 @@ returns c =
       room = omega arith;
       behind = λ b old new same. record { gate = same (page (b % count)) 1 (omega arith); body = same (page (b % count) + 16) 4080 (omega arith) };
       shared = λ b other image same. (ap (λ (n : ℕ). part (page n) 1 image) same, ap (λ (n : ℕ). part (page n + 16) 4080 image) same);
-      one = c.batch_is_one.ensures;
+      one = λ rules bytes. (c.batches_are_one.ensures rules).one_value bytes;
       indexed = c.batch_begins.ensures;
       is_batch = λ rules bytes batch spells. spells.is;
     }
