@@ -10,6 +10,8 @@ mod laws;
 mod limits;
 mod page;
 mod pages;
+#[cfg(test)]
+mod tests;
 
 pub use frame::Frame;
 pub use frames::Frames;

@@ -2,9 +2,6 @@
 use Rattle.std.proofs.Common.{inl, inr, ℕ, List, arith}
 use Rattle.hpb_disk.specs.Images.{Within, Elapses, LeavesOnly}
 
-pub one_read : (before now : ℕ) (past since : ℕ → List ℕ → Type 0) (was left : List ℕ → Type 0) → Elapses before now past since was → Within left was → LeavesOnly before now past since left was
-one_read before now past since was left time crash = record { later = omega (arith, time.next); nothing_else = time.nothing_else; keeps = time.keeps; after = crash }
-
 -- More reads, which leave no other images.
 pub more_reads : (before mid now : ℕ) (past then since : ℕ → List ℕ → Type 0) (was left last : List ℕ → Type 0)
     → LeavesOnly before mid past then left was → LeavesOnly mid now then since last left → LeavesOnly before now past since last was
