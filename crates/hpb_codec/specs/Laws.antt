@@ -2,7 +2,9 @@
 use Rattle.std.specs.Prelude.{◌≡◌, ℕ, ◌*◌, List, ◌++◌, length, take, drop}
 use Rattle.hpb_rules.specs.declared.saved.Saved.{Saved}
 use Rattle.hpb_rules.specs.Tree.{Rules}
+use Rattle.hpb_codec.specs.declared.batch.Batch.{Batch}
 use Rattle.hpb_codec.specs.Batches.{SpellsBatch}
+use Rattle.hpb_codec.specs.Numbers.{leading}
 use Rattle.hpb_codec.specs.Records.{SpellsRecord}
 use Rattle.hpb_codec.specs.States.{SpellsState}
 
@@ -18,6 +20,10 @@ RecordsAreOne = IsOneToOne SpellsRecord
 -- So it is of the bodies of frames.
 abbrev pub BatchesAreOne : Type 0
 BatchesAreOne = (rules : Rules) → IsOneToOne (SpellsBatch rules)
+
+-- Such a body begins with the batch's index.
+abbrev pub BatchBegins : Type 0
+BatchBegins = (rules : Rules) (bytes : List ℕ) (batch : Batch) → SpellsBatch rules bytes batch → leading 8 bytes ≡ batch.index
 
 -- So it is of the bodies of slots, which spell what is saved and a batch index.
 abbrev pub StatesAreOne : Type 0

@@ -1,0 +1,5 @@
+pub mod Slots
+pub mod Changes
+pub mod Newest
+pub mod Laws
+pub mod Reading
