@@ -19,6 +19,7 @@ limits_are = record {
   bidder_units = refl;
   amount = refl;
   commands = refl;
+  letters = refl;
   line_bytes = refl;
   spelled_line_bytes = refl;
   definition_bytes = refl;

@@ -15,6 +15,7 @@ pub mod AuctionValue
 pub mod Values
 pub mod ValueText
 pub mod ValueLaws
+pub mod Saved
 pub mod Letters
 pub mod LetterLaws
 pub mod Machine

@@ -6,6 +6,7 @@
 #![tactic(auto)]
 
 mod command;
+mod few;
 mod id;
 mod laws;
 mod laws_of_history;
@@ -23,6 +24,7 @@ mod request;
 mod saved;
 
 pub use command::{Command, Offer};
+pub use few::{Answers, Blank, Commands, Few, Letters};
 pub use id::{BidderId, NodeId};
 pub use laws::{
     accepted_is_definition, best_is_one, carried_is_share, certificates, cover_proves,
@@ -51,9 +53,9 @@ pub use letter::{Answer, Letter};
 pub use licence::Terms;
 pub use limits::{
     LEAST_PERCENTAGE, MOST_AMOUNT, MOST_BIDDER_UNITS, MOST_BIDDERS, MOST_COMMANDS,
-    MOST_DEFINITION_BYTES, MOST_LEVELS, MOST_LICENCE_OPENING, MOST_LICENCE_UNITS, MOST_LICENCES,
-    MOST_LINE_BYTES, MOST_NAME_BYTES, MOST_NODES, MOST_PERCENT, MOST_PERCENTAGE, MOST_READ_BYTES,
-    MOST_STAGES, MOST_STEP,
+    MOST_DEFINITION_BYTES, MOST_LETTERS, MOST_LEVELS, MOST_LICENCE_OPENING, MOST_LICENCE_UNITS,
+    MOST_LICENCES, MOST_LINE_BYTES, MOST_NAME_BYTES, MOST_NODES, MOST_PERCENT, MOST_PERCENTAGE,
+    MOST_READ_BYTES, MOST_STAGES, MOST_STEP,
 };
 pub use refusal::Refusal;
 pub use reply::Reply;

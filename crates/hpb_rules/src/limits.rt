@@ -43,6 +43,9 @@ pub const MOST_AMOUNT: u64 = 1_000_000_000_000;
 /// How many commands an auction accepts at most (`docs/RULES.md`, "Rounds, and the end").
 pub const MOST_COMMANDS: u32 = 1_000_000;
 
+/// How many letters are judged together at most, and so how many commands a batch has at most.
+pub const MOST_LETTERS: usize = 64;
+
 /// How many bytes a line has at most before its line feed (`docs/PROTOCOL.md`, "Lines").
 pub const MOST_LINE_BYTES: usize = 128;
 

@@ -1,0 +1,4 @@
+pub mod Batches
+pub mod Fronts
+pub mod Numbers
+pub mod Tables

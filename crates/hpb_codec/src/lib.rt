@@ -1,0 +1,21 @@
+//! The bytes of what a device keeps. Each table of the formats is a file of `specs/`, which says what its bytes are, and
+//! one of `src/`, which writes and reads them.
+//!
+//! A reader gives the value that the bytes spell, and `None` exactly where they spell none; a writer gives the one
+//! spelling of a value, the unused bytes as zero. Nothing is taken from a length that bytes claim, and no bytes make a
+//! reader fail in any other way.
+#![tactic(auto)]
+
+mod batch;
+mod reader;
+mod record;
+mod table;
+mod writer;
+
+pub use batch::{BATCH_SIZE, Batch, decode_batch, encode_batch};
+pub use reader::{
+    front_bytes, front_u8, front_u16, front_u32, front_u64, front_u128, is_same, is_zero,
+};
+pub use record::RECORD_SIZE;
+pub use table::{Entry, put_table, read_table};
+pub use writer::{fill_zeros, put_bytes, put_u8, put_u16, put_u32, put_u64, put_u128, put_zeros};

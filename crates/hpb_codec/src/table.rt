@@ -1,0 +1,64 @@
+//! Tables of entries that stand one behind the other, each in the same number of bytes.
+ghost use Rattle.std.specs.Prelude.{◌≡◌, ◌↔◌, ◌≤◌, ◌+◌, ◌*◌, ◌++◌, ℕ, List, Some, IsTrue, length};
+ghost use Rattle.std.specs.List.{flat_map, AllByRecursion};
+ghost use Rattle.hpb_codec.specs.Numbers.{before};
+
+/// A value that is spelled in a fixed number of bytes.
+pub trait Entry: Copy {
+    /// How many bytes spell it.
+    const SIZE: usize;
+
+    ghost SIZE: { ℕ };
+
+    /// The bytes that spell a value.
+    ghost spelling: { Self → List ℕ };
+
+    /// What has a spelling.
+    ghost fits: { Self → Type 0 };
+
+    /// Writes the bytes, and answers the place behind them.
+    fn put(&self, out: &mut [u8], at: usize) -> usize
+        requires { at + SIZE ≤ length out.old }
+        ensures written { before result out.new ≡ before at out.old ++ spelling self.now }
+        ensures next { result ≡ at + SIZE };
+
+    /// The value that the bytes spell, if they spell one.
+    fn read(bytes: &[u8]) -> Option<Self>
+        requires { length bytes.now ≡ SIZE }
+        ensures { (value : Self) → result ≡ Some value ↔ (fits value × (bytes.now ≡ spelling value)) };
+
+    ghost sized: { (value : Self) → length (spelling value) ≡ SIZE };
+}
+
+/// Writes entries one behind the other, and answers the place behind them.
+pub fn put_table<T: Entry>(out: &mut [u8], at: usize, table: &[T]) -> usize
+    requires { at + length table.now * T.SIZE ≤ length out.old }
+    ensures written { before result out.new ≡ before at out.old ++ flat_map T.spelling table.now }
+    ensures next { result ≡ at + length table.now * T.SIZE }
+{
+    let mut next = at;
+    for entry in table {
+        next = entry.put(out, next);
+    }
+    next
+}
+
+/// Reads entries that stand one behind the other, as many as there is room for. Answers whether the bytes spell so many;
+/// where they don't, what stands in the table is of no use.
+pub fn read_table<T: Entry>(bytes: &[u8], table: &mut [T]) -> bool
+    requires { length bytes.now ≡ length table.old * T.SIZE }
+    ensures found { IsTrue result → AllByRecursion T.fits table.new × (bytes.now ≡ flat_map T.spelling table.new) }
+    ensures only { (values : List T) → length values ≡ length table.old → AllByRecursion T.fits values
+        → bytes.now ≡ flat_map T.spelling values → IsTrue result × (table.new ≡ values) }
+{
+    let mut rest = bytes;
+    for place in table.iter_mut() {
+        let (front, after) = rest.split_at(T::SIZE);
+        match T::read(front) {
+            Some(value) => *place = value,
+            None => return false,
+        }
+        rest = after;
+    }
+    true
+}
