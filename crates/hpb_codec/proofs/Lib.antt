@@ -1,4 +1,6 @@
 pub mod Batches
 pub mod Fronts
+pub mod Lasts
 pub mod Numbers
+pub mod States
 pub mod Tables

@@ -1,4 +1,7 @@
 pub mod Batches
+pub mod BidderEntries
+pub mod NodeEntries
 pub mod Numbers
 pub mod Records
 pub mod Sizes
+pub mod States
