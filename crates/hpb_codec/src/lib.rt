@@ -15,6 +15,8 @@ mod record;
 mod state;
 mod state_head;
 mod table;
+#[cfg(test)]
+mod tests;
 mod writer;
 
 pub use batch::{BATCH_SIZE, Batch, decode_batch, encode_batch};
