@@ -5,12 +5,12 @@ use Rattle.hpb_rules.specs.Tree.{Rules}
 use Rattle.hpb_disk.specs.Images.{part}
 use Rattle.hpb_disk.specs.Gates.{HasOpenGate}
 use Rattle.hpb_codec.specs.declared.state.TheConstants.{STATE_SIZE}
-use Rattle.hpb_image.specs.declared.limits.TheConstants.{PAGE_BYTES, HEAD_BYTES, SLOT_BYTES, SLOTS}
+use Rattle.hpb_image.specs.declared.limits.TheConstants.{PAGE_BYTES, SLOTS_AT, SLOT_BYTES, SLOTS}
 use Rattle.hpb_codec.specs.States.{SpellsState}
 
 -- Where a slot begins, with the page of its gate.
 abbrev pub slot_at : ℕ → ℕ
-slot_at slot = HEAD_BYTES + SLOT_BYTES * slot
+slot_at slot = SLOTS_AT + SLOT_BYTES * slot
 
 -- Its body: the four pages behind.
 abbrev pub slot_body : ℕ → List ℕ → List ℕ

@@ -6,7 +6,13 @@
 #![tactic(auto)]
 
 mod flaw;
+mod laws;
 mod limits;
 
 pub use flaw::Flaw;
-pub use limits::{HEAD_BYTES, LEAST_PAGES, MAGIC_AT, MAGIC_BYTES, PAGE_BYTES, SLOT_BYTES, SLOTS};
+pub use laws::{
+    flaw_is_one, read_is_flawless, read_is_shown, reading_is_one, stands_for_one, stands_is_read,
+};
+pub use limits::{
+    HEAD_AT, HEAD_BYTES, LEAST_PAGES, MAGIC_BYTES, PAGE_BYTES, SLOT_BYTES, SLOTS, SLOTS_AT,
+};

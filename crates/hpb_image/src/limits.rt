@@ -4,14 +4,17 @@ pub const PAGE_BYTES: usize = 4_096;
 /// A formatted device has at least so many pages.
 pub const LEAST_PAGES: usize = 17;
 
-/// The bytes of the first three pages: head, nodes and bidders.
-pub const HEAD_BYTES: usize = 12_288;
+/// Where the head begins, behind its gate.
+pub const HEAD_AT: usize = 16;
 
-/// Where the magic stands in the head.
-pub const MAGIC_AT: usize = 16;
+/// The bytes of the head, to the end of the third page.
+pub const HEAD_BYTES: usize = 12_272;
 
-/// The bytes of the magic.
+/// The bytes of the text that a head begins with.
 pub const MAGIC_BYTES: usize = 8;
+
+/// Where the first slot begins, behind the head.
+pub const SLOTS_AT: usize = 12_288;
 
 /// The bytes of a slot: a page with its gate, and four of its body.
 pub const SLOT_BYTES: usize = 20_480;
