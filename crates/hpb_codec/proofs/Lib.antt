@@ -1,4 +1,5 @@
 pub mod Batches
 pub mod Fronts
 pub mod Numbers
+pub mod OneBatch
 pub mod Tables

@@ -1,3 +1,4 @@
+pub mod BatchLaws
 pub mod Batches
 pub mod Numbers
 pub mod Records

@@ -7,12 +7,14 @@
 #![tactic(auto)]
 
 mod batch;
+mod batch_laws;
 mod reader;
 mod record;
 mod table;
 mod writer;
 
 pub use batch::{BATCH_SIZE, Batch, decode_batch, encode_batch};
+pub use batch_laws::{batch_begins, batch_is_one};
 pub use reader::{
     front_bytes, front_u8, front_u16, front_u32, front_u64, front_u128, is_same, is_zero,
 };
