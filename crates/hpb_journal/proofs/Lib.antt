@@ -1,0 +1,3 @@
+pub mod Containing
+pub mod PageRegions
+pub mod InPages

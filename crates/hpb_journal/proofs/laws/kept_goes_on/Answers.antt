@@ -1,0 +1,5 @@
+use Rattle.hpb_journal.proofs.Containing as containing
+use Rattle.hpb_journal.proofs.laws.kept_goes_on.Goals as goal
+
+pub returns : goal.returns
+returns g c rules = containing.kept_goes_on (g.F.Frames.layout c.args._frames.now) rules

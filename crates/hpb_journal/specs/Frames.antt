@@ -1,0 +1,59 @@
+-- What the frames of an image say.
+use Rattle.std.specs.Prelude.{◌≡◌, ◌≢◌, ℕ, suc, ◌+◌, List, [], ◌∷◌, ◌++◌, length}
+use Rattle.hpb_rules.specs.Tree.{Rules}
+use Rattle.hpb_rules.specs.declared.command.Command.{Command}
+use Rattle.hpb_codec.specs.declared.batch.Batch.{Batch}
+use Rattle.hpb_disk.specs.Gates.{open_byte}
+use Rattle.hpb_journal.specs.declared.frame.Frame.{Frame}
+use Rattle.hpb_journal.specs.declared.frame.Frame.TheVariants as frames
+use Rattle.hpb_journal.specs.Layouts.{Layout}
+
+-- The gate of the frame is open.
+abbrev pub IsOpen : Layout → ℕ → List ℕ → Type 0
+IsOpen layout b image = layout.gate b image ≡ open_byte
+
+-- It has any other value.
+abbrev pub IsClosed : Layout → ℕ → List ℕ → Type 0
+IsClosed layout b image = layout.gate b image ≢ open_byte
+
+-- The body of the batch's frame has the batch's index.
+abbrev pub HasIndex : Layout → ℕ → List ℕ → Type 0
+HasIndex layout b image = layout.index (layout.body b image) ≡ b
+
+-- The body of the batch's frame spells the batch.
+abbrev pub Says : Layout → Rules → Batch → List ℕ → Type 0
+Says layout rules batch image = layout.spells rules (layout.body batch.index image) batch
+
+-- The frame is open with this index.
+abbrev pub IsOwn : Layout → ℕ → List ℕ → Type 0
+IsOwn layout b image = IsOpen layout b image × HasIndex layout b image
+
+-- The batch of this index has these commands, the first of which has this number.
+abbrev pub batch_at : ℕ → ℕ → List Command → Batch
+batch_at index first commands = record { index = index; first = first; commands = commands }
+
+-- The frame is open and spells these commands.
+abbrev pub IsFrame : Layout → Rules → ℕ → ℕ → List Command → List ℕ → Type 0
+IsFrame layout rules b first commands image = IsOpen layout b image × Says layout rules (batch_at b first commands) image
+
+-- From an index on the frames spell these batches, in order, numbered on from a number: what a journal contains.
+abbrev pub Kept : Layout → Rules → ℕ → ℕ → List (List Command) → List ℕ → Type 0
+Kept layout rules index first [] image = Unit {0}
+Kept layout rules index first (commands ∷ batches) image =
+    IsFrame layout rules index first commands image × Kept layout rules (suc index) (first + length commands) batches image
+
+-- The commands of these batches, in order.
+abbrev pub joined : List (List Command) → List Command
+joined [] = []
+joined (commands ∷ batches) = commands ++ joined batches
+
+-- What a reader is told of a frame.
+abbrev pub IsRead : Layout → Rules → ℕ → List ℕ → Frame → Type 0
+-- the gate isn't open
+IsRead layout rules b image frames.Closed = IsClosed layout b image
+-- it is open with another index
+IsRead layout rules b image frames.Other = IsOpen layout b image × (HasIndex layout b image → ⊥)
+-- it is open with this index and spells the batch
+IsRead layout rules b image (frames.Batch batch) = (batch.index ≡ b) × IsFrame layout rules b batch.first batch.commands image
+-- it is open with this index and spells none
+IsRead layout rules b image frames.Damaged = IsOwn layout b image × ((first : ℕ) (commands : List Command) → IsFrame layout rules b first commands image → ⊥)

@@ -1,0 +1,52 @@
+-- A layout says where the frames of a journal stand on a device, and what their bytes say.
+use Rattle.std.specs.Prelude.{◌≡◌, ◌≢◌, ℕ, ◌+◌, ◌%◌, ◌≤◌, List}
+use Rattle.hpb_rules.specs.Tree.{Rules}
+use Rattle.hpb_codec.specs.declared.batch.Batch.{Batch}
+use Rattle.hpb_codec.specs.Batches.{IsBatch}
+use Rattle.hpb_disk.specs.Images.{part}
+use Rattle.hpb_journal.specs.declared.limits.TheConstants.{JOURNAL_AT, LEAST_FRAMES, MOST_FRAMES}
+
+-- The frame of a batch is named by the batch's index: a frame serves many batches, one after another.
+pub record Layout : Type 1 where
+  -- how many frames there are, and how many bytes a device has
+  pub count : ℕ
+  pub size : ℕ
+  -- the bytes of a frame's gate, and those of its body, in an image
+  pub gate : ℕ → List ℕ → List ℕ
+  pub body : ℕ → List ℕ → List ℕ
+  -- the index that a body has, whether it spells a batch or not
+  pub index : List ℕ → ℕ
+  -- that a body spells a batch under a definition
+  pub spells : Rules → List ℕ → Batch → Type 0
+
+-- Two batches have frames of their own.
+abbrev pub AreApart : Layout → ℕ → ℕ → Type 0
+AreApart layout b other = b % layout.count ≢ other % layout.count
+
+-- The frame of a batch has the same bytes in both images.
+pub record SameFrame (layout : Layout) (b : ℕ) (old new : List ℕ) : Type 0 where
+  pub gate : layout.gate b new ≡ layout.gate b old
+  pub body : layout.body b new ≡ layout.body b old
+
+-- Both images have the same bytes before this offset.
+abbrev pub SameBefore : ℕ → List ℕ → List ℕ → Type 0
+SameBefore end old new = (at many : ℕ) → at + many ≤ end → part at many new ≡ part at many old
+
+-- Both images have the same bytes from this offset on.
+abbrev pub SameFrom : ℕ → List ℕ → List ℕ → Type 0
+SameFrom start old new = (at many : ℕ) → start ≤ at → part at many new ≡ part at many old
+
+-- What is so of each layout.
+pub record IsLayout (layout : Layout) : Type 0 where
+  pub least : LEAST_FRAMES ≤ layout.count
+  pub most : layout.count ≤ MOST_FRAMES
+  -- Before the frames there is room for what isn't of the journal, and the frames don't reach into it.
+  pub room : JOURNAL_AT ≤ layout.size
+  pub behind : (b : ℕ) (old new : List ℕ) → SameFrom JOURNAL_AT old new → SameFrame layout b old new
+  -- Batches whose indexes are equal modulo the number of frames have one frame.
+  pub shared : (b other : ℕ) (image : List ℕ) → b % layout.count ≡ other % layout.count
+      → (layout.gate b image ≡ layout.gate other image) × (layout.body b image ≡ layout.body other image)
+  -- A body spells one batch at most, and has the batch's index.
+  pub one : (rules : Rules) (bytes : List ℕ) (batch other : Batch) → layout.spells rules bytes batch → layout.spells rules bytes other → batch ≡ other
+  pub indexed : (rules : Rules) (bytes : List ℕ) (batch : Batch) → layout.spells rules bytes batch → layout.index bytes ≡ batch.index
+  pub is_batch : (rules : Rules) (bytes : List ℕ) (batch : Batch) → layout.spells rules bytes batch → IsBatch rules batch

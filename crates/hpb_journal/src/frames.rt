@@ -1,0 +1,97 @@
+//! The frames of a journal.
+ghost use Rattle.std.specs.Prelude.{◌≡◌, ◌≤◌, length, true, false, OnOk, IfOk};
+ghost use Rattle.hpb_rules.specs.Tree.{Rules};
+ghost use Rattle.hpb_codec.specs.Batches.{IsBatch};
+ghost use Rattle.hpb_disk.specs.Images.{Within, Elapses, CountsFailure};
+ghost use Rattle.hpb_journal.specs.Layouts.{Layout, IsLayout};
+ghost use Rattle.hpb_journal.specs.Frames.{IsOpen, IsClosed, IsRead, Says};
+ghost use Rattle.hpb_journal.specs.Changes.{ChangesBody, ChangesGate, TornBody, TornGate};
+
+use crate::Frame;
+use hpb_codec::Batch;
+use hpb_disk::{Disk, DiskFailed};
+use hpb_tree::Definition;
+
+/// The frames of a journal on a device. What they contain is the list of batches from an index on (`Kept`): a batch
+/// counts while its frame is open and spells it.
+///
+/// A batch is put there in four steps: `write_body` while the frame's gate is closed in all that a crash may leave, a
+/// sync, `open_frame`, and a sync. A frame that isn't needed any more is closed by `close_frame`, which counts after a
+/// sync. Each call makes at most one call of the device, and takes no memory.
+pub trait Frames {
+    /// Where the frames stand, and what their bytes say.
+    ghost layout: { Self → Layout };
+
+    /// How many frames there are, from `LEAST_FRAMES` to `MOST_FRAMES`.
+    fn count(&self) -> u32
+        ensures { result ≡ (layout self.now).count };
+
+    /// How many bytes a device with these frames has.
+    fn device_len(&self) -> usize
+        ensures { result ≡ (layout self.now).size };
+
+    /// Writes the body of a batch into the batch's frame. Where the gate is closed in all that a crash may leave, it shows
+    /// nothing, whole or torn.
+    fn write_body<D: Disk>(&self, disk: &mut D, batch: &Batch) -> Result<(), DiskFailed>
+        requires room { (layout self.now).size ≤ length (D.seen disk.old) }
+        // After a write that succeeds a read gives the batch, under each definition that it may be one under, and all
+        // else as it was.
+        ensures written { (rules : Rules) → IsBatch rules batch.now → OnOk result (Says (layout self.now) rules batch.now (D.seen disk.new)) }
+        ensures rest { OnOk result (ChangesBody (layout self.now) batch.now.index (D.seen disk.old) (D.seen disk.new)) }
+        ensures size { length (D.seen disk.new) ≡ length (D.seen disk.old) }
+        // A crash from then on, or within the call, may leave any bytes in this body, and elsewhere what it could.
+        ensures crash { Within (D.may_leave disk.new) (TornBody (layout self.now) batch.now.index (D.may_leave disk.old)) }
+        ensures time { Elapses (D.moment disk.old) (D.moment disk.new) (D.left_since disk.old) (D.left_since disk.new)
+            (TornBody (layout self.now) batch.now.index (D.may_leave disk.old)) }
+        ensures cause { CountsFailure result (D.failures disk.old) (D.failures disk.new) };
+
+    /// Opens the gate of a batch's frame. It counts after the next sync; until then a crash may leave it open or closed.
+    fn open_frame<D: Disk>(&self, disk: &mut D, index: u64) -> Result<(), DiskFailed>
+        requires room { (layout self.now).size ≤ length (D.seen disk.old) }
+        ensures open { OnOk result (IsOpen (layout self.now) index (D.seen disk.new)) }
+        ensures rest { OnOk result (ChangesGate (layout self.now) index (D.seen disk.old) (D.seen disk.new)) }
+        ensures size { length (D.seen disk.new) ≡ length (D.seen disk.old) }
+        ensures crash { Within (D.may_leave disk.new) (TornGate (layout self.now) index (D.may_leave disk.old)) }
+        ensures time { Elapses (D.moment disk.old) (D.moment disk.new) (D.left_since disk.old) (D.left_since disk.new)
+            (TornGate (layout self.now) index (D.may_leave disk.old)) }
+        ensures cause { CountsFailure result (D.failures disk.old) (D.failures disk.new) };
+
+    /// Closes the gate of a batch's frame, if it may be open. One that is closed in all that a crash may leave isn't written,
+    /// as a torn byte could open what stands behind it: its caller says so, and the device has no call.
+    fn close_frame<D: Disk>(
+        &self,
+        disk: &mut D,
+        index: u64,
+        may_be_open: bool,
+    ) -> Result<(), DiskFailed>
+        requires room { (layout self.now).size ≤ length (D.seen disk.old) }
+        requires told { may_be_open ≡ false → Within (D.may_leave disk.old) (IsClosed (layout self.now) index) }
+        ensures closed { OnOk result (IsClosed (layout self.now) index (D.seen disk.new)) }
+        ensures left_alone { may_be_open ≡ false → disk.new ≡ disk.old }
+        ensures rest { may_be_open ≡ true → OnOk result (ChangesGate (layout self.now) index (D.seen disk.old) (D.seen disk.new)) }
+        ensures size { length (D.seen disk.new) ≡ length (D.seen disk.old) }
+        ensures crash { may_be_open ≡ true → Within (D.may_leave disk.new) (TornGate (layout self.now) index (D.may_leave disk.old)) }
+        ensures time { may_be_open ≡ true → Elapses (D.moment disk.old) (D.moment disk.new) (D.left_since disk.old) (D.left_since disk.new)
+            (TornGate (layout self.now) index (D.may_leave disk.old)) }
+        ensures cause { CountsFailure result (D.failures disk.old) (D.failures disk.new) };
+
+    /// Reads the frame of a batch, whatever its bytes are. The device has one read.
+    fn read_frame<D: Disk>(
+        &self,
+        disk: &mut D,
+        index: u64,
+        definition: &Definition,
+    ) -> Result<Frame, DiskFailed>
+        requires room { (layout self.now).size ≤ length (D.seen disk.old) }
+        ensures frame { IfOk result (λ frame. IsRead (layout self.now) definition.now index (D.seen disk.old) frame) }
+        ensures seen { D.seen disk.new ≡ D.seen disk.old }
+        ensures crash { Within (D.may_leave disk.new) (D.may_leave disk.old) }
+        ensures crash_kept { Within (D.may_leave disk.old) (D.may_leave disk.new) }
+        ensures time { Elapses (D.moment disk.old) (D.moment disk.new) (D.left_since disk.old) (D.left_since disk.new)
+            (D.may_leave disk.old) }
+        ensures cause { CountsFailure result (D.failures disk.old) (D.failures disk.new) };
+
+    /// What is so of each layout. It does nothing.
+    fn laws(&self)
+        ensures { IsLayout (layout self.now) };
+}

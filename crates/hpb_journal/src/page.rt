@@ -1,0 +1,31 @@
+//! What the page of a frame says.
+ghost use Rattle.std.specs.Prelude.{◌≡◌, length};
+ghost use Rattle.hpb_journal.specs.declared.limits.TheConstants.{PAGE_BYTES};
+ghost use Rattle.hpb_journal.specs.Pages.{IsInPage};
+
+use crate::Frame;
+use crate::limits::{BODY_AT, PAGE_BYTES};
+use hpb_codec::{batch_begins, decode_batch, front_u64};
+use hpb_tree::Definition;
+
+const OPEN: u8 = 0xa5;
+
+/// What a page says of the batch of this index.
+pub(crate) fn frame_in(page: &[u8], index: u64, definition: &Definition) -> Frame
+    requires { length page.now ≡ PAGE_BYTES }
+    ensures { IsInPage definition.now index page.now result }
+{
+    if page[0] != OPEN {
+        return Frame::Closed;
+    }
+    let body = &page[BODY_AT..];
+    let (found, _) = front_u64(body);
+    if found != index {
+        return Frame::Other;
+    }
+    batch_begins();
+    match decode_batch(body, definition) {
+        Some(batch) => Frame::Batch(batch),
+        None => Frame::Damaged,
+    }
+}

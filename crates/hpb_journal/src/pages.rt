@@ -1,0 +1,109 @@
+//! Frames of one page each.
+ghost use Rattle.std.specs.Prelude.{◌≡◌, ◌+◌, ◌*◌, ◌≤◌, ◌<◌, length};
+ghost use Rattle.hpb_journal.specs.declared.limits.TheConstants.{JOURNAL_AT, LEAST_FRAMES, MOST_FRAMES, PAGE_BYTES};
+
+use crate::limits::{BODY_AT, JOURNAL_AT, LEAST_FRAMES, MOST_FRAMES, PAGE_BYTES};
+use crate::page::frame_in;
+use crate::{Frame, Frames};
+use hpb_codec::{BATCH_SIZE, Batch, batch_begins, batches_are_one, encode_batch};
+use hpb_disk::{
+    Disk, DiskFailed, close_gate, elsewhere_stays, open_gate, put_is_read, put_is_torn,
+};
+use hpb_tree::Definition;
+
+/// Frame b stands in page 13 + b mod count: its gate is the page's first byte, its body the page from byte 16 on.
+#[derive(Clone, Copy, Debug)]
+pub struct PageFrames {
+    /// How many frames there are, from `LEAST_FRAMES` to `MOST_FRAMES`.
+    pub count: u32,
+    pub ghost least: { LEAST_FRAMES ≤ count },
+    pub ghost most: { count ≤ MOST_FRAMES },
+}
+
+impl PageFrames {
+    ghost use Rattle.hpb_journal.specs.Pages.{page_of};
+
+    /// A journal of so many frames.
+    pub fn new(count: u32) -> PageFrames
+        requires least { LEAST_FRAMES ≤ count }
+        requires most { count ≤ MOST_FRAMES }
+        ensures { result.count ≡ count }
+    {
+        PageFrames { count }
+    }
+
+    // The first byte of the page of a batch.
+    fn page(&self, index: u64) -> usize
+        ensures value { result ≡ page_of self.now.count index }
+        ensures inside { result + PAGE_BYTES ≤ JOURNAL_AT + PAGE_BYTES * self.now.count }
+    {
+        JOURNAL_AT + PAGE_BYTES * (index % u64::from(self.count)) as usize
+    }
+}
+
+impl Frames for PageFrames {
+    ghost use Rattle.hpb_journal.specs.Pages.{page_layout};
+
+    ghost layout = { λ frames. page_layout frames.count };
+
+    fn count(&self) -> u32 {
+        self.count
+    }
+
+    fn device_len(&self) -> usize {
+        JOURNAL_AT + PAGE_BYTES * self.count as usize
+    }
+
+    fn write_body<D: Disk>(&self, disk: &mut D, batch: &Batch) -> Result<(), DiskFailed> {
+        let mut body = [0; BATCH_SIZE];
+        encode_batch(batch, &mut body);
+        elsewhere_stays();
+        put_is_read();
+        put_is_torn();
+        match disk.write_at(self.page(batch.index) + BODY_AT, &body) {
+            Ok(()) => Ok(()),
+            Err(failed) => Err(failed),
+        }
+    }
+
+    fn open_frame<D: Disk>(&self, disk: &mut D, index: u64) -> Result<(), DiskFailed> {
+        elsewhere_stays();
+        put_is_torn();
+        match open_gate(disk, self.page(index)) {
+            Ok(()) => Ok(()),
+            Err(failed) => Err(failed),
+        }
+    }
+
+    fn close_frame<D: Disk>(
+        &self,
+        disk: &mut D,
+        index: u64,
+        may_be_open: bool,
+    ) -> Result<(), DiskFailed> {
+        elsewhere_stays();
+        put_is_torn();
+        match close_gate(disk, self.page(index), may_be_open) {
+            Ok(()) => Ok(()),
+            Err(failed) => Err(failed),
+        }
+    }
+
+    fn read_frame<D: Disk>(
+        &self,
+        disk: &mut D,
+        index: u64,
+        definition: &Definition,
+    ) -> Result<Frame, DiskFailed> {
+        let mut page = [0; PAGE_BYTES];
+        match disk.read_into(self.page(index), &mut page) {
+            Ok(()) => Ok(frame_in(&page, index, definition)),
+            Err(failed) => Err(failed),
+        }
+    }
+
+    fn laws(&self) {
+        batches_are_one();
+        batch_begins();
+    }
+}
