@@ -10,3 +10,7 @@ pub mod Faults
 pub mod Histories
 pub mod FirstTables
 pub mod Runs
+pub mod Proper
+pub mod SavedEntries
+pub mod Restored
+pub mod SavedTables

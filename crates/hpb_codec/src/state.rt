@@ -4,7 +4,7 @@ ghost use Rattle.hpb_rules.specs.declared.saved.Saved.{Saved};
 ghost use Rattle.hpb_codec.specs.Numbers.{filled};
 ghost use Rattle.hpb_codec.specs.declared.state.TheConstants.{CHUNKS, CHUNK_SIZE, STATE_SIZE};
 ghost use Rattle.hpb_codec.specs.Laws.{chunk_of};
-ghost use Rattle.hpb_codec.specs.States.{head_in, state_fields, state_of, HasState};
+ghost use Rattle.hpb_codec.specs.States.{head_in, state_fields, state_of, HasState, SpellsState};
 
 use crate::bidder_entry::BIDDER_SIZE;
 use crate::node_entry::NODE_SIZE;
@@ -12,7 +12,9 @@ use crate::reader::{front_bytes, is_zero};
 use crate::state_head::{HEAD_SIZE, StateHead};
 use crate::table::{Entry, put_table, read_table};
 use crate::writer::fill_zeros;
+use hpb_auction::is_saved;
 use hpb_rules::{MOST_BIDDERS, MOST_NODES, Saved};
+use hpb_tree::Definition;
 
 /// How many bytes the body of a slot has.
 pub const STATE_SIZE: usize = 16_384;
@@ -84,6 +86,23 @@ fn read_state(bytes: &[u8], saved: &mut Saved) -> Option<u64>
     saved.count = head.count;
     saved.auctioneer = head.auctioneer;
     Some(head.index)
+}
+
+/// What is saved, and the number of batches that it covers, that the body of a slot spells under a definition, if it
+/// spells such. Where it spells none, what stands in `saved` is of no use.
+pub fn decode_state(bytes: &[u8], definition: &Definition, saved: &mut Saved) -> Option<u64>
+    requires { length bytes.now ≡ STATE_SIZE }
+    ensures found { IfSome result (λ index. SpellsState definition.now bytes.now saved.new index) }
+    ensures only { (s : Saved) (index : ℕ) → SpellsState definition.now bytes.now s index → (result ≡ Some index) × (saved.new ≡ s) }
+{
+    let index = read_state(bytes, saved)?;
+    if index > u64::from(saved.count) {
+        return None;
+    }
+    if !is_saved(saved, definition) {
+        return None;
+    }
+    Some(index)
 }
 
 /// How many chunks a body has, of a page each.

@@ -16,6 +16,14 @@ pub record Torn (at count : ℕ) (old new : List ℕ) : Type 0 where
   pub after : drop (at + count) new ≡ drop (at + count) old
   pub size : length new ≡ length old
 
+-- Both images have the same bytes before this offset.
+abbrev pub SameBefore : ℕ → List ℕ → List ℕ → Type 0
+SameBefore end old new = (at count : ℕ) → at + count ≤ end → part at count new ≡ part at count old
+
+-- Both have the same bytes from this offset on.
+abbrev pub SameFrom : ℕ → List ℕ → List ℕ → Type 0
+SameFrom start old new = (at count : ℕ) → start ≤ at → part at count new ≡ part at count old
+
 -- One of these images, torn there.
 abbrev pub TornFrom : ℕ → ℕ → (List ℕ → Type 0) → List ℕ → Type 0
 TornFrom at count images new = (old : List ℕ) × images old × Torn at count old new

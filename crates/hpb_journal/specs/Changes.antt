@@ -1,7 +1,8 @@
 -- What a write of the journal leaves as it was. Head and slots lie before the journal.
 use Rattle.std.specs.Prelude.{◌≡◌, ℕ, List, length}
+use Rattle.hpb_disk.specs.Images.{SameBefore}
 use Rattle.hpb_journal.specs.declared.limits.TheConstants.{JOURNAL_AT}
-use Rattle.hpb_journal.specs.Layouts.{Layout, AreApart, SameBefore}
+use Rattle.hpb_journal.specs.Layouts.{Layout, AreApart}
 
 -- The images differ at most in the body of this frame.
 pub record ChangesBody (layout : Layout) (b : ℕ) (old new : List ℕ) : Type 0 where

@@ -1,9 +1,9 @@
 -- A layout says where the frames of a journal stand on a device, and what their bytes say.
-use Rattle.std.specs.Prelude.{◌≡◌, ◌≢◌, ℕ, ◌+◌, ◌%◌, ◌≤◌, List}
+use Rattle.std.specs.Prelude.{◌≡◌, ◌≢◌, ℕ, ◌%◌, ◌≤◌, List}
 use Rattle.hpb_rules.specs.Tree.{Rules}
 use Rattle.hpb_codec.specs.declared.batch.Batch.{Batch}
 use Rattle.hpb_codec.specs.Batches.{IsBatch}
-use Rattle.hpb_disk.specs.Images.{part}
+use Rattle.hpb_disk.specs.Images.{SameFrom}
 use Rattle.hpb_journal.specs.declared.limits.TheConstants.{JOURNAL_AT, LEAST_FRAMES, MOST_FRAMES}
 
 -- The frame of a batch is named by the batch's index: a frame serves many batches, one after another.
@@ -27,14 +27,6 @@ AreApart layout b other = b % layout.count ≢ other % layout.count
 pub record SameFrame (layout : Layout) (b : ℕ) (old new : List ℕ) : Type 0 where
   pub gate : layout.gate b new ≡ layout.gate b old
   pub body : layout.body b new ≡ layout.body b old
-
--- Both images have the same bytes before this offset.
-abbrev pub SameBefore : ℕ → List ℕ → List ℕ → Type 0
-SameBefore end old new = (at many : ℕ) → at + many ≤ end → part at many new ≡ part at many old
-
--- Both images have the same bytes from this offset on.
-abbrev pub SameFrom : ℕ → List ℕ → List ℕ → Type 0
-SameFrom start old new = (at many : ℕ) → start ≤ at → part at many new ≡ part at many old
 
 -- What is so of each layout.
 pub record IsLayout (layout : Layout) : Type 0 where

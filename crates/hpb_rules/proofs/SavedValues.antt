@@ -1,9 +1,9 @@
 -- What is saved of a proper value gives it back, and what may be restored is saved again.
-use Rattle.std.proofs.Common.{◌≡◌, ℕ, zero, suc, ◌<◌, ◌≤◌, true, false, List, [], ◌∷◌, map, get_or, reverse, Option, Some, None, length, refl, sym, ap, ◌∙◌, ⊎_elim, arith, subst}
+use Rattle.std.proofs.Common.{◌≡◌, ℕ, suc, ◌<◌, ◌≤◌, true, false, List, [], ◌∷◌, map, get_or, reverse, Option, Some, None, length, refl, sym, ap, ◌∙◌, ⊎_elim, arith, subst}
 use Rattle.std.specs.Prelude.{IfSome, IsSome, slice_index_or}
 use Rattle.std.specs.List.{range_with_len}
 use Rattle.std.proofs.lemmas.Bool.{cases_lt, eq-eqb, both_ways}
-use Rattle.std.proofs.lemmas.List.{same_lists, get_or_past}
+use Rattle.std.proofs.lemmas.List.{get_or_past}
 use Rattle.std.proofs.lemmas.List.FromFn.{get_or-map-range_with_len, length-map-range_with_len}
 use Rattle.hpb_rules.specs.declared.command.Command.{Command}
 use Rattle.hpb_rules.specs.declared.command.Offer.{Offer}
@@ -25,36 +25,17 @@ use Rattle.hpb_rules.specs.SavedLaws.{ShownIsProper, SavedIsRestored, RestoredIs
 use Rattle.hpb_rules.proofs.AcceptedDrafts.{accepted_is_definition}
 use Rattle.hpb_rules.proofs.Masks.{bit_of_mask, no_flags, mask_is, no_bits as zero_mask}
 use Rattle.hpb_rules.proofs.ProperValues.{changed_proper}
+use Rattle.hpb_rules.proofs.Ranges.{any_default, made_is, made_at}
 use Rattle.hpb_rules.proofs.Readings.{node_read, no_node_read, bidder_read, reply_read}
 use Rattle.hpb_rules.proofs.Runs.{new_changed}
 use Rattle.hpb_rules.proofs.ValueParts.{same_value, same_state}
 
--- ---- lists by their places
--- within a list the default does not matter
-any_default : {A : Type 0} (xs : List A) (place : ℕ) (one other : A) → place < length xs → get_or xs place one ≡ get_or xs place other
-any_default [] place one other h = absurd (omega arith)
-any_default (x ∷ xs) zero one other h = refl
-any_default (x ∷ xs) (suc place) one other h = any_default xs place one other (omega arith)
-
--- a list that is made place by place is one with the same at each place
-made_is : {A : Type 0} (f : ℕ → A) (xs : List A) (count : ℕ) → length xs ≡ count → ((place : ℕ) (default : A) → place < count → f place ≡ get_or xs place default) → map f (range_with_len 0 count) ≡ xs
-made_is f xs count size each = same_lists (map f (range_with_len 0 count)) xs (length-map-range_with_len f 0 count ∙ sym size)
-    (λ place default less. let within : place < count = omega (arith, less, length-map-range_with_len f 0 count) in
-    get_or-map-range_with_len f 0 count place place default within (omega arith) ∙ each place default within)
-
--- what is made place by place has at each place what the place gives, and the default behind the last one
-made_at : {A : Type 0} (f : ℕ → A) (count place : ℕ) (default : A) → (count ≤ place → default ≡ f place) → get_or (map f (range_with_len 0 count)) place default ≡ f place
-made_at f count place default behind = ⊎_elim
-    (λ less. get_or-map-range_with_len f 0 count place place default less (omega arith))
-    (λ more. get_or_past (map f (range_with_len 0 count)) place default (omega (arith, length-map-range_with_len f 0 count)) ∙ behind more)
-    (cases_lt place count)
-
 -- ---- last commands
-again_last : (last : Option (Command × ℕ)) → restored_last (saved_last last) ≡ last
+pub again_last : (last : Option (Command × ℕ)) → restored_last (saved_last last) ≡ last
 again_last None = refl
 again_last (Some last) = refl
 
-given_last : (last : Option Accepted) → saved_last (restored_last last) ≡ last
+pub given_last : (last : Option Accepted) → saved_last (restored_last last) ≡ last
 given_last None = refl
 given_last (Some last) = refl
 

@@ -1,0 +1,3 @@
+pub mod SlotRegions
+pub mod OneNewest
+pub mod Pieces

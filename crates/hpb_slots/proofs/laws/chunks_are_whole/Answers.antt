@@ -1,0 +1,5 @@
+use Rattle.hpb_slots.proofs.Pieces.{whole}
+use Rattle.hpb_slots.proofs.laws.chunks_are_whole.Goals as goal
+
+pub returns : goal.returns
+returns c slot body image size has = whole slot body image has c.chunks_are_body.ensures size

@@ -1,0 +1,4 @@
+pub mod Slots
+pub mod Changes
+pub mod Newest
+pub mod Laws

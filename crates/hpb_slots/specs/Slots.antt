@@ -1,0 +1,54 @@
+-- The two slots of a device, and what stands in them.
+use Rattle.std.specs.Prelude.{◌≡◌, ◌≢◌, ℕ, ◌+◌, ◌*◌, ◌<◌, List}
+use Rattle.hpb_rules.specs.Tree.{Rules}
+use Rattle.hpb_rules.specs.declared.saved.Saved.{Saved}
+use Rattle.hpb_codec.specs.declared.state.TheConstants.{CHUNK_SIZE, STATE_SIZE}
+use Rattle.hpb_codec.specs.Laws.{chunk_of}
+use Rattle.hpb_codec.specs.States.{SpellsState}
+use Rattle.hpb_disk.specs.Gates.{open_byte}
+use Rattle.hpb_disk.specs.Images.{part}
+use Rattle.hpb_slots.specs.declared.limits.TheConstants.{SLOTS_AT, SLOT_BYTES, PAGE_BYTES}
+use Rattle.hpb_slots.specs.declared.slot.Slot.{Slot}
+use Rattle.hpb_slots.specs.declared.slot.Slot.TheVariants.{First, Second}
+
+-- The place of a slot among the two.
+abbrev pub place_of : Slot → ℕ
+place_of First = 0
+place_of Second = 1
+
+abbrev pub other_of : Slot → Slot
+other_of First = Second
+other_of Second = First
+
+-- The gate of a slot is the first byte of its first page.
+abbrev pub gate_at : Slot → ℕ
+gate_at slot = SLOTS_AT + SLOT_BYTES * place_of slot
+
+-- Its body is the four pages after that, a chunk each.
+abbrev pub chunk_at : Slot → ℕ → ℕ
+chunk_at slot i = gate_at slot + PAGE_BYTES + CHUNK_SIZE * i
+
+abbrev pub gate_of : Slot → List ℕ → List ℕ
+gate_of slot image = part (gate_at slot) 1 image
+
+abbrev pub body_of : Slot → List ℕ → List ℕ
+body_of slot image = part (gate_at slot + PAGE_BYTES) STATE_SIZE image
+
+abbrev pub piece_of : Slot → ℕ → List ℕ → List ℕ
+piece_of slot i image = part (chunk_at slot i) CHUNK_SIZE image
+
+-- The gate of the slot is open.
+abbrev pub IsOpen : Slot → List ℕ → Type 0
+IsOpen slot image = gate_of slot image ≡ open_byte
+
+-- It has any other value.
+abbrev pub IsClosed : Slot → List ℕ → Type 0
+IsClosed slot image = gate_of slot image ≢ open_byte
+
+-- The slot is open with a state under the definition, and the number of batches that it covers.
+abbrev pub Holds : Rules → Slot → ℕ → Saved → List ℕ → Type 0
+Holds rules slot index saved image = IsOpen slot image × SpellsState rules (body_of slot image) saved index
+
+-- The first chunks of the body are those of these bytes.
+abbrev pub HasChunks : Slot → ℕ → List ℕ → List ℕ → Type 0
+HasChunks slot count body image = (i : ℕ) → i < count → piece_of slot i image ≡ chunk_of i body

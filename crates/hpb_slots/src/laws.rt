@@ -1,0 +1,32 @@
+//! The laws of slots.
+ghost use Rattle.hpb_slots.specs.Laws.{ChunksAreWhole, HoldsOne, NewestIsOne, OpenOrClosed};
+
+use hpb_codec::{chunks_are_body, states_are_one};
+
+/// Each slot is open or closed.
+pub fn open_or_closed()
+    ensures { OpenOrClosed }
+{
+    hpb_disk::open_or_closed();
+}
+
+/// A slot holds one state at most.
+pub fn holds_one()
+    ensures { HoldsOne }
+{
+    states_are_one();
+}
+
+/// A device has one newest state at most.
+pub fn newest_is_one()
+    ensures { NewestIsOne }
+{
+    holds_one();
+}
+
+/// A slot that has all chunks of a body has the body.
+pub fn chunks_are_whole()
+    ensures { ChunksAreWhole }
+{
+    chunks_are_body();
+}

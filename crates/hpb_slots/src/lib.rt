@@ -1,0 +1,17 @@
+//! The slots of a device: two places for a checkpoint, of which the newest whole one counts.
+//!
+//! A checkpoint is written into the slot that isn't the newest: `close_slot`, a sync, `write_chunk` four times, a sync,
+//! `open_slot`, and a sync.
+#![tactic(auto)]
+
+mod laws;
+mod limits;
+mod newest;
+mod slot;
+mod writing;
+
+pub use laws::{chunks_are_whole, holds_one, newest_is_one, open_or_closed};
+pub use limits::{SLOTS_AT, SLOTS_END};
+pub use newest::Newest;
+pub use slot::Slot;
+pub use writing::{close_slot, open_slot, write_chunk};

@@ -1,0 +1,96 @@
+//! Writing a checkpoint.
+ghost use Rattle.std.specs.Prelude.{◌≡◌, ◌<◌, ◌≤◌, length, true, false, OnOk};
+ghost use Rattle.hpb_codec.specs.declared.state.TheConstants.{CHUNKS, STATE_SIZE};
+ghost use Rattle.hpb_codec.specs.Laws.{chunk_of};
+ghost use Rattle.hpb_disk.specs.Images.{Within, Elapses, CountsFailure};
+ghost use Rattle.hpb_slots.specs.declared.limits.TheConstants.{SLOTS_END};
+ghost use Rattle.hpb_slots.specs.Slots.{IsOpen, IsClosed, chunk_at, gate_at, piece_of};
+ghost use Rattle.hpb_slots.specs.Changes.{ChangesGate, ChangesChunk, TornGate, TornChunk};
+
+use crate::Slot;
+use crate::limits::{PAGE_BYTES, SLOT_BYTES, SLOTS_AT};
+use hpb_codec::{CHUNK_SIZE, chunk};
+use hpb_disk::{
+    Disk, DiskFailed, close_gate, elsewhere_stays, open_gate, put_is_read, put_is_torn,
+};
+
+/// The offset of a slot's gate.
+pub(crate) fn gate_offset(slot: Slot) -> usize
+    ensures { result ≡ gate_at slot }
+{
+    SLOTS_AT + SLOT_BYTES * slot.place()
+}
+
+/// Writes one chunk of a state's body into a slot. Where the slot's gate is closed in all that a crash may leave, it
+/// shows nothing, whole or torn.
+pub fn write_chunk<D: Disk>(
+    disk: &mut D,
+    slot: Slot,
+    i: usize,
+    body: &[u8],
+) -> Result<(), DiskFailed>
+    requires room { SLOTS_END ≤ length (D.seen disk.old) }
+    requires body { length body.now ≡ STATE_SIZE }
+    requires chunk { i < CHUNKS }
+    // After a write that succeeds a read gives the chunk there, and all else as it was.
+    ensures written { OnOk result (piece_of slot i (D.seen disk.new) ≡ chunk_of i body.now) }
+    ensures rest { OnOk result (ChangesChunk slot i (D.seen disk.old) (D.seen disk.new)) }
+    ensures size { length (D.seen disk.new) ≡ length (D.seen disk.old) }
+    // A crash from then on, or within the call, may leave any bytes in this chunk, and elsewhere what it could.
+    ensures crash { Within (D.may_leave disk.new) (TornChunk slot i (D.may_leave disk.old)) }
+    ensures time { Elapses (D.moment disk.old) (D.moment disk.new) (D.left_since disk.old) (D.left_since disk.new)
+        (TornChunk slot i (D.may_leave disk.old)) }
+    ensures cause { CountsFailure result (D.failures disk.old) (D.failures disk.new) }
+{
+    elsewhere_stays();
+    put_is_read();
+    put_is_torn();
+    match disk.write_at(
+        gate_offset(slot) + PAGE_BYTES + CHUNK_SIZE * i,
+        chunk(body, i),
+    ) {
+        Ok(()) => Ok(()),
+        Err(failed) => Err(failed),
+    }
+}
+
+/// Opens the gate of a slot. It counts after the next sync; until then a crash may leave it open or closed.
+pub fn open_slot<D: Disk>(disk: &mut D, slot: Slot) -> Result<(), DiskFailed>
+    requires room { SLOTS_END ≤ length (D.seen disk.old) }
+    ensures open { OnOk result (IsOpen slot (D.seen disk.new)) }
+    ensures rest { OnOk result (ChangesGate slot (D.seen disk.old) (D.seen disk.new)) }
+    ensures size { length (D.seen disk.new) ≡ length (D.seen disk.old) }
+    ensures crash { Within (D.may_leave disk.new) (TornGate slot (D.may_leave disk.old)) }
+    ensures time { Elapses (D.moment disk.old) (D.moment disk.new) (D.left_since disk.old) (D.left_since disk.new)
+        (TornGate slot (D.may_leave disk.old)) }
+    ensures cause { CountsFailure result (D.failures disk.old) (D.failures disk.new) }
+{
+    elsewhere_stays();
+    put_is_torn();
+    match open_gate(disk, gate_offset(slot)) {
+        Ok(()) => Ok(()),
+        Err(failed) => Err(failed),
+    }
+}
+
+/// Closes the gate of a slot, if it may be open. One that is closed in all that a crash may leave isn't written, as a torn
+/// byte could open what stands behind it: its caller says so, and the device has no call.
+pub fn close_slot<D: Disk>(disk: &mut D, slot: Slot, may_be_open: bool) -> Result<(), DiskFailed>
+    requires room { SLOTS_END ≤ length (D.seen disk.old) }
+    requires told { may_be_open ≡ false → Within (D.may_leave disk.old) (IsClosed slot) }
+    ensures closed { OnOk result (IsClosed slot (D.seen disk.new)) }
+    ensures left_alone { may_be_open ≡ false → disk.new ≡ disk.old }
+    ensures rest { may_be_open ≡ true → OnOk result (ChangesGate slot (D.seen disk.old) (D.seen disk.new)) }
+    ensures size { length (D.seen disk.new) ≡ length (D.seen disk.old) }
+    ensures crash { may_be_open ≡ true → Within (D.may_leave disk.new) (TornGate slot (D.may_leave disk.old)) }
+    ensures time { may_be_open ≡ true → Elapses (D.moment disk.old) (D.moment disk.new) (D.left_since disk.old) (D.left_since disk.new)
+        (TornGate slot (D.may_leave disk.old)) }
+    ensures cause { CountsFailure result (D.failures disk.old) (D.failures disk.new) }
+{
+    elsewhere_stays();
+    put_is_torn();
+    match close_gate(disk, gate_offset(slot), may_be_open) {
+        Ok(()) => Ok(()),
+        Err(failed) => Err(failed),
+    }
+}
