@@ -7,7 +7,7 @@ use Rattle.hpb_rules.specs.AuctionValue.{AuctionValue, Shows}
 use Rattle.hpb_rules.specs.Saved.{restored}
 use Rattle.hpb_rules.specs.AcceptedRuns.{AllAccepted}
 use Rattle.hpb_rules.proofs.RunLaws.{rest_is_accepted, rest_is_shown}
-use Rattle.hpb_codec.specs.Laws.{StatesAreOne}
+use Rattle.hpb_slots.specs.Laws.{NewestIsOne}
 use Rattle.hpb_journal.specs.Frames.{Kept, joined}
 use Rattle.hpb_journal.specs.Journals.{PagesAreJournal}
 use Rattle.hpb_image.specs.Drafts.{HeadsAreOne}
@@ -46,9 +46,9 @@ module _ (history : List Command) (image : List ℕ) (stands : Stands history im
   found_shows : Shows (last_value found) history
   found_shows = subst (Shows (last_value found)) (sym stands.cuts) (rest_is_shown (checkpoint found) stands.before (joined stands.batches) stands.shows found_reads.reaches.accepted)
 
-pub read_is_shown : HeadsAreOne → StatesAreOne → PagesAreJournal → ReadIsShown
-read_is_shown heads states pages history other image stands reads =
-    subst (λ (f : Found). Shows (last_value f) history) (reading_is_one heads states pages (found history image stands) other image (found_reads history image stands) reads)
+pub read_is_shown : HeadsAreOne → NewestIsOne → PagesAreJournal → ReadIsShown
+read_is_shown heads newest pages history other image stands reads =
+    subst (λ (f : Found). Shows (last_value f) history) (reading_is_one heads newest pages (found history image stands) other image (found_reads history image stands) reads)
     (found_shows history image stands)
 
 stands_of : (history : List Command) (f : Found) (image : List ℕ) → Reads f image → IsTold history f → Stands history image
@@ -77,7 +77,7 @@ stands_is_read history image = (
   λ read. stands_of history read.0 image read.1 read.2,
 )
 
-pub stands_for_one : HeadsAreOne → StatesAreOne → PagesAreJournal → StandsForOne
-stands_for_one heads states pages one other image stands stands' =
+pub stands_for_one : HeadsAreOne → NewestIsOne → PagesAreJournal → StandsForOne
+stands_for_one heads newest pages one other image stands stands' =
     let f = found one image stands in
-    (last_value f, found_shows one image stands, read_is_shown heads states pages other f image stands' (found_reads one image stands))
+    (last_value f, found_shows one image stands, read_is_shown heads newest pages other f image stands' (found_reads one image stands))

@@ -1,16 +1,15 @@
 -- What may be wrong with an image, so that it is refused.
 use Rattle.std.specs.Prelude.{ℕ, suc, List}
 use Rattle.hpb_rules.specs.declared.command.Command.{Command}
-use Rattle.hpb_rules.specs.declared.saved.Saved.{Saved}
 use Rattle.hpb_rules.specs.AcceptedRuns.{AllAccepted}
 use Rattle.hpb_rules.specs.declared.refusal.Refusal.{Refusal}
 use Rattle.hpb_rules.specs.declared.refusal.Refusal.TheVariants as refusals
 use Rattle.hpb_journal.specs.Frames.{IsFrame}
 use Rattle.hpb_image.specs.declared.flaw.Flaw.{Flaw}
 use Rattle.hpb_image.specs.declared.flaw.Flaw.TheVariants as flaws
+use Rattle.hpb_slots.specs.Newest.{IsWithout}
 use Rattle.hpb_image.specs.Drafts.{Head}
 use Rattle.hpb_image.specs.Heads.{IsFormatted, IsLaidOut}
-use Rattle.hpb_image.specs.Slots.{HasState}
 use Rattle.hpb_image.specs.Readings.{Found, Reaches, HasLater, layout_in, next_index, last_value}
 
 -- The frame after the last batch spells none that goes on with it.
@@ -31,8 +30,7 @@ HasFlaw flaws.Unformatted image = IsFormatted image → ⊥
 -- it is, but its first three pages spell no head, or it hasn't the length that the head's layout wants
 HasFlaw flaws.Layout image = IsFormatted image × ((head : Head) → IsLaidOut head image → ⊥)
 -- it is laid out, but no slot is open with a body that spells a state
-HasFlaw flaws.Checkpoint image =
-    IsFormatted image × (head : Head) × IsLaidOut head image × ((slot covered : ℕ) (saved : Saved) → HasState head.definition slot covered saved image → ⊥)
+HasFlaw flaws.Checkpoint image = IsFormatted image × (head : Head) × IsLaidOut head image × IsWithout head.definition image
 -- it has a checkpoint, but a frame after it is damaged
 HasFlaw flaws.Frame image = (found : Found) × IsDamaged found image
 

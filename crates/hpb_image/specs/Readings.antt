@@ -8,14 +8,15 @@ use Rattle.hpb_rules.specs.AcceptedRuns.{AllAccepted}
 use Rattle.hpb_rules.specs.Saved.{restored}
 use Rattle.hpb_journal.specs.Layouts.{Layout}
 use Rattle.hpb_journal.specs.Frames.{IsOwn, Kept, joined}
+use Rattle.hpb_slots.specs.declared.slot.Slot.{Slot}
+use Rattle.hpb_slots.specs.Newest.{IsNewest}
 use Rattle.hpb_image.specs.Drafts.{Head}
 use Rattle.hpb_image.specs.Heads.{IsFormatted, IsLaidOut, layout_of}
-use Rattle.hpb_image.specs.Slots.{IsNewest}
 
 -- The head, the newest slot, how many batches it covers and what is saved there, and the batches after it.
 pub record Found : Type 0 where
   pub head : Head
-  pub slot : ℕ
+  pub slot : Slot
   pub covered : ℕ
   pub saved : Saved
   pub batches : List (List Command)

@@ -7,9 +7,10 @@ use Rattle.hpb_rules.specs.Answer.{IsHistory}
 use Rattle.hpb_rules.specs.AuctionValue.{Shows}
 use Rattle.hpb_rules.specs.Saved.{restored}
 use Rattle.hpb_journal.specs.Frames.{IsOwn, Kept, joined}
+use Rattle.hpb_slots.specs.declared.slot.Slot.{Slot}
+use Rattle.hpb_slots.specs.Newest.{IsNewest}
 use Rattle.hpb_image.specs.Drafts.{Head}
 use Rattle.hpb_image.specs.Heads.{IsFormatted, IsLaidOut, layout_of}
-use Rattle.hpb_image.specs.Slots.{IsNewest}
 
 -- An image stands for a list of commands where the newest slot shows a front of the list, and the frames from the slot's index on spell the
 -- rest, batch by batch, up to a frame that isn't open with its own index, as none after it is.
@@ -21,7 +22,7 @@ pub record Stands (history : List Command) (image : List ℕ) : Type 0 where
   -- The list is a history under its definition.
   pub allowed : IsHistory head.definition history
   -- The newest slot covers so many batches, and shows a front of the list.
-  pub slot : ℕ
+  pub slot : Slot
   pub covered : ℕ
   pub saved : Saved
   pub newest : IsNewest head.definition slot covered saved image

@@ -2,8 +2,8 @@
 ghost use Rattle.hpb_image.specs.Drafts.{HeadsAreOne};
 ghost use Rattle.hpb_image.specs.Laws.{FlawIsOne, ReadIsFlawless, ReadIsShown, ReadingIsOne, StandsForOne, StandsIsRead};
 
-use hpb_codec::states_are_one;
 use hpb_journal::pages_are_journal;
+use hpb_slots::newest_is_one;
 
 /// An image stands for a list of commands exactly where it can be read, its checkpoint shows a front of the list, and the
 /// batches are the rest.
@@ -15,7 +15,7 @@ pub fn stands_is_read()
 pub fn reading_is_one()
     ensures { HeadsAreOne → ReadingIsOne }
 {
-    states_are_one();
+    newest_is_one();
     pages_are_journal();
 }
 
@@ -23,7 +23,7 @@ pub fn reading_is_one()
 pub fn read_is_shown()
     ensures { HeadsAreOne → ReadIsShown }
 {
-    states_are_one();
+    newest_is_one();
     pages_are_journal();
 }
 
@@ -31,7 +31,7 @@ pub fn read_is_shown()
 pub fn stands_for_one()
     ensures { HeadsAreOne → StandsForOne }
 {
-    states_are_one();
+    newest_is_one();
     pages_are_journal();
 }
 
@@ -44,6 +44,6 @@ pub fn flaw_is_one()
 pub fn read_is_flawless()
     ensures { HeadsAreOne → ReadIsFlawless }
 {
-    states_are_one();
+    newest_is_one();
     pages_are_journal();
 }

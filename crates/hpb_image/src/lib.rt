@@ -13,6 +13,4 @@ pub use flaw::Flaw;
 pub use laws::{
     flaw_is_one, read_is_flawless, read_is_shown, reading_is_one, stands_for_one, stands_is_read,
 };
-pub use limits::{
-    HEAD_AT, HEAD_BYTES, LEAST_PAGES, MAGIC_BYTES, PAGE_BYTES, SLOT_BYTES, SLOTS, SLOTS_AT,
-};
+pub use limits::{HEAD_AT, HEAD_BYTES, LEAST_PAGES, MAGIC_BYTES, PAGE_BYTES};

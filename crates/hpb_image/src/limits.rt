@@ -12,12 +12,3 @@ pub const HEAD_BYTES: usize = 12_272;
 
 /// The bytes of the text that a head begins with.
 pub const MAGIC_BYTES: usize = 8;
-
-/// Where the first slot begins, behind the head.
-pub const SLOTS_AT: usize = 12_288;
-
-/// The bytes of a slot: a page with its gate, and four of its body.
-pub const SLOT_BYTES: usize = 20_480;
-
-/// How many slots there are.
-pub const SLOTS: usize = 2;
