@@ -2,3 +2,4 @@ pub mod Slots
 pub mod Changes
 pub mod Newest
 pub mod Laws
+pub mod Reading

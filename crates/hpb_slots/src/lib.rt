@@ -4,14 +4,17 @@
 //! `open_slot`, and a sync.
 #![tactic(auto)]
 
+mod found;
 mod laws;
 mod limits;
 mod newest;
+mod reading;
 mod slot;
 mod writing;
 
 pub use laws::{chunks_are_whole, holds_one, newest_is_one, open_or_closed};
 pub use limits::{SLOTS_AT, SLOTS_END};
 pub use newest::Newest;
+pub use reading::read_newest;
 pub use slot::Slot;
 pub use writing::{close_slot, open_slot, write_chunk};

@@ -1,0 +1,132 @@
+//! Reading the newest checkpoint.
+ghost use Rattle.std.specs.Prelude.{◌≡◌, ◌+◌, ◌≤◌, List, ℕ, length, IfOk, MatchOption};
+ghost use Rattle.hpb_rules.specs.Tree.{Rules};
+ghost use Rattle.hpb_rules.specs.declared.saved.Saved.{Saved};
+ghost use Rattle.hpb_codec.specs.declared.state.TheConstants.{STATE_SIZE};
+ghost use Rattle.hpb_disk.specs.Images.{Within, LeavesOnly, CountsFailure};
+ghost use Rattle.hpb_slots.specs.declared.limits.TheConstants.{SLOTS_END};
+ghost use Rattle.hpb_slots.specs.declared.slot.Slot.TheVariants.{First, Second};
+ghost use Rattle.hpb_slots.specs.Newest.{IsWithout, IsRead};
+ghost use Rattle.hpb_slots.specs.Reading.{IsFound, IsChosen, state_of_slot};
+
+use crate::found::Found;
+use crate::limits::PAGE_BYTES;
+use crate::writing::gate_offset;
+use crate::{Newest, Slot, holds_one};
+use hpb_codec::decode_state;
+use hpb_disk::{Disk, DiskFailed, gate_is_open};
+use hpb_rules::Saved;
+use hpb_tree::Definition;
+
+/// What a slot says. Its state, if it has one, is put into `saved`.
+fn read_slot<D: Disk>(
+    disk: &mut D,
+    slot: Slot,
+    definition: &Definition,
+    body: &mut [u8],
+    saved: &mut Saved,
+) -> Result<Found, DiskFailed>
+    requires room { SLOTS_END ≤ length (D.seen disk.old) }
+    requires body { length body.old ≡ STATE_SIZE }
+    ensures found { IfOk result (λ found. IsFound definition.now slot (D.seen disk.old) saved.new found) }
+    ensures seen { D.seen disk.new ≡ D.seen disk.old }
+    ensures crash { Within (D.may_leave disk.new) (D.may_leave disk.old) }
+    ensures crash_kept { Within (D.may_leave disk.old) (D.may_leave disk.new) }
+    ensures time { LeavesOnly (D.moment disk.old) (D.moment disk.new) (D.left_since disk.old) (D.left_since disk.new)
+        (D.may_leave disk.new) (D.may_leave disk.old) }
+    ensures calls { D.moment disk.new ≤ D.moment disk.old + 2 }
+    ensures cause { CountsFailure result (D.failures disk.old) (D.failures disk.new) }
+{
+    let at = gate_offset(slot);
+    if !gate_is_open(disk, at)? {
+        return Ok(Found {
+            is_open: false,
+            index: None,
+        });
+    }
+    disk.read_into(at + PAGE_BYTES, body)?;
+    Ok(Found {
+        is_open: true,
+        index: decode_state(body, definition, saved),
+    })
+}
+
+/// The slot with the greater index of those that hold a state; of two equal ones the first.
+fn choose(first: Found, second: Found) -> Option<Newest>
+    ensures { (rules : Rules) (image : List ℕ) (one other : Saved) → IsFound rules First image one first → IsFound rules Second image other second
+        → MatchOption result (IsWithout rules image) (IsChosen rules image one other) }
+{
+    holds_one();
+    match (first.index, second.index) {
+        (None, None) => None,
+        (Some(index), None) => Some(Newest {
+            slot: Slot::First,
+            index,
+            other_open: second.is_open,
+        }),
+        (None, Some(index)) => Some(Newest {
+            slot: Slot::Second,
+            index,
+            other_open: first.is_open,
+        }),
+        (Some(one), Some(other)) => {
+            if other <= one {
+                Some(Newest {
+                    slot: Slot::First,
+                    index: one,
+                    other_open: second.is_open,
+                })
+            } else {
+                Some(Newest {
+                    slot: Slot::Second,
+                    index: other,
+                    other_open: first.is_open,
+                })
+            }
+        }
+    }
+}
+
+// Takes the later state where it is the slot's.
+fn take(slot: Slot, saved: &mut Saved, later: &Saved)
+    ensures { saved.new ≡ state_of_slot slot saved.old later.now }
+{
+    match slot {
+        Slot::First => {}
+        Slot::Second => *saved = *later,
+    }
+}
+
+/// Reads both slots, each page once, and puts the newest state into `saved`: of the slots whose gate is open and whose
+/// body spells a state under the definition the one that covers more batches, of two equal ones the first. `None` where
+/// no slot holds a state; then, and where the device failed, what stands in `saved` is of no use. `body` is room for a
+/// state's body.
+pub fn read_newest<D: Disk>(
+    disk: &mut D,
+    definition: &Definition,
+    body: &mut [u8],
+    saved: &mut Saved,
+) -> Result<Option<Newest>, DiskFailed>
+    requires room { SLOTS_END ≤ length (D.seen disk.old) }
+    requires body { length body.old ≡ STATE_SIZE }
+    ensures newest { IfOk result (λ newest. IsRead definition.now (D.seen disk.old) saved.new newest) }
+    ensures seen { D.seen disk.new ≡ D.seen disk.old }
+    ensures crash { Within (D.may_leave disk.new) (D.may_leave disk.old) }
+    ensures crash_kept { Within (D.may_leave disk.old) (D.may_leave disk.new) }
+    ensures time { LeavesOnly (D.moment disk.old) (D.moment disk.new) (D.left_since disk.old) (D.left_since disk.new)
+        (D.may_leave disk.new) (D.may_leave disk.old) }
+    // Two reads of a slot.
+    ensures calls { D.moment disk.new ≤ D.moment disk.old + 4 }
+    ensures cause { CountsFailure result (D.failures disk.old) (D.failures disk.new) }
+{
+    let first = read_slot(disk, Slot::First, definition, body, saved)?;
+    let mut later = *saved;
+    let second = read_slot(disk, Slot::Second, definition, body, &mut later)?;
+    match choose(first, second) {
+        None => Ok(None),
+        Some(newest) => {
+            take(newest.slot, saved, &later);
+            Ok(Some(newest))
+        }
+    }
+}
