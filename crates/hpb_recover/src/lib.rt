@@ -1,0 +1,7 @@
+//! Opens a device: the newest checkpoint, and the batches after it.
+#![tactic(auto)]
+
+mod cause;
+mod replay;
+
+pub use cause::Cause;
