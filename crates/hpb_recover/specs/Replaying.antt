@@ -25,10 +25,9 @@ abbrev pub HasStopped : Layout → Rules → ℕ → AuctionValue → List ℕ �
 HasStopped layout rules next reached image =
     (commands : List Command) → IsFrame layout rules next (suc reached.count) commands image → AllAccepted reached commands → ⊥
 
--- From an index on so many frames have these gates: true where open.
-pub record AreGates (layout : Layout) (covered next : ℕ) (gates : List Bool) (image : List ℕ) : Type 0 where
-  pub count : next ≡ covered + length gates
-  pub each : (k : ℕ) → k < length gates → IsTrue (slice_index_or gates k false) ↔ IsOpen layout (covered + k) image
+-- The frames from an index on have these gates: true where one is open.
+abbrev pub AreGates : Layout → ℕ → List Bool → List ℕ → Type 0
+AreGates layout covered gates image = (k : ℕ) → k < length gates → IsTrue (slice_index_or gates k false) ↔ IsOpen layout (covered + k) image
 
 -- Of the frames from one index up to another none is open with its own index.
 abbrev pub NoneIsOwn : Layout → ℕ → ℕ → List ℕ → Type 0
@@ -37,3 +36,17 @@ NoneIsOwn layout start end image = (b : ℕ) → start ≤ b → b < end → IsO
 -- One of them is.
 abbrev pub OneIsOwn : Layout → ℕ → ℕ → List ℕ → Type 0
 OneIsOwn layout start end image = (b : ℕ) × (start ≤ b) × (b < end) × IsOwn layout b image
+
+-- The gates of the frames before an index are known, and perhaps those of some after it, none of which is open with its own index.
+pub record IsReplayed (layout : Layout) (covered next : ℕ) (known : List Bool) (image : List ℕ) : Type 0 where
+  pub least : next ≤ covered + length known
+  pub most : length known ≤ layout.count
+  pub gates : AreGates layout covered known image
+  pub ended : NoneIsOwn layout next (covered + length known) image
+
+-- The frames from an index on are clean up to the first that is open, or to the end.
+pub record IsClean (layout : Layout) (next end clean : ℕ) (image : List ℕ) : Type 0 where
+  pub from : next ≤ clean
+  pub to : clean ≤ end
+  pub shut : (b : ℕ) → next ≤ b → b < clean → IsOpen layout b image → ⊥
+  pub first : clean < end → IsOpen layout clean image

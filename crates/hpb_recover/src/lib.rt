@@ -3,5 +3,6 @@
 
 mod cause;
 mod replay;
+mod rest;
 
 pub use cause::Cause;

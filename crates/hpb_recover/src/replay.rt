@@ -5,7 +5,9 @@ ghost use Rattle.hpb_rules.specs.AuctionValue.{AuctionValue};
 ghost use Rattle.hpb_rules.specs.Values.{value_after};
 ghost use Rattle.hpb_rules.specs.AcceptedRuns.{AllAccepted};
 ghost use Rattle.hpb_recover.specs.Quiet.{IsQuiet};
-ghost use Rattle.hpb_recover.specs.Replaying.{AreGates, GoesOn, HasStopped, Leads, NoneIsOwn, OneIsOwn};
+ghost use Rattle.hpb_recover.specs.Replaying.{GoesOn, HasStopped, IsReplayed, Leads};
+ghost use Rattle.hpb_recover.specs.Causes.{HasCause};
+ghost use Rattle.hpb_journal.specs.Frames.{IsOwn};
 
 use crate::Cause;
 use hpb_auction::Auction;
@@ -52,4 +54,51 @@ fn goes_on(auction: &mut Auction, batch: &Batch) -> bool
         return false;
     }
     are_taken(auction, batch.commands.as_slice())
+}
+
+/// Takes in batch after batch from the frames of a journal, and gives the index after the last one. `None` where a frame
+/// is open with its own index and doesn't go on. The gates of the frames that were read are put behind one another.
+pub(crate) fn replay<D: Disk, F: Frames>(
+    disk: &mut D,
+    frames: &F,
+    covered: u64,
+    auction: &mut Auction,
+    gates: &mut Vec<bool>,
+) -> Result<Option<u64>, Cause>
+    requires most { covered ≤ MOST_COMMANDS }
+    requires room { (F.layout frames.now).size ≤ length (D.seen disk.old) }
+    requires none { gates.old.items ≡ [] }
+    ensures next { IfOk result (λ next. MatchOption next
+        ((b : ℕ) × (reached : AuctionValue) × Leads (F.layout frames.now) covered auction.old (D.seen disk.old) b reached
+        × (b < covered + (F.layout frames.now).count) × IsOwn (F.layout frames.now) b (D.seen disk.old)
+        × HasStopped (F.layout frames.now) auction.old.rules b reached (D.seen disk.old))
+        (λ next. Leads (F.layout frames.now) covered auction.old (D.seen disk.old) next auction.new
+        × IsReplayed (F.layout frames.now) covered next gates.new.items (D.seen disk.old))) }
+    ensures quiet { IsQuiet D.seen D.may_leave D.moment (F.layout frames.now).count disk.old disk.new }
+    ensures works { OnOk result (D.failures disk.new ≡ D.failures disk.old) }
+    ensures cause { IfErr result (HasCause (D.failures disk.old) (D.failures disk.new)) }
+{
+    kept_goes_on(frames);
+    frames.laws();
+    let end = covered + u64::from(frames.count());
+    for index in covered..end {
+        match frames.read_frame(disk, index, auction.definition())? {
+            Frame::Closed => {
+                gates.push(false)?;
+                return Ok(Some(index));
+            }
+            Frame::Other => {
+                gates.push(true)?;
+                return Ok(Some(index));
+            }
+            Frame::Damaged => return Ok(None),
+            Frame::Batch(batch) => {
+                gates.push(true)?;
+                if !goes_on(auction, &batch) {
+                    return Ok(None);
+                }
+            }
+        }
+    }
+    Ok(Some(end))
 }
