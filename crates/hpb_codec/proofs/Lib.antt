@@ -1,6 +1,9 @@
 pub mod Batches
+pub mod Entries
 pub mod Fronts
+pub mod HeadPages
 pub mod Lasts
+pub mod Names
 pub mod Numbers
 pub mod States
 pub mod Tables
