@@ -1,12 +1,19 @@
 -- Page 0 of a head, field by field.
-use Rattle.std.proofs.Common.{◌≡◌, ℕ, ◌+◌, ◌-◌, ◌<◌, ◌≤◌, List, [], ◌∷◌, ◌++◌, length, take, refl, sym, ap, ◌∙◌, arith, append_assoc, length-append}
+use Rattle.std.proofs.Common.{◌≡◌, ℕ, ◌+◌, ◌-◌, ◌<◌, ◌≤◌, List, [], ◌∷◌, ◌++◌, length, map, take, refl, sym, ap, ◌∙◌, arith, append_assoc, length-append}
 use Rattle.std.specs.Prelude.{◌^◌}
+use Rattle.std.specs.List.{flat_map}
 use Rattle.std.proofs.lemmas.List.{append-nil, take_at}
 use Rattle.hpb_rules.specs.Tree.{Rules}
 use Rattle.hpb_rules.specs.Definitions.{IsDefinition}
 use Rattle.hpb_codec.specs.Numbers.{number, filled, before}
-use Rattle.hpb_codec.specs.Sizes.{length-number}
-use Rattle.hpb_codec.specs.Heads.{head_fields, head_page_of, magic}
+use Rattle.hpb_codec.specs.Sizes.{length-number, behind, behind_text}
+use Rattle.hpb_codec.specs.NodePages.{node_of, node_page_of, HasEntry}
+use Rattle.hpb_codec.specs.BidderPages.{bidder_of, bidder_page_of}
+use Rattle.hpb_codec.specs.BidderPages as bidders
+use Rattle.hpb_codec.specs.declared.head.Head.{Head}
+use Rattle.hpb_codec.specs.Heads.{head_fields, head_of, head_page_of, magic}
+use Rattle.hpb_codec.proofs.Definitions.{bidders_fit, nodes_fit}
+use Rattle.hpb_codec.proofs.Entries.{bidder_sized, entries_sized, node_sized}
 use Rattle.hpb_codec.proofs.Fronts.{same_number, same_text}
 
 -- the page with its fields one behind the other
@@ -54,3 +61,32 @@ page_read rules pages def small page m r0 r1 r2 r3 r4 r5 r6 stages r7 unused r8 
     let s9 = same_number 4 step rules.step r9 _ l9 (omega (arith, def.most_step)) (sym e9 ∙ s8.1) in
     let s10 = same_number 4 journal pages r10 _ l10 small (sym e10 ∙ s9.1) in
     record { nodes = s3.0; bidders = s4.0; percent_is = s5.0; count = s6.0; stages_are = s7.0; step_is = s9.0; journal_is = s10.0 }
+
+-- the fields of page 0 are 28 bytes
+fields_sized : (rules : Rules) (pages : ℕ) → length rules.stages ≤ 4 → length (head_fields rules pages) ≡ 28
+unfolding head_fields
+fields_sized rules pages few =
+    behind_text 8 magic _ refl (behind 1 _ _ (behind 1 _ _ (behind 1 _ _ (behind 1 _ _ (behind 1 _ _ (behind 1 _ _ (behind_text 4 (filled 4 rules.stages) _ (stages_sized rules.stages few) (behind 2 _ _ (behind 4 _ _ (behind 4 _ _ refl))))))))))
+
+filled_sized : (size : ℕ) (bytes : List ℕ) → length bytes ≤ size → length (filled size bytes) ≡ size
+unfolding filled
+filled_sized size bytes fits = length-append bytes (number (size - length bytes) 0) ∙ omega (arith, length-number (size - length bytes) 0)
+
+-- the pages of a head are what its bytes are cut into
+pub record Cut (rules : Rules) (pages : ℕ) (page nodes bidders : List ℕ) : Type 0 where
+  pub head : page ≡ head_page_of rules pages
+  pub node_page : nodes ≡ node_page_of rules.nodes
+  pub bidder_page : bidders ≡ bidder_page_of rules.bidders
+
+pub cut_head : (rules : Rules) (pages : ℕ) → IsDefinition rules → (bytes page rest nodes bidders : List ℕ) → bytes ≡ page ++ rest → length page ≡ 4080 → rest ≡ nodes ++ bidders → length nodes ≡ 4096 → bytes ≡ head_of rules pages
+    → Cut rules pages page nodes bidders
+unfolding head_of
+cut_head rules pages def bytes page rest nodes bidders cut size cut_rest node_size e =
+    let few : length (head_fields rules pages) ≤ 4080 = omega (arith, fields_sized rules pages def.stages.1) in
+    let some : length (flat_map node_of rules.nodes) ≤ 4096 = omega (arith, entries_sized node_of HasEntry 32 node_sized rules.nodes (nodes_fit rules def), def.nodes.1) in
+    let s0 = same_text 4080 page (head_page_of rules pages) rest _ size (filled_sized 4080 (head_fields rules pages) few) (sym cut ∙ e) in
+    let s1 = same_text 4096 nodes (node_page_of rules.nodes) bidders _ node_size (filled_sized 4096 (flat_map node_of rules.nodes) some) (sym cut_rest ∙ s0.1) in
+    record { head = s0.0; node_page = s1.0; bidder_page = s1.1 ∙ append-nil (bidder_page_of rules.bidders) }
+
+pub same_head : {d e : Rules} {p q : ℕ} → d ≡ e → p ≡ q → ◌≡◌ {A = Head} (record { definition = d; journal_pages = p }) (record { definition = e; journal_pages = q })
+same_head e f = cc

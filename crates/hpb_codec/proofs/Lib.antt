@@ -1,4 +1,5 @@
 pub mod Batches
+pub mod Definitions
 pub mod Entries
 pub mod Fronts
 pub mod HeadPages
