@@ -1,19 +1,18 @@
 -- Page 0 of a head, field by field.
-use Rattle.std.proofs.Common.{◌≡◌, ℕ, ◌+◌, ◌-◌, ◌<◌, ◌≤◌, List, [], ◌∷◌, ◌++◌, length, map, take, refl, sym, ap, ◌∙◌, arith, append_assoc, length-append}
+use Rattle.std.proofs.Common.{◌≡◌, ℕ, ◌-◌, ◌<◌, ◌≤◌, List, ◌++◌, length, take, refl, sym, ◌∙◌, arith, append_assoc, length-append}
 use Rattle.std.specs.Prelude.{◌^◌}
 use Rattle.std.specs.List.{flat_map}
 use Rattle.std.proofs.lemmas.List.{append-nil, take_at}
 use Rattle.hpb_rules.specs.Tree.{Rules}
 use Rattle.hpb_rules.specs.Definitions.{IsDefinition}
-use Rattle.hpb_codec.specs.Numbers.{number, filled, before}
+use Rattle.hpb_codec.specs.Numbers.{number, filled}
 use Rattle.hpb_codec.specs.Sizes.{length-number, behind, behind_text}
 use Rattle.hpb_codec.specs.NodePages.{node_of, node_page_of, HasEntry}
-use Rattle.hpb_codec.specs.BidderPages.{bidder_of, bidder_page_of}
-use Rattle.hpb_codec.specs.BidderPages as bidders
+use Rattle.hpb_codec.specs.BidderPages.{bidder_page_of}
 use Rattle.hpb_codec.specs.declared.head.Head.{Head}
 use Rattle.hpb_codec.specs.Heads.{head_fields, head_of, head_page_of, magic}
-use Rattle.hpb_codec.proofs.Definitions.{bidders_fit, nodes_fit}
-use Rattle.hpb_codec.proofs.Entries.{bidder_sized, entries_sized, node_sized}
+use Rattle.hpb_codec.proofs.Definitions.{nodes_fit}
+use Rattle.hpb_codec.proofs.Entries.{entries_sized, node_sized}
 use Rattle.hpb_codec.proofs.Fronts.{same_number, same_text}
 
 -- the page with its fields one behind the other

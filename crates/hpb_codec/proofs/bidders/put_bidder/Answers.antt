@@ -1,6 +1,5 @@
-use Rattle.std.proofs.Common.{◌≡◌, ◌++◌, ℕ, List, length, ap, sym, ◌∙◌, arith, append_assoc}
+use Rattle.std.proofs.Common.{append_assoc}
 use Rattle.std.proofs.lemmas.List.{append-nil}
-use Rattle.hpb_codec.specs.Numbers.{before, filled, number}
 use Rattle.hpb_codec.specs.BidderPages.{entry_of}
 use Rattle.hpb_codec.proofs.bidders.put_bidder.Goals as goal
 

@@ -1,4 +1,4 @@
-use Rattle.std.proofs.Common.{◌≡◌, ℕ, List, length, take, min, ap, sym, ◌∙◌, arith}
+use Rattle.std.proofs.Common.{ℕ, length, take, ap, ◌∙◌, arith}
 use Rattle.hpb_codec.proofs.HeadPages.{page_read, stages_front}
 use Rattle.hpb_codec.proofs.head.fields_in.Goals as goal
 

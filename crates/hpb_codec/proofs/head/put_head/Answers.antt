@@ -1,7 +1,7 @@
-use Rattle.std.proofs.Common.{◌≡◌, ◌++◌, ◌-◌, ℕ, List, length, ap, sym, ◌∙◌, arith, append_assoc}
+use Rattle.std.proofs.Common.{◌≡◌, ℕ, length, ap, ◌∙◌, arith, append_assoc}
 use Rattle.std.proofs.lemmas.List.{append-nil}
 use Rattle.hpb_rules.specs.Tree.{TreeRules}
-use Rattle.hpb_codec.specs.Numbers.{before, filled, number}
+use Rattle.hpb_codec.specs.Numbers.{before, filled}
 use Rattle.hpb_codec.specs.Heads.{head_fields}
 use Rattle.hpb_codec.proofs.Numbers.{before_none}
 use Rattle.hpb_codec.proofs.head.put_head.Goals as goal

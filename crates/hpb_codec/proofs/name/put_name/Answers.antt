@@ -1,4 +1,4 @@
-use Rattle.std.proofs.Common.{◌≡◌, ◌++◌, ◌-◌, ℕ, List, length, ap, sym, ◌∙◌, arith, append_assoc}
+use Rattle.std.proofs.Common.{◌++◌, ◌-◌, ℕ, List, length, ap, ◌∙◌, append_assoc}
 use Rattle.hpb_codec.specs.Numbers.{before, filled, number}
 use Rattle.hpb_codec.proofs.name.put_name.Goals as goal
 

@@ -1,6 +1,4 @@
-use Rattle.std.proofs.Common.{◌∙◌, sym, arith}
-use Rattle.hpb_rules.specs.Tree.{Node}
-use Rattle.hpb_codec.specs.NodePages.{HasEntry, node_of}
+use Rattle.std.proofs.Common.{◌∙◌, arith}
 use Rattle.hpb_codec.proofs.Entries.{node_read, same_node}
 use Rattle.hpb_codec.proofs.nodes.node_in.Goals as goal
 
