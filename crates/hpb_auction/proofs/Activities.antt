@@ -70,7 +70,7 @@ one_more under active on a k from to = same_answer _ _ there back
 
 module _ (a : Inside) (kept : IsKept a) where
   active_here : (b n : ℕ) → b < length a.definition.bidders → n < length a.definition.nodes → is_active (value_inside a) b n ≡ units.is_active_on a.books a.outcome b n
-  active_here b n h k = or_same _ _ _ _ (flag_here a b n h k) (ap (λ set. is_in set n && is_of b (node_at (value_inside a) n).high) (sym (wins_here a kept))
+  active_here b n h k = or_same _ _ _ _ (flag_here a b n h k) (ap (λ wins. wins && is_of b (node_at (value_inside a) n).high) (sym (wins_here a kept n k))
       ∙ ap (λ (bids : NodeBids). is_in a.outcome.wins n && is_of b bids.high) (node_here a n k))
 
   pub activity_here : (b : ℕ) → b < length a.definition.bidders → activity_in (value_inside a) b ≡ units.activity_of a.definition.nodes a.books a.outcome b

@@ -4,7 +4,7 @@ use Rattle.std.specs.Prelude.{IfSome, slice_index}
 use Rattle.std.proofs.lemmas.Bool.{cases_lt}
 use Rattle.hpb_rules.specs.declared.command.Offer.{Offer}
 use Rattle.hpb_rules.specs.Tree.{Rules}
-use Rattle.hpb_rules.specs.Choices.{winners, revenue}
+use Rattle.hpb_rules.specs.Choices.{is_in, winners, revenue}
 use Rattle.hpb_rules.specs.Prices.{price, minimum}
 use Rattle.hpb_rules.specs.History.{amount_of}
 use Rattle.hpb_rules.specs.AuctionValue.{AuctionValue, NodeBids}
@@ -31,11 +31,11 @@ module _ (a : Inside) (kept : IsKept a) where
           (λ more. ap amount_of (none_past a.definition n (offer_at a.books.standing n) (kept.bids.standing n) more) ∙ sym (ap (λ (bids : NodeBids). amount_of bids.high) (no_node_here a n more)))
           (cases_lt n (length a.definition.nodes))
 
-  pub wins_here : a.outcome.wins ≡ wins_in (value_inside a)
-  wins_here = kept.tables.reached.wins ∙ ap (winners a.definition.nodes) bids_here
+  pub wins_here : (n : ℕ) → n < length a.definition.nodes → is_in a.outcome.wins n ≡ is_in (wins_in (value_inside a)) n
+  wins_here n h = kept.tables.reached.wins n h ∙ ap (λ (bid : ℕ → ℕ). is_in (winners a.definition.nodes bid) n) bids_here
 
   pub revenue_here : a.outcome.revenue ≡ revenue_in (value_inside a)
-  revenue_here = kept.tables.reached.revenue ∙ ap (revenue (bid_of a.books)) wins_here ∙ ap (λ (bid : ℕ → ℕ). revenue bid (wins_in (value_inside a))) bids_here
+  revenue_here = kept.tables.reached.revenue ∙ ap (λ (bid : ℕ → ℕ). revenue bid (winners a.definition.nodes bid)) bids_here
 
   pub price_here : (n : ℕ) → n < length a.definition.nodes → slice_index a.prices.prices n ≡ price_in (value_inside a) n
   price_here n h = kept.tables.prices n h ∙ ap (λ (bid : ℕ → ℕ). price a.definition.nodes bid n) bids_here
@@ -45,15 +45,15 @@ module _ (a : Inside) (kept : IsKept a) where
 
 -- the same of the value that is seen
 module _ (a : Inside) (kept : IsKept a) (value : AuctionValue) (seen : value_inside a ≡ value) where
-  pub wins_found : a.outcome.wins ≡ wins_in value
-  wins_found = wins_here a kept ∙ ap wins_in seen
-
   pub revenue_found : a.outcome.revenue ≡ revenue_in value
   revenue_found = revenue_here a kept ∙ ap revenue_in seen
 
   -- a node of the value is one of the definition
   inside : (n : ℕ) → n < length value.rules.nodes → n < length a.definition.nodes
   inside n h = subst (λ (value : AuctionValue). n < length value.rules.nodes) (sym seen) h
+
+  pub wins_found : (n : ℕ) → n < length value.rules.nodes → is_in a.outcome.wins n ≡ is_in (wins_in value) n
+  wins_found n h = wins_here a kept n (inside n h) ∙ ap (λ (value : AuctionValue). is_in (wins_in value) n) seen
 
   pub price_found : (n : ℕ) → n < length value.rules.nodes → slice_index a.prices.prices n ≡ price_in value n
   price_found n h = price_here a kept n (inside n h) ∙ ap (λ (value : AuctionValue). price_in value n) seen

@@ -6,7 +6,7 @@ use Rattle.hpb_rules.specs.History.{greater}
 use Rattle.hpb_rules.specs.Tree.{Rules, tree_of}
 use Rattle.hpb_bids.specs.View.{BooksView, bid_of}
 use Rattle.hpb_winners.specs.View.{OutcomeView, IsOutcome}
-use Rattle.hpb_prices.specs.View.{PricesView, AreSizedPrices, HasPrices, HasMinima}
+use Rattle.hpb_prices.specs.View.{PricesView, HasPrices, HasMinima}
 use Rattle.hpb_auction.specs.Inside.{IsOfferOf, AreTablesOf}
 
 -- the greater of two bids on a node is one of them
@@ -19,14 +19,13 @@ greater_kept rules n older newer h k = pick _
 
 -- tables of the high bids of some books are those of the books
 pub tables_by : {rules : Rules} {books : BooksView} {outcome : OutcomeView} {priced : PricesView} {bid : ℕ → ℕ} → bid_of books ≡ bid
-    → IsOutcome rules.nodes bid outcome → AreSizedPrices rules.nodes priced → HasPrices rules.nodes bid priced → HasMinima (tree_of rules) bid priced → AreTablesOf rules books outcome priced
-tables_by {rules = rules} {outcome = outcome} {priced = priced} high reached sized prices minima = record {
+    → IsOutcome rules.nodes bid outcome → HasPrices rules.nodes bid priced → HasMinima (tree_of rules) bid priced → AreTablesOf rules books outcome priced
+tables_by {rules = rules} {outcome = outcome} {priced = priced} high reached prices minima = record {
   reached = subst (λ (bid : ℕ → ℕ). IsOutcome rules.nodes bid outcome) (sym high) reached;
-  sized = sized;
   prices = subst (λ (bid : ℕ → ℕ). HasPrices rules.nodes bid priced) (sym high) prices;
   minima = subst (λ (bid : ℕ → ℕ). HasMinima (tree_of rules) bid priced) (sym high) minima;
 }
 
 -- tables stay those of books whose high bids stay
 pub tables_stay : (rules : Rules) (books books' : BooksView) (outcome : OutcomeView) (priced : PricesView) → bid_of books' ≡ bid_of books → AreTablesOf rules books outcome priced → AreTablesOf rules books' outcome priced
-tables_stay rules books books' outcome priced high kept = tables_by high kept.reached kept.sized kept.prices kept.minima
+tables_stay rules books books' outcome priced high kept = tables_by high kept.reached kept.prices kept.minima

@@ -10,7 +10,7 @@ use Rattle.hpb_rules.specs.Drafts.{draft_refusal}
 use Rattle.hpb_rules.specs.ProperValues.{IsProper}
 use Rattle.hpb_bids.specs.View.{BooksView, offer_at, has_bid, bid_of}
 use Rattle.hpb_winners.specs.View.{OutcomeView, IsOutcome}
-use Rattle.hpb_prices.specs.View.{PricesView, AreSizedPrices, HasPrices, HasMinima}
+use Rattle.hpb_prices.specs.View.{PricesView, HasPrices, HasMinima}
 use Rattle.hpb_rules.specs.declared.saved.Accepted.{Accepted}
 use Rattle.hpb_auction.specs.declared.sender.BidderRow.{BidderRow}
 use Rattle.hpb_auction.specs.declared.auction.Auction.TheInside.{Inside}
@@ -65,7 +65,6 @@ pub record AreBidsOf (rules : Rules) (books : BooksView) : Type 0 where
 -- The tables are those of the books: the outcome is that of the high bids, and the prices and minima are its.
 pub record AreTablesOf (rules : Rules) (books : BooksView) (outcome : OutcomeView) (priced : PricesView) : Type 0 where
   pub reached : IsOutcome rules.nodes (bid_of books) outcome
-  pub sized : AreSizedPrices rules.nodes priced
   pub prices : HasPrices rules.nodes (bid_of books) priced
   pub minima : HasMinima (tree_of rules) (bid_of books) priced
 

@@ -1,7 +1,6 @@
 ghost use Rattle.std.specs.Prelude.{◌≡◌, ℕ, ◌<◌, ◌≤◌, length, IfOk};
 ghost use Rattle.hpb_rules.specs.History.{ticket_of, ticket_of_last};
 ghost use Rattle.hpb_rules.specs.declared.limits.TheConstants.{MOST_BIDDERS};
-ghost use Rattle.hpb_winners.specs.View.{IsSizedOutcome};
 ghost use Rattle.hpb_auction.specs.Verdicts.{read_last};
 ghost use Rattle.hpb_auction.specs.Inside.{row_at};
 ghost use Rattle.hpb_auction.specs.Rows.{first_rows, renewed};
@@ -71,7 +70,6 @@ pub(crate) fn renew_eligibility(
     requires rows { length rows.old ≤ MOST_BIDDERS }
     requires some { 50 ≤ percentage }
     requires most { percentage ≤ 100 }
-    requires outcome { IsSizedOutcome tree.now.nodes outcome.now }
     ensures length { length rows.new ≡ length rows.old }
     ensures rows { (b : ℕ) → b < length rows.old → row_at rows.new b ≡ renewed tree.now.nodes books.now outcome.now percentage b (row_at rows.old b) }
 {

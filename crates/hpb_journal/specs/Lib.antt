@@ -3,3 +3,4 @@ pub mod Frames
 pub mod Changes
 pub mod Laws
 pub mod Pages
+pub mod Journals

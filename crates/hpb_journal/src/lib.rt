@@ -7,6 +7,7 @@
 mod frame;
 mod frames;
 mod laws;
+mod layouts;
 mod limits;
 mod page;
 mod pages;
@@ -19,5 +20,6 @@ pub use laws::{
     closed_shows_nothing, kept_goes_on, kept_is_cut, kept_is_one, kept_is_own, kept_stays,
     near_are_apart, open_or_closed,
 };
+pub use layouts::pages_are_journal;
 pub use limits::{JOURNAL_AT, LEAST_FRAMES, MOST_FRAMES};
 pub use pages::PageFrames;

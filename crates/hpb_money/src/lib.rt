@@ -4,7 +4,7 @@
 ghost use Rattle.std.specs.Prelude.{◌≡◌, ℕ, ◌+◌, ◌*◌, ◌^◌, ◌<◌, ◌≤◌, List, slice_index};
 ghost use Rattle.hpb_rules.specs.Prices.{IsShares, share};
 
-/// An amount in whole dollars.
+/// An amount in whole dollars: 0 to `MOST_DOLLARS` in an auction. The type itself holds all numbers of 64 bits.
 pub type Dollars = u64;
 
 /// The greatest amount that an auction deals in.
@@ -21,7 +21,9 @@ pub fn ceil_percent(amount: Dollars, percent: u64) -> Dollars
     amount / 100 * percent + (amount % 100 * percent).div_ceil(100)
 }
 
-/// An amount rounded up to a multiple of the step.
+/// An amount rounded up to a multiple of the step, which is at least 1. Amount and step together have to be
+/// below 2^64: so they are for every amount up to `MOST_DOLLARS` with every step that a definition can have,
+/// 1 to 1,000,000.
 pub fn round_up(amount: Dollars, step: u64) -> Dollars
     requires step { 0 < step }
     requires fits { amount + step < 2 ^ 64 }

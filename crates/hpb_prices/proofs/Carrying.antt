@@ -4,7 +4,7 @@ use Rattle.std.specs.List.{range_with_len}
 use Rattle.std.proofs.lemmas.Bool.{cases_lt}
 use Rattle.std.proofs.lemmas.Grind.{get_or-set_at}
 use Rattle.std.proofs.lemmas.List.{get_or-set_other, length-set}
-use Rattle.hpb_rules.specs.declared.limits.TheConstants.{MOST_AMOUNT}
+use Rattle.hpb_rules.specs.declared.limits.TheConstants.{MOST_AMOUNT, MOST_NODES}
 use Rattle.hpb_rules.specs.Tree.{Node, parent_of, places, IsTree}
 use Rattle.hpb_rules.specs.Choices.{best}
 use Rattle.hpb_rules.specs.Prices.{share, children_among, of_package, surplus, carried as carried_of, price}
@@ -17,7 +17,7 @@ module _ (nodes : List Node) (bid : ℕ → ℕ) where
   -- what stands before the node at place i is looked at
   pub record Passed (i : ℕ) (carried prices : List ℕ) : Type 0 where
     pub so_far : IsCarried nodes bid i carried
-    pub prices_count : length prices ≡ length nodes
+    pub prices_count : length prices ≡ MOST_NODES
     pub prices_are : (n : ℕ) → n < i → get_or prices n 0 ≡ price nodes bid n
     pub small : (n : ℕ) → n < i → get_or prices n 0 ≤ 2 * MOST_VALUE
 
@@ -48,9 +48,9 @@ module _ (nodes : List Node) (bid : ℕ → ℕ) where
     pub carried_none : (node : ℕ) → None ≡ parent_of nodes node → 0 ≡ carried_of nodes bid node
     carried_none node top = sym (carried_top nodes bid tree node (sym top))
 
-    pub passed_more : {i node from_above value : ℕ} {carried prices : List ℕ} → Passed i carried prices → node ≡ i → i < length nodes → from_above ≡ carried_of nodes bid node → from_above ≤ MOST_VALUE → value ≡ max (bid node) (best nodes bid node) → value ≤ MOST_VALUE
+    pub passed_more : {i node from_above value : ℕ} {carried prices : List ℕ} → Passed i carried prices → node ≡ i → i < length nodes → length nodes ≤ MOST_NODES → from_above ≡ carried_of nodes bid node → from_above ≤ MOST_VALUE → value ≡ max (bid node) (best nodes bid node) → value ≤ MOST_VALUE
         → Passed (i + 1) (set carried i from_above) (set prices i (value + from_above))
-    passed_more {i = i} {from_above = from_above} {value = value} {carried = carried} {prices = prices} s at h received small_received is small_value = let c : from_above ≡ carried_of nodes bid i = received ∙ ap (carried_of nodes bid) at in let v : value ≡ max (bid i) (best nodes bid i) = is ∙ ap (λ n. max (bid n) (best nodes bid n)) at in record {
+    passed_more {i = i} {from_above = from_above} {value = value} {carried = carried} {prices = prices} s at h most received small_received is small_value = let c : from_above ≡ carried_of nodes bid i = received ∙ ap (carried_of nodes bid) at in let v : value ≡ max (bid i) (best nodes bid i) = is ∙ ap (λ n. max (bid n) (best nodes bid n)) at in record {
       so_far = record {
         count = length-set carried i from_above ∙ s.so_far.count;
         values = λ n l. ⊎_elim

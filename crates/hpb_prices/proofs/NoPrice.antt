@@ -1,17 +1,18 @@
 -- The prices of a tree without a bid.
 use Rattle.std.proofs.Common.{◌≡◌, ℕ, ◌<◌, List, length, get_or, replicate, sym, ap, ◌∙◌, arith}
-use Rattle.std.proofs.lemmas.List.{get_or-replicate}
+use Rattle.hpb_rules.specs.declared.limits.TheConstants.{MOST_NODES}
 use Rattle.hpb_rules.specs.Tree.{Node, IsTree, opening}
 use Rattle.hpb_rules.specs.Prices.{price, minimum_of}
+use Rattle.hpb_rules.proofs.Lists.{get_or-replicate_same}
 use Rattle.hpb_rules.proofs.Loops.{price_bound}
 use Rattle.hpb_winners.specs.View.{no_bid}
 
 price_none : (nodes : List Node) (n : ℕ) → IsTree nodes → price nodes no_bid n ≡ 0
 price_none nodes n tree = omega (arith, price_bound nodes no_bid tree 0 n (λ m. omega arith))
 
-module _ (nodes : List Node) {count : ℕ} {prices : List ℕ} (tree : IsTree nodes) (all : count ≡ length nodes) (zeros : prices ≡ replicate count 0) where
+module _ (nodes : List Node) {prices : List ℕ} (tree : IsTree nodes) (zeros : prices ≡ replicate MOST_NODES 0) where
   pub prices_none : (n : ℕ) → n < length nodes → get_or prices n 0 ≡ price nodes no_bid n
-  prices_none n h = ap (λ xs. get_or xs n 0) zeros ∙ get_or-replicate count n 0 0 (omega arith) ∙ sym (price_none nodes n tree)
+  prices_none n h = ap (λ xs. get_or xs n 0) zeros ∙ get_or-replicate_same MOST_NODES n 0 ∙ sym (price_none nodes n tree)
 
   -- the least bids were written by the prices that were read
   pub minima_none : (step percent : ℕ) {read written minima : List ℕ} → read ≡ prices → minima ≡ written

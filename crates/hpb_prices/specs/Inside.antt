@@ -1,5 +1,6 @@
 -- The prices of the code as definitions see them.
 use Rattle.std.specs.Prelude.{◌≡◌, ℕ, ◌<◌, List, length, slice_index}
+use Rattle.hpb_rules.specs.declared.limits.TheConstants.{MOST_NODES}
 use Rattle.hpb_rules.specs.Tree.{Node}
 use Rattle.hpb_rules.specs.Prices.{carried as carried_to}
 use Rattle.hpb_prices.specs.View.{PricesView}
@@ -9,12 +10,13 @@ use Rattle.hpb_prices.specs.declared.prices.Prices.TheInside.{Inside}
 abbrev pub prices_view : Inside → PricesView
 prices_view p = record { prices = p.prices.items; minima = p.minima.items }
 
--- The tables have one length.
+-- Each table has a place for each node that a tree can have.
 pub record IsKept (p : Inside) : Type 0 where
-  pub minima : length p.minima.items ≡ length p.prices.items
-  pub carried : length p.carried.items ≡ length p.prices.items
+  pub prices : length p.prices.items ≡ MOST_NODES
+  pub minima : length p.minima.items ≡ MOST_NODES
+  pub carried : length p.carried.items ≡ MOST_NODES
 
--- The table has a place for each node, and says of the nodes before one what is carried down to them.
+-- The table has its size, and says of the nodes before one what is carried down to them.
 pub record IsCarried (nodes : List Node) (bid : ℕ → ℕ) (place : ℕ) (carried : List ℕ) : Type 0 where
-  pub count : length carried ≡ length nodes
+  pub count : length carried ≡ MOST_NODES
   pub values : (node : ℕ) → node < place → slice_index carried node ≡ carried_to nodes bid node

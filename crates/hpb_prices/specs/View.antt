@@ -8,11 +8,6 @@ pub record PricesView : Type 0 where
   pub prices : List ℕ
   pub minima : List ℕ
 
--- Each table has a place for each node.
-pub record AreSizedPrices (nodes : List Node) (priced : PricesView) : Type 0 where
-  pub prices : length priced.prices ≡ length nodes
-  pub minima : length priced.minima ≡ length nodes
-
 -- Each price is the one that these high bids give.
 abbrev pub HasPrices : List Node → (ℕ → ℕ) → PricesView → Type 0
 HasPrices nodes bid priced = (node : ℕ) → node < length nodes → slice_index priced.prices node ≡ price nodes bid node

@@ -5,7 +5,7 @@ ghost use Rattle.hpb_rules.specs.Prices.{carried as carried_of, price, IsCertifi
 ghost use Rattle.hpb_bids.specs.View.{bid_of};
 ghost use Rattle.hpb_winners.specs.View.{IsOutcome};
 ghost use Rattle.hpb_prices.specs.Inside.{IsCarried};
-ghost use Rattle.hpb_prices.specs.View.{AreSizedPrices, HasMinima, HasPrices};
+ghost use Rattle.hpb_prices.specs.View.{HasMinima, HasPrices};
 
 use crate::minimum::set_minima;
 use crate::prices::Prices;
@@ -19,9 +19,7 @@ use hpb_winners::{MOST_VALUE, Outcome};
 /// inside it is shared among its children. The prices prove the winners: they cover each high bid and sum to
 /// the winners' revenue.
 pub fn downward(tree: &Tree, books: &Books, outcome: &Outcome, prices: &mut Prices)
-    requires outcome { IsOutcome tree.now.nodes (bid_of books.now) outcome.now }
-    requires prices { AreSizedPrices tree.now.nodes prices.old }
-    ensures sized { AreSizedPrices tree.now.nodes prices.new }
+    requires { IsOutcome tree.now.nodes (bid_of books.now) outcome.now }
     ensures prices { HasPrices tree.now.nodes (bid_of books.now) prices.new }
     ensures minima { HasMinima tree.now (bid_of books.now) prices.new }
     ensures certificate { IsCertificate tree.now.nodes (bid_of books.now) (λ node. slice_index prices.new.prices node) (winners tree.now.nodes (bid_of books.now)) }
@@ -47,10 +45,10 @@ fn pass_down(
     prices: &mut [Dollars],
 )
     requires outcome { IsOutcome tree.now.nodes (bid_of books.now) outcome.now }
-    requires carried { length carried.old ≡ length tree.now.nodes }
-    requires prices { length prices.old ≡ length tree.now.nodes }
+    requires carried { length carried.old ≡ MOST_NODES }
+    requires prices { length prices.old ≡ MOST_NODES }
     ensures prices { (n : ℕ) → n < length tree.now.nodes → slice_index prices.new n ≡ price tree.now.nodes (bid_of books.now) n }
-    ensures most { (n : ℕ) → slice_index prices.new n ≤ 2 * MOST_VALUE }
+    ensures most { (n : ℕ) → n < length tree.now.nodes → slice_index prices.new n ≤ 2 * MOST_VALUE }
 {
     tree.facts();
     outcome.facts();
@@ -89,7 +87,6 @@ fn carried_to(
 
 /// What a package's high bid is more than the best inside it.
 fn surplus(books: &Books, outcome: &Outcome, node: NodeId) -> Dollars
-    requires { node < length outcome.now.inside }
     ensures { result ≡ bid_of books.now node - slice_index outcome.now.inside node }
 {
     let high = books.standing(node).map_or(0, |offer| offer.amount);

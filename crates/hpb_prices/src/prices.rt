@@ -1,15 +1,16 @@
-ghost use Rattle.std.specs.Prelude.{◌≡◌, ◌<◌, length, IfOk, slice_index};
+ghost use Rattle.std.specs.Prelude.{◌≡◌, IfOk, slice_index};
 ghost use Rattle.hpb_winners.specs.View.{no_bid};
-ghost use Rattle.hpb_prices.specs.View.{AreSizedPrices, HasMinima, HasPrices};
+ghost use Rattle.hpb_prices.specs.View.{HasMinima, HasPrices};
 
 use crate::minimum::set_minima;
 use hpb_money::Dollars;
-use hpb_rules::NodeId;
+use hpb_rules::{MOST_NODES, NodeId};
 use hpb_tree::Tree;
 use std::alloc::{AllocError, Global};
 use std::marker::Model;
 
-/// The price of each node, and the least bid on it. All in whole dollars.
+/// The price of each node, and the least bid on it. All in whole dollars. There is room for `MOST_NODES`
+/// nodes; only the places of the tree's nodes count.
 #[derive(Debug, Drop)]
 pub struct Prices {
     pub(crate) prices: Vec<Dollars>,
@@ -34,25 +35,22 @@ impl Prices {
     /// The prices of a tree without a bid: 0, so the least bids are the openings. Fails only where memory is
     /// refused.
     pub fn new(alloc: Global, tree: &Tree) -> Result<Prices, AllocError>
-        ensures sized { IfOk result (AreSizedPrices tree.now.nodes) }
         ensures prices { IfOk result (HasPrices tree.now.nodes no_bid) }
         ensures minima { IfOk result (HasMinima tree.now no_bid) }
     {
         tree.facts();
-        let count = tree.node_count();
-        let prices = vec![in alloc; 0; count]?;
-        let mut minima = vec![in alloc; 0; count]?;
+        let prices = vec![in alloc; 0; MOST_NODES]?;
+        let mut minima = vec![in alloc; 0; MOST_NODES]?;
         set_minima(tree, &prices, &mut minima);
         Ok(Prices {
             prices,
             minima,
-            carried: vec![in alloc; 0; count]?,
+            carried: vec![in alloc; 0; MOST_NODES]?,
         })
     }
 
     /// The price of a node: of a package the sum over its licences.
     pub fn price(&self, node: NodeId) -> Dollars
-        requires { node < length self.now.prices }
         ensures { result ≡ slice_index self.now.prices node }
     {
         let index = node.place();
@@ -61,7 +59,6 @@ impl Prices {
 
     /// The least bid on a node, a multiple of the step.
     pub fn minimum(&self, node: NodeId) -> Dollars
-        requires { node < length self.now.minima }
         ensures { result ≡ slice_index self.now.minima node }
     {
         let index = node.place();

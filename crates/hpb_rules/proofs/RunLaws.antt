@@ -1,5 +1,6 @@
 -- The laws of histories, rounds, values and the machine, proved: other crates' proofs cite them here.
 pub use Rattle.hpb_rules.proofs.AcceptedBids.{bids_meet_rules}
+pub use Rattle.hpb_rules.proofs.AcceptedRuns.{accepted_are_counted, accepted_join, rest_is_accepted, rest_is_shown}
 pub use Rattle.hpb_rules.proofs.BestChoices.{best_choice, value_is_best_choice}
 pub use Rattle.hpb_rules.proofs.Bids.{close_takes_greater, eligibility_is_greatest, greatest_is_first}
 pub use Rattle.hpb_rules.proofs.Cuts.{over_is_quiet_round, rounds_are_cut}

@@ -15,6 +15,8 @@ pub mod AuctionValue
 pub mod Values
 pub mod ValueText
 pub mod ValueLaws
+pub mod AcceptedRuns
+pub mod AcceptedLaws
 pub mod ProperValues
 pub mod Saved
 pub mod SavedLaws

@@ -9,6 +9,7 @@ mod command;
 mod few;
 mod id;
 mod laws;
+mod laws_of_accepted;
 mod laws_of_history;
 mod laws_of_letters;
 mod laws_of_machine;
@@ -24,42 +25,105 @@ mod reply;
 mod request;
 mod saved;
 
-pub use command::{Command, Offer};
-pub use few::{Answers, Blank, Commands, Few, Letters};
-pub use id::{BidderId, NodeId};
-pub use laws::{
-    accepted_is_definition, best_is_one, carried_is_share, certificates, cover_proves,
-    depth_is_one_more, disjoint_is_apart, limits_are, minimum_is_one, price_is_value, prices_prove,
-    revenue_is_greatest, shares_are_one, test_decides, winners_are_one,
-};
-pub use laws_of_history::{
-    accepted_is_new, answer_is_shown, bids_meet_rules, front_is_history, history_grows,
-    last_stands, percentage_is_known, repeat_changes_nothing, same_is_equal, shown_is_one,
-    tickets_count,
-};
-pub use laws_of_letters::{fits_grow, history_after_appends, judged_is_answered, judged_join};
-pub use laws_of_machine::{machine_keeps, rest_is_sound, run_is_moves, run_joins, stops};
-pub use laws_of_rounds::{
-    close_takes_greater, eligibility_is_greatest, greatest_is_first, high_is_greatest,
-    incoming_is_greatest, over_is_quiet_round, rounds_are_cut,
-};
-pub use laws_of_saved::{next_is_proper, restored_is_saved, saved_is_restored, shown_is_proper};
-pub use laws_of_text::{
-    lines_keep_history, lines_text_joins, names_are_found, number_is_one, request_is_one,
-    script_text_grows, script_text_is_one, spelling_is_one, words_are,
-};
-pub use laws_of_values::{
-    next_is_shown, reply_is_answer, run_is_shown, text_is_shown, value_is_best_choice,
-};
-pub use letter::{Answer, Letter};
+pub use command::Command;
+pub use command::Offer;
+pub use few::Answers;
+pub use few::Blank;
+pub use few::Commands;
+pub use few::Few;
+pub use few::Letters;
+pub use id::BidderId;
+pub use id::NodeId;
+pub use laws::accepted_is_definition;
+pub use laws::best_is_one;
+pub use laws::carried_is_share;
+pub use laws::certificates;
+pub use laws::cover_proves;
+pub use laws::depth_is_one_more;
+pub use laws::disjoint_is_apart;
+pub use laws::limits_are;
+pub use laws::minimum_is_one;
+pub use laws::price_is_value;
+pub use laws::prices_prove;
+pub use laws::revenue_is_greatest;
+pub use laws::shares_are_one;
+pub use laws::test_decides;
+pub use laws::winners_are_one;
+pub use laws_of_accepted::accepted_are_counted;
+pub use laws_of_accepted::accepted_join;
+pub use laws_of_accepted::rest_is_accepted;
+pub use laws_of_accepted::rest_is_shown;
+pub use laws_of_history::accepted_is_new;
+pub use laws_of_history::answer_is_shown;
+pub use laws_of_history::bids_meet_rules;
+pub use laws_of_history::front_is_history;
+pub use laws_of_history::history_grows;
+pub use laws_of_history::last_stands;
+pub use laws_of_history::percentage_is_known;
+pub use laws_of_history::repeat_changes_nothing;
+pub use laws_of_history::same_is_equal;
+pub use laws_of_history::shown_is_one;
+pub use laws_of_history::tickets_count;
+pub use laws_of_letters::fits_grow;
+pub use laws_of_letters::history_after_appends;
+pub use laws_of_letters::judged_is_answered;
+pub use laws_of_letters::judged_join;
+pub use laws_of_machine::machine_keeps;
+pub use laws_of_machine::rest_is_sound;
+pub use laws_of_machine::run_is_moves;
+pub use laws_of_machine::run_joins;
+pub use laws_of_machine::stops;
+pub use laws_of_rounds::close_takes_greater;
+pub use laws_of_rounds::eligibility_is_greatest;
+pub use laws_of_rounds::greatest_is_first;
+pub use laws_of_rounds::high_is_greatest;
+pub use laws_of_rounds::incoming_is_greatest;
+pub use laws_of_rounds::over_is_quiet_round;
+pub use laws_of_rounds::rounds_are_cut;
+pub use laws_of_saved::next_is_proper;
+pub use laws_of_saved::restored_is_saved;
+pub use laws_of_saved::saved_is_restored;
+pub use laws_of_saved::shown_is_proper;
+pub use laws_of_text::lines_keep_history;
+pub use laws_of_text::lines_text_joins;
+pub use laws_of_text::names_are_found;
+pub use laws_of_text::number_is_one;
+pub use laws_of_text::request_is_one;
+pub use laws_of_text::script_text_grows;
+pub use laws_of_text::script_text_is_one;
+pub use laws_of_text::spelling_is_one;
+pub use laws_of_text::words_are;
+pub use laws_of_values::next_is_shown;
+pub use laws_of_values::reply_is_answer;
+pub use laws_of_values::run_is_shown;
+pub use laws_of_values::text_is_shown;
+pub use laws_of_values::value_is_best_choice;
+pub use letter::Answer;
+pub use letter::Letter;
 pub use licence::Terms;
-pub use limits::{
-    LEAST_PERCENTAGE, MOST_AMOUNT, MOST_BIDDER_UNITS, MOST_BIDDERS, MOST_COMMANDS,
-    MOST_DEFINITION_BYTES, MOST_LETTERS, MOST_LEVELS, MOST_LICENCE_OPENING, MOST_LICENCE_UNITS,
-    MOST_LICENCES, MOST_LINE_BYTES, MOST_NAME_BYTES, MOST_NODES, MOST_PERCENT, MOST_PERCENTAGE,
-    MOST_READ_BYTES, MOST_STAGES, MOST_STEP,
-};
+pub use limits::LEAST_PERCENTAGE;
+pub use limits::MOST_AMOUNT;
+pub use limits::MOST_BIDDER_UNITS;
+pub use limits::MOST_BIDDERS;
+pub use limits::MOST_COMMANDS;
+pub use limits::MOST_DEFINITION_BYTES;
+pub use limits::MOST_LETTERS;
+pub use limits::MOST_LEVELS;
+pub use limits::MOST_LICENCE_OPENING;
+pub use limits::MOST_LICENCE_UNITS;
+pub use limits::MOST_LICENCES;
+pub use limits::MOST_LINE_BYTES;
+pub use limits::MOST_NAME_BYTES;
+pub use limits::MOST_NODES;
+pub use limits::MOST_PERCENT;
+pub use limits::MOST_PERCENTAGE;
+pub use limits::MOST_READ_BYTES;
+pub use limits::MOST_STAGES;
+pub use limits::MOST_STEP;
 pub use refusal::Refusal;
 pub use reply::Reply;
 pub use request::Request;
-pub use saved::{Accepted, Saved, SavedBidder, SavedNode};
+pub use saved::Accepted;
+pub use saved::Saved;
+pub use saved::SavedBidder;
+pub use saved::SavedNode;

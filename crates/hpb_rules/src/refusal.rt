@@ -32,6 +32,18 @@ pub enum Refusal {
     Limit,
     /// 27 `stage`: there is no further stage.
     Stage,
+    /// 40 `unformatted`: a device that was not formatted.
+    Unformatted,
+    /// 41 `formatted`: a device that is formatted already.
+    Formatted,
+    /// 42 `layout`: a device whose head, nodes or bidders are not of the grammar, or whose length is not that of its layout.
+    Layout,
+    /// 43 `length`: a number of frames out of range, or a device of another length.
+    Length,
+    /// 44 `checkpoint`: a device without a checkpoint.
+    Checkpoint,
+    /// 45 `frame`: a device with a damaged frame.
+    Frame,
     /// 50 `empty`: a definition without a node, a bidder or a stage.
     Empty,
     /// 51 `name`: a name that isn't 1 to 16 bytes of `a-z0-9_`.
@@ -56,6 +68,8 @@ pub enum Refusal {
     Number,
     /// 90 `memory`: memory was refused.
     Memory,
+    /// 91 `device`: a call of the device failed.
+    Device,
     /// 92 `stream`: a reader or a writer failed, or too much was read.
     Stream,
     /// 93 `failed`: what was asked can't be shown or done any more until the auction is opened anew.
@@ -82,6 +96,12 @@ impl Refusal {
             Refusal::Eligibility => 25,
             Refusal::Limit => 26,
             Refusal::Stage => 27,
+            Refusal::Unformatted => 40,
+            Refusal::Formatted => 41,
+            Refusal::Layout => 42,
+            Refusal::Length => 43,
+            Refusal::Checkpoint => 44,
+            Refusal::Frame => 45,
             Refusal::Empty => 50,
             Refusal::Name => 51,
             Refusal::Duplicate => 52,
@@ -94,6 +114,7 @@ impl Refusal {
             Refusal::Field => 61,
             Refusal::Number => 62,
             Refusal::Memory => 90,
+            Refusal::Device => 91,
             Refusal::Stream => 92,
             Refusal::Failed => 93,
         }
@@ -118,6 +139,12 @@ impl Refusal {
             Refusal::Eligibility => "eligibility",
             Refusal::Limit => "limit",
             Refusal::Stage => "stage",
+            Refusal::Unformatted => "unformatted",
+            Refusal::Formatted => "formatted",
+            Refusal::Layout => "layout",
+            Refusal::Length => "length",
+            Refusal::Checkpoint => "checkpoint",
+            Refusal::Frame => "frame",
             Refusal::Empty => "empty",
             Refusal::Name => "name",
             Refusal::Duplicate => "duplicate",
@@ -130,6 +157,7 @@ impl Refusal {
             Refusal::Field => "field",
             Refusal::Number => "number",
             Refusal::Memory => "memory",
+            Refusal::Device => "device",
             Refusal::Stream => "stream",
             Refusal::Failed => "failed",
         }

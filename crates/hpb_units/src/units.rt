@@ -3,7 +3,6 @@ ghost use Rattle.hpb_rules.specs.Choices.{is_in};
 ghost use Rattle.hpb_rules.specs.History.{is_of};
 ghost use Rattle.hpb_rules.specs.Tree.{terms_of, sum_over, units_at};
 ghost use Rattle.hpb_bids.specs.View.{offer_at};
-ghost use Rattle.hpb_winners.specs.View.{IsSizedOutcome};
 ghost use Rattle.hpb_units.specs.Activity.{is_active_on, held, activity_of, activity_with, is_marked};
 
 use hpb_bids::Books;
@@ -14,7 +13,6 @@ use hpb_winners::Outcome;
 /// The activity of a bidder, in bidding units: those of the licences of the nodes on which it bid in the
 /// open round or which it won at the last close, each licence once.
 pub fn activity(tree: &Tree, books: &Books, outcome: &Outcome, bidder: BidderId) -> u32
-    requires { IsSizedOutcome tree.now.nodes outcome.now }
     ensures { result ≡ activity_of tree.now.nodes books.now outcome.now bidder }
 {
     units_of(tree, licences_held(tree, books, outcome, bidder))
@@ -29,8 +27,7 @@ pub fn fits(
     node: NodeId,
     eligibility: u32,
 ) -> bool
-    requires sized { IsSizedOutcome tree.now.nodes outcome.now }
-    requires node { node < length tree.now.nodes }
+    requires { node < length tree.now.nodes }
     ensures { IsTrue result ↔ (activity_with tree.now.nodes books.now outcome.now bidder node ≤ eligibility) }
 {
     let licences = licences_held(tree, books, outcome, bidder) | tree.licences(node);
@@ -39,7 +36,6 @@ pub fn fits(
 
 /// A bit for each licence of the nodes on which a bidder bid in the open round or which it won.
 fn licences_held(tree: &Tree, books: &Books, outcome: &Outcome, bidder: BidderId) -> u64
-    requires { IsSizedOutcome tree.now.nodes outcome.now }
     ensures { (l : ℕ) → IsSome (terms_of tree.now.nodes l) → is_marked tree.now.nodes result l ≡ held tree.now.nodes books.now outcome.now bidder l }
 {
     let mut licences = 0;
@@ -53,7 +49,6 @@ fn licences_held(tree: &Tree, books: &Books, outcome: &Outcome, bidder: BidderId
 
 /// Whether a bidder bid on a node in the open round, or won it.
 fn is_active_on(books: &Books, outcome: &Outcome, bidder: BidderId, node: NodeId) -> bool
-    requires { node < length outcome.now.wins }
     ensures { result ≡ is_active_on books.now outcome.now bidder node }
 {
     books.has_bid_on(bidder, node) || has_won(books, outcome, bidder, node)
@@ -61,7 +56,6 @@ fn is_active_on(books: &Books, outcome: &Outcome, bidder: BidderId, node: NodeId
 
 /// Whether a node won, and by this bidder's bid.
 fn has_won(books: &Books, outcome: &Outcome, bidder: BidderId, node: NodeId) -> bool
-    requires { node < length outcome.now.wins }
     ensures { result ≡ (is_in outcome.now.wins node && is_of bidder (offer_at books.now.standing node)) }
 {
     match books.standing(node) {

@@ -1,9 +1,9 @@
 -- What a tree without a bid comes to.
 use Rattle.std.proofs.Common.{◌≡◌, ℕ, zero, suc, ◌<◌, Bool, false, not, ◌&&◌, ltb, List, [], ◌∷◌, length, get_or, replicate, max, refl, sym, ap, ◌∙◌, arith}
 use Rattle.std.proofs.lemmas.Bool.{le-ltb, and_right}
-use Rattle.std.proofs.lemmas.List.{length-replicate}
+use Rattle.hpb_rules.specs.declared.limits.TheConstants.{MOST_NODES}
 use Rattle.hpb_rules.specs.Tree.{Node}
-use Rattle.hpb_rules.specs.Choices.{is_top, is_node, mark, total, values_from, best, winners_from, revenue_from, revenue}
+use Rattle.hpb_rules.specs.Choices.{is_in, is_top, is_node, mark, total, values_from, best, winners_from, revenue_from, revenue}
 use Rattle.hpb_rules.proofs.Lists.{get_or-replicate_same}
 use Rattle.hpb_rules.proofs.Loops.{Test, below_is, best_from, sum_bound}
 use Rattle.hpb_winners.specs.View.{IsOutcome, no_bid}
@@ -24,16 +24,11 @@ revenue_none i zero bid = refl
 revenue_none i (suc n) bid = omega (arith, revenue_none (suc i) n bid)
 
 -- no winner, and zeros
-pub outcome_none : (nodes : List Node) {count : ℕ} {inside values : List ℕ} {wins : List Bool} → count ≡ length nodes → inside ≡ replicate count 0 → values ≡ replicate count 0 → wins ≡ replicate count false
+pub outcome_none : (nodes : List Node) {inside values : List ℕ} {wins : List Bool} → inside ≡ replicate MOST_NODES 0 → values ≡ replicate MOST_NODES 0 → wins ≡ replicate MOST_NODES false
     → IsOutcome nodes no_bid (record { inside = inside; values = values; wins = wins; revenue = 0 })
-outcome_none nodes {count = count} c i v w = record {
-  sized = record {
-    inside = ap length i ∙ length-replicate count 0 ∙ c;
-    values = ap length v ∙ length-replicate count 0 ∙ c;
-    wins = ap length w ∙ length-replicate count false ∙ c;
-  };
-  inside = λ n h. ap (λ xs. get_or xs n 0) i ∙ get_or-replicate_same count n 0 ∙ sym (best_none nodes n h);
-  values = λ n h. ap (λ xs. get_or xs n 0) v ∙ get_or-replicate_same count n 0 ∙ sym (ap (max 0) (best_none nodes n h));
-  wins = w ∙ ap (λ k. replicate k false) c ∙ sym (winners_none 0 is_top nodes);
-  revenue = sym (ap (revenue no_bid) w ∙ revenue_none 0 count no_bid);
+outcome_none nodes i v w = record {
+  inside = λ n h. ap (λ xs. get_or xs n 0) i ∙ get_or-replicate_same MOST_NODES n 0 ∙ sym (best_none nodes n h);
+  values = λ n h. ap (λ xs. get_or xs n 0) v ∙ get_or-replicate_same MOST_NODES n 0 ∙ sym (ap (max 0) (best_none nodes n h));
+  wins = λ n h. ap (λ xs. is_in xs n) w ∙ get_or-replicate_same MOST_NODES n false ∙ sym (ap (λ xs. is_in xs n) (winners_none 0 is_top nodes) ∙ get_or-replicate_same (length nodes) n false);
+  revenue = sym (ap (revenue no_bid) (winners_none 0 is_top nodes) ∙ revenue_none 0 (length nodes) no_bid);
 }

@@ -1,7 +1,7 @@
 -- What an outcome stands for: what the high bids on a tree come to.
 use Rattle.std.specs.Prelude.{◌≡◌, ℕ, ◌<◌, List, Bool, length, slice_index, max}
 use Rattle.hpb_rules.specs.Tree.{Node}
-use Rattle.hpb_rules.specs.Choices.{best, winners, revenue}
+use Rattle.hpb_rules.specs.Choices.{is_in, best, winners, revenue}
 pub use Rattle.hpb_bids.specs.View.{no_bid}
 
 -- An outcome says of each node the best revenue inside it, its value and whether it wins, and the winners' revenue.
@@ -11,16 +11,9 @@ pub record OutcomeView : Type 0 where
   pub wins : List Bool
   pub revenue : ℕ
 
--- Each table has a place for each node.
-pub record IsSizedOutcome (nodes : List Node) (outcome : OutcomeView) : Type 0 where
-  pub inside : length outcome.inside ≡ length nodes
-  pub values : length outcome.values ≡ length nodes
-  pub wins : length outcome.wins ≡ length nodes
-
--- The outcome is that of these high bids.
+-- The outcome is that of these high bids: so say the places of the nodes.
 pub record IsOutcome (nodes : List Node) (bid : ℕ → ℕ) (outcome : OutcomeView) : Type 0 where
-  pub sized : IsSizedOutcome nodes outcome
   pub inside : (node : ℕ) → node < length nodes → slice_index outcome.inside node ≡ best nodes bid node
   pub values : (node : ℕ) → node < length nodes → slice_index outcome.values node ≡ max (bid node) (best nodes bid node)
-  pub wins : outcome.wins ≡ winners nodes bid
-  pub revenue : outcome.revenue ≡ revenue bid outcome.wins
+  pub wins : (node : ℕ) → node < length nodes → is_in outcome.wins node ≡ is_in (winners nodes bid) node
+  pub revenue : outcome.revenue ≡ revenue bid (winners nodes bid)

@@ -1,4 +1,4 @@
-ghost use Rattle.std.specs.Prelude.{◌≡◌, ℕ, ◌<◌, ◌≤◌, length, IfOk, slice_index};
+ghost use Rattle.std.specs.Prelude.{◌≡◌, ℕ, ◌≤◌, IfOk, slice_index};
 ghost use Rattle.hpb_rules.specs.Choices.{is_in};
 ghost use Rattle.hpb_winners.specs.View.{IsOutcome, no_bid};
 
@@ -11,7 +11,8 @@ use std::marker::Model;
 /// greatest amount.
 pub const MOST_VALUE: u64 = MOST_NODES as u64 * MOST_AMOUNT;
 
-/// What the high bids on a tree come to: the values of its nodes, the winners and their revenue.
+/// What the high bids on a tree come to: the values of its nodes, the winners and their revenue. There is
+/// room for `MOST_NODES` nodes; only the places of the tree's nodes count.
 #[derive(Debug, Drop)]
 pub struct Outcome {
     pub(crate) inside: Vec<u64>,
@@ -36,15 +37,14 @@ impl Model for Outcome {
 
 impl Outcome {
     /// The outcome of a tree without a bid: no winner, no revenue. Fails only where memory is refused.
-    pub fn new(alloc: Global, tree: &Tree) -> Result<Outcome, AllocError>
-        ensures { IfOk result (IsOutcome tree.now.nodes no_bid) }
+    pub fn new(alloc: Global, _tree: &Tree) -> Result<Outcome, AllocError>
+        ensures { IfOk result (IsOutcome _tree.now.nodes no_bid) }
     {
-        let count = tree.node_count();
         Ok(Outcome {
-            inside: vec![in alloc; 0; count]?,
-            values: vec![in alloc; 0; count]?,
-            wins: vec![in alloc; false; count]?,
-            free: vec![in alloc; false; count]?,
+            inside: vec![in alloc; 0; MOST_NODES]?,
+            values: vec![in alloc; 0; MOST_NODES]?,
+            wins: vec![in alloc; false; MOST_NODES]?,
+            free: vec![in alloc; false; MOST_NODES]?,
             revenue: 0,
         })
     }
@@ -60,7 +60,6 @@ impl Outcome {
 
     /// The value of a node, in whole dollars: the greater of its high bid and the sum of its children's values.
     pub fn value(&self, node: NodeId) -> u64
-        requires { node < length self.now.values }
         ensures { result ≡ slice_index self.now.values node }
     {
         let index = node.place();
@@ -69,7 +68,6 @@ impl Outcome {
 
     /// The sum of the values of a node's children, in whole dollars: the best revenue without its own bid.
     pub fn inside(&self, node: NodeId) -> u64
-        requires { node < length self.now.inside }
         ensures { result ≡ slice_index self.now.inside node }
     {
         let index = node.place();
@@ -78,7 +76,6 @@ impl Outcome {
 
     /// Whether a node's high bid wins.
     pub fn wins(&self, node: NodeId) -> bool
-        requires { node < length self.now.wins }
         ensures { result ≡ is_in self.now.wins node }
     {
         let index = node.place();

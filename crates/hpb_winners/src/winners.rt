@@ -1,19 +1,18 @@
-ghost use Rattle.std.specs.Prelude.{◌≡◌, ℕ, ◌<◌, ◌≤◌, length, slice_index, max};
+ghost use Rattle.std.specs.Prelude.{◌≡◌, ℕ, ◌<◌, ◌≤◌, length, slice_index, max, take};
 ghost use Rattle.hpb_rules.specs.Choices.{IsWinners, best, revenue, winners};
 ghost use Rattle.hpb_bids.specs.View.{bid_of};
-ghost use Rattle.hpb_winners.specs.View.{IsOutcome, IsSizedOutcome};
+ghost use Rattle.hpb_winners.specs.View.{IsOutcome};
 
 use crate::outcome::{MOST_VALUE, Outcome};
 use hpb_bids::Books;
-use hpb_rules::{MOST_AMOUNT, NodeId};
+use hpb_rules::{MOST_AMOUNT, MOST_NODES, NodeId};
 use hpb_tree::Tree;
 
 /// Finds the outcome of the high bids: the winners are the choice of greatest revenue, and on a tie the
 /// parts of a package win.
 pub fn upward(tree: &Tree, books: &Books, outcome: &mut Outcome)
-    requires { IsSizedOutcome tree.now.nodes outcome.old }
     ensures outcome { IsOutcome tree.now.nodes (bid_of books.now) outcome.new }
-    ensures winners { IsWinners tree.now.nodes (bid_of books.now) outcome.new.wins }
+    ensures winners { IsWinners tree.now.nodes (bid_of books.now) (take (length tree.now.nodes) outcome.new.wins) }
 {
     outcome.revenue = sum_up(tree, books, &mut outcome.inside, &mut outcome.values);
     mark_winners(
@@ -27,8 +26,10 @@ pub fn upward(tree: &Tree, books: &Books, outcome: &mut Outcome)
 
 /// Sums the values from the last node to the first, and returns the sum over the top nodes.
 fn sum_up(tree: &Tree, books: &Books, inside: &mut [u64], values: &mut [u64]) -> u64
-    requires inside { length inside.old ≡ length tree.now.nodes }
-    requires values { length values.old ≡ length tree.now.nodes }
+    requires inside { length inside.old ≡ MOST_NODES }
+    requires values { length values.old ≡ MOST_NODES }
+    requires small_inside { (n : ℕ) → slice_index inside.old n ≤ MOST_VALUE }
+    requires small_values { (n : ℕ) → slice_index values.old n ≤ MOST_VALUE }
     ensures inside { (n : ℕ) → n < length tree.now.nodes → slice_index inside.new n ≡ best tree.now.nodes (bid_of books.now) n }
     ensures values { (n : ℕ) → n < length tree.now.nodes → slice_index values.new n ≡ max (bid_of books.now n) (best tree.now.nodes (bid_of books.now) n) }
     ensures revenue { result ≡ revenue (bid_of books.now) (winners tree.now.nodes (bid_of books.now)) }
@@ -37,9 +38,11 @@ fn sum_up(tree: &Tree, books: &Books, inside: &mut [u64], values: &mut [u64]) ->
     ensures most_revenue { result ≤ MOST_VALUE }
 {
     tree.facts();
+    let nodes = tree.nodes();
+    let inside = &mut inside[..nodes.len()];
+    let values = &mut values[..nodes.len()];
     inside.fill(0);
     let mut revenue = 0;
-    let nodes = tree.nodes();
     for place in (0..nodes.len()).rev() {
         let node = nodes[place];
         let value = high_bid(books, node).max(inside[place]);
@@ -54,15 +57,18 @@ fn sum_up(tree: &Tree, books: &Books, inside: &mut [u64], values: &mut [u64]) ->
 
 /// Marks the winners from the first node to the last: below a winner nothing else wins.
 fn mark_winners(tree: &Tree, books: &Books, inside: &[u64], free: &mut [bool], wins: &mut [bool])
-    requires inside_length { length inside.now ≡ length tree.now.nodes }
+    requires inside_length { length inside.now ≡ MOST_NODES }
     requires inside { (n : ℕ) → n < length tree.now.nodes → slice_index inside.now n ≡ best tree.now.nodes (bid_of books.now) n }
-    requires free { length free.old ≡ length tree.now.nodes }
-    requires wins { length wins.old ≡ length tree.now.nodes }
-    ensures winners { IsWinners tree.now.nodes (bid_of books.now) wins.new }
-    ensures wins { wins.new ≡ winners tree.now.nodes (bid_of books.now) }
+    requires free { length free.old ≡ MOST_NODES }
+    requires wins { length wins.old ≡ MOST_NODES }
+    ensures winners { IsWinners tree.now.nodes (bid_of books.now) (take (length tree.now.nodes) wins.new) }
+    ensures wins { take (length tree.now.nodes) wins.new ≡ winners tree.now.nodes (bid_of books.now) }
 {
     tree.facts();
-    for (place, &node) in tree.nodes().iter().enumerate() {
+    let nodes = tree.nodes();
+    let free = &mut free[..nodes.len()];
+    let wins = &mut wins[..nodes.len()];
+    for (place, &node) in nodes.iter().enumerate() {
         let open = match tree.parent(node) {
             Some(parent) => free[parent.place()],
             None => true,

@@ -7,5 +7,5 @@ pub loop-place-preserved : goal.loop-place-preserved
 loop-place-preserved c =
     let here : c.node-item.result ≡ c.loop-place.place = c.node-item.is ∙ c.nodes-node-items.ensures.each c.loop-place.place c.node-item.result (omega arith) in
     passed_more c.args.tree.now.nodes (bid_of c.args.books.now) c.facts.ensures.tree c.loop-place.invariant
-    here (omega arith) c.carried_to-from_above.ensures.value c.carried_to-from_above.ensures.most
+    here (omega arith) c.facts.ensures.most_nodes c.carried_to-from_above.ensures.value c.carried_to-from_above.ensures.most
     (c.value.ensures ∙ c.requires.outcome.values c.node-item.result (omega arith)) (omega (arith, c.facts-2.ensures.values c.node-item.result))

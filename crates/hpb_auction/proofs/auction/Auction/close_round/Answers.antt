@@ -9,7 +9,7 @@ use Rattle.hpb_rules.proofs.ProperValues.{closed_proper}
 use Rattle.hpb_rules.specs.AuctionValue.{AuctionValue}
 use Rattle.hpb_bids.specs.View.{bid_of}
 use Rattle.hpb_winners.specs.View.{IsOutcome}
-use Rattle.hpb_prices.specs.View.{AreSizedPrices, HasPrices, HasMinima}
+use Rattle.hpb_prices.specs.View.{HasPrices, HasMinima}
 use Rattle.hpb_auction.specs.declared.sender.BidderRow.{BidderRow}
 use Rattle.hpb_rules.specs.Values.{has_open_bid, closed_value}
 use Rattle.hpb_auction.specs.Rows.{renewed}
@@ -108,7 +108,6 @@ invariant_of-self c =
       bids = folded_kept a.definition a.books c.fold_round.new.self old.bids (record { standing = c.fold_round.ensures.standing; incoming = c.fold_round.ensures.incoming; quiet = c.fold_round.ensures.quiet });
       tables = record {
         reached = subst (λ (t : TreeRules). IsOutcome t.nodes (bid_of c.fold_round.new.self) c.upward.new.outcome) c.tree-tree.ensures c.upward.ensures.outcome;
-        sized = subst (λ (t : TreeRules). AreSizedPrices t.nodes c.downward.new.prices) c.tree-tree.ensures c.downward.ensures.sized;
         prices = subst (λ (t : TreeRules). HasPrices t.nodes (bid_of c.fold_round.new.self) c.downward.new.prices) c.tree-tree.ensures c.downward.ensures.prices;
         minima = subst (λ (t : TreeRules). HasMinima t (bid_of c.fold_round.new.self) c.downward.new.prices) c.tree-tree.ensures c.downward.ensures.minima;
       };

@@ -7,7 +7,7 @@ use Rattle.hpb_rules.proofs.ValueParts.{value_with}
 use Rattle.hpb_rules.proofs.TreeLaws.{accepted_is_definition}
 use Rattle.hpb_bids.specs.View.{no_bid}
 use Rattle.hpb_winners.specs.View.{IsOutcome}
-use Rattle.hpb_prices.specs.View.{HasPrices, HasMinima, AreSizedPrices}
+use Rattle.hpb_prices.specs.View.{HasPrices, HasMinima}
 use Rattle.hpb_auction.specs.Inside.{AreTablesOf}
 use Rattle.hpb_auction.proofs.FirstTables.{empty_kept, rows_count, first_parts, first_seen}
 use Rattle.hpb_auction.proofs.Kept.{tables_by}
@@ -17,7 +17,6 @@ use Rattle.hpb_auction.proofs.auction.Auction.new.Goals.{In_ok-bidders}
 tables : (c : In_ok-bidders) → AreTablesOf c.in_ok-definition.definition c.in_ok-books.books c.in_ok-outcome.outcome c.in_ok-prices.prices
 tables c = tables_by c.in_ok-books.ensures.high
     (subst (λ (t : TreeRules). IsOutcome t.nodes no_bid c.in_ok-outcome.outcome) c.tree-2.ensures c.in_ok-outcome.ensures)
-    (subst (λ (t : TreeRules). AreSizedPrices t.nodes c.in_ok-prices.prices) c.tree-3.ensures c.in_ok-prices.ensures.sized)
     (subst (λ (t : TreeRules). HasPrices t.nodes no_bid c.in_ok-prices.prices) c.tree-3.ensures c.in_ok-prices.ensures.prices)
     (subst (λ (t : TreeRules). HasMinima t no_bid c.in_ok-prices.prices) c.tree-3.ensures c.in_ok-prices.ensures.minima)
 

@@ -1,5 +1,4 @@
 use Rattle.std.proofs.Common.{ap, sym, ◌∙◌}
-use Rattle.hpb_rules.specs.Choices.{is_in}
 use Rattle.hpb_rules.specs.AuctionValue.{NodeBids}
 use Rattle.hpb_auction.proofs.Tables.{node_found}
 use Rattle.hpb_auction.proofs.HighBids.{wins_found, price_found, minimum_found, best_found}
@@ -18,7 +17,7 @@ pub returns-clause-minimum : goal.returns-clause-minimum
 returns-clause-minimum c = c.minimum.ensures ∙ minimum_found c.self.inside c.self.invariant c.args.self.now c.self.view_is c.args.node c.requires
 
 pub returns-clause-wins : goal.returns-clause-wins
-returns-clause-wins c = c.wins.ensures ∙ ap (λ set. is_in set c.args.node) (wins_found c.self.inside c.self.invariant c.args.self.now c.self.view_is)
+returns-clause-wins c = c.wins.ensures ∙ wins_found c.self.inside c.self.invariant c.args.self.now c.self.view_is c.args.node c.requires
 
 pub returns-clause-best : goal.returns-clause-best
 returns-clause-best c = best_found c.self.inside c.self.invariant c.args.self.now c.self.view_is

@@ -7,7 +7,7 @@ use Rattle.hpb_rules.specs.Tree.{TreeRules}
 use Rattle.hpb_rules.proofs.SavedValues.{restored_is_saved}
 use Rattle.hpb_bids.specs.View.{BooksView, bid_of}
 use Rattle.hpb_winners.specs.View.{IsOutcome}
-use Rattle.hpb_prices.specs.View.{AreSizedPrices, HasPrices, HasMinima}
+use Rattle.hpb_prices.specs.View.{HasPrices, HasMinima}
 use Rattle.hpb_auction.specs.declared.sender.BidderRow.{BidderRow}
 use Rattle.hpb_auction.specs.Inside.{AreBidsOf}
 use Rattle.hpb_auction.specs.Saving.{books_in, row_in}
@@ -66,7 +66,6 @@ invariant_of-self c =
       bids = subst (AreBidsOf a.definition) (sym (books c)) (bids_restored a.definition c.args.saved.now (sound c));
       tables = record {
         reached = subst (λ (t : TreeRules). IsOutcome t.nodes (bid_of c.restore_bids.new.books) c.upward.new.outcome) c.tree-tree.ensures c.upward.ensures.outcome;
-        sized = subst (λ (t : TreeRules). AreSizedPrices t.nodes c.downward.new.prices) c.tree-tree.ensures c.downward.ensures.sized;
         prices = subst (λ (t : TreeRules). HasPrices t.nodes (bid_of c.restore_bids.new.books) c.downward.new.prices) c.tree-tree.ensures c.downward.ensures.prices;
         minima = subst (λ (t : TreeRules). HasMinima t (bid_of c.restore_bids.new.books) c.downward.new.prices) c.tree-tree.ensures c.downward.ensures.minima;
       };

@@ -1,0 +1,4 @@
+mod Agreeing
+mod Reading
+mod Standing
+mod Flawed

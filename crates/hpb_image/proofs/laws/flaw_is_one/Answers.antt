@@ -1,0 +1,5 @@
+use Rattle.hpb_image.proofs.Flawed as flawed
+use Rattle.hpb_image.proofs.laws.flaw_is_one.Goals as goal
+
+pub returns : goal.returns
+returns c heads = flawed.flaw_is_one heads

@@ -1,0 +1,5 @@
+use Rattle.hpb_image.proofs.Reading as reading
+use Rattle.hpb_image.proofs.laws.reading_is_one.Goals as goal
+
+pub returns : goal.returns
+returns c heads = reading.reading_is_one heads c.newest_is_one.ensures c.pages_are_journal.ensures

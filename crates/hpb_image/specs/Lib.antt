@@ -1,0 +1,6 @@
+pub mod Drafts
+pub mod Heads
+pub mod Standing
+pub mod Readings
+pub mod Flaws
+pub mod Laws

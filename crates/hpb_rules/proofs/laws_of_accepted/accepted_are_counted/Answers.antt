@@ -1,0 +1,5 @@
+use Rattle.hpb_rules.proofs.AcceptedRuns
+use Rattle.hpb_rules.proofs.laws_of_accepted.accepted_are_counted.Goals as goal
+
+pub returns : goal.returns
+returns c = AcceptedRuns.accepted_are_counted
