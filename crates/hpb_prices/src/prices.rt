@@ -65,9 +65,8 @@ impl Prices {
         self.minima[index]
     }
 
-    /// Become the same as other prices, of a tree with as many nodes. Takes no memory.
+    /// Become the same as other prices. Takes no memory.
     pub fn copy_from(&mut self, other: &Prices)
-        requires { length self.old.prices ≡ length other.now.prices }
         ensures { self.new ≡ other.now }
     {
         self.prices.copy_from_slice(other.prices.as_slice());

@@ -89,9 +89,8 @@ impl Outcome {
         self.revenue
     }
 
-    /// Becomes the same as another outcome, of a tree with as many nodes. Takes no memory.
+    /// Becomes the same as another outcome. Takes no memory.
     pub fn copy_from(&mut self, other: &Outcome)
-        requires { length self.old.values ≡ length other.now.values }
         ensures { self.new ≡ other.now }
     {
         self.inside.copy_from_slice(other.inside.as_slice());
