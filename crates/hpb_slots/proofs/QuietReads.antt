@@ -1,6 +1,6 @@
 -- Reads one after another.
 use Rattle.std.proofs.Common.{inl, inr, ℕ, List, arith}
-use Rattle.hpb_disk.specs.Images.{Within, Elapses, LeavesOnly}
+use Rattle.hpb_disk.specs.Images.{LeavesOnly}
 
 -- More reads, which leave no other images.
 pub more_reads : (before mid now : ℕ) (past then since : ℕ → List ℕ → Type 0) (was left last : List ℕ → Type 0)

@@ -1,5 +1,5 @@
 //! The laws of slots.
-ghost use Rattle.hpb_slots.specs.Laws.{ChunksAreWhole, HoldsOne, NewestIsOne, OpenOrClosed};
+ghost use Rattle.hpb_slots.specs.Laws.{ChunksAreWhole, HoldsOne, NewestIsOne, OpenOrClosed, SlotsStay};
 
 use hpb_codec::{chunks_are_body, states_are_one};
 
@@ -30,3 +30,8 @@ pub fn chunks_are_whole()
 {
     chunks_are_body();
 }
+
+/// Slots stay where their bytes do.
+pub fn slots_stay()
+    ensures { SlotsStay }
+{}

@@ -1,11 +1,12 @@
 //! Reading the newest checkpoint.
-ghost use Rattle.std.specs.Prelude.{◌≡◌, ◌+◌, ◌≤◌, List, ℕ, length, IfOk, MatchOption};
+ghost use Rattle.std.specs.Prelude.{◌≡◌, ◌↔◌, ◌+◌, ◌≤◌, List, ℕ, length, IfOk, IsTrue, MatchOption};
 ghost use Rattle.hpb_rules.specs.Tree.{Rules};
 ghost use Rattle.hpb_rules.specs.declared.saved.Saved.{Saved};
 ghost use Rattle.hpb_codec.specs.declared.state.TheConstants.{STATE_SIZE};
-ghost use Rattle.hpb_disk.specs.Images.{Within, LeavesOnly, CountsFailure};
+ghost use Rattle.hpb_disk.specs.Images.{Within, Elapses, LeavesOnly, CountsFailure};
 ghost use Rattle.hpb_slots.specs.declared.limits.TheConstants.{SLOTS_END};
 ghost use Rattle.hpb_slots.specs.declared.slot.Slot.TheVariants.{First, Second};
+ghost use Rattle.hpb_slots.specs.Slots.{IsOpen};
 ghost use Rattle.hpb_slots.specs.Newest.{IsWithout, IsRead};
 ghost use Rattle.hpb_slots.specs.Reading.{IsFound, IsChosen, state_of_slot};
 
@@ -17,6 +18,20 @@ use hpb_codec::decode_state;
 use hpb_disk::{Disk, DiskFailed, gate_is_open};
 use hpb_rules::Saved;
 use hpb_tree::Definition;
+
+/// Reads whether the gate of a slot is open.
+pub fn slot_is_open<D: Disk>(disk: &mut D, slot: Slot) -> Result<bool, DiskFailed>
+    requires room { SLOTS_END ≤ length (D.seen disk.old) }
+    ensures open { IfOk result (λ is_open. IsTrue is_open ↔ IsOpen slot (D.seen disk.old)) }
+    ensures seen { D.seen disk.new ≡ D.seen disk.old }
+    ensures crash { Within (D.may_leave disk.new) (D.may_leave disk.old) }
+    ensures crash_kept { Within (D.may_leave disk.old) (D.may_leave disk.new) }
+    ensures time { Elapses (D.moment disk.old) (D.moment disk.new) (D.left_since disk.old) (D.left_since disk.new)
+        (D.may_leave disk.old) }
+    ensures cause { CountsFailure result (D.failures disk.old) (D.failures disk.new) }
+{
+    gate_is_open(disk, gate_offset(slot))
+}
 
 /// What a slot says. Its state, if it has one, is put into `saved`.
 fn read_slot<D: Disk>(
@@ -37,14 +52,13 @@ fn read_slot<D: Disk>(
     ensures calls { D.moment disk.new ≤ D.moment disk.old + 2 }
     ensures cause { CountsFailure result (D.failures disk.old) (D.failures disk.new) }
 {
-    let at = gate_offset(slot);
-    if !gate_is_open(disk, at)? {
+    if !slot_is_open(disk, slot)? {
         return Ok(Found {
             is_open: false,
             index: None,
         });
     }
-    disk.read_into(at + PAGE_BYTES, body)?;
+    disk.read_into(gate_offset(slot) + PAGE_BYTES, body)?;
     Ok(Found {
         is_open: true,
         index: decode_state(body, definition, saved),
