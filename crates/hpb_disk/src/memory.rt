@@ -64,7 +64,7 @@ fn keep_write(
 impl MemoryDisk {
     ghost use Rattle.hpb_disk.specs.MemoryDisks.{memory_calls, memory_seen, memory_left, memory_moment, memory_failures, memory_base, memory_pending};
 
-    /// A device of so many bytes, all zero.
+    /// A device of so many bytes, all zero, that had no call.
     pub fn zeros(alloc: Global, len: usize) -> Result<MemoryDisk, AllocError>
         ensures seen { IfOk result (λ disk. memory_seen disk ≡ replicate len 0) }
         ensures settled { IfOk result (λ disk. Only (memory_seen disk) (memory_left disk)) }
@@ -74,7 +74,7 @@ impl MemoryDisk {
         MemoryDisk::of(alloc, vec![in alloc; 0; len]?)
     }
 
-    /// A device that holds these bytes. Nothing is pending.
+    /// A device that holds these bytes. It had no call, so nothing is pending.
     pub fn of(alloc: Global, bytes: Vec<u8>) -> Result<MemoryDisk, AllocError>
         ensures seen { IfOk result (λ disk. memory_seen disk ≡ bytes.items) }
         ensures settled { IfOk result (λ disk. Only (memory_seen disk) (memory_left disk)) }
