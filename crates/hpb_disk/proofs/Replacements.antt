@@ -3,9 +3,9 @@ use Rattle.std.proofs.Common.{◌≡◌, inl, inr, ⊎_elim, ℕ, ◌+◌, ◌*�
 use Rattle.hpb_disk.specs.Devices.{length-put, put_is_torn}
 use Rattle.hpb_disk.specs.Gates.{open_byte, HasClosedGate}
 use Rattle.hpb_disk.specs.Images.{part, put, Torn, TornFrom, Within, Only, Elapses, LeavesOnly}
-use Rattle.hpb_disk.specs.Replacing.{HasRecord, HasEither}
+use Rattle.hpb_disk.specs.Replacing.{HasRecord, HasEither, HasSameRest}
 use Rattle.hpb_disk.proofs.GateBytes.{open_or_closed}
-use Rattle.hpb_disk.proofs.Regions.{part_put, part_elsewhere}
+use Rattle.hpb_disk.proofs.Regions.{part_put, part_elsewhere, rest_after}
 use Rattle.hpb_disk.proofs.Runs.{leaves_join, leaves_call}
 
 -- An image with a record behind its closed gate, and room for another.
@@ -22,11 +22,15 @@ module _ (bytes old : List ℕ) (room : 1 + 2 * length bytes ≤ length old) (cl
   fits : 1 + size + size ≤ length old
   fits = omega arith
 
+  -- One record counts or the other, and behind both places all is as it was.
+  abbrev pub Kept : List ℕ → Type 0
+  Kept image = HasEither size was bytes image × HasSameRest size old image
+
   -- It counts while the other place is torn.
-  pub torn_behind : (image : List ℕ) → Torn (1 + size) size old image → HasEither size was bytes image
+  pub torn_behind : (image : List ℕ) → Torn (1 + size) size old image → Kept image
   torn_behind image torn =
       let gate : part 0 1 image ≡ part 0 1 old = part_elsewhere 0 1 (1 + size) size old image torn (inl (omega arith)) in
-      inl (inl (λ is_open. closed (sym gate ∙ is_open), part_elsewhere 1 size (1 + size) size old image torn (inl (omega arith))))
+      (inl (inl (λ is_open. closed (sym gate ∙ is_open), part_elsewhere 1 size (1 + size) size old image torn (inl (omega arith)))), rest_after (1 + 2 * size) (1 + size) size old image torn (omega arith))
 
   new_place : part (1 + size) size written ≡ bytes
   new_place = part_put (1 + size) bytes old fits
@@ -35,11 +39,13 @@ module _ (bytes old : List ℕ) (room : 1 + 2 * length bytes ≤ length old) (cl
   old_place = part_elsewhere 1 size (1 + size) size old written (put_is_torn (1 + size) bytes old fits) (inl (omega arith))
 
   -- While the gate is torn the one counts or the other.
-  pub torn_gate : (image : List ℕ) → Torn 0 1 written image → HasEither size was bytes image
+  pub torn_gate : (image : List ℕ) → Torn 0 1 written image → Kept image
   torn_gate image torn =
       let one : part 1 size image ≡ was = part_elsewhere 1 size 0 1 written image torn (inr (omega arith)) ∙ old_place in
       let other : part (1 + size) size image ≡ bytes = part_elsewhere (1 + size) size 0 1 written image torn (inr (omega arith)) ∙ new_place in
-      ⊎_elim (λ is_open. inr (inr (is_open, other))) (λ is_closed. inl (inl (is_closed, one))) (open_or_closed 0 image)
+      let rest : HasSameRest size old image =
+      rest_after (1 + 2 * size) 0 1 written image torn (omega arith) ∙ rest_after (1 + 2 * size) (1 + size) size old written (put_is_torn (1 + size) bytes old fits) (omega arith) in
+      (⊎_elim (λ is_open. inr (inr (is_open, other))) (λ is_closed. inl (inl (is_closed, one))) (open_or_closed 0 image), rest)
 
   -- Behind the open gate the new one counts.
   pub opened : HasRecord size bytes (put 0 open_byte written)
@@ -51,7 +57,7 @@ module _ (bytes old : List ℕ) (room : 1 + 2 * length bytes ≤ length old) (cl
 module _ {D : Type 0} (seen : D → List ℕ) (may_leave : D → List ℕ → Type 0) (moment : D → ℕ) (left_since : D → ℕ → List ℕ → Type 0)
     (bytes : List ℕ) (old : D) (room : 1 + 2 * length bytes ≤ length (seen old)) (closed : HasClosedGate 0 (seen old)) (settled : Only (seen old) (may_leave old)) where
   abbrev either : List ℕ → Type 0
-  either image = HasEither (length bytes) (was bytes (seen old) room closed) bytes image
+  either image = Kept bytes (seen old) room closed image
 
   -- From the first device on a crash leaves only such images.
   abbrev pub Leaves : D → D → Type 0

@@ -3,7 +3,8 @@ use Rattle.std.specs.Prelude.{◌≡◌, ◌⊎◌, ℕ, ◌+◌, ◌≤◌, nat
 use Rattle.hpb_disk.specs.Events.{Event}
 use Rattle.hpb_disk.specs.Images.{put, TornFrom}
 
--- A call, with whether it was done. A failed read or sync did nothing; of a failed write anything may have been done.
+-- A call, with whether it was done. One that failed did nothing; of a write that failed anything may have been done, where
+-- it is noted with its offset and bytes.
 pub data Call : Type 0 where
   read : Call
   wrote : ℕ → List ℕ → Call

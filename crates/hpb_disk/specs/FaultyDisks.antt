@@ -38,6 +38,10 @@ module _ {D F : Type 0} {behind : Ghosts D} {faults : FaultsGhosts F} where
   abbrev pub since_behind : FaultyDisk D F behind faults → ℕ → List ℕ → Type 0
   since_behind disk moment = behind.left_since disk.inner (behind.moment disk.inner - passed_since disk.trace.events moment)
 
+  -- How many calls of the device behind it have failed.
+  abbrev pub failures_behind : FaultyDisk D F behind faults → ℕ
+  failures_behind disk = behind.failures disk.inner
+
   -- Its failures are those of that device and its own: its member `failures`.
   abbrev pub all_failures : FaultyDisk D F behind faults → ℕ
   all_failures disk = behind.failures disk.inner + faults_of disk.trace.events

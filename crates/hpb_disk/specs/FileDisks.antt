@@ -27,6 +27,6 @@ file_since disk = since_of disk.trace.first (file_calls disk)
 abbrev pub file_failures : FileDisk → ℕ
 file_failures disk = failures_of (file_calls disk)
 
--- A sync of it has failed.
+-- A write or a sync of it has failed.
 abbrev pub file_is_broken : FileDisk → Bool
 file_is_broken disk = disk.broken

@@ -1,5 +1,5 @@
 -- A gate and two places for a record behind it: while the gate is closed the first counts, and while it is open the second.
-use Rattle.std.specs.Prelude.{◌≡◌, ◌⊎◌, ℕ, ◌+◌, List}
+use Rattle.std.specs.Prelude.{◌≡◌, ◌⊎◌, ℕ, ◌+◌, ◌*◌, List, drop}
 use Rattle.hpb_disk.specs.Gates.{HasOpenGate, HasClosedGate}
 use Rattle.hpb_disk.specs.Images.{part}
 
@@ -12,3 +12,7 @@ HasRecord size bytes image =
 -- It is the one or the other.
 abbrev pub HasEither : ℕ → List ℕ → List ℕ → List ℕ → Type 0
 HasEither size one other image = HasRecord size one image ⊎ HasRecord size other image
+
+-- Behind both places it has what this image has there.
+abbrev pub HasSameRest : ℕ → List ℕ → List ℕ → Type 0
+HasSameRest size other image = drop (1 + 2 * size) image ≡ drop (1 + 2 * size) other

@@ -107,7 +107,7 @@ impl<D: Disk + Drop, F: Faults> FaultyDisk<D, F> {
 }
 
 impl<D: Disk + Drop, F: Faults> Disk for FaultyDisk<D, F> {
-    ghost use Rattle.hpb_disk.specs.FaultyDisks.{inner as inner_of, fault as fault_of_disk, calls, moment_behind, seen_behind, left_behind, since_behind, all_failures};
+    ghost use Rattle.hpb_disk.specs.FaultyDisks.{inner as inner_of, fault as fault_of_disk, calls, moment_behind, seen_behind, left_behind, since_behind, failures_behind, all_failures};
 
     ghost seen = { seen_behind };
 
@@ -169,6 +169,8 @@ impl<D: Disk + Drop, F: Faults> Disk for FaultyDisk<D, F> {
         ensures fails { is_fault F.LATER (fault_of_disk self.old) (calls self.old + 1) ≡ true → IsErr result }
         ensures held { is_late F.LATER (fault_of_disk self.old) (calls self.old + 1) ≡ true → inner_of self.new ≡ inner_of self.old }
         ensures passed { is_late F.LATER (fault_of_disk self.old) (calls self.old + 1) ≡ false → moment_behind self.new ≡ moment_behind self.old + 1 }
+        ensures behind { is_late F.LATER (fault_of_disk self.old) (calls self.old + 1) ≡ false → failures_behind self.new ≡ failures_behind self.old
+            → seen_behind self.new ≡ put at bytes.now (seen_behind self.old) }
     {
         if self.is_next_late() {
             self.trace.held();

@@ -19,8 +19,10 @@ pub const MOST_BYTES: u64 = 1 << 26;
 
 /// A device whose bytes are those of a file. It holds the file's lock while it lives.
 ///
-/// What a read gives is held against a copy in memory: where they differ, the read fails. After a sync that failed every
-/// later call fails, since the system may then have dropped what it could not write, and tell of it only once.
+/// What a read gives is held against a copy in memory: where they differ, the read fails. After a write or a sync that
+/// failed every later call fails. Of such a write a part may be in the file, so a sync that succeeded after it would keep
+/// bytes that the copy doesn't have; and after such a sync the system may have dropped what it could not write, and tell
+/// of it only once.
 #[derive(Drop)]
 pub struct FileDisk {
     file: File,
@@ -176,7 +178,7 @@ impl Disk for FileDisk {
         ensures time { Elapses (file_moment self.old) (file_moment self.new) (file_since self.old) (file_since self.new)
             (file_left self.old) }
         ensures cause { CountsFailure result (file_failures self.old) (file_failures self.new) }
-        // Beyond the trait: the call that is noted, and that none succeeds after a sync that failed.
+        // Beyond the trait: the call that is noted, and that none succeeds after a write or a sync that failed.
         ensures called { MatchResult result
             (λ _. file_calls self.new ≡ read ∷ file_calls self.old)
             (λ _. file_calls self.new ≡ failed ∷ file_calls self.old) }
@@ -204,12 +206,12 @@ impl Disk for FileDisk {
         ensures time { Elapses (file_moment self.old) (file_moment self.new) (file_since self.old) (file_since self.new)
             (TornFrom at (length bytes.now) (file_left self.old)) }
         ensures cause { CountsFailure result (file_failures self.old) (file_failures self.new) }
-        // Beyond the trait: the call that is noted, and that none succeeds after a sync that failed.
+        // Beyond the trait: the call that is noted, and that none succeeds after a write or a sync that failed.
         ensures called { MatchResult result
             (λ _. file_calls self.new ≡ wrote at bytes.now ∷ file_calls self.old)
             (λ _. file_is_broken self.old ≡ false → file_calls self.new ≡ write_failed at bytes.now ∷ file_calls self.old) }
         ensures broken { file_is_broken self.old ≡ true → IsErr result }
-        ensures stays_broken { file_is_broken self.old ≡ true → file_is_broken self.new ≡ true }
+        ensures breaks { OnErr result (file_is_broken self.new ≡ true) }
     {
         if self.broken {
             self.trace.failed();
@@ -222,6 +224,7 @@ impl Disk for FileDisk {
                 Ok(())
             }
             Err(_) => {
+                self.broken = true;
                 self.trace.write_failed(at, bytes);
                 Err(DiskFailed)
             }
@@ -235,12 +238,11 @@ impl Disk for FileDisk {
         ensures time { Elapses (file_moment self.old) (file_moment self.new) (file_since self.old) (file_since self.new)
             (file_left self.old) }
         ensures cause { CountsFailure result (file_failures self.old) (file_failures self.new) }
-        // Beyond the trait: the call that is noted, and that none succeeds after a sync that failed.
+        // Beyond the trait: the call that is noted, and that none succeeds after a write or a sync that failed.
         ensures called { MatchResult result
             (λ _. file_calls self.new ≡ synced ∷ file_calls self.old)
             (λ _. file_calls self.new ≡ failed ∷ file_calls self.old) }
         ensures broken { file_is_broken self.old ≡ true → IsErr result }
-        ensures stays_broken { file_is_broken self.old ≡ true → file_is_broken self.new ≡ true }
         ensures breaks { OnErr result (file_is_broken self.new ≡ true) }
     {
         if self.broken {

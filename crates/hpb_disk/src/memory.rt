@@ -62,24 +62,24 @@ fn keep_write(
 }
 
 impl MemoryDisk {
-    ghost use Rattle.hpb_disk.specs.MemoryDisks.{memory_seen, memory_left, memory_moment, memory_failures, memory_base, memory_pending};
+    ghost use Rattle.hpb_disk.specs.MemoryDisks.{memory_calls, memory_seen, memory_left, memory_moment, memory_failures, memory_base, memory_pending};
 
-    /// A device of so many bytes, all zero.
+    /// A device of so many bytes, all zero, that had no call.
     pub fn zeros(alloc: Global, len: usize) -> Result<MemoryDisk, AllocError>
         ensures seen { IfOk result (λ disk. memory_seen disk ≡ replicate len 0) }
         ensures settled { IfOk result (λ disk. Only (memory_seen disk) (memory_left disk)) }
         ensures base { IfOk result (λ disk. memory_base disk ≡ memory_seen disk) }
-        ensures pending { IfOk result (λ disk. memory_pending disk ≡ []) }
+        ensures fresh { IfOk result (λ disk. memory_calls disk ≡ []) }
     {
         MemoryDisk::of(alloc, vec![in alloc; 0; len]?)
     }
 
-    /// A device that holds these bytes. Nothing is pending.
+    /// A device that holds these bytes. It had no call, so nothing is pending.
     pub fn of(alloc: Global, bytes: Vec<u8>) -> Result<MemoryDisk, AllocError>
         ensures seen { IfOk result (λ disk. memory_seen disk ≡ bytes.items) }
         ensures settled { IfOk result (λ disk. Only (memory_seen disk) (memory_left disk)) }
         ensures base { IfOk result (λ disk. memory_base disk ≡ memory_seen disk) }
-        ensures pending { IfOk result (λ disk. memory_pending disk ≡ []) }
+        ensures fresh { IfOk result (λ disk. memory_calls disk ≡ []) }
     {
         let base = bytes.to_vec(alloc)?;
         let trace = Trace::new(&bytes);
@@ -100,7 +100,7 @@ impl MemoryDisk {
         ensures may_stay { IfOk result (λ disk. memory_left self.now (memory_seen disk)) }
         ensures settled { IfOk result (λ disk. Only (memory_seen disk) (memory_left disk)) }
         ensures base { IfOk result (λ disk. memory_base disk ≡ memory_seen disk) }
-        ensures pending { IfOk result (λ disk. memory_pending disk ≡ []) }
+        ensures fresh { IfOk result (λ disk. memory_calls disk ≡ []) }
     {
         let mut image = self.base.to_vec(alloc)?;
         let mut fates = pick;

@@ -2,13 +2,14 @@
 ghost use Rattle.std.specs.Prelude.{◌+◌, ◌*◌, ◌≤◌, length, OnOk};
 ghost use Rattle.hpb_disk.specs.Gates.{HasClosedGate};
 ghost use Rattle.hpb_disk.specs.Images.{part, Only, Within, LeavesOnly, CountsFailure};
-ghost use Rattle.hpb_disk.specs.Replacing.{HasRecord, HasEither};
+ghost use Rattle.hpb_disk.specs.Replacing.{HasRecord, HasEither, HasSameRest};
 
 use crate::{Disk, DiskFailed, open_gate};
 
 /// Puts a record in the place of one of the same length: behind the gate at offset 0 stand two places, of which the
 /// first counts while the gate is closed, and the second while it is open. At `Ok` each crash from then on leaves the new
-/// record. A crash at any moment of the call leaves the one before or the new one, and so does a call that fails.
+/// record. A crash at any moment of the call leaves the one before or the new one, and so does a call that fails. What
+/// stands behind both places stays.
 pub fn replace_record<D: Disk>(disk: &mut D, bytes: &[u8]) -> Result<(), DiskFailed>
     requires room { 1 + 2 * length bytes.now ≤ length (D.seen disk.old) }
     requires closed { HasClosedGate 0 (D.seen disk.old) }
@@ -16,7 +17,7 @@ pub fn replace_record<D: Disk>(disk: &mut D, bytes: &[u8]) -> Result<(), DiskFai
     requires settled { Only (D.seen disk.old) (D.may_leave disk.old) }
     ensures kept { OnOk result (Within (D.may_leave disk.new) (HasRecord (length bytes.now) bytes.now)) }
     ensures any_moment { LeavesOnly (D.moment disk.old) (D.moment disk.new) (D.left_since disk.old) (D.left_since disk.new) (D.may_leave disk.new)
-        (HasEither (length bytes.now) (part 1 (length bytes.now) (D.seen disk.old)) bytes.now) }
+        (λ image. HasEither (length bytes.now) (part 1 (length bytes.now) (D.seen disk.old)) bytes.now image × HasSameRest (length bytes.now) (D.seen disk.old) image) }
     ensures cause { CountsFailure result (D.failures disk.old) (D.failures disk.new) }
 {
     disk.write_at(1 + bytes.len(), bytes)?;

@@ -3,7 +3,7 @@
 use super::using::{all_of, two_at, write};
 use crate::{Disk, FileDisk, FileFault, MOST_BYTES};
 use std::alloc::Global;
-use std::fs::{self, File};
+use std::fs::{self, File, Files};
 use std::os::unix::fs::PermissionsExt;
 use std::process::Abort;
 use std::test::Fail;
@@ -88,6 +88,30 @@ fn what_is_no_file_is_refused(rt: HostRuntime) -> Result<(), Fail> {
 }
 
 #[test]
+fn a_file_that_cannot_be_synced_is_refused(rt: HostRuntime) -> Result<(), Fail> {
+    // A regular file of the system, which can be read and locked.
+    let path = "/proc/self/comm";
+    assert!(rt; is_refused(FileDisk::open(&rt, rt.alloc(), path)));
+    Ok(())
+}
+
+#[test]
+fn a_folder_that_cannot_be_synced_is_refused(rt: HostRuntime) -> Result<(), Fail> {
+    let alloc = rt.alloc();
+    let folder = "hpb_disk_shut";
+    let _ = fs::remove_dir_all(&rt, folder);
+    fs::create_dir(&rt, folder)?;
+    fs::set_permissions(&rt, folder, fs::Permissions::from_mode(0o300))?;
+    // A user who may do all opens it all the same.
+    let may_read = File::open(&rt, folder).is_ok();
+    let made = FileDisk::make(&rt, alloc, "hpb_disk_shut/made", 4);
+    assert_eq!(rt; is_refused(made), !may_read);
+    fs::remove_file(&rt, "hpb_disk_shut/made")?;
+    fs::remove_dir(&rt, folder)?;
+    Ok(())
+}
+
+#[test]
 fn a_long_file_is_refused(rt: HostRuntime) -> Result<(), Fail> {
     let alloc = rt.alloc();
     let path = "hpb_disk_long";
@@ -119,21 +143,35 @@ fn a_file_without_permission_is_refused(rt: HostRuntime) -> Result<(), Fail> {
     Ok(())
 }
 
+// Four zero bytes over a device of the system, which can't be synced.
+fn over_system<R: Files<File = File>>(rt: &R, alloc: Global, path: &str) -> Result<FileDisk, Fail> {
+    let file = File::options().read(true).write(true).open(rt, path)?;
+    Ok(FileDisk::over(file, [0; 4].to_vec(alloc)?))
+}
+
+fn check_broken<R: Abort>(rt: &R, disk: &mut FileDisk) {
+    assert_eq!(rt; two_at(disk, 0), None);
+    assert!(rt; !write(disk, 0, &[0]));
+    assert!(rt; disk.sync().is_err());
+}
+
+#[test]
+fn after_a_failed_write_no_call_succeeds(rt: HostRuntime) -> Result<(), Fail> {
+    // It is always full.
+    let mut disk = over_system(&rt, rt.alloc(), "/dev/full")?;
+    assert_eq!(rt; two_at(&mut disk, 0), Some([0, 0]));
+    assert!(rt; !write(&mut disk, 0, &[0]));
+    check_broken(&rt, &mut disk);
+    Ok(())
+}
+
 #[test]
 fn after_a_failed_sync_no_call_succeeds(rt: HostRuntime) -> Result<(), Fail> {
-    let alloc = rt.alloc();
-    // A device of the system that is always full, and that can't be synced.
-    let full = File::options()
-        .read(true)
-        .write(true)
-        .open(&rt, "/dev/full")?;
-    let mut disk = FileDisk::over(full, [0; 4].to_vec(alloc)?);
-    assert_eq!(rt; two_at(&mut disk, 0), Some([0, 0]));
-    assert!(rt; !write(&mut disk, 0, &[1]));
+    // It takes all that is written, and reads as zeros.
+    let mut disk = over_system(&rt, rt.alloc(), "/dev/zero")?;
+    assert!(rt; write(&mut disk, 0, &[0]));
     assert_eq!(rt; two_at(&mut disk, 0), Some([0, 0]));
     assert!(rt; disk.sync().is_err());
-    assert_eq!(rt; two_at(&mut disk, 0), None);
-    assert!(rt; !write(&mut disk, 0, &[1]));
-    assert!(rt; disk.sync().is_err());
+    check_broken(&rt, &mut disk);
     Ok(())
 }

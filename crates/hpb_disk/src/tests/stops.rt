@@ -114,8 +114,11 @@ fn each_call_counts_once(rt: HostRuntime) -> Result<(), Fail> {
         [1, 0, 0, 0].as_slice()
     );
     assert_eq!(rt; disk.calls(), 3);
+    // A write of no bytes, at the end, is a call too.
+    assert!(rt; write(&mut disk, 4, &[]));
+    assert_eq!(rt; disk.calls(), 4);
     assert_eq!(rt; disk.len(), 4);
     let _stopped = disk.after_stop(alloc, &[])?;
-    assert_eq!(rt; disk.calls(), 3);
+    assert_eq!(rt; disk.calls(), 4);
     Ok(())
 }
