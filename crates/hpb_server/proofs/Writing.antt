@@ -4,10 +4,9 @@ use Rattle.std.specs.Bool.{⊤}
 use Rattle.std.specs.Io.KnownBytes.{Appends, Keeps}
 use Rattle.std.proofs.KnownBytes.{Appends-kept, Appends-nil, Appends-trans}
 use Rattle.std.proofs.Math.Seq.{take-add}
-use Rattle.hpb_server.specs.declared.fault.Fault.{Fault}
-use Rattle.hpb_server.specs.Writing.{Sends}
+use Rattle.hpb_server.specs.Writing.{Puts}
 
-pub sent : (a b c : Option (List ℕ)) (bytes : List ℕ) (r : Result ⊤ Fault) → Appends a b bytes → Keeps b c → Sends a c bytes r
+pub sent : {E : Type 0} (a b c : Option (List ℕ)) (bytes : List ℕ) (r : Result ⊤ E) → Appends a b bytes → Keeps b c → Puts a c bytes r
 sent a b c bytes (Ok done) p k = Appends-kept a b c bytes p k
 sent a b c bytes (Err e) p k = (length bytes, subst (Appends a c) (sym (take_all (length bytes) bytes (omega arith))) (Appends-kept a b c bytes p k))
 

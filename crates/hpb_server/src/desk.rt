@@ -9,7 +9,7 @@ use std::marker::Model;
 
 /// Whom a session asks. `ScriptDesk` is the auction of a script.
 pub trait Desk {
-    ghost use Rattle.std.specs.Prelude.{Option};
+    ghost use Rattle.std.specs.Prelude.{Bool, Option};
     ghost use Rattle.hpb_rules.specs.Tree.{Rules};
     ghost use Rattle.hpb_rules.specs.AuctionValue.{AuctionValue};
     ghost use Rattle.hpb_rules.specs.declared.command.Command.{Command as Asked};
@@ -18,6 +18,9 @@ pub trait Desk {
 
     /// What the definition says.
     ghost rules: { Self → Rules };
+
+    /// The session is over: its desk is asked nothing more.
+    ghost over: { Self → Bool };
 
     /// A desk that is asked for a command may give this reply and be this desk afterwards.
     ghost asks: { Self → Asked → Answered → Self → Type 0 };
@@ -28,6 +31,10 @@ pub trait Desk {
     /// The definition that lines are read by.
     fn definition(&self) -> &Definition
         ensures { result.now ≡ rules self.now };
+
+    /// Whether the last reply was the last of the session: nothing more is read or answered.
+    fn is_over(&self) -> bool
+        ensures { result ≡ over self.now };
 
     /// Asks for a command, and gives what it is answered.
     fn ask(&mut self, command: &Command) -> Reply
@@ -71,9 +78,11 @@ impl ScriptDesk {
 }
 
 impl Desk for ScriptDesk {
-    ghost use Rattle.hpb_server.specs.Desk.{rules_in, RepliesIn, ShowsItself};
+    ghost use Rattle.hpb_server.specs.Desk.{never_over, rules_in, RepliesIn, ShowsItself};
 
     ghost rules = { rules_in };
+
+    ghost over = { never_over };
 
     ghost asks = { RepliesIn };
 
@@ -81,6 +90,10 @@ impl Desk for ScriptDesk {
 
     fn definition(&self) -> &Definition {
         self.auction.definition()
+    }
+
+    fn is_over(&self) -> bool {
+        false
     }
 
     fn ask(&mut self, command: &Command) -> Reply {

@@ -1,4 +1,4 @@
-ghost use Rattle.std.specs.Prelude.{◌≡◌, ◌<◌, ℕ, List, [], ◌++◌, take, Ok, OnOk, length};
+ghost use Rattle.std.specs.Prelude.{◌≡◌, ◌<◌, ℕ, false, List, [], ◌++◌, take, Ok, OnOk, length};
 ghost use Rattle.hpb_rules.specs.Lines.{request_of};
 ghost use Rattle.hpb_rules.specs.ValueText.{shown_in, node_shown_in, bidder_shown_in};
 ghost use Rattle.hpb_wire.specs.Requests.{IsRequestOf};
@@ -31,7 +31,7 @@ pub fn serve<R: Read, W: Write, D: Desk>(
     writer: &mut W,
     desk: &mut D,
 ) -> Result<(), Fault>
-    ensures served { Serves D.rules D.asks D.looks [] MOST_READ_BYTES
+    ensures served { Serves D.rules D.over D.asks D.looks [] MOST_READ_BYTES
         (streams (R.remaining reader.old) (W.contents writer.old)) (streams (R.remaining reader.new) (W.contents writer.new)) desk.old desk.new result }
     ensures rules { D.rules desk.new ≡ D.rules desk.old }
 {
@@ -49,7 +49,7 @@ pub(crate) fn answer_lines<R: Read, W: Write, D: Desk>(
     output: &mut Output,
 ) -> Result<(), Fault>
     requires { output.old ≡ [] }
-    ensures served { Serves D.rules D.asks D.looks input.old.unread input.old.budget
+    ensures served { Serves D.rules D.over D.asks D.looks input.old.unread input.old.budget
         (streams (R.remaining reader.old) (W.contents writer.old)) (streams (R.remaining reader.new) (W.contents writer.new)) desk.old desk.new result }
     ensures rules { D.rules desk.new ≡ D.rules desk.old }
 {
@@ -57,6 +57,9 @@ pub(crate) fn answer_lines<R: Read, W: Write, D: Desk>(
     'chunks: loop {
         answer_unread(writer, desk, input, &mut line, output)?;
         output.send(writer)?;
+        if desk.is_over() {
+            return Ok(());
+        }
         if !input.fill(reader)? {
             break;
         }
@@ -85,14 +88,17 @@ fn answer_unread<W: Write, D: Desk>(
     output: &mut Output,
 ) -> Result<(), Fault>
     ensures lines { (partial : List ℕ) → HasNoEnd partial → line.old ≡ take KEPT_BYTES partial
-        → Proceeds D.rules D.asks D.looks (partial ++ input.old.unread) desk.old desk.new
+        → Proceeds D.rules D.over D.asks D.looks (partial ++ input.old.unread) desk.old desk.new
         (W.contents writer.old) (W.contents writer.new) output.old
         line.new input.new.unread output.new result }
     ensures rules { D.rules desk.new ≡ D.rules desk.old }
-    ensures taken { OnOk result (input.new.unread ≡ []) }
+    ensures taken { OnOk result (D.over desk.new ≡ false → input.new.unread ≡ []) }
     ensures read { OnOk result (input.new.budget ≡ input.old.budget) }
 {
-    'lines: while input.take_line(line) {
+    'lines: while !desk.is_over() {
+        if !input.take_line(line) {
+            return Ok(());
+        }
         pass_answer(writer, desk, line.as_slice(), output)?;
         line.clear();
     }
@@ -107,7 +113,7 @@ fn pass_answer<W: Write, D: Desk>(
     line: &[u8],
     output: &mut Output,
 ) -> Result<(), Fault>
-    ensures answer { PassesAnswer D.rules D.asks D.looks desk.old (request_of (D.rules desk.old) line.now) desk.new
+    ensures answer { PassesAnswer D.rules D.over D.asks D.looks desk.old (request_of (D.rules desk.old) line.now) desk.new
         (W.contents writer.old) (W.contents writer.new) output.old output.new result }
     ensures rules { D.rules desk.new ≡ D.rules desk.old }
 {
@@ -128,7 +134,7 @@ fn pass_answer<W: Write, D: Desk>(
 
 /// Adds the answer to a line.
 fn answer_line<D: Desk>(desk: &mut D, line: &[u8], output: &mut Output) -> Result<(), AllocError>
-    ensures answer { AddsAnswer D.rules D.asks D.looks desk.old (request_of (D.rules desk.old) line.now) desk.new
+    ensures answer { AddsAnswer D.rules D.over D.asks D.looks desk.old (request_of (D.rules desk.old) line.now) desk.new
         output.old output.new result }
     ensures rules { D.rules desk.new ≡ D.rules desk.old }
 {
@@ -145,7 +151,7 @@ fn answer_request<D: Desk>(
     output: &mut Output,
 ) -> Result<(), AllocError>
     requires { IsRequestOf (D.rules desk.old) request }
-    ensures answer { AddsAnswer D.rules D.asks D.looks desk.old (Ok request) desk.new
+    ensures answer { AddsAnswer D.rules D.over D.asks D.looks desk.old (Ok request) desk.new
         output.old output.new result }
     ensures rules { D.rules desk.new ≡ D.rules desk.old }
 {

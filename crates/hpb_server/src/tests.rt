@@ -284,7 +284,7 @@ fn each_read_fails_in_turn(rt: HostRuntime) -> Result<(), Fail> {
         };
         let mut output = Vec::new(alloc);
         let result = run_script(alloc, &mut reader, &mut output);
-        assert_eq!(rt; result, Err(Fault::Stream), "{lines}");
+        assert_eq!(rt; result, Err(Fault::Reader), "{lines}");
         assert_eq!(rt; output.as_slice(), FRONTS[lines], "{lines}");
     }
     Ok(())
@@ -305,7 +305,7 @@ fn each_write_fails_in_turn(rt: HostRuntime) -> Result<(), Fail> {
         };
         let mut desk = desk(alloc)?;
         let result = serve(alloc, &mut reader, &mut writer, &mut desk);
-        assert_eq!(rt; result, Err(Fault::Stream), "{writes}");
+        assert_eq!(rt; result, Err(Fault::Writer), "{writes}");
         assert_eq!(rt; writer.bytes.as_slice(), FRONTS[writes], "{writes}");
         assert_eq!(rt; desk.into_auction().count(), accepted, "{writes}");
     }
@@ -319,9 +319,9 @@ fn no_more_is_read_than_may_be(rt: HostRuntime) -> Result<(), Fail> {
     let refused = b"ERR 13 old\nERR 13 old\nERR 13 old\nERR 10 line\n".as_slice();
     let table = [
         (24, Ok(()), &refused[..33]),
-        (23, Err(Fault::Stream), &refused[..22]),
-        (16, Err(Fault::Stream), &refused[..22]),
-        (0, Err(Fault::Stream), b"".as_slice()),
+        (23, Err(Fault::Reader), &refused[..22]),
+        (16, Err(Fault::Reader), &refused[..22]),
+        (0, Err(Fault::Reader), b"".as_slice()),
     ];
     for (budget, end, want) in table {
         let mut reader = text;

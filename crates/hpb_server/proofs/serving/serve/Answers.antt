@@ -10,8 +10,8 @@ nothing = record { unread = []; budget = MOST_READ_BYTES }
 
 pub returns-in_err-input-clause-served : goal.returns-in_err-input-clause-served
 unfolding nothing
-returns-in_err-input-clause-served g c = never_served g.D.Desk.rules g.D.Desk.asks g.D.Desk.looks nothing _ _ c.from_residual.result c.from_residual.ensures.0
+returns-in_err-input-clause-served g c = never_served g.D.Desk.rules g.D.Desk.over g.D.Desk.asks g.D.Desk.looks nothing _ _ c.from_residual.result c.from_residual.ensures.1
 
 pub returns-in_err-output-clause-served : goal.returns-in_err-output-clause-served
 unfolding nothing
-returns-in_err-output-clause-served g c = never_served g.D.Desk.rules g.D.Desk.asks g.D.Desk.looks nothing _ _ c.from_residual-in_err-output.result c.from_residual-in_err-output.ensures.0
+returns-in_err-output-clause-served g c = never_served g.D.Desk.rules g.D.Desk.over g.D.Desk.asks g.D.Desk.looks nothing _ _ c.from_residual-in_err-output.result c.from_residual-in_err-output.ensures.1
