@@ -1,7 +1,9 @@
 ghost use Rattle.std.specs.Prelude.{◌≡◌, ◌<◌, ℕ, false, List, [], ◌++◌, take, Ok, OnOk, length};
+ghost use Rattle.hpb_rules.specs.declared.command.Command.{Command};
 ghost use Rattle.hpb_rules.specs.Lines.{request_of};
 ghost use Rattle.hpb_rules.specs.ValueText.{shown_in, node_shown_in, bidder_shown_in};
 ghost use Rattle.hpb_wire.specs.Requests.{IsRequestOf};
+ghost use Rattle.hpb_server.specs.DeskLaws.{GoesOn};
 ghost use Rattle.hpb_server.specs.Reading.{HasNoEnd};
 ghost use Rattle.hpb_server.specs.Serving.{Serves};
 ghost use Rattle.hpb_server.specs.Streams.{streams};
@@ -23,8 +25,11 @@ use std::io::{Read, Write};
 /// A line has at most 128 bytes and a line feed; any other, a last one without line feed too, is refused
 /// by `ERR 10 line`. No line tells of a fault: 90 where memory is refused, 92 where the reader or the writer
 /// fails or more than 1,000,000,000 bytes are read: one byte more is taken at most, which shows that there
-/// is more. Where memory is refused or the reader fails, what was answered before is written first; where
-/// the writer fails, a front of it. What was accepted stands.
+/// is more. Where the reader fails, each line that was read is answered and all answers are written first;
+/// where memory is refused, all but the one that it was refused for; where the writer fails, a front of them.
+/// What was accepted stands.
+///
+/// A desk may end the session with a reply: that is written, and nothing more is read or answered.
 pub fn serve<R: Read, W: Write, D: Desk>(
     alloc: Global,
     reader: &mut R,
@@ -34,6 +39,7 @@ pub fn serve<R: Read, W: Write, D: Desk>(
     ensures served { Serves D.rules D.over D.asks D.looks [] MOST_READ_BYTES
         (streams (R.remaining reader.old) (W.contents writer.old)) (streams (R.remaining reader.new) (W.contents writer.new)) desk.old desk.new result }
     ensures rules { D.rules desk.new ≡ D.rules desk.old }
+    ensures told { (told : List Command) → D.tells desk.old told → GoesOn told (D.tells desk.new) }
 {
     let mut input = Input::new(alloc, MOST_READ_BYTES)?;
     let mut output = Output::new(alloc)?;
