@@ -18,7 +18,7 @@ pub use arguments::{ArgumentsFault, Job, read_arguments};
 pub use desk::{Desk, ScriptDesk};
 pub use fault::Fault;
 pub use laws::{input_is_text, session_is_text};
-pub use running::program;
+pub use running::{program, refuse_arguments};
 pub use script::{ScriptEnd, run_script, serve_auction};
 pub use serving::serve;
 
