@@ -3,7 +3,7 @@ use Rattle.std.proofs.Common.{◌≡◌, ◌≢◌, ℕ, ◌+◌, ◌≤◌, Boo
 use Rattle.std.specs.Prelude.{Result, Ok, Err, if◌then◌else◌, ⊤}
 use Rattle.std.specs.Result.{IsErrAnd}
 use Rattle.std.specs.Io.KnownBytes.{Appends, Consumes, IsAtEnd}
-use Rattle.std.proofs.KnownBytes.{Appends-trans, Consumes-nil, Consumes-trans}
+use Rattle.std.proofs.KnownBytes.{Appends-trans, Consumes-nil, Consumes-trans, Keeps-refl}
 use Rattle.std.proofs.lemmas.Bool.{ne_eqb}
 use Rattle.std.proofs.lemmas.List.{length-take}
 use Rattle.hpb_rules.specs.declared.command.Command.{Command}
@@ -22,7 +22,6 @@ use Rattle.hpb_server.proofs.Errors.{err_case}
 use Rattle.hpb_server.proofs.Sessions.{session_begins, session_more, session_sent, session_read, session_stopped}
 use Rattle.hpb_server.proofs.WholeLines.{lines_answered, last_answered, rest_answered}
 use Rattle.hpb_server.proofs.Definitions.{vain_within}
-use Rattle.hpb_server.proofs.Passing.{memory_read}
 
 -- a line is empty where its kept bytes are none
 same_empty : (line bytes : List ℕ) → line ≡ take KEPT_BYTES bytes → eqb (length line) 0 ≡ eqb (length bytes) 0
@@ -55,7 +54,7 @@ module _ {Desk : Type 0} {rules : Desk → Rules} {over : Desk → Bool} {asks :
     pub comes_broken : (after : Streams) (new : Desk) (fault : Fault) (vain : ReadsWithin now.remaining after.remaining input.budget)
         (b : Broken rules over asks looks (first.unread ++ c.taken) old new before.contents after.contents [] fault)
         → (fault ≡ Reader → length (c.taken ++ vain.0) ≤ first.budget → HasNoEnd (b.rest ++ vain.0)) → Serves rules over asks looks first.unread first.budget before after old new (Err fault)
-    comes_broken after new fault vain b no_line = record {
+    comes_broken after new fault vain b no_line = inr (record {
       taken = c.taken ++ vain.0;
       done = b.done;
       rest = b.rest ++ vain.0;
@@ -70,7 +69,7 @@ module _ {Desk : Type 0} {rules : Desk → Rules} {over : Desk → Bool} {asks :
       front = b.front;
       left = b.left;
       no_line = no_line;
-    }
+    })
 
     -- it is broken off and nothing more was read
     pub comes_stopped : (writer_new : Option (List ℕ)) (new : Desk) (fault : Fault) (r : Result ⊤ Fault) → IsErrAnd r (λ e. e ≡ fault) → fault ≢ Reader
@@ -166,7 +165,7 @@ module _ {Desk : Type 0} {rules : Desk → Rules} {over : Desk → Bool} {asks :
               written = subst (λ (xs : List ℕ). Appends before.contents after.contents (last.text ++ xs)) (sym (s.2 ∙ append-nil s.0))
                   (subst (λ (xs : List ℕ). Appends before.contents after.contents (xs ++ s.0)) (sym all_sent) (Appends-trans before.contents writer_sent after.contents last.sent s.0 last.written s.1));
             }
-            by (Err fault) s = record {
+            by (Err fault) s = inr (record {
               taken = c.taken;
               done = last.done ++ last.rest;
               rest = [];
@@ -181,11 +180,10 @@ module _ {Desk : Type 0} {rules : Desk → Rules} {over : Desk → Bool} {asks :
               front = (s.3.0, ap (λ xs. xs ++ refused) all_sent ∙ ap (λ xs. last.sent ++ xs) s.3.1 ∙ sym (append_assoc last.sent s.1 s.3.0));
               left = s.4;
               no_line = λ read. absurd (s.0 read);
-            }
+            })
 
 -- nothing is read and nothing is written
 pub never_served : {Desk : Type 0} (rules : Desk → Rules) (over : Desk → Bool) (asks : Desk → Command → Reply → Desk → Type 0) (looks : Desk → Option AuctionValue → Desk → Type 0)
     (first : Pending) (before : Streams) (old : Desk) (r : Result ⊤ Fault) → IsErrAnd r (λ e. e ≡ Memory) → Serves rules over asks looks first.unread first.budget before before old old r
-never_served rules over asks looks first before old r bad =
-    let come : Comes rules over asks looks first before old before old first [] [] = comes_begins refl refl in
-    comes_stopped come before.contents old Memory r bad memory_read (session_stopped come.session Memory (inl refl))
+never_served rules over asks looks first before old r bad = err_case (Serves rules over asks looks first.unread first.budget before before old old) r bad
+    (λ other is. inl (is, (Keeps-refl before.remaining, Keeps-refl before.contents), refl))

@@ -1,5 +1,5 @@
 -- What a session tells of goes on from what its desk told of before.
-use Rattle.std.proofs.Common.{◌≡◌, ℕ, Bool, true, false, List, [], ◌∷◌, ◌++◌, reverse, length, Option, sym, ap, ◌∙◌, subst, append-nil, ⊎_elim, inl, inr}
+use Rattle.std.proofs.Common.{ℕ, Bool, true, false, List, [], ◌∷◌, ◌++◌, reverse, length, Option, sym, subst, append-nil, ⊎_elim, inl, inr}
 use Rattle.std.specs.Prelude.{Result, Ok, Err, Some, None, if◌then◌else◌, ⊤}
 use Rattle.std.specs.List.{slice_split}
 use Rattle.std.proofs.lemmas.List.{reverse-append, reverse-reverse}
@@ -67,4 +67,5 @@ module _ {Desk : Type 0} (rules : Desk → Rules) (over : Desk → Bool) (asks :
   pub session_goes : (unread : List ℕ) (budget : ℕ) (before after : Streams) (old new : Desk) (told : List Command) (result : Result ⊤ Fault)
       → Serves rules over asks looks unread budget before after old new result → tells old told → GoesOn told (tells new)
   session_goes unread budget before after old new told (Ok done) s is = lines_go (slice_split is_line_feed (unread ++ s.taken)) old new s.text told s.answers is
-  session_goes unread budget before after old new told (Err fault) s is = lines_go (slice_split is_line_feed s.done) old new s.text told s.answers is
+  session_goes unread budget before after old new told (Err fault) (inl never) is = (told, front_self told, subst (λ (d : Desk). tells d told) (sym never.2) is)
+  session_goes unread budget before after old new told (Err fault) (inr s) is = lines_go (slice_split is_line_feed s.done) old new s.text told s.answers is

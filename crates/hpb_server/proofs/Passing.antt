@@ -1,5 +1,5 @@
 -- An output that is written, whole or in part.
-use Rattle.std.proofs.Common.{◌≡◌, ◌≢◌, ℕ, List, [], ◌++◌, take, drop, Option, refl, sym, ap, ◌∙◌, subst, append_assoc, append-nil, take-append-drop, inr}
+use Rattle.std.proofs.Common.{◌≡◌, ◌≢◌, ℕ, List, [], ◌++◌, take, drop, Option, refl, sym, ap, ◌∙◌, subst, append_assoc, append-nil, take-append-drop}
 use Rattle.std.specs.Prelude.{Result, Ok, Err, ⊤}
 use Rattle.std.specs.Result.{IsErrAnd}
 use Rattle.std.specs.Io.KnownBytes.{Appends}
@@ -38,4 +38,4 @@ front_passes old new {bytes = bytes} {output = output} more left fault r bad e s
 pub line_refused : (old new : Option (List ℕ)) {bytes output : List ℕ} (answer left : List ℕ) (r : Result ⊤ Fault) → IsErrAnd r (λ e. e ≡ Memory) → output ≡ bytes → Appends old new output → Passes old new (bytes ++ line_of answer) left r
 line_refused old new {bytes = bytes} {output = output} answer left r bad e s = err_case (Passes old new (bytes ++ line_of answer) left) r bad
     (λ other is. subst (λ (f : Fault). (f ≢ Reader) × (sent : List ℕ) × Appends old new sent × (front : IsFront sent (bytes ++ line_of answer)) × IsLeft f front.0) (sym is)
-    (memory_read, output, s, (line_of answer, ap (λ xs. xs ++ line_of answer) (sym e)), inr (answer, refl)))
+    (memory_read, output, s, (line_of answer, ap (λ xs. xs ++ line_of answer) (sym e)), (answer, refl)))

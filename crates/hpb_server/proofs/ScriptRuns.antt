@@ -3,7 +3,7 @@ use Rattle.std.proofs.Common.{◌≡◌, ◌≢◌, ℕ, ◌+◌, ◌<◌, ◌�
 use Rattle.std.specs.Prelude.{Result, Ok, Err, ◌⊎◌}
 use Rattle.std.specs.Result.{IsErrAnd}
 use Rattle.std.specs.Io.KnownBytes.{Appends, Consumes}
-use Rattle.std.proofs.KnownBytes.{Appends-nil, Consumes-nil, Consumes-trans}
+use Rattle.std.proofs.KnownBytes.{Appends-kept, Appends-nil, Consumes-kept, Consumes-nil, Consumes-trans}
 use Rattle.std.proofs.lemmas.Bool.{cases_lt}
 use Rattle.std.proofs.lemmas.List.{length-take}
 use Rattle.hpb_rules.specs.declared.limits.TheConstants.{MOST_DEFINITION_BYTES, MOST_READ_BYTES}
@@ -30,7 +30,9 @@ use Rattle.hpb_server.specs.Streams.{Streams, streams}
 use Rattle.hpb_server.proofs.Errors.{err_case}
 use Rattle.hpb_server.proofs.Scripts.{never}
 use Rattle.hpb_server.proofs.ScriptTexts.{script_is, text_is, text_grows}
-use Rattle.hpb_server.specs.Serving.{AreLines}
+use Rattle.hpb_server.specs.Serving.{AreLines, Serves}
+use Rattle.hpb_server.specs.Desk.{rules_in, never_over, RepliesIn, ShowsItself}
+use Rattle.hpb_rules.specs.AuctionValue.{AuctionValue}
 
 -- ---- the kept bytes of the first line tell what it is
 json_short : (bytes : List ℕ) → KEPT_DEFINITION_BYTES < length bytes → length (take KEPT_DEFINITION_BYTES bytes) ≤ MOST_DEFINITION_BYTES → ⊥
@@ -187,37 +189,43 @@ module _ {reader_old reader_now : Option (List ℕ)} {input : Pending} {text : D
       answered_by errors.Reader front = inr front
       answered_by errors.Writer front = inr front
 
-      pub broken_run : (fault : Fault) (r : Result ScriptEnd Fault) → IsErrAnd r (λ e. e ≡ fault) → ServesScript (streams reader_now writer_old) (streams reader_new writer_new) input (first_value rules) (Err fault)
-          → RunsScript (streams reader_old writer_old) (streams reader_new writer_new) r
-      broken_run fault r bad s = err_case (RunsScript (streams reader_old writer_old) (streams reader_new writer_new)) r bad
-          (λ other is. subst (λ (f : Fault). RunsScript (streams reader_old writer_old) (streams reader_new writer_new) (Err f)) (sym is) (answered_by fault (record {
-            taken = after_line (input.unread ++ s.1.taken);
-            answered = after_line s.1.done;
-            rest = s.1.rest;
-            so_far = lines_text rules [] s.1.done;
-            text = lines_text rules [] (input.unread ++ s.1.taken);
-            sent = s.1.sent;
-            rules = rules;
-            read = read_all s.1.taken s.1.read;
-            within = omega (arith, s.1.within, ends.1, length_all s.1.taken);
-            parts = ap after_line s.1.parts ∙ sym (append_assoc given.bytes (LINE_FEED ∷ s.1.done) s.1.rest);
-            whole = ⊎_elim (λ lines. inl (line_first given.bytes s.1.done lines)) (λ all. inr all) s.1.whole;
-            is_so_far = script_is given.bytes rules s.1.done given.no_end accepted;
-            is_text = script_is given.bytes rules (input.unread ++ s.1.taken) given.no_end accepted;
-            accepted = refl;
-            written = s.1.written;
-            front_so_far = so_far;
-            left = s.1.left;
-            no_line = λ read within. s.1.no_line read (omega (arith, within, ends.1, length_all s.1.taken));
-            front = front_trans s.1.sent (lines_text rules [] s.1.done) (lines_text rules [] (input.unread ++ s.1.taken)) so_far
-                (subst (λ (all : List ℕ). IsFront (lines_text rules [] s.1.done) (lines_text rules [] all)) (sym s.1.parts)
-                (text_grows rules s.1.done s.1.rest (⊎_elim (λ lines. inl lines) (λ all. inr all.0) s.1.whole)));
-          })))
+      broken_by : (fault : Fault) (new : AuctionValue) → Serves rules_in never_over RepliesIn ShowsItself input.unread input.budget (streams reader_now writer_old) (streams reader_new writer_new) (first_value rules) new (Err fault)
+          → RunsScript (streams reader_old writer_old) (streams reader_new writer_new) (Err fault)
+      broken_by fault new (inl never) = nothing_by (streams reader_old writer_old) (streams reader_new writer_new) fault (λ writer. memory_written (sym never.0 ∙ writer))
+          ((after_line input.unread, Consumes-kept reader_old reader_now reader_new (after_line input.unread) ends.0 never.1.0, omega (arith, ends.1)), Appends-kept writer_old writer_old writer_new [] (Appends-nil writer_old) never.1.1)
+      broken_by fault new (inr s) = answered_by fault (record {
+        taken = after_line (input.unread ++ s.taken);
+        answered = after_line s.done;
+        rest = s.rest;
+        so_far = lines_text rules [] s.done;
+        text = lines_text rules [] (input.unread ++ s.taken);
+        sent = s.sent;
+        rules = rules;
+        read = read_all s.taken s.read;
+        within = omega (arith, s.within, ends.1, length_all s.taken);
+        parts = ap after_line s.parts ∙ sym (append_assoc given.bytes (LINE_FEED ∷ s.done) s.rest);
+        whole = ⊎_elim (λ lines. inl (line_first given.bytes s.done lines)) (λ all. inr all) s.whole;
+        is_so_far = script_is given.bytes rules s.done given.no_end accepted;
+        is_text = script_is given.bytes rules (input.unread ++ s.taken) given.no_end accepted;
+        accepted = refl;
+        written = s.written;
+        front_so_far = so_far;
+        left = s.left;
+        no_line = λ read within. s.no_line read (omega (arith, within, ends.1, length_all s.taken));
+        front = front_trans s.sent (lines_text rules [] s.done) (lines_text rules [] (input.unread ++ s.taken)) so_far
+            (subst (λ (all : List ℕ). IsFront (lines_text rules [] s.done) (lines_text rules [] all)) (sym s.parts)
+            (text_grows rules s.done s.rest (⊎_elim (λ lines. inl lines) (λ all. inr all.0) s.whole)));
+      })
         where
-          so_far : IsFront s.1.sent (lines_text rules [] s.1.done)
-          so_far = (s.1.front.0, sym (text_is rules s.0 s.1.done s.1.text s.1.answers) ∙ s.1.front.1)
+          so_far : IsFront s.sent (lines_text rules [] s.done)
+          so_far = (s.front.0, sym (text_is rules new s.done s.text s.answers) ∙ s.front.1)
 
           -- a line before whole lines
           line_first : (first done : List ℕ) → AreLines done → AreLines (first ++ LINE_FEED ∷ done)
           line_first first done (inl none) = inr (first, ap (λ xs. first ++ LINE_FEED ∷ xs) none)
           line_first first done (inr lines) = inr (first ++ LINE_FEED ∷ lines.0, ap (λ xs. first ++ LINE_FEED ∷ xs) lines.1 ∙ sym (append_assoc first (LINE_FEED ∷ lines.0) (LINE_FEED ∷ [])))
+
+      pub broken_run : (fault : Fault) (r : Result ScriptEnd Fault) → IsErrAnd r (λ e. e ≡ fault) → ServesScript (streams reader_now writer_old) (streams reader_new writer_new) input (first_value rules) (Err fault)
+          → RunsScript (streams reader_old writer_old) (streams reader_new writer_new) r
+      broken_run fault r bad s = err_case (RunsScript (streams reader_old writer_old) (streams reader_new writer_new)) r bad
+          (λ other is. subst (λ (f : Fault). RunsScript (streams reader_old writer_old) (streams reader_new writer_new) (Err f)) (sym is) (broken_by fault s.0 s.1))

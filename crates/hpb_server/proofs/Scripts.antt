@@ -10,7 +10,7 @@ use Rattle.hpb_rules.specs.declared.command.Command.TheVariants.{Bid, Close, Sta
 use Rattle.hpb_rules.specs.Values.{reply_in, changed}
 use Rattle.hpb_rules.specs.Tree.{Rules}
 use Rattle.hpb_rules.specs.Fronts.{IsFront}
-use Rattle.hpb_rules.specs.AuctionValue.{AuctionValue, ShowsPast}
+use Rattle.hpb_rules.specs.AuctionValue.{AuctionValue, Shows, ShowsPast}
 use Rattle.hpb_rules.specs.Answer.{is_reply_new}
 use Rattle.hpb_rules.specs.declared.request.Request.{Request}
 use Rattle.hpb_rules.specs.declared.request.Request.TheVariants as requests
@@ -119,7 +119,8 @@ session_is_text budget before after old new history (Ok done) shows s =
       written = subst (Appends before.contents after.contents) is.0 s.written;
       shows = is.1;
     }
-session_is_text budget before after old new history (Err fault) shows s =
+session_is_text budget before after old new history (Err fault) shows (inl never) = inl (never.0, never.1, subst (λ (v : AuctionValue). Shows v history) (sym never.2) shows)
+session_is_text budget before after old new history (Err fault) shows (inr s) =
     let is = input_is_text old new history s.done s.text shows s.answers in
     let text : s.text ≡ lines_text old.rules history s.done = is.0 in
     let so_far : s.text ≡ s.sent ++ s.front.0 = s.front.1 in
@@ -127,7 +128,7 @@ session_is_text budget before after old new history (Err fault) shows s =
     (λ whole. lines_front old.rules history s.done s.rest whole)
     (λ end. ([], ap (lines_text old.rules history) (ap (λ xs. s.done ++ xs) end.0 ∙ append-nil s.done) ∙ sym (append-nil (lines_text old.rules history s.done))))
     s.whole in
-    record {
+    inr (record {
       taken = s.taken;
       done = s.done;
       rest = s.rest;
@@ -142,4 +143,4 @@ session_is_text budget before after old new history (Err fault) shows s =
       no_line = s.no_line;
       front = subst (λ (xs : List ℕ). IsFront s.sent (lines_text old.rules history xs)) (sym s.parts) (front_trans s.sent (lines_text old.rules history s.done) (lines_text old.rules history (s.done ++ s.rest)) (s.front.0, sym text ∙ so_far) all);
       shows = is.1;
-    }
+    })

@@ -1,12 +1,11 @@
 -- The desk of an auction in memory tells of the histories that the auction shows.
-use Rattle.std.specs.Prelude.{◌≡◌, List, reverse, Option}
+use Rattle.std.specs.Prelude.{List, reverse, Option}
 use Rattle.std.proofs.Common.{sym, subst, ◌∙◌, inl}
 use Rattle.std.proofs.lemmas.List.{reverse-reverse}
 use Rattle.hpb_rules.specs.declared.command.Command.{Command}
 use Rattle.hpb_rules.specs.declared.reply.Reply.{Reply}
 use Rattle.hpb_rules.specs.Answer.{after}
 use Rattle.hpb_rules.specs.AuctionValue.{AuctionValue, Shows, ShowsPast}
-use Rattle.hpb_rules.specs.Fronts.{IsFront}
 use Rattle.hpb_rules.proofs.Lists.{front_self}
 use Rattle.hpb_rules.proofs.RunLaws.{reply_is_answer, next_is_shown}
 use Rattle.hpb_server.specs.Desk.{RepliesIn, ShowsItself, rules_in}

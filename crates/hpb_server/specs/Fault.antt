@@ -1,5 +1,5 @@
 -- Faults: what each is told by, and what it leaves unwritten.
-use Rattle.std.specs.Prelude.{◌≡◌, ◌≢◌, ℕ, List, [], ◌⊎◌}
+use Rattle.std.specs.Prelude.{◌≡◌, ◌≢◌, ℕ, List, []}
 use Rattle.std.specs.IoError.{error_kind}
 use Rattle.std.specs.declared.io.Error.{Error}
 use Rattle.std.specs.declared.io.ErrorKind.TheVariants.{Interrupted}
@@ -15,9 +15,9 @@ refusal_of Memory = refusals.Memory
 refusal_of Reader = refusals.Stream
 refusal_of Writer = refusals.Stream
 
--- What may be left unwritten of the answers: at most the last line where memory was refused, nothing where the reader failed, and any end of them where the writer failed.
+-- What is left unwritten of the answers: the last line where memory was refused for it, nothing where the reader failed, and any end of them where the writer failed.
 abbrev pub IsLeft : Fault → List ℕ → Type 0
-IsLeft Memory left = (left ≡ []) ⊎ ((answer : List ℕ) × (left ≡ line_of answer))
+IsLeft Memory left = (answer : List ℕ) × (left ≡ line_of answer)
 IsLeft Reader left = left ≡ []
 IsLeft Writer left = Unit {0}
 

@@ -7,11 +7,11 @@ use Rattle.hpb_rules.specs.Fronts.{IsFront}
 use Rattle.hpb_rules.specs.AuctionValue.{AuctionValue, Shows}
 use Rattle.hpb_rules.specs.Text.{lines_text, history_after_lines}
 use Rattle.hpb_server.specs.declared.fault.Fault.{Fault}
-use Rattle.hpb_server.specs.declared.fault.Fault.TheVariants.{Reader}
+use Rattle.hpb_server.specs.declared.fault.Fault.TheVariants.{Memory, Reader}
 use Rattle.hpb_server.specs.Fault.{IsLeft}
 use Rattle.hpb_server.specs.Reading.{most_taken, HasNoEnd}
 use Rattle.hpb_server.specs.Desk.{rules_in, never_over, RepliesIn, ShowsItself}
-use Rattle.hpb_server.specs.Streams.{Streams}
+use Rattle.hpb_server.specs.Streams.{Streams, AreKept}
 use Rattle.hpb_server.specs.Serving.{AreLines, AnswersInput, Serves}
 
 -- An auction in memory that shows a history answers an input by the text of lines after this history, and then shows the history that the input leads to.
@@ -48,10 +48,10 @@ module _ (rules : Rules) (history : List Command) (budget : ℕ) (before after :
     pub front : IsFront sent (lines_text rules history taken)
     pub shows : Shows new (history_after_lines rules history done)
 
-  -- What a session with an auction in memory writes that showed a history, and what the auction shows then.
+  -- What a session with an auction in memory writes that showed a history, and what the auction shows then. Memory may be refused at the start.
   abbrev pub ServesText : Result ⊤ Fault → Type 0
   ServesText (Ok done) = WritesText
-  ServesText (Err fault) = WritesFront fault
+  ServesText (Err fault) = ((fault ≡ Memory) × AreKept before after × Shows new history) ⊎ WritesFront fault
 
 -- A session with an auction in memory writes the text by each history that the auction shows.
 abbrev pub SessionIsText : Type 0

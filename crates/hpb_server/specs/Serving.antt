@@ -15,10 +15,10 @@ use Rattle.hpb_rules.specs.Rendering.{refusal_text, reply_text}
 use Rattle.hpb_rules.specs.Text.{line_of, unfinished_text}
 use Rattle.hpb_rules.specs.ValueText.{shown_in, node_shown_in, bidder_shown_in}
 use Rattle.hpb_server.specs.declared.fault.Fault.{Fault}
-use Rattle.hpb_server.specs.declared.fault.Fault.TheVariants.{Reader}
+use Rattle.hpb_server.specs.declared.fault.Fault.TheVariants.{Memory, Reader}
 use Rattle.hpb_server.specs.Fault.{IsLeft}
 use Rattle.hpb_server.specs.Reading.{most_taken, HasNoEnd}
-use Rattle.hpb_server.specs.Streams.{Streams}
+use Rattle.hpb_server.specs.Streams.{Streams, AreKept}
 use Rattle.hpb_server.specs.declared.input.TheConstants.{LINE_FEED}
 use Rattle.hpb_rules.specs.declared.refusal.Refusal.TheVariants as refusals
 
@@ -89,7 +89,11 @@ module _ {Desk : Type 0} (rules : Desk → Rules) (over : Desk → Bool) (asks :
       pub left : IsLeft fault front.0
       pub no_line : fault ≡ Reader → length taken ≤ budget → HasNoEnd rest
 
+    -- Nothing was read, asked or written, since memory was refused at the start.
+    abbrev pub NeverBegins : Fault → Type 0
+    NeverBegins fault = (fault ≡ Memory) × AreKept before after × (new ≡ old)
+
     -- What a session does with what is unread and all that comes after it.
     abbrev pub Serves : Result ⊤ Fault → Type 0
     Serves (Ok done) = AnswersAll
-    Serves (Err fault) = AnswersFront fault
+    Serves (Err fault) = NeverBegins fault ⊎ AnswersFront fault

@@ -26,8 +26,8 @@ use std::io::{Read, Write};
 /// by `ERR 10 line`. No line tells of a fault: 90 where memory is refused, 92 where the reader or the writer
 /// fails or more than 1,000,000,000 bytes are read: one byte more is taken at most, which shows that there
 /// is more. Where the reader fails, each line that was read is answered and all answers are written first;
-/// where memory is refused, all but the one that it was refused for; where the writer fails, a front of them.
-/// What was accepted stands.
+/// where memory is refused, all but the one that it was refused for, or nothing is read at all; where the
+/// writer fails, a front of them. What was accepted stands.
 ///
 /// A desk may end the session with a reply: that is written, and nothing more is read or answered.
 pub fn serve<R: Read, W: Write, D: Desk>(
