@@ -1,29 +1,33 @@
 //! The program: its words, its input, its output, its status.
 #![tactic(auto)]
 
-use hpb_server::program;
+use hpb_server::{program, refuse_arguments};
 use std::io;
 use std::process::ExitCode;
 
 fn main(rt: HostRuntime) -> ExitCode {
-    match status(&rt) {
-        Ok(status) => ExitCode::from(status),
-        Err(_) => ExitCode::FAILURE,
-    }
+    ExitCode::from(status(&rt))
 }
 
-fn status(rt: &HostRuntime) -> io::Result<u8> {
-    let alloc = rt.alloc();
-    let words: Vec<String> = std::env::args(rt)?.collect(alloc)?;
+fn status(rt: &HostRuntime) -> u8 {
+    let mut errors = rt.stderr();
+    let words = match words(rt) {
+        Ok(words) => words,
+        Err(error) => return refuse_arguments(&error, &mut errors),
+    };
     let mut input = rt.stdin();
     let mut output = rt.stdout();
-    let mut errors = rt.stderr();
-    Ok(program(
+    program(
         rt,
-        alloc,
+        rt.alloc(),
         words.as_slice(),
         &mut input,
         &mut output,
         &mut errors,
-    ))
+    )
+}
+
+/// The words that the program was started by.
+fn words(rt: &HostRuntime) -> io::Result<Vec<String>> {
+    Ok(std::env::args(rt)?.collect(rt.alloc())?)
 }

@@ -1,7 +1,7 @@
 use super::*;
 use Refusal::{Children, Duplicate, Empty, Field, Json, Leaf, Limits, Name, Number, Parent, Terms};
-use hpb_rules::{MOST_DEFINITION_BYTES, NodeId, Refusal};
-use hpb_tree::Definition;
+use hpb_rules::{NodeId, Refusal};
+use hpb_tree::{Definition, DefinitionFault};
 use std::alloc::{AllocError, Global};
 use std::test::Fail;
 
@@ -141,6 +141,9 @@ fn refusal(alloc: Global, text: &str) -> Option<Refusal> {
         .map(DefineFault::refusal)
 }
 
+/// How many bytes a definition has at most, by the written rules.
+const MOST_BYTES: usize = 65_536;
+
 fn padded(alloc: Global, text: &str, length: usize) -> Result<String, AllocError> {
     let mut padded = String::from_str(alloc, text)?;
     for _ in text.len()..length {
@@ -163,9 +166,9 @@ fn nested(alloc: Global, depth: usize) -> Result<String, AllocError> {
 #[test]
 fn hostile_definitions(rt: HostRuntime) -> Result<(), Fail> {
     let alloc = rt.alloc();
-    let most = padded(alloc, WORKED, MOST_DEFINITION_BYTES)?;
+    let most = padded(alloc, WORKED, MOST_BYTES)?;
     assert_eq!(rt; refusal(alloc, most.as_str()), None);
-    let long = padded(alloc, WORKED, MOST_DEFINITION_BYTES + 1)?;
+    let long = padded(alloc, WORKED, MOST_BYTES + 1)?;
     assert_eq!(rt; refusal(alloc, long.as_str()), Some(Json));
     let deepest = nested(alloc, 127)?;
     assert_eq!(rt; refusal(alloc, deepest.as_str()), Some(Field));
@@ -200,7 +203,34 @@ fn accepted_spellings(rt: HostRuntime) -> Result<(), Fail> {
     let alloc = rt.alloc();
     for (old, new) in &SPELLED {
         let text = WORKED.replacen(alloc, *old, new, 1)?;
+        assert!(rt; text.as_str() != WORKED, "{old} is not there");
         assert_eq!(rt; refusal(alloc, text.as_str()), None, "{new}");
+    }
+    Ok(())
+}
+
+#[test]
+fn faults_have_the_words_of_their_refusals(rt: HostRuntime) -> Result<(), Fail> {
+    let alloc = rt.alloc();
+    let faults = [
+        DefineFault::Memory,
+        DefineFault::Json,
+        DefineFault::Field,
+        DefineFault::Number,
+        DefineFault::Refused(DefinitionFault::Memory),
+        DefineFault::Refused(DefinitionFault::Number),
+        DefineFault::Refused(DefinitionFault::Empty),
+        DefineFault::Refused(DefinitionFault::Name),
+        DefineFault::Refused(DefinitionFault::Duplicate),
+        DefineFault::Refused(DefinitionFault::Parent),
+        DefineFault::Refused(DefinitionFault::Children),
+        DefineFault::Refused(DefinitionFault::Leaf),
+        DefineFault::Refused(DefinitionFault::Limits),
+        DefineFault::Refused(DefinitionFault::Terms),
+    ];
+    for fault in faults {
+        let text = fault.to_string(alloc)?;
+        assert_eq!(rt; text.as_str(), fault.refusal().word());
     }
     Ok(())
 }

@@ -47,14 +47,14 @@ const NO_NODES: Parts = Parts {
     d: "",
 };
 
-/// What the program answers a script, and its status.
-fn answer(rt: &HostRuntime, script: &str) -> Result<(u8, String), Fail> {
+/// The status of the program on a script, what it answers, and how many bytes its errors are told.
+fn answer(rt: &HostRuntime, script: &str) -> Result<(u8, String, usize), Fail> {
     let alloc = rt.alloc();
     let mut input = script.as_bytes();
     let mut output = Vec::new(alloc);
     let mut errors = Vec::new(alloc);
     let status = program(rt, alloc, &["hpb"], &mut input, &mut output, &mut errors);
-    Ok((status, String::from_utf8(output)?))
+    Ok((status, String::from_utf8(output)?, errors.len()))
 }
 
 fn definition(alloc: Global, parts: Parts) -> Result<String, Fail> {
@@ -91,15 +91,16 @@ fn refused_definitions(rt: HostRuntime) -> Result<(), Fail> {
         (without_d.as_str(), "ERR 54 children\n"),
     ];
     for (script, wanted) in table {
-        let (status, output) = answer(&rt, script)?;
+        let (status, output, told) = answer(&rt, script)?;
         assert_eq!(rt; output.as_str(), wanted, "{script}");
         assert_eq!(rt; status, 1, "{script}");
+        assert_eq!(rt; told, 0, "{script}");
     }
     Ok(())
 }
 
-/// What the program answers the definition of six nodes with one part changed.
-fn answer_to(rt: &HostRuntime, parts: Parts) -> Result<(u8, String), Fail> {
+/// The same on the definition of six nodes with one part changed.
+fn answer_to(rt: &HostRuntime, parts: Parts) -> Result<(u8, String, usize), Fail> {
     let script = definition(rt.alloc(), parts)?;
     answer(rt, script.as_str())
 }
@@ -137,9 +138,10 @@ fn refused_definitions_one_change(rt: HostRuntime) -> Result<(), Fail> {
         ),
     ];
     for (head, wanted) in table {
-        let (status, output) = answer_to(&rt, Parts { head, ..SIX_NODES })?;
+        let (status, output, told) = answer_to(&rt, Parts { head, ..SIX_NODES })?;
         assert_eq!(rt; output.as_str(), wanted, "{head}");
         assert_eq!(rt; status, 1, "{head}");
+        assert_eq!(rt; told, 0, "{head}");
     }
     Ok(())
 }
@@ -200,9 +202,10 @@ fn refused_nodes_one_change(rt: HostRuntime) -> Result<(), Fail> {
         ),
     ];
     for (parts, wanted) in table {
-        let (status, output) = answer_to(&rt, parts)?;
+        let (status, output, told) = answer_to(&rt, parts)?;
         assert_eq!(rt; output.as_str(), wanted, "{parts:?}");
         assert_eq!(rt; status, 1, "{parts:?}");
+        assert_eq!(rt; told, 0, "{parts:?}");
     }
     Ok(())
 }

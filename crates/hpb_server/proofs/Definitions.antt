@@ -9,7 +9,7 @@ use Rattle.hpb_rules.specs.declared.limits.TheConstants.{MOST_DEFINITION_BYTES}
 use Rattle.hpb_server.specs.declared.input.DefinitionText.{DefinitionText}
 use Rattle.hpb_server.specs.declared.input.TheConstants.{LINE_FEED, KEPT_DEFINITION_BYTES}
 use Rattle.hpb_rules.specs.Lines.{is_line_feed}
-use Rattle.hpb_server.specs.Reading.{Pending, HasNoEnd, TakesToEnd, TakesAll, TakesWithin, EndsDefinition, GivesDefinition, ReadsWithin}
+use Rattle.hpb_server.specs.Reading.{Pending, HasNoEnd, TakesToEnd, TakesAll, TakesWithin, EndsDefinition, GivesDefinition, ReadsInVain, ReadsWithin}
 
 -- so many bytes were taken and have no end, and so many of them are kept; the rest is unread
 pub record Taken (old new : Option (List ℕ)) (budget : ℕ) (input : Pending) (text : List ℕ) : Type 0 where
@@ -32,6 +32,10 @@ none_taken old input text none empty = record {
 -- some bytes were taken, and no more than may be
 pub taken_within : {old new : Option (List ℕ)} {budget : ℕ} {input : Pending} {text : List ℕ} → Taken old new budget input text → ReadsWithin old new budget
 taken_within {input = input} t = (t.bytes ++ input.unread, t.consumed.0, omega (arith, t.consumed.1))
+
+-- what is read in vain is within what may be taken
+abbrev pub vain_within : (old new : Option (List ℕ)) (budget : ℕ) → ReadsInVain old new budget → ReadsWithin old new budget
+vain_within old new budget vain = (vain.0, vain.1, ⊎_elim (λ none. omega (arith, ap length none)) (λ some. omega (arith, some.1)) vain.2)
 
 -- the same bytes are taken within the same budget
 same_taken : (old new : Option (List ℕ)) (budget before after : ℕ) (xs ys : List ℕ) → before ≡ after → xs ≡ ys → TakesWithin old new budget before xs → TakesWithin old new budget after ys

@@ -7,6 +7,7 @@ mod Definitions
 mod WholeLines
 mod Sessions
 mod Chunks
+mod Going
 mod Scripts
 mod ScriptTexts
 mod Refusals

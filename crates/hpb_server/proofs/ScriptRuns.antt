@@ -1,9 +1,9 @@
 -- A run of a script: the definition, and what comes after it.
-use Rattle.std.proofs.Common.{◌≡◌, ℕ, ◌+◌, ◌<◌, ◌≤◌, Bool, true, false, List, [], ◌∷◌, ◌++◌, length, take, Option, refl, sym, ap, ◌∙◌, subst, arith, append_assoc, length-append, take_all, ⊎_elim, inl, inr}
+use Rattle.std.proofs.Common.{◌≡◌, ◌≢◌, ℕ, ◌+◌, ◌<◌, ◌≤◌, Bool, true, false, List, [], ◌∷◌, ◌++◌, length, take, Option, refl, sym, ap, ◌∙◌, subst, arith, append_assoc, length-append, take_all, ⊎_elim, inl, inr}
 use Rattle.std.specs.Prelude.{Result, Ok, Err, ◌⊎◌}
-use Rattle.std.specs.Result.{IsErr}
+use Rattle.std.specs.Result.{IsErrAnd}
 use Rattle.std.specs.Io.KnownBytes.{Appends, Consumes}
-use Rattle.std.proofs.KnownBytes.{Appends-nil, Consumes-nil, Consumes-trans}
+use Rattle.std.proofs.KnownBytes.{Appends-kept, Appends-nil, Consumes-kept, Consumes-nil, Consumes-trans}
 use Rattle.std.proofs.lemmas.Bool.{cases_lt}
 use Rattle.std.proofs.lemmas.List.{length-take}
 use Rattle.hpb_rules.specs.declared.limits.TheConstants.{MOST_DEFINITION_BYTES, MOST_READ_BYTES}
@@ -19,16 +19,20 @@ use Rattle.hpb_define.specs.declared.fault.DefineFault.{DefineFault}
 use Rattle.hpb_define.specs.declared.fault.DefineFault.TheVariants as faults
 use Rattle.hpb_define.specs.Text.{Answers}
 use Rattle.hpb_server.specs.declared.fault.Fault.{Fault}
+use Rattle.hpb_server.specs.declared.fault.Fault.TheVariants as errors
 use Rattle.hpb_server.specs.declared.input.DefinitionText.{DefinitionText}
 use Rattle.hpb_server.specs.declared.input.TheConstants.{LINE_FEED, KEPT_DEFINITION_BYTES}
 use Rattle.hpb_server.specs.declared.script.ScriptEnd.{ScriptEnd}
 use Rattle.hpb_server.specs.declared.script.ScriptEnd.TheVariants.{Answered, Refused}
 use Rattle.hpb_server.specs.Reading.{Pending, EndsDefinition, GivesDefinition, ReadsWithin}
-use Rattle.hpb_server.specs.Script.{IsTold, IsScriptText, AnswersScript, RefusesScript, RunsScript, ServesScript, Refuses}
+use Rattle.hpb_server.specs.Script.{IsTold, IsScriptText, AnswersScript, AnswersScriptFront, RefusesScript, RunsScript, WritesNothing, ServesScript, Refuses}
 use Rattle.hpb_server.specs.Streams.{Streams, streams}
 use Rattle.hpb_server.proofs.Errors.{err_case}
+use Rattle.hpb_server.proofs.Scripts.{never}
 use Rattle.hpb_server.proofs.ScriptTexts.{script_is, text_is, text_grows}
-use Rattle.hpb_server.specs.Serving.{AreLines}
+use Rattle.hpb_server.specs.Serving.{AreLines, Serves}
+use Rattle.hpb_server.specs.Desk.{rules_in, never_over, RepliesIn, ShowsItself}
+use Rattle.hpb_rules.specs.AuctionValue.{AuctionValue}
 
 -- ---- the kept bytes of the first line tell what it is
 json_short : (bytes : List ℕ) → KEPT_DEFINITION_BYTES < length bytes → length (take KEPT_DEFINITION_BYTES bytes) ≤ MOST_DEFINITION_BYTES → ⊥
@@ -61,12 +65,20 @@ module _ {before : Pending} (is : before ≡ record { unread = []; budget = MOST
 
 -- ---- the end of a run
 -- nothing was written
-pub nothing_run : (before after : Streams) (r : Result ScriptEnd Fault) → IsErr r → ReadsWithin before.remaining after.remaining MOST_READ_BYTES → Appends before.contents after.contents [] → RunsScript before after r
-nothing_run before after r bad vain none = err_case (RunsScript before after) r bad (λ fault. inl (vain, none))
+nothing_by : (before after : Streams) (fault : Fault) → fault ≢ errors.Writer → WritesNothing before after → RunsScript before after (Err fault)
+nothing_by before after errors.Memory other none = inl none
+nothing_by before after errors.Reader other none = inl none
+nothing_by before after errors.Writer other none = absurd (other refl)
+
+memory_written : errors.Memory ≢ errors.Writer
+memory_written e = absurd (let no : errors.Memory ≡ errors.Writer = e in cc)
+
+pub nothing_run : (before after : Streams) (fault : Fault) (r : Result ScriptEnd Fault) → IsErrAnd r (λ e. e ≡ fault) → fault ≢ errors.Writer → ReadsWithin before.remaining after.remaining MOST_READ_BYTES → Appends before.contents after.contents [] → RunsScript before after r
+nothing_run before after fault r bad other vain none = err_case (RunsScript before after) r bad (λ e is. nothing_by before after e (λ writer. other (sym is ∙ writer)) (vain, none))
 
 -- nothing was read either
-pub never_run : (before : Streams) (r : Result ScriptEnd Fault) → IsErr r → RunsScript before before r
-never_run before r bad = nothing_run before before r bad ([], Consumes-nil before.remaining, omega arith) (Appends-nil before.contents)
+pub never_run : (before : Streams) (r : Result ScriptEnd Fault) → IsErrAnd r (λ e. e ≡ errors.Memory) → RunsScript before before r
+never_run before r bad = nothing_run before before errors.Memory r bad memory_written ([], Consumes-nil before.remaining, omega arith) (Appends-nil before.contents)
 
 module _ {reader_old reader_now : Option (List ℕ)} {input : Pending} {text : DefinitionText} (given : GivesDefinition reader_old reader_now MOST_READ_BYTES input text) where
   ends_as : (has_end : Bool) → text.has_end ≡ has_end → EndsDefinition reader_old reader_now MOST_READ_BYTES input given.bytes has_end
@@ -118,16 +130,14 @@ module _ {reader_old reader_now : Option (List ℕ)} {input : Pending} {text : D
     pub refused_run : (r : Result ScriptEnd Fault) → Refuses writer_old writer_new fault r → RunsScript (streams reader_old writer_old) (streams reader_now writer_new) r
     refused_run (Ok Answered) w = absurd w
     refused_run (Ok (Refused refusal)) w = (refuses refusal text.has_end refl w.0, w.1)
-    refused_run (Err broken) w = ⊎_elim
-        (λ none. inl (taken_some text.has_end refl, none))
-        (λ some. inr (inl (record {
-          refusal = some.0;
-          sent = some.1;
-          refuses = refuses some.0 text.has_end refl some.2;
-          written = some.3;
-          front = some.4;
-        })))
-        w
+    refused_run (Err broken) (inl none) = subst (λ (f : Fault). RunsScript (streams reader_old writer_old) (streams reader_now writer_new) (Err f)) (sym none.0) (inl (taken_some text.has_end refl, none.1))
+    refused_run (Err broken) (inr some) = subst (λ (f : Fault). RunsScript (streams reader_old writer_old) (streams reader_now writer_new) (Err f)) (sym some.0) (inl (record {
+      refusal = some.1;
+      sent = some.2;
+      refuses = refuses some.1 text.has_end refl some.3;
+      written = some.4;
+      front = some.5;
+    }))
 
   -- ---- a definition that is accepted
   module _ (rules : Rules) (accepted : Answers given.bytes (Ok rules)) where
@@ -168,39 +178,54 @@ module _ {reader_old reader_now : Option (List ℕ)} {input : Pending} {text : D
         is_text = script_is given.bytes rules (input.unread ++ s.1.taken) given.no_end accepted;
         accepted = refl;
         read = read_all s.1.taken s.1.read;
-        ended = s.1.ended;
+        ended = ⊎_elim (λ end. end) (λ over. absurd (never over)) s.1.ended;
         within = omega (arith, s.1.within, ends.1, length_all s.1.taken);
         written = subst (Appends writer_old writer_new) (text_is rules s.0 (input.unread ++ s.1.taken) s.1.text s.1.answers) s.1.written;
       }
 
-      pub broken_run : (fault : Fault) (r : Result ScriptEnd Fault) → IsErr r → ServesScript (streams reader_now writer_old) (streams reader_new writer_new) input (first_value rules) (Err fault)
-          → RunsScript (streams reader_old writer_old) (streams reader_new writer_new) r
-      broken_run fault r bad s = err_case (RunsScript (streams reader_old writer_old) (streams reader_new writer_new)) r bad (λ other. inr (inr (record {
-        taken = after_line (input.unread ++ s.1.taken);
-        answered = after_line s.1.done;
-        rest = s.1.rest;
-        so_far = lines_text rules [] s.1.done;
-        text = lines_text rules [] (input.unread ++ s.1.taken);
-        sent = s.1.sent;
+      -- where it is broken off
+      answered_by : (fault : Fault) → AnswersScriptFront (streams reader_old writer_old) (streams reader_new writer_new) fault → RunsScript (streams reader_old writer_old) (streams reader_new writer_new) (Err fault)
+      answered_by errors.Memory front = inr front
+      answered_by errors.Reader front = inr front
+      answered_by errors.Writer front = inr front
+
+      broken_by : (fault : Fault) (new : AuctionValue) → Serves rules_in never_over RepliesIn ShowsItself input.unread input.budget (streams reader_now writer_old) (streams reader_new writer_new) (first_value rules) new (Err fault)
+          → RunsScript (streams reader_old writer_old) (streams reader_new writer_new) (Err fault)
+      broken_by fault new (inl never) = nothing_by (streams reader_old writer_old) (streams reader_new writer_new) fault (λ writer. memory_written (sym never.0 ∙ writer))
+          ((after_line input.unread, Consumes-kept reader_old reader_now reader_new (after_line input.unread) ends.0 never.1.0, omega (arith, ends.1)), Appends-kept writer_old writer_old writer_new [] (Appends-nil writer_old) never.1.1)
+      broken_by fault new (inr s) = answered_by fault (record {
+        taken = after_line (input.unread ++ s.taken);
+        answered = after_line s.done;
+        rest = s.rest;
+        so_far = lines_text rules [] s.done;
+        text = lines_text rules [] (input.unread ++ s.taken);
+        sent = s.sent;
         rules = rules;
-        read = read_all s.1.taken s.1.read;
-        within = omega (arith, s.1.within, ends.1, length_all s.1.taken);
-        parts = ap after_line s.1.parts ∙ sym (append_assoc given.bytes (LINE_FEED ∷ s.1.done) s.1.rest);
-        whole = ⊎_elim (λ lines. inl (line_first given.bytes s.1.done lines)) (λ all. inr all) s.1.whole;
-        is_so_far = script_is given.bytes rules s.1.done given.no_end accepted;
-        is_text = script_is given.bytes rules (input.unread ++ s.1.taken) given.no_end accepted;
+        read = read_all s.taken s.read;
+        within = omega (arith, s.within, ends.1, length_all s.taken);
+        parts = ap after_line s.parts ∙ sym (append_assoc given.bytes (LINE_FEED ∷ s.done) s.rest);
+        whole = ⊎_elim (λ lines. inl (line_first given.bytes s.done lines)) (λ all. inr all) s.whole;
+        is_so_far = script_is given.bytes rules s.done given.no_end accepted;
+        is_text = script_is given.bytes rules (input.unread ++ s.taken) given.no_end accepted;
         accepted = refl;
-        written = s.1.written;
+        written = s.written;
         front_so_far = so_far;
-        front = front_trans s.1.sent (lines_text rules [] s.1.done) (lines_text rules [] (input.unread ++ s.1.taken)) so_far
-            (subst (λ (all : List ℕ). IsFront (lines_text rules [] s.1.done) (lines_text rules [] all)) (sym s.1.parts)
-            (text_grows rules s.1.done s.1.rest (⊎_elim (λ lines. inl lines) (λ all. inr all.0) s.1.whole)));
-      })))
+        left = s.left;
+        no_line = λ read within. s.no_line read (omega (arith, within, ends.1, length_all s.taken));
+        front = front_trans s.sent (lines_text rules [] s.done) (lines_text rules [] (input.unread ++ s.taken)) so_far
+            (subst (λ (all : List ℕ). IsFront (lines_text rules [] s.done) (lines_text rules [] all)) (sym s.parts)
+            (text_grows rules s.done s.rest (⊎_elim (λ lines. inl lines) (λ all. inr all.0) s.whole)));
+      })
         where
-          so_far : IsFront s.1.sent (lines_text rules [] s.1.done)
-          so_far = subst (IsFront s.1.sent) (text_is rules s.0 s.1.done s.1.text s.1.answers) s.1.front
+          so_far : IsFront s.sent (lines_text rules [] s.done)
+          so_far = (s.front.0, sym (text_is rules new s.done s.text s.answers) ∙ s.front.1)
 
           -- a line before whole lines
           line_first : (first done : List ℕ) → AreLines done → AreLines (first ++ LINE_FEED ∷ done)
           line_first first done (inl none) = inr (first, ap (λ xs. first ++ LINE_FEED ∷ xs) none)
           line_first first done (inr lines) = inr (first ++ LINE_FEED ∷ lines.0, ap (λ xs. first ++ LINE_FEED ∷ xs) lines.1 ∙ sym (append_assoc first (LINE_FEED ∷ lines.0) (LINE_FEED ∷ [])))
+
+      pub broken_run : (fault : Fault) (r : Result ScriptEnd Fault) → IsErrAnd r (λ e. e ≡ fault) → ServesScript (streams reader_now writer_old) (streams reader_new writer_new) input (first_value rules) (Err fault)
+          → RunsScript (streams reader_old writer_old) (streams reader_new writer_new) r
+      broken_run fault r bad s = err_case (RunsScript (streams reader_old writer_old) (streams reader_new writer_new)) r bad
+          (λ other is. subst (λ (f : Fault). RunsScript (streams reader_old writer_old) (streams reader_new writer_new) (Err f)) (sym is) (broken_by fault s.0 s.1))

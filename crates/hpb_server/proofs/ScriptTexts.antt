@@ -13,14 +13,14 @@ use Rattle.hpb_rules.proofs.TextLaws.{one_line}
 use Rattle.hpb_rules.proofs.RunLaws.{text_is_shown}
 use Rattle.hpb_define.specs.Text.{Answers}
 use Rattle.hpb_server.specs.declared.input.TheConstants.{LINE_FEED}
-use Rattle.hpb_server.specs.Desk.{rules_in, RepliesIn, ShowsItself}
+use Rattle.hpb_server.specs.Desk.{rules_in, never_over, RepliesIn, ShowsItself}
 use Rattle.hpb_server.specs.Reading.{HasNoEnd}
 use Rattle.hpb_server.specs.Script.{IsScriptText}
 use Rattle.hpb_server.specs.Serving.{AnswersInput, AreLines}
 use Rattle.hpb_server.proofs.Scripts.{lines_written, lines_front}
 
 -- what an auction in memory answers to lines from the beginning is their text
-pub text_is : (rules : Rules) (new : AuctionValue) (lines text : List ℕ) → AnswersInput rules_in RepliesIn ShowsItself (first_value rules) lines text new → text ≡ lines_text rules [] lines
+pub text_is : (rules : Rules) (new : AuctionValue) (lines text : List ℕ) → AnswersInput rules_in never_over RepliesIn ShowsItself (first_value rules) lines text new → text ≡ lines_text rules [] lines
 text_is rules new lines text h = lines_written (slice_split is_line_feed lines) (first_value rules) new text h ∙ text_is_shown (first_value rules) [] lines (tt, refl)
 
 -- the text of whole lines is a front of the text of more

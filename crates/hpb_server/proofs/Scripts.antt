@@ -1,32 +1,35 @@
 -- The auction in memory: what it answers is the text by its history.
-use Rattle.std.proofs.Common.{◌≡◌, ℕ, Bool, true, false, List, [], ◌∷◌, ◌++◌, reverse, length, sym, ap, ◌∙◌, subst, append_assoc, append-nil, ⊎_elim, refl}
+use Rattle.std.proofs.Common.{◌≡◌, ℕ, Bool, true, false, List, [], ◌∷◌, ◌++◌, reverse, length, ◌==◌, sym, ap, ◌∙◌, subst, append_assoc, append-nil, ⊎_elim, inl, inr, refl}
 use Rattle.std.specs.Prelude.{Result, Ok, Err, if◌then◌else◌}
 use Rattle.std.specs.Io.KnownBytes.{Appends}
 use Rattle.std.specs.List.{slice_split}
-use Rattle.std.proofs.lemmas.List.{reverse-append, reverse-reverse}
+use Rattle.std.proofs.lemmas.List.{reverse-reverse}
 use Rattle.hpb_rules.specs.declared.refusal.Refusal.{Refusal}
 use Rattle.hpb_rules.specs.declared.command.Command.{Command}
+use Rattle.hpb_rules.specs.declared.command.Command.TheVariants.{Bid, Close, Stage}
+use Rattle.hpb_rules.specs.Values.{reply_in, changed}
 use Rattle.hpb_rules.specs.Tree.{Rules}
 use Rattle.hpb_rules.specs.Fronts.{IsFront}
-use Rattle.hpb_rules.specs.AuctionValue.{AuctionValue, ShowsPast}
-use Rattle.hpb_rules.specs.Answer.{is_reply_new, answer_after, after}
+use Rattle.hpb_rules.specs.AuctionValue.{AuctionValue, Shows, ShowsPast}
+use Rattle.hpb_rules.specs.Answer.{is_reply_new}
 use Rattle.hpb_rules.specs.declared.request.Request.{Request}
 use Rattle.hpb_rules.specs.declared.request.Request.TheVariants as requests
 use Rattle.hpb_rules.specs.Lines.{request_of, is_line_feed}
 use Rattle.hpb_rules.specs.Rendering.{reply_text}
-use Rattle.hpb_rules.specs.Text.{line_of, lines_text}
+use Rattle.hpb_rules.specs.Text.{line_of, lines_text, unfinished_text, state_after, next_past, past_after}
 use Rattle.hpb_rules.specs.ValueText.{shown_in, node_shown_in, bidder_shown_in, response_in, value_after_request, lines_in}
 use Rattle.hpb_rules.proofs.Lists.{front_trans}
 use Rattle.hpb_rules.proofs.TextLaws.{lines_text_grows}
 use Rattle.hpb_rules.proofs.RunLaws.{next_is_shown, text_is_shown}
 use Rattle.hpb_server.specs.declared.input.TheConstants.{LINE_FEED}
-use Rattle.hpb_server.specs.Desk.{rules_in, RepliesIn, ShowsItself}
+use Rattle.hpb_server.specs.Desk.{rules_in, never_over, RepliesIn, ShowsItself}
 use Rattle.hpb_server.specs.Serving.{AreLines, shown_by, AnswersRequest, AnswersLines}
+use Rattle.hpb_server.proofs.WholeLines.{or_false}
 use Rattle.hpb_server.specs.ScriptLaws.{InputIsText, SessionIsText}
 
 -- ---- one request
 abbrev Asked : AuctionValue → Result Request Refusal → List ℕ → AuctionValue → Type 0
-Asked = AnswersRequest rules_in RepliesIn ShowsItself
+Asked = AnswersRequest rules_in never_over RepliesIn ShowsItself
 
 -- a request is answered by the value, which becomes what follows from it
 answered : (request : Result Request Refusal) (old new : AuctionValue) (answer : List ℕ) → Asked old request answer new → (answer ≡ response_in old request) × (new ≡ value_after_request old request)
@@ -38,65 +41,63 @@ answered (Ok (requests.Who from)) old new answer h = (h.2 ∙ ap (shown_by (λ v
 
 -- ---- lines
 abbrev Lines : AuctionValue → List (List ℕ) → List ℕ → AuctionValue → Type 0
-Lines = AnswersLines rules_in RepliesIn ShowsItself
+Lines = AnswersLines rules_in never_over RepliesIn ShowsItself
+
+-- it never ends a session
+pub never : false ≡ true → ⊥
+never e = absurd (let no : false ≡ true = e in cc)
 
 pub lines_written : (lines : List (List ℕ)) (old new : AuctionValue) (text : List ℕ) → Lines old lines text new → text ≡ lines_in old lines
 lines_written [] old new text h = h.1
-lines_written (last ∷ []) old new text h = h.1
-lines_written (line ∷ following ∷ more) old new text h =
-    let a : (h.0 ≡ response_in old (request_of old.rules line)) × (h.2 ≡ value_after_request old (request_of old.rules line)) = answered (request_of old.rules line) old h.2 h.0 h.3 in
-    h.5
-    ∙ ap (λ xs. line_of xs ++ h.1) a.0
-    ∙ ap (λ xs. line_of (response_in old (request_of old.rules line)) ++ xs) (lines_written (following ∷ more) h.2 new h.1 h.4 ∙ ap (λ (v : AuctionValue). lines_in v (following ∷ more)) a.1)
+lines_written (last ∷ []) old new text h = h.1 ∙ ap (λ (b : Bool). if b then [] else unfinished_text) (or_false (length last == 0))
+lines_written (line ∷ following ∷ more) old new text (inl ended) = absurd (never ended.0)
+lines_written (line ∷ following ∷ more) old new text (inr goes) =
+    let a : (goes.1 ≡ response_in old (request_of old.rules line)) × (goes.3 ≡ value_after_request old (request_of old.rules line)) = answered (request_of old.rules line) old goes.3 goes.1 goes.4 in
+    goes.6
+    ∙ ap (λ xs. line_of xs ++ goes.2) a.0
+    ∙ ap (λ xs. line_of (response_in old (request_of old.rules line)) ++ xs) (lines_written (following ∷ more) goes.3 new goes.2 goes.5 ∙ ap (λ (v : AuctionValue). lines_in v (following ∷ more)) a.1)
 
--- a past that goes on from another
-record GoesOn (new : AuctionValue) (past : List Command) : Type 0 where
-  longer : List Command
-  shows : ShowsPast new longer
-  front : IsFront (reverse past) (reverse longer)
+-- ---- what it then shows
+changed_rules : (value : AuctionValue) (asked : Command) → (changed value asked).rules ≡ value.rules
+changed_rules value (Bid from ticket node amount) = refl
+changed_rules value (Close ticket) = refl
+changed_rules value (Stage ticket) = refl
 
-stays : (new : AuctionValue) (past : List Command) → ShowsPast new past → GoesOn new past
-stays new past s = record { longer = past; shows = s; front = ([], sym (append-nil (reverse past))) }
+request_rules : (value : AuctionValue) (request : Result Request Refusal) → (value_after_request value request).rules ≡ value.rules
+request_rules value (Err refusal) = refl
+request_rules value (Ok requests.Show) = refl
+request_rules value (Ok (requests.Node place)) = refl
+request_rules value (Ok (requests.Who from)) = refl
+request_rules value (Ok (requests.Command asked)) = by (is_reply_new value.count (reply_in value asked))
+  where
+    by : (b : Bool) → (if b then changed value asked else value).rules ≡ value.rules
+    by true = changed_rules value asked
+    by false = refl
 
-after_front : (b : Bool) (past : List Command) (asked : Command) → IsFront (reverse past) (reverse (if b then asked ∷ past else past))
-after_front true past asked = (reverse (asked ∷ []), reverse-append (asked ∷ []) past)
-after_front false past asked = ([], sym (append-nil (reverse past)))
+request_shown : (value : AuctionValue) (past : List Command) (request : Result Request Refusal) → ShowsPast value past → ShowsPast (value_after_request value request) (past_after value.rules past request)
+request_shown value past (Err refusal) s = s
+request_shown value past (Ok (requests.Command asked)) s = next_is_shown value past asked s
+request_shown value past (Ok requests.Show) s = s
+request_shown value past (Ok (requests.Node place)) s = s
+request_shown value past (Ok (requests.Who from)) s = s
 
-goes_after : (old : AuctionValue) (past : List Command) (asked : Command) → ShowsPast old past → GoesOn (value_after_request old (Ok (requests.Command asked))) past
-goes_after old past asked s = record {
-  longer = after old.rules past asked;
-  shows = next_is_shown old past asked s;
-  front = after_front (is_reply_new (length past) (answer_after old.rules past asked)) past asked;
-}
-
-request_goes : (request : Result Request Refusal) (old : AuctionValue) (past : List Command) → ShowsPast old past → GoesOn (value_after_request old request) past
-request_goes (Err refusal) old past s = stays old past s
-request_goes (Ok (requests.Command asked)) old past s = goes_after old past asked s
-request_goes (Ok requests.Show) old past s = stays old past s
-request_goes (Ok (requests.Node place)) old past s = stays old past s
-request_goes (Ok (requests.Who from)) old past s = stays old past s
-
-goes_trans : (middle new : AuctionValue) (past : List Command) (first : GoesOn middle past) → GoesOn new first.longer → GoesOn new past
-goes_trans middle new past first second = record {
-  longer = second.longer;
-  shows = second.shows;
-  front = (first.front.0 ++ second.front.0, second.front.1 ∙ ap (λ xs. xs ++ second.front.0) first.front.1 ∙ append_assoc (reverse past) first.front.0 second.front.0);
-}
-
-lines_go : (lines : List (List ℕ)) (old new : AuctionValue) (text : List ℕ) (past : List Command) → ShowsPast old past → Lines old lines text new → GoesOn new past
-lines_go [] old new text past s h = subst (λ (v : AuctionValue). GoesOn v past) (sym h.0) (stays old past s)
-lines_go (last ∷ []) old new text past s h = subst (λ (v : AuctionValue). GoesOn v past) (sym h.0) (stays old past s)
-lines_go (line ∷ following ∷ more) old new text past s h =
-    let a : (h.0 ≡ response_in old (request_of old.rules line)) × (h.2 ≡ value_after_request old (request_of old.rules line)) = answered (request_of old.rules line) old h.2 h.0 h.3 in
-    let first : GoesOn h.2 past = subst (λ (v : AuctionValue). GoesOn v past) (sym a.1) (request_goes (request_of old.rules line) old past s) in
-    goes_trans h.2 new past first (lines_go (following ∷ more) h.2 new h.1 first.longer first.shows h.4)
+lines_shown : (lines : List (List ℕ)) (old new : AuctionValue) (text : List ℕ) (past : List Command) → ShowsPast old past → Lines old lines text new → ShowsPast new (state_after (next_past old.rules) past lines)
+lines_shown [] old new text past s h = subst (λ (v : AuctionValue). ShowsPast v past) (sym h.0) s
+lines_shown (last ∷ []) old new text past s h = subst (λ (v : AuctionValue). ShowsPast v past) (sym h.0) s
+lines_shown (line ∷ following ∷ more) old new text past s (inl ended) = absurd (never ended.0)
+lines_shown (line ∷ following ∷ more) old new text past s (inr goes) =
+    let request = request_of old.rules line in
+    let is : goes.3 ≡ value_after_request old request = (answered request old goes.3 goes.1 goes.4).1 in
+    let shows : ShowsPast goes.3 (past_after old.rules past request) = subst (λ (v : AuctionValue). ShowsPast v (past_after old.rules past request)) (sym is) (request_shown old past request s) in
+    let rules : goes.3.rules ≡ old.rules = ap (λ (v : AuctionValue). v.rules) is ∙ request_rules old request in
+    subst (λ (r : Rules). ShowsPast new (state_after (next_past r) (past_after old.rules past request) (following ∷ more))) rules
+    (lines_shown (following ∷ more) goes.3 new goes.2 (past_after old.rules past request) shows goes.5)
 
 pub input_is_text : InputIsText
-input_is_text old new history input text shows h =
-    let on : GoesOn new (reverse history) = lines_go (slice_split is_line_feed input) old new text (reverse history) shows h in (
-      lines_written (slice_split is_line_feed input) old new text h ∙ text_is_shown old (reverse history) input shows,
-      (reverse on.longer, subst (λ (xs : List Command). IsFront xs (reverse on.longer)) (reverse-reverse history) on.front, subst (ShowsPast new) (sym (reverse-reverse on.longer)) on.shows),
-    )
+input_is_text old new history input text shows h = (
+  lines_written (slice_split is_line_feed input) old new text h ∙ text_is_shown old (reverse history) input shows,
+  subst (ShowsPast new) (sym (reverse-reverse (state_after (next_past old.rules) (reverse history) (slice_split is_line_feed input)))) (lines_shown (slice_split is_line_feed input) old new text (reverse history) shows h),
+)
 
 -- ---- sessions
 -- the text of whole lines is a front of the text of these and more
@@ -109,11 +110,37 @@ lines_front rules history done rest whole = ⊎_elim
 
 pub session_is_text : SessionIsText
 session_is_text budget before after old new history (Ok done) shows s =
-    (s.taken, s.read, s.ended, subst (Appends before.contents after.contents) (input_is_text old new history s.taken s.text shows s.answers).0 s.written)
-session_is_text budget before after old new history (Err fault) shows s =
-    let text : IsFront s.sent (lines_text old.rules history s.done) = subst (IsFront s.sent) (input_is_text old new history s.done s.text shows s.answers).0 s.front in
+    let is = input_is_text old new history s.taken s.text shows s.answers in
+    record {
+      input = s.taken;
+      read = s.read;
+      ended = ⊎_elim (λ end. end) (λ ended. absurd (never ended)) s.ended;
+      within = s.within;
+      written = subst (Appends before.contents after.contents) is.0 s.written;
+      shows = is.1;
+    }
+session_is_text budget before after old new history (Err fault) shows (inl never) = inl (never.0, never.1, subst (λ (v : AuctionValue). Shows v history) (sym never.2) shows)
+session_is_text budget before after old new history (Err fault) shows (inr s) =
+    let is = input_is_text old new history s.done s.text shows s.answers in
+    let text : s.text ≡ lines_text old.rules history s.done = is.0 in
+    let so_far : s.text ≡ s.sent ++ s.front.0 = s.front.1 in
     let all : IsFront (lines_text old.rules history s.done) (lines_text old.rules history (s.done ++ s.rest)) = ⊎_elim
     (λ whole. lines_front old.rules history s.done s.rest whole)
     (λ end. ([], ap (lines_text old.rules history) (ap (λ xs. s.done ++ xs) end.0 ∙ append-nil s.done) ∙ sym (append-nil (lines_text old.rules history s.done))))
     s.whole in
-    (s.taken, s.sent, s.read, s.written, subst (λ (xs : List ℕ). IsFront s.sent (lines_text old.rules history xs)) (sym s.parts) (front_trans s.sent (lines_text old.rules history s.done) (lines_text old.rules history (s.done ++ s.rest)) text all))
+    inr (record {
+      taken = s.taken;
+      done = s.done;
+      rest = s.rest;
+      sent = s.sent;
+      read = s.read;
+      within = s.within;
+      parts = s.parts;
+      whole = s.whole;
+      written = s.written;
+      so_far = (s.front.0, sym text ∙ so_far);
+      left = s.left;
+      no_line = s.no_line;
+      front = subst (λ (xs : List ℕ). IsFront s.sent (lines_text old.rules history xs)) (sym s.parts) (front_trans s.sent (lines_text old.rules history s.done) (lines_text old.rules history (s.done ++ s.rest)) (s.front.0, sym text ∙ so_far) all);
+      shows = is.1;
+    })

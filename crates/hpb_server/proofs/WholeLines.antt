@@ -1,7 +1,7 @@
 -- Whole lines, and what a desk answers to them and to what comes after them.
-use Rattle.std.proofs.Common.{ℕ, Bool, true, false, cond, eqb, List, [], ◌∷◌, ◌++◌, length, take, Option, refl, sym, ap, ◌∙◌, subst, append_assoc, append-nil, ⊎_elim, inl, inr}
+use Rattle.std.proofs.Common.{◌≡◌, ℕ, Bool, true, false, ◌||◌, eqb, List, [], ◌∷◌, ◌++◌, length, take, Option, refl, sym, ap, ◌∙◌, subst, append_assoc, append-nil, ⊎_elim, inl, inr}
 use Rattle.std.specs.Prelude.{Result, if◌then◌else◌}
-use Rattle.std.specs.List.{slice_split, onto_first}
+use Rattle.std.specs.List.{slice_split}
 use Rattle.std.proofs.lemmas.List.Splits.{slice_split_at, slice_split_none}
 use Rattle.hpb_rules.specs.declared.refusal.Refusal.{Refusal}
 use Rattle.hpb_rules.specs.declared.command.Command.{Command}
@@ -31,46 +31,68 @@ whole_append a b p q = ⊎_elim
     (λ some. inr (a ++ some.0, ap (λ ys. a ++ ys) some.1 ∙ sym (append_assoc a some.0 (LINE_FEED ∷ []))))
     q
 
+or_true : (b : Bool) → (b || true) ≡ true
+or_true true = refl
+or_true false = refl
+
+pub or_false : (b : Bool) → (b || false) ≡ b
+or_false true = refl
+or_false false = refl
+
 -- ---- answers
-module _ {Desk : Type 0} (rules : Desk → Rules) (asks : Desk → Command → Reply → Desk → Type 0) (looks : Desk → Option AuctionValue → Desk → Type 0) where
-  before_parts : (a b end : Desk) (line answer rest : List ℕ) (parts : List (List ℕ)) → IsFilled parts → AnswersLine rules asks looks a line answer b
-      → AnswersLines rules asks looks b parts rest end → AnswersLines rules asks looks a (line ∷ parts) (line_of answer ++ rest) end
-  before_parts a b end line answer rest parts (filled piece pieces) h k = (answer, rest, b, h, k, refl)
+module _ {Desk : Type 0} (rules : Desk → Rules) (over : Desk → Bool) (asks : Desk → Command → Reply → Desk → Type 0) (looks : Desk → Option AuctionValue → Desk → Type 0) where
+  before_parts : (a b end : Desk) (line answer rest : List ℕ) (parts : List (List ℕ)) → IsFilled parts → AnswersLine rules over asks looks a line answer b
+      → over a ≡ false → AnswersLines rules over asks looks b parts rest end → AnswersLines rules over asks looks a (line ∷ parts) (line_of answer ++ rest) end
+  before_parts a b end line answer rest parts (filled piece pieces) h goes k = inr (goes, answer, rest, b, h, k, refl)
+
+  -- nothing is answered once the session is over
+  over_lines : (d : Desk) (lines : List (List ℕ)) → over d ≡ true → AnswersLines rules over asks looks d lines [] d
+  over_lines d [] is = (refl, refl)
+  over_lines d (last ∷ []) is = (refl, ap (λ b. if b then [] else unfinished_text) (sym (ap (λ b. eqb (length last) 0 || b) is ∙ or_true (eqb (length last) 0))))
+  over_lines d (line ∷ following ∷ more) is = inl (is, refl, refl)
+
+  pub over_answered : (d : Desk) (input : List ℕ) → over d ≡ true → AnswersInput rules over asks looks d input [] d
+  over_answered d input is = over_lines d (slice_split is_line_feed input) is
 
   -- a line is answered by its first bytes
-  pub front_answered : (a b : Desk) (bytes answer : List ℕ) → AnswersRequest rules asks looks a (request_of (rules a) (take KEPT_BYTES bytes)) answer b → AnswersLine rules asks looks a bytes answer b
-  front_answered a b bytes answer h = subst (λ (request : Result Request Refusal). AnswersRequest rules asks looks a request answer b) (request_of_front (rules a) bytes) h
+  pub front_answered : (a b : Desk) (bytes answer : List ℕ) → AnswersRequest rules over asks looks a (request_of (rules a) (take KEPT_BYTES bytes)) answer b → AnswersLine rules over asks looks a bytes answer b
+  front_answered a b bytes answer h = subst (λ (request : Result Request Refusal). AnswersRequest rules over asks looks a request answer b) (request_of_front (rules a) bytes) h
 
-module _ {Desk : Type 0} {rules : Desk → Rules} {asks : Desk → Command → Reply → Desk → Type 0} {looks : Desk → Option AuctionValue → Desk → Type 0} where
-  pub leads_none : (d : Desk) → Leads rules asks looks d [] [] d
+module _ {Desk : Type 0} {rules : Desk → Rules} {over : Desk → Bool} {asks : Desk → Command → Reply → Desk → Type 0} {looks : Desk → Option AuctionValue → Desk → Type 0} where
+  pub leads_none : (d : Desk) → Leads rules over asks looks d [] [] d
   leads_none d = record { whole = none_whole; goes_on = λ more rest end h. h }
 
-  pub leads_append : {a b e : Desk} {done text more rest : List ℕ} → Leads rules asks looks a done text b → Leads rules asks looks b more rest e → Leads rules asks looks a (done ++ more) (text ++ rest) e
+  pub leads_append : {a b e : Desk} {done text more rest : List ℕ} → Leads rules over asks looks a done text b → Leads rules over asks looks b more rest e → Leads rules over asks looks a (done ++ more) (text ++ rest) e
   leads_append {a = a} {b = b} {e = e} {done = done} {text = text} {more = more} {rest = rest} p q = record {
     whole = whole_append done more p.whole q.whole;
     goes_on = λ xs ys end h.
-        subst (λ (input : List ℕ). AnswersInput rules asks looks a input ((text ++ rest) ++ ys) end) (sym (append_assoc done more xs))
-        (subst (λ (out : List ℕ). AnswersInput rules asks looks a (done ++ (more ++ xs)) out end) (sym (append_assoc text rest ys))
+        subst (λ (input : List ℕ). AnswersInput rules over asks looks a input ((text ++ rest) ++ ys) end) (sym (append_assoc done more xs))
+        (subst (λ (out : List ℕ). AnswersInput rules over asks looks a (done ++ (more ++ xs)) out end) (sym (append_assoc text rest ys))
         (p.goes_on (more ++ xs) (rest ++ ys) end (q.goes_on xs ys end h)));
   }
 
-  pub leads_line : (a b : Desk) (line answer : List ℕ) → HasNoEnd line → AnswersLine rules asks looks a line answer b → Leads rules asks looks a (line ++ LINE_FEED ∷ []) (line_of answer) b
-  leads_line a b line answer no_end h = record {
+  pub leads_line : (a b : Desk) (line answer : List ℕ) → HasNoEnd line → over a ≡ false → AnswersLine rules over asks looks a line answer b → Leads rules over asks looks a (line ++ LINE_FEED ∷ []) (line_of answer) b
+  leads_line a b line answer no_end goes h = record {
     whole = line_whole line;
     goes_on = λ more rest end k.
-        subst (λ (lines : List (List ℕ)). AnswersLines rules asks looks a lines (line_of answer ++ rest) end)
+        subst (λ (lines : List (List ℕ)). AnswersLines rules over asks looks a lines (line_of answer ++ rest) end)
         (sym (ap (slice_split is_line_feed) (append_assoc line (LINE_FEED ∷ []) more) ∙ slice_split_at is_line_feed line LINE_FEED more no_end refl))
-        (before_parts rules asks looks a b end line answer rest (slice_split is_line_feed more) (split_filled is_line_feed more) h k);
+        (before_parts rules over asks looks a b end line answer rest (slice_split is_line_feed more) (split_filled is_line_feed more) h goes k);
   }
 
-  module _ {a b : Desk} {done text : List ℕ} (p : Leads rules asks looks a done text b) where
+  module _ {a b : Desk} {done text : List ℕ} (p : Leads rules over asks looks a done text b) where
     -- the text of whole lines
-    pub lines_answered : AnswersInput rules asks looks a done text b
+    pub lines_answered : AnswersInput rules over asks looks a done text b
     lines_answered =
-        subst (λ (input : List ℕ). AnswersInput rules asks looks a input text b) (append-nil done)
-        (subst (λ (out : List ℕ). AnswersInput rules asks looks a (done ++ []) out b) (append-nil text) (p.goes_on [] [] b (refl, refl)))
+        subst (λ (input : List ℕ). AnswersInput rules over asks looks a input text b) (append-nil done)
+        (subst (λ (out : List ℕ). AnswersInput rules over asks looks a (done ++ []) out b) (append-nil text) (p.goes_on [] [] b (refl, refl)))
 
     -- the text of whole lines and of a last one without its end
-    pub last_answered : (last : List ℕ) → HasNoEnd last → AnswersInput rules asks looks a (done ++ last) (text ++ (if eqb (length last) 0 then [] else unfinished_text)) b
-    last_answered last no_end = p.goes_on last (if eqb (length last) 0 then [] else unfinished_text) b
-        (subst (λ (lines : List (List ℕ)). AnswersLines rules asks looks b lines (if eqb (length last) 0 then [] else unfinished_text) b) (sym (slice_split_none is_line_feed last no_end)) (refl, refl))
+    pub last_answered : (last : List ℕ) → HasNoEnd last → over b ≡ false → AnswersInput rules over asks looks a (done ++ last) (text ++ (if eqb (length last) 0 then [] else unfinished_text)) b
+    last_answered last no_end goes = p.goes_on last (if eqb (length last) 0 then [] else unfinished_text) b
+        (subst (λ (lines : List (List ℕ)). AnswersLines rules over asks looks b lines (if eqb (length last) 0 then [] else unfinished_text) b) (sym (slice_split_none is_line_feed last no_end))
+        (refl, ap (λ (x : Bool). if x then [] else unfinished_text) (sym (ap (λ (x : Bool). eqb (length last) 0 || x) goes ∙ or_false (eqb (length last) 0)))))
+
+    -- the text of whole lines, where the session is over after them, whatever comes then
+    pub rest_answered : (rest : List ℕ) → over b ≡ true → AnswersInput rules over asks looks a (done ++ rest) text b
+    rest_answered rest is = subst (λ (out : List ℕ). AnswersInput rules over asks looks a (done ++ rest) out b) (append-nil text) (p.goes_on rest [] b (over_answered rules over asks looks b rest is))

@@ -1,5 +1,5 @@
 -- What a look at a desk gives, and the desk of an auction in memory.
-use Rattle.std.specs.Prelude.{◌≡◌, Option, Some, None}
+use Rattle.std.specs.Prelude.{◌≡◌, Bool, false, Option, Some, None}
 use Rattle.std.specs.Borrow.{Bor}
 use Rattle.hpb_rules.specs.declared.command.Command.{Command}
 use Rattle.hpb_rules.specs.declared.reply.Reply.{Reply}
@@ -15,6 +15,10 @@ seen (Some auction) = Some auction.now
 -- The rules of an auction in memory.
 abbrev pub rules_in : AuctionValue → Rules
 rules_in value = value.rules
+
+-- It never ends a session.
+abbrev pub never_over : AuctionValue → Bool
+never_over value = false
 
 -- An auction in memory replies by what it shows, and becomes what follows from that.
 abbrev pub RepliesIn : AuctionValue → Command → Reply → AuctionValue → Type 0

@@ -4,6 +4,8 @@ pub mod Reading
 pub mod Input
 pub mod Writing
 pub mod Desk
+pub mod DeskLaws
+pub mod AuctionDesk
 pub mod Serving
 pub mod Session
 pub mod Script

@@ -1,5 +1,7 @@
 -- What the program does with its streams, and its status.
-use Rattle.std.specs.Prelude.{◌≡◌, ℕ, Result, Ok, Err, ◌⊎◌}
+use Rattle.std.specs.Prelude.{◌≡◌, ℕ, List, Option, Result, Ok, Err, ◌⊎◌, string_bytes}
+use Rattle.std.specs.Io.KnownBytes.{Appends, Keeps}
+use Rattle.hpb_rules.specs.Fronts.{IsFront}
 use Rattle.hpb_server.specs.declared.fault.Fault.{Fault}
 use Rattle.hpb_server.specs.declared.script.ScriptEnd.{ScriptEnd}
 use Rattle.hpb_server.specs.declared.script.ScriptEnd.TheVariants as ends
@@ -31,11 +33,20 @@ HasStatus (Refused text status) = (status ≡ WELL) ⊎ (status ≡ WRONG_ARGUME
 abbrev pub RunsJob : Job → (before after : Streams) → ℕ → Type 0
 RunsJob Script before after status = (end : Result ScriptEnd Fault) × RunsScript before after end × (status ≡ status_of_script end)
 
--- What is done by what arguments ask for: their job, or nothing.
-abbrev pub RunsAsked : Result Job ArgumentsFault → (before after : Streams) → ℕ → Type 0
-RunsAsked (Ok job) before after status = RunsJob job before after status
-RunsAsked (Err fault) before after status = AreKept before after × HasStatus fault × (status ≡ status_of_arguments fault)
+-- A text was written, or a front of it.
+abbrev pub Says : (errors_old errors_new : Option (List ℕ)) → List ℕ → Type 0
+Says errors_old errors_new text = (sent : List ℕ) × Appends errors_old errors_new sent × IsFront sent text
+
+-- What is said of arguments that ask for no job.
+abbrev pub SaysFault : (errors_old errors_new : Option (List ℕ)) → ArgumentsFault → Type 0
+SaysFault errors_old errors_new Memory = Keeps errors_old errors_new
+SaysFault errors_old errors_new (Refused text status) = Says errors_old errors_new (string_bytes text)
+
+-- What is done by what arguments ask for: their job, of which the errors are told nothing; or nothing, and the errors are told why.
+abbrev pub RunsAsked : Result Job ArgumentsFault → (before after : Streams) (errors_old errors_new : Option (List ℕ)) → ℕ → Type 0
+RunsAsked (Ok job) before after errors_old errors_new status = RunsJob job before after status × Keeps errors_old errors_new
+RunsAsked (Err fault) before after errors_old errors_new status = AreKept before after × SaysFault errors_old errors_new fault × HasStatus fault × (status ≡ status_of_arguments fault)
 
 -- What some arguments ask for is done.
-abbrev pub RunsProgram : (before after : Streams) → ℕ → Type 0
-RunsProgram before after status = (asked : Result Job ArgumentsFault) × RunsAsked asked before after status
+abbrev pub RunsProgram : (before after : Streams) (errors_old errors_new : Option (List ℕ)) → ℕ → Type 0
+RunsProgram before after errors_old errors_new status = (asked : Result Job ArgumentsFault) × RunsAsked asked before after errors_old errors_new status

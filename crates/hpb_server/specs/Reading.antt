@@ -1,10 +1,11 @@
 -- What is taken of a reader.
-use Rattle.std.specs.Prelude.{◌≡◌, ℕ, ◌+◌, ◌<◌, ◌≤◌, Bool, true, false, List, [], ◌∷◌, ◌++◌, length, take, slice_index, Option, Some, None, Result, Ok, Err, ◌⊎◌}
+use Rattle.std.specs.Prelude.{◌≡◌, ◌≢◌, ℕ, ◌+◌, ◌<◌, ◌≤◌, Bool, true, false, List, [], ◌∷◌, ◌++◌, length, take, slice_index, Option, Some, None, Result, Ok, Err, ◌⊎◌}
 use Rattle.std.specs.List.{All}
 use Rattle.std.specs.Io.KnownBytes.{Consumes, IsAtEnd}
 use Rattle.hpb_rules.specs.declared.limits.TheConstants.{MOST_DEFINITION_BYTES}
 use Rattle.hpb_rules.specs.Lines.{is_line_feed}
 use Rattle.hpb_server.specs.declared.fault.Fault.{Fault}
+use Rattle.hpb_server.specs.declared.fault.Fault.TheVariants.{Reader, Writer}
 use Rattle.hpb_server.specs.declared.input.TheConstants.{LINE_FEED, KEPT_DEFINITION_BYTES}
 use Rattle.hpb_server.specs.declared.input.DefinitionText.{DefinitionText}
 
@@ -30,11 +31,15 @@ most_taken budget = budget + 1
 abbrev pub ReadsWithin : (old new : Option (List ℕ)) (budget : ℕ) → Type 0
 ReadsWithin old new budget = (bytes : List ℕ) × Consumes old new bytes × (length bytes ≤ most_taken budget)
 
--- More was read, or the reader has ended, or some bytes were read in vain.
+-- Nothing was read, or one byte where none may be read any more.
+abbrev pub ReadsInVain : (old new : Option (List ℕ)) (budget : ℕ) → Type 0
+ReadsInVain old new budget = (bytes : List ℕ) × Consumes old new bytes × ((bytes ≡ []) ⊎ ((budget ≡ 0) × (length bytes ≡ 1)))
+
+-- More was read, or the reader has ended, or it is told to have failed.
 abbrev pub Fills : (old new : Option (List ℕ)) (before after : Pending) → Result Bool Fault → Type 0
 Fills old new before after (Ok true) = Consumes old new after.unread × (0 < length after.unread) × (after.budget + length after.unread ≡ before.budget)
 Fills old new before after (Ok false) = Consumes old new [] × IsAtEnd new × (after ≡ before)
-Fills old new before after (Err fault) = ReadsWithin old new before.budget
+Fills old new before after (Err fault) = (fault ≡ Reader) × ReadsInVain old new before.budget
 
 -- What was unread was added up to the end of a line, and of all that was added so much is kept.
 pub record TakesToEnd (most : ℕ) (before after : Pending) (old new : List ℕ) : Type 0 where
@@ -64,6 +69,10 @@ TakesWithin old new before after bytes = Consumes old new bytes × (length bytes
 abbrev pub EndsDefinition : (old new : Option (List ℕ)) (budget : ℕ) (after : Pending) (bytes : List ℕ) → Bool → Type 0
 EndsDefinition old new budget after bytes true = TakesWithin old new budget after.budget (bytes ++ LINE_FEED ∷ after.unread)
 EndsDefinition old new budget after bytes false = TakesWithin old new budget after.budget bytes × ((MOST_DEFINITION_BYTES < length bytes) ⊎ IsAtEnd new)
+
+-- Some bytes were read, and no writer is told to have failed.
+abbrev pub StopsReading : (old new : Option (List ℕ)) (budget : ℕ) → Fault → Type 0
+StopsReading old new budget fault = (fault ≢ Writer) × ReadsWithin old new budget
 
 -- The first line was read, and so much of it is kept.
 pub record GivesDefinition (old new : Option (List ℕ)) (budget : ℕ) (after : Pending) (text : DefinitionText) : Type 0 where

@@ -13,11 +13,14 @@ use Rattle.hpb_define.specs.declared.fault.DefineFault.TheVariants.{Memory}
 use Rattle.hpb_define.specs.Fault.{refusal_of}
 use Rattle.hpb_define.specs.Text.{Answers}
 use Rattle.hpb_server.specs.declared.fault.Fault.{Fault}
+use Rattle.hpb_server.specs.declared.fault.Fault.TheVariants as faults
+use Rattle.hpb_server.specs.declared.fault.Fault.TheVariants.{Reader}
+use Rattle.hpb_server.specs.Fault.{IsLeft}
 use Rattle.hpb_server.specs.declared.input.TheConstants.{LINE_FEED}
 use Rattle.hpb_server.specs.declared.script.ScriptEnd.{ScriptEnd}
 use Rattle.hpb_server.specs.declared.script.ScriptEnd.TheVariants.{Answered, Refused}
-use Rattle.hpb_server.specs.Desk.{rules_in, RepliesIn, ShowsItself}
-use Rattle.hpb_server.specs.Reading.{Pending, most_taken, ReadsWithin}
+use Rattle.hpb_server.specs.Desk.{rules_in, never_over, RepliesIn, ShowsItself}
+use Rattle.hpb_server.specs.Reading.{HasNoEnd, Pending, most_taken, ReadsWithin}
 use Rattle.hpb_server.specs.Streams.{Streams}
 use Rattle.hpb_server.specs.Serving.{AreLines, Serves}
 
@@ -65,8 +68,8 @@ module _ (before after : Streams) where
     pub written : Appends before.contents after.contents sent
     pub front : IsFront sent (line_of (refusal_text refusal))
 
-  -- The first line is a definition. Whole lines of what was read were answered, or all that the reader had, and a front of their text was written. It is a front of the text of all that was read, too.
-  pub record AnswersScriptFront : Type 0 where
+  -- The first line is a definition. Whole lines of what was read were answered, or all that the reader had, and a front of their text was written, as much as the fault leaves. It is a front of the text of all that was read, too. Where the reader failed, no line was left unanswered.
+  pub record AnswersScriptFront (fault : Fault) : Type 0 where
     pub taken : List ℕ
     pub answered : List ℕ
     pub rest : List ℕ
@@ -83,6 +86,8 @@ module _ (before after : Streams) where
     pub accepted : is_text.reading ≡ Ok rules
     pub written : Appends before.contents after.contents sent
     pub front_so_far : IsFront sent so_far
+    pub left : IsLeft fault front_so_far.0
+    pub no_line : fault ≡ Reader → length taken ≤ MOST_READ_BYTES → HasNoEnd rest
     pub front : IsFront sent text
 
   -- Nothing was written.
@@ -93,21 +98,25 @@ module _ (before after : Streams) where
   abbrev pub RunsScript : Result ScriptEnd Fault → Type 0
   RunsScript (Ok Answered) = AnswersScript
   RunsScript (Ok (Refused refusal)) = RefusesScript refusal × Appends before.contents after.contents (line_of (refusal_text refusal))
-  RunsScript (Err fault) = WritesNothing ⊎ (RefusesFront ⊎ AnswersScriptFront)
+  RunsScript (Err faults.Memory) = WritesNothing ⊎ AnswersScriptFront faults.Memory
+  RunsScript (Err faults.Reader) = WritesNothing ⊎ AnswersScriptFront faults.Reader
+  RunsScript (Err faults.Writer) = RefusesFront ⊎ AnswersScriptFront faults.Writer
 
   -- The lines of a script are answered from this value on.
   abbrev pub ServesScript : Pending → AuctionValue → Result ⊤ Fault → Type 0
-  ServesScript input value result = (new : AuctionValue) × Serves rules_in RepliesIn ShowsItself input.unread input.budget before after value new result
+  ServesScript input value result = (new : AuctionValue) × Serves rules_in never_over RepliesIn ShowsItself input.unread input.budget before after value new result
 
--- The line of a refusal was written, or a front of it.
+-- The line of a refusal was written; or nothing where memory was refused, or a front of it where the writer failed.
 abbrev pub WritesRefusal : (writer_old writer_new : Option (List ℕ)) (refusal : Refusal) → Result ScriptEnd Fault → Type 0
 WritesRefusal writer_old writer_new refusal (Ok Answered) = ⊥
 WritesRefusal writer_old writer_new refusal (Ok (Refused told)) = (told ≡ refusal) × Appends writer_old writer_new (line_of (refusal_text refusal))
-WritesRefusal writer_old writer_new refusal (Err fault) = (sent : List ℕ) × Appends writer_old writer_new sent × IsFront sent (line_of (refusal_text refusal))
+WritesRefusal writer_old writer_new refusal (Err fault) =
+    ((fault ≡ faults.Memory) × Appends writer_old writer_new []) ⊎ ((fault ≡ faults.Writer) × (sent : List ℕ) × Appends writer_old writer_new sent × IsFront sent (line_of (refusal_text refusal)))
 
--- The same by the fault of a definition; nothing was written where memory was refused.
+-- The same by the fault of a definition, which is told by no line where memory was refused.
 abbrev pub Refuses : (writer_old writer_new : Option (List ℕ)) → DefineFault → Result ScriptEnd Fault → Type 0
 Refuses writer_old writer_new fault (Ok Answered) = ⊥
 Refuses writer_old writer_new fault (Ok (Refused refusal)) = IsTold fault refusal × Appends writer_old writer_new (line_of (refusal_text refusal))
 Refuses writer_old writer_new fault (Err broken) =
-    Appends writer_old writer_new [] ⊎ ((refusal : Refusal) × (sent : List ℕ) × IsTold fault refusal × Appends writer_old writer_new sent × IsFront sent (line_of (refusal_text refusal)))
+    ((broken ≡ faults.Memory) × Appends writer_old writer_new [])
+    ⊎ ((broken ≡ faults.Writer) × (refusal : Refusal) × (sent : List ℕ) × IsTold fault refusal × Appends writer_old writer_new sent × IsFront sent (line_of (refusal_text refusal)))

@@ -1,31 +1,60 @@
 -- The laws of the auction in memory: what it answers is the text by its history.
-use Rattle.std.specs.Prelude.{◌≡◌, ℕ, List, [], Result, Ok, Err, ⊤}
+use Rattle.std.specs.Prelude.{◌≡◌, ℕ, ◌≤◌, ◌⊎◌, List, [], ◌++◌, length, Result, Ok, Err, ⊤}
 use Rattle.std.specs.Io.KnownBytes.{Appends, Consumes, IsAtEnd}
 use Rattle.hpb_rules.specs.declared.command.Command.{Command}
 use Rattle.hpb_rules.specs.Tree.{Rules}
 use Rattle.hpb_rules.specs.Fronts.{IsFront}
 use Rattle.hpb_rules.specs.AuctionValue.{AuctionValue, Shows}
-use Rattle.hpb_rules.specs.Text.{lines_text}
+use Rattle.hpb_rules.specs.Text.{lines_text, history_after_lines}
 use Rattle.hpb_server.specs.declared.fault.Fault.{Fault}
-use Rattle.hpb_server.specs.Desk.{rules_in, RepliesIn, ShowsItself}
-use Rattle.hpb_server.specs.Streams.{Streams}
-use Rattle.hpb_server.specs.Serving.{AnswersInput, Serves}
+use Rattle.hpb_server.specs.declared.fault.Fault.TheVariants.{Memory, Reader}
+use Rattle.hpb_server.specs.Fault.{IsLeft}
+use Rattle.hpb_server.specs.Reading.{most_taken, HasNoEnd}
+use Rattle.hpb_server.specs.Desk.{rules_in, never_over, RepliesIn, ShowsItself}
+use Rattle.hpb_server.specs.Streams.{Streams, AreKept}
+use Rattle.hpb_server.specs.Serving.{AreLines, AnswersInput, Serves}
 
--- An auction in memory that shows a history answers an input by the text of lines after this history, and shows a history that goes on from it.
+-- An auction in memory that shows a history answers an input by the text of lines after this history, and then shows the history that the input leads to.
 abbrev pub InputIsText : Type 0
 InputIsText = (old new : AuctionValue) (history : List Command) (input text : List ℕ)
-    → Shows old history → AnswersInput rules_in RepliesIn ShowsItself old input text new
-    → (text ≡ lines_text old.rules history input) × ((longer : List Command) × IsFront history longer × Shows new longer)
+    → Shows old history → AnswersInput rules_in never_over RepliesIn ShowsItself old input text new
+    → (text ≡ lines_text old.rules history input) × Shows new (history_after_lines old.rules history input)
 
--- All was read, to the end, and its text after a history was written; at a fault a front of the text of what was read.
-abbrev pub WritesText : (rules : Rules) (history : List Command) (before after : Streams) → Result ⊤ Fault → Type 0
-WritesText rules history before after (Ok done) =
-    (input : List ℕ) × Consumes before.remaining after.remaining input × IsAtEnd after.remaining × Appends before.contents after.contents (lines_text rules history input)
-WritesText rules history before after (Err fault) =
-    (taken sent : List ℕ) × Consumes before.remaining after.remaining taken × Appends before.contents after.contents sent × IsFront sent (lines_text rules history taken)
+module _ (rules : Rules) (history : List Command) (budget : ℕ) (before after : Streams) (new : AuctionValue) where
+  -- All was read, to the end of the reader, and its text after a history was written; the auction shows the history that it leads to.
+  pub record WritesText : Type 0 where
+    pub input : List ℕ
+    pub read : Consumes before.remaining after.remaining input
+    pub ended : IsAtEnd after.remaining
+    pub within : length input ≤ budget
+    pub written : Appends before.contents after.contents (lines_text rules history input)
+    pub shows : Shows new (history_after_lines rules history input)
+
+  -- Of whole lines of what was read, or of all that the reader had, a front of the text was written, as much as the fault leaves, and the auction shows the history that they lead to.
+  -- It is a front of the text of all that was read, too. Where the reader failed, no line was left unanswered.
+  pub record WritesFront (fault : Fault) : Type 0 where
+    pub taken : List ℕ
+    pub done : List ℕ
+    pub rest : List ℕ
+    pub sent : List ℕ
+    pub read : Consumes before.remaining after.remaining taken
+    pub within : length taken ≤ most_taken budget
+    pub parts : taken ≡ done ++ rest
+    pub whole : AreLines done ⊎ ((rest ≡ []) × IsAtEnd after.remaining)
+    pub written : Appends before.contents after.contents sent
+    pub so_far : IsFront sent (lines_text rules history done)
+    pub left : IsLeft fault so_far.0
+    pub no_line : fault ≡ Reader → length taken ≤ budget → HasNoEnd rest
+    pub front : IsFront sent (lines_text rules history taken)
+    pub shows : Shows new (history_after_lines rules history done)
+
+  -- What a session with an auction in memory writes that showed a history, and what the auction shows then. Memory may be refused at the start.
+  abbrev pub ServesText : Result ⊤ Fault → Type 0
+  ServesText (Ok done) = WritesText
+  ServesText (Err fault) = ((fault ≡ Memory) × AreKept before after × Shows new history) ⊎ WritesFront fault
 
 -- A session with an auction in memory writes the text by each history that the auction shows.
 abbrev pub SessionIsText : Type 0
 SessionIsText = (budget : ℕ) (before after : Streams) (old new : AuctionValue) (history : List Command) (result : Result ⊤ Fault)
-    → Shows old history → Serves rules_in RepliesIn ShowsItself [] budget before after old new result
-    → WritesText old.rules history before after result
+    → Shows old history → Serves rules_in never_over RepliesIn ShowsItself [] budget before after old new result
+    → ServesText old.rules history budget before after new result

@@ -1,5 +1,5 @@
 -- What a session reads and writes, by what its desk is asked and how it is left.
-use Rattle.std.specs.Prelude.{◌≡◌, ℕ, ◌≤◌, ◌==◌, List, [], ◌∷◌, ◌++◌, length, Option, Some, None, Result, Ok, Err, if◌then◌else◌, ⊤, ◌⊎◌}
+use Rattle.std.specs.Prelude.{◌≡◌, ℕ, ◌≤◌, Bool, true, false, ◌||◌, ◌==◌, List, [], ◌∷◌, ◌++◌, length, Option, Some, None, Result, Ok, Err, if◌then◌else◌, ⊤, ◌⊎◌}
 use Rattle.std.specs.List.{slice_split}
 use Rattle.std.specs.Io.KnownBytes.{Appends, Consumes, IsAtEnd}
 use Rattle.hpb_rules.specs.declared.refusal.Refusal.{Refusal}
@@ -15,8 +15,10 @@ use Rattle.hpb_rules.specs.Rendering.{refusal_text, reply_text}
 use Rattle.hpb_rules.specs.Text.{line_of, unfinished_text}
 use Rattle.hpb_rules.specs.ValueText.{shown_in, node_shown_in, bidder_shown_in}
 use Rattle.hpb_server.specs.declared.fault.Fault.{Fault}
-use Rattle.hpb_server.specs.Reading.{most_taken}
-use Rattle.hpb_server.specs.Streams.{Streams}
+use Rattle.hpb_server.specs.declared.fault.Fault.TheVariants.{Memory, Reader}
+use Rattle.hpb_server.specs.Fault.{IsLeft}
+use Rattle.hpb_server.specs.Reading.{most_taken, HasNoEnd}
+use Rattle.hpb_server.specs.Streams.{Streams, AreKept}
 use Rattle.hpb_server.specs.declared.input.TheConstants.{LINE_FEED}
 use Rattle.hpb_rules.specs.declared.refusal.Refusal.TheVariants as refusals
 
@@ -34,7 +36,7 @@ abbrev pub AnswersLook : {Desk : Type 0} (looks : Desk → Option AuctionValue �
 AnswersLook looks how old answer new = (shown : Option AuctionValue) × looks old shown new × (answer ≡ shown_by how shown)
 
 -- A desk has rules that lines are read by; a command makes it reply and become another; a look shows what it has.
-module _ {Desk : Type 0} (rules : Desk → Rules) (asks : Desk → Command → Reply → Desk → Type 0) (looks : Desk → Option AuctionValue → Desk → Type 0) where
+module _ {Desk : Type 0} (rules : Desk → Rules) (over : Desk → Bool) (asks : Desk → Command → Reply → Desk → Type 0) (looks : Desk → Option AuctionValue → Desk → Type 0) where
   -- A request, or a line that is refused, gets this answer.
   abbrev pub AnswersRequest : Desk → Result Request Refusal → List ℕ → Desk → Type 0
   AnswersRequest old (Err refusal) answer new = (new ≡ old) × (answer ≡ refusal_text refusal)
@@ -47,30 +49,31 @@ module _ {Desk : Type 0} (rules : Desk → Rules) (asks : Desk → Command → R
   abbrev pub AnswersLine : Desk → List ℕ → List ℕ → Desk → Type 0
   AnswersLine old line answer new = AnswersRequest old (request_of (rules old) line) answer new
 
-  -- Each line gets its one answer, in order. What stands behind the last end of a line is refused, where it has a byte.
+  -- Each line gets its one answer, in order, and none once the session is over. What stands behind the last end of a line is refused, where it has a byte.
   abbrev pub AnswersLines : Desk → List (List ℕ) → List ℕ → Desk → Type 0
   AnswersLines old [] text new = (new ≡ old) × (text ≡ [])
-  AnswersLines old (last ∷ []) text new = (new ≡ old) × (text ≡ (if length last == 0 then [] else unfinished_text))
+  AnswersLines old (last ∷ []) text new = (new ≡ old) × (text ≡ (if (length last == 0) || over old then [] else unfinished_text))
   AnswersLines old (line ∷ following ∷ more) text new =
-      (answer rest : List ℕ) × (next : Desk) × AnswersLine old line answer next × AnswersLines next (following ∷ more) rest new × (text ≡ line_of answer ++ rest)
+      ((over old ≡ true) × (new ≡ old) × (text ≡ []))
+      ⊎ ((over old ≡ false) × (answer rest : List ℕ) × (next : Desk) × AnswersLine old line answer next × AnswersLines next (following ∷ more) rest new × (text ≡ line_of answer ++ rest))
 
   -- An input gets this text.
   abbrev pub AnswersInput : Desk → List ℕ → List ℕ → Desk → Type 0
   AnswersInput old input text new = AnswersLines old (slice_split is_line_feed input) text new
 
   module _ (unread : List ℕ) (budget : ℕ) (before after : Streams) (old new : Desk) where
-    -- All was read, to the end of the reader and within the budget, and answered.
+    -- All was read, to the end of the reader or of the session and within the budget, and answered.
     pub record AnswersAll : Type 0 where
       pub taken : List ℕ
       pub text : List ℕ
       pub read : Consumes before.remaining after.remaining taken
-      pub ended : IsAtEnd after.remaining
+      pub ended : IsAtEnd after.remaining ⊎ (over new ≡ true)
       pub within : length taken ≤ budget
       pub answers : AnswersInput old (unread ++ taken) text new
       pub written : Appends before.contents after.contents text
 
-    -- Whole lines of what was read were answered, or all that the reader had, and a front of the answers was written.
-    pub record AnswersFront : Type 0 where
+    -- Whole lines of what was read were answered, or all that the reader had, and a front of the answers was written, as much as the fault leaves. Where the reader failed, no line was left unanswered.
+    pub record AnswersFront (fault : Fault) : Type 0 where
       pub taken : List ℕ
       pub done : List ℕ
       pub rest : List ℕ
@@ -83,8 +86,14 @@ module _ {Desk : Type 0} (rules : Desk → Rules) (asks : Desk → Command → R
       pub answers : AnswersInput old done text new
       pub written : Appends before.contents after.contents sent
       pub front : IsFront sent text
+      pub left : IsLeft fault front.0
+      pub no_line : fault ≡ Reader → length taken ≤ budget → HasNoEnd rest
+
+    -- Nothing was read, asked or written, since memory was refused at the start.
+    abbrev pub NeverBegins : Fault → Type 0
+    NeverBegins fault = (fault ≡ Memory) × AreKept before after × (new ≡ old)
 
     -- What a session does with what is unread and all that comes after it.
     abbrev pub Serves : Result ⊤ Fault → Type 0
     Serves (Ok done) = AnswersAll
-    Serves (Err fault) = AnswersFront
+    Serves (Err fault) = NeverBegins fault ⊎ AnswersFront fault

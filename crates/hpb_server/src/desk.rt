@@ -9,15 +9,22 @@ use std::marker::Model;
 
 /// Whom a session asks. `ScriptDesk` is the auction of a script.
 pub trait Desk {
-    ghost use Rattle.std.specs.Prelude.{Option};
+    ghost use Rattle.std.specs.Prelude.{Bool, List, Option};
     ghost use Rattle.hpb_rules.specs.Tree.{Rules};
     ghost use Rattle.hpb_rules.specs.AuctionValue.{AuctionValue};
     ghost use Rattle.hpb_rules.specs.declared.command.Command.{Command as Asked};
     ghost use Rattle.hpb_rules.specs.declared.reply.Reply.{Reply as Answered};
     ghost use Rattle.hpb_server.specs.Desk.{seen};
+    ghost use Rattle.hpb_server.specs.DeskLaws.{RepliesAfter, ShowsAfter};
 
     /// What the definition says.
     ghost rules: { Self → Rules };
+
+    /// A desk may have told of this history.
+    ghost tells: { Self → List Asked → Type 0 };
+
+    /// The session is over: its desk is asked nothing more.
+    ghost over: { Self → Bool };
 
     /// A desk that is asked for a command may give this reply and be this desk afterwards.
     ghost asks: { Self → Asked → Answered → Self → Type 0 };
@@ -29,6 +36,10 @@ pub trait Desk {
     fn definition(&self) -> &Definition
         ensures { result.now ≡ rules self.now };
 
+    /// Whether the last reply was the last of the session: nothing more is read or answered.
+    fn is_over(&self) -> bool
+        ensures { result ≡ over self.now };
+
     /// Asks for a command, and gives what it is answered.
     fn ask(&mut self, command: &Command) -> Reply
         ensures asked { asks self.old command.now result self.new }
@@ -38,6 +49,13 @@ pub trait Desk {
     fn look(&mut self) -> Option<&Auction>
         ensures shown { IfSome result (λ a. a.now.rules ≡ rules self.old) }
         ensures* after { sem 𝓛 (Rests Self.row self.entry (λ new. looks self.old (seen result) new × (rules new ≡ rules self.old))) };
+
+    /// A reply is that of the rules after a history that goes on from what was told, or one by which the desk
+    /// tells of itself.
+    ghost replies_go_on: { (old new : Self) (command : Asked) (reply : Answered) (told : List Asked) → asks old command reply new → tells old told → RepliesAfter (rules old) told command reply (tells new) };
+
+    /// What is shown is the auction after a history that goes on from what was told.
+    ghost shows_go_on: { (old new : Self) (shown : Option AuctionValue) (told : List Asked) → looks old shown new → tells old told → ShowsAfter told shown (tells new) };
 }
 
 /// The desk of an auction in memory.
@@ -71,16 +89,30 @@ impl ScriptDesk {
 }
 
 impl Desk for ScriptDesk {
-    ghost use Rattle.hpb_server.specs.Desk.{rules_in, RepliesIn, ShowsItself};
+    ghost use Rattle.hpb_rules.specs.AuctionValue.{Shows};
+    ghost use Rattle.hpb_server.specs.AuctionDesk.{auction_replies, auction_shows};
+    ghost use Rattle.hpb_server.specs.Desk.{never_over, rules_in, RepliesIn, ShowsItself};
 
     ghost rules = { rules_in };
+
+    ghost tells = { Shows };
+
+    ghost over = { never_over };
 
     ghost asks = { RepliesIn };
 
     ghost looks = { ShowsItself };
 
+    ghost replies_go_on = { auction_replies };
+
+    ghost shows_go_on = { auction_shows };
+
     fn definition(&self) -> &Definition {
         self.auction.definition()
+    }
+
+    fn is_over(&self) -> bool {
+        false
     }
 
     fn ask(&mut self, command: &Command) -> Reply {

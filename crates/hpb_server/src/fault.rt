@@ -12,9 +12,12 @@ pub enum Fault {
     /// 90: memory was refused.
     #[error("memory")]
     Memory,
-    /// 92: the reader or the writer failed, or more was read than may be.
+    /// 92: the reader failed, or more was read than may be.
     #[error("stream")]
-    Stream,
+    Reader,
+    /// 92: the writer failed, or took nothing.
+    #[error("stream")]
+    Writer,
 }
 
 impl Fault {
@@ -24,7 +27,7 @@ impl Fault {
     {
         match self {
             Fault::Memory => Refusal::Memory,
-            Fault::Stream => Refusal::Stream,
+            Fault::Reader | Fault::Writer => Refusal::Stream,
         }
     }
 }

@@ -1,12 +1,15 @@
-ghost use Rattle.std.specs.Prelude.{◌≡◌, ◌<◌, ◌≤◌, [], ◌++◌, take, length, vec_len, IfOk, OnOk, OnErr};
+ghost use Rattle.std.specs.Prelude.{◌≡◌, ◌<◌, ◌≤◌, [], ◌++◌, take, length, vec_len, IfErr, IfOk, OnOk, OnErr};
 ghost use Rattle.std.specs.Io.{ReadsAtMost};
 ghost use Rattle.std.specs.Io.KnownBytes.{Consumes, IsAtEnd, Keeps};
-ghost use Rattle.hpb_server.specs.Reading.{Fills, FindsEnd, GivesDefinition, ReadsWithin, TakesPart};
+ghost use Rattle.hpb_server.specs.Fault.{IsFailure};
+ghost use Rattle.hpb_server.specs.Reading.{Fills, FindsEnd, GivesDefinition, ReadsWithin, StopsReading, TakesPart};
 
 use crate::fault::Fault;
 use crate::line::{KEPT_BYTES, Line};
+use crate::signal::is_interrupted;
 use hpb_rules::MOST_DEFINITION_BYTES;
 use std::alloc::{AllocError, Global};
+use std::io;
 use std::io::{ErrorKind, Read};
 use std::marker::Model;
 
@@ -68,12 +71,14 @@ impl Input {
     {
         // Where nothing more may be read, one byte shows whether there is more.
         let most = self.budget.clamp(1, CHUNK_BYTES as u64) as usize;
-        let count = read_some(reader, self.chunk.as_mut_slice(), most)?;
+        let Ok(count) = read_some(reader, self.chunk.as_mut_slice(), most) else {
+            return Err(Fault::Reader);
+        };
         if count == 0 {
             return Ok(false);
         }
         if count as u64 > self.budget {
-            return Err(Fault::Stream);
+            return Err(Fault::Reader);
         }
         self.budget -= count as u64;
         self.start = 0;
@@ -90,7 +95,7 @@ impl Input {
     ) -> Result<DefinitionText, Fault>
         requires { self.old.unread ≡ [] }
         ensures ok { IfOk result (GivesDefinition (R.remaining reader.old) (R.remaining reader.new) self.old.budget self.new) }
-        ensures err { OnErr result (ReadsWithin (R.remaining reader.old) (R.remaining reader.new) self.old.budget) }
+        ensures err { IfErr result (StopsReading (R.remaining reader.old) (R.remaining reader.new) self.old.budget) }
     {
         let mut bytes = Vec::new(alloc);
         'chunks: loop {
@@ -167,23 +172,24 @@ fn find_end(bytes: &[u8]) -> Option<usize>
 }
 
 /// One read of at most so many bytes into the front of a buffer, tried again where a signal came first.
-fn read_some<R: Read>(reader: &mut R, buffer: &mut [u8], most: usize) -> Result<usize, Fault>
+fn read_some<R: Read>(reader: &mut R, buffer: &mut [u8], most: usize) -> io::Result<usize>
     requires some { 0 < most }
     requires room { most ≤ length buffer.old }
     ensures bound { IfOk result (λ n. n ≤ most) }
     ensures bytes { IfOk result (λ n. Consumes (R.remaining reader.old) (R.remaining reader.new) (take n buffer.new)) }
     ensures end { IfOk result (λ n. n ≡ 0 → IsAtEnd (R.remaining reader.new)) }
     ensures kept { OnErr result (Keeps (R.remaining reader.old) (R.remaining reader.new)) }
+    ensures cause { IfErr result IsFailure }
 {
     'tries: for _ in 0..u64::MAX {
         match reader.read(&mut buffer[..most]) {
             Ok(count) => return Ok(count),
             Err(error) => {
-                if error.kind() != ErrorKind::Interrupted {
-                    return Err(Fault::Stream);
+                if !is_interrupted(&error) {
+                    return Err(error);
                 }
             }
         }
     }
-    Err(Fault::Stream)
+    Err(ErrorKind::TimedOut.into())
 }

@@ -11,14 +11,15 @@ mod output;
 mod running;
 mod script;
 mod serving;
+mod signal;
 mod status;
 
 pub use arguments::{ArgumentsFault, Job, read_arguments};
 pub use desk::{Desk, ScriptDesk};
 pub use fault::Fault;
 pub use laws::{input_is_text, session_is_text};
-pub use running::program;
-pub use script::{ScriptEnd, run_script};
+pub use running::{program, refuse_arguments};
+pub use script::{ScriptEnd, run_script, serve_auction};
 pub use serving::serve;
 
 #[cfg(test)]

@@ -1,10 +1,12 @@
-ghost use Rattle.std.specs.Prelude.{◌≡◌, [], IfOk};
+ghost use Rattle.std.specs.Prelude.{◌≡◌, ◌<◌, [], length, IfErr, IfOk};
 ghost use Rattle.std.specs.Io.KnownBytes.{Keeps};
 ghost use Rattle.hpb_rules.specs.Rendering.{refusal_text};
 ghost use Rattle.hpb_wire.specs.Responses.{Adds, text_of};
-ghost use Rattle.hpb_server.specs.Writing.{Sends, Writes};
+ghost use Rattle.hpb_server.specs.Fault.{IsFailure};
+ghost use Rattle.hpb_server.specs.Writing.{Puts, Sends, Writes};
 
 use crate::fault::Fault;
+use crate::signal::is_interrupted;
 use hpb_rules::{Refusal, Reply};
 use hpb_wire::{RESPONSE_BYTES, Response, ResponseText};
 use std::alloc::{AllocError, Global};
@@ -69,64 +71,69 @@ impl Output {
         }
         let sent = send_bytes(writer, self.waiting.as_bytes());
         self.waiting.clear();
-        sent
+        match sent {
+            Ok(()) => Ok(()),
+            Err(_) => Err(Fault::Writer),
+        }
     }
 }
 
+/// Writes bytes and has the writer hand them on.
 #[tactic(auto, using(crate::proofs::Writing::sent))]
-fn send_bytes<W: Write>(writer: &mut W, bytes: &[u8]) -> Result<(), Fault>
-    ensures { Sends (W.contents writer.old) (W.contents writer.new) bytes.now result }
+pub(crate) fn send_bytes<W: Write>(writer: &mut W, bytes: &[u8]) -> io::Result<()>
+    ensures bytes { Puts (W.contents writer.old) (W.contents writer.new) bytes.now result }
+    ensures cause { IfErr result IsFailure }
 {
     put(writer, bytes)?;
     flush(writer)
 }
 
-fn put<W: Write>(writer: &mut W, bytes: &[u8]) -> Result<(), Fault>
-    ensures { Sends (W.contents writer.old) (W.contents writer.new) bytes.now result }
+fn put<W: Write>(writer: &mut W, bytes: &[u8]) -> io::Result<()>
+    ensures bytes { Puts (W.contents writer.old) (W.contents writer.new) bytes.now result }
+    ensures cause { IfErr result IsFailure }
 {
     let mut at = 0;
-    'tries: for _ in 0..u64::MAX {
-        if at >= bytes.len() {
-            return Ok(());
-        }
+    'parts: while at < bytes.len() {
         at += put_some(writer, &bytes[at..])?;
     }
-    Err(Fault::Stream)
+    Ok(())
 }
 
-/// Writes a front of some bytes, or nothing where a signal came first.
-fn put_some<W: Write>(writer: &mut W, bytes: &[u8]) -> Result<usize, Fault>
-    ensures { Writes (W.contents writer.old) (W.contents writer.new) bytes.now result }
+/// Writes a front of some bytes, tried again where a signal came first. A writer that takes nothing has
+/// failed.
+fn put_some<W: Write>(writer: &mut W, bytes: &[u8]) -> io::Result<usize>
+    requires { 0 < length bytes.now }
+    ensures bytes { Writes (W.contents writer.old) (W.contents writer.new) bytes.now result }
+    ensures cause { IfErr result IsFailure }
 {
-    match writer.write(bytes) {
-        Ok(0) => Err(Fault::Stream),
-        Ok(count) => Ok(count),
-        Err(error) => {
-            if is_interrupted(&error) {
-                Ok(0)
-            } else {
-                Err(Fault::Stream)
+    'tries: for _ in 0..u64::MAX {
+        match writer.write(bytes) {
+            Ok(0) => return Err(ErrorKind::WriteZero.into()),
+            Ok(count) => return Ok(count),
+            Err(error) => {
+                if !is_interrupted(&error) {
+                    return Err(error);
+                }
             }
         }
     }
+    Err(ErrorKind::TimedOut.into())
 }
 
-fn flush<W: Write>(writer: &mut W) -> Result<(), Fault>
-    ensures { Keeps (W.contents writer.old) (W.contents writer.new) }
+/// Has the writer hand on what it was given, tried again where a signal came first.
+fn flush<W: Write>(writer: &mut W) -> io::Result<()>
+    ensures bytes { Keeps (W.contents writer.old) (W.contents writer.new) }
+    ensures cause { IfErr result IsFailure }
 {
     'tries: for _ in 0..u64::MAX {
         match writer.flush() {
             Ok(()) => return Ok(()),
             Err(error) => {
                 if !is_interrupted(&error) {
-                    return Err(Fault::Stream);
+                    return Err(error);
                 }
             }
         }
     }
-    Err(Fault::Stream)
-}
-
-fn is_interrupted(error: &io::Error) -> bool {
-    error.kind() == ErrorKind::Interrupted
+    Err(ErrorKind::TimedOut.into())
 }

@@ -1,13 +1,16 @@
-ghost use Rattle.std.specs.Prelude.{◌≡◌, []};
+ghost use Rattle.std.specs.Prelude.{◌≡◌, [], List};
+ghost use Rattle.hpb_rules.specs.declared.command.Command.{Command};
+ghost use Rattle.hpb_rules.specs.AuctionValue.{Shows};
 ghost use Rattle.hpb_rules.specs.Values.{first_value};
 ghost use Rattle.hpb_server.specs.Script.{Refuses, RunsScript, ServesScript, WritesRefusal};
+ghost use Rattle.hpb_server.specs.ScriptLaws.{ServesText};
 ghost use Rattle.hpb_server.specs.Streams.{streams};
 
 use crate::desk::ScriptDesk;
 use crate::fault::Fault;
 use crate::input::Input;
 use crate::output::Output;
-use crate::serving::answer_lines;
+use crate::serving::{answer_lines, serve};
 use hpb_auction::Auction;
 use hpb_define::{DefineFault, read_definition};
 use hpb_rules::{MOST_READ_BYTES, Refusal};
@@ -47,6 +50,21 @@ pub fn run_script<R: Read, W: Write>(
         }
         Err(fault) => refuse_script(writer, fault, &mut output),
     }
+}
+
+/// Serves an auction in memory, as `serve` says: what is written is the text by each history that the
+/// auction shows, and the auction then shows the history that the lines lead to.
+pub fn serve_auction<R: Read, W: Write>(
+    alloc: Global,
+    reader: &mut R,
+    writer: &mut W,
+    desk: &mut ScriptDesk,
+) -> Result<(), Fault>
+    ensures text { (history : List Command) → Shows desk.old history → ServesText desk.old.rules history MOST_READ_BYTES
+        (streams (R.remaining reader.old) (W.contents writer.old)) (streams (R.remaining reader.new) (W.contents writer.new)) desk.new result }
+    ensures rules { desk.new.rules ≡ desk.old.rules }
+{
+    serve(alloc, reader, writer, desk)
 }
 
 /// Answers the lines that come after a definition.

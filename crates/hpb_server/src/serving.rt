@@ -1,7 +1,9 @@
-ghost use Rattle.std.specs.Prelude.{◌≡◌, ◌<◌, ℕ, List, [], ◌++◌, take, Ok, OnOk, length};
+ghost use Rattle.std.specs.Prelude.{◌≡◌, ◌<◌, ℕ, false, List, [], ◌++◌, take, Ok, OnOk, length};
+ghost use Rattle.hpb_rules.specs.declared.command.Command.{Command};
 ghost use Rattle.hpb_rules.specs.Lines.{request_of};
 ghost use Rattle.hpb_rules.specs.ValueText.{shown_in, node_shown_in, bidder_shown_in};
 ghost use Rattle.hpb_wire.specs.Requests.{IsRequestOf};
+ghost use Rattle.hpb_server.specs.DeskLaws.{GoesOn};
 ghost use Rattle.hpb_server.specs.Reading.{HasNoEnd};
 ghost use Rattle.hpb_server.specs.Serving.{Serves};
 ghost use Rattle.hpb_server.specs.Streams.{streams};
@@ -23,17 +25,21 @@ use std::io::{Read, Write};
 /// A line has at most 128 bytes and a line feed; any other, a last one without line feed too, is refused
 /// by `ERR 10 line`. No line tells of a fault: 90 where memory is refused, 92 where the reader or the writer
 /// fails or more than 1,000,000,000 bytes are read: one byte more is taken at most, which shows that there
-/// is more. Where memory is refused or the reader fails, what was answered before is written first; where
-/// the writer fails, a front of it. What was accepted stands.
+/// is more. Where the reader fails, each line that was read is answered and all answers are written first;
+/// where memory is refused, all but the one that it was refused for, or nothing is read at all; where the
+/// writer fails, a front of them. What was accepted stands.
+///
+/// A desk may end the session with a reply: that is written, and nothing more is read or answered.
 pub fn serve<R: Read, W: Write, D: Desk>(
     alloc: Global,
     reader: &mut R,
     writer: &mut W,
     desk: &mut D,
 ) -> Result<(), Fault>
-    ensures served { Serves D.rules D.asks D.looks [] MOST_READ_BYTES
+    ensures served { Serves D.rules D.over D.asks D.looks [] MOST_READ_BYTES
         (streams (R.remaining reader.old) (W.contents writer.old)) (streams (R.remaining reader.new) (W.contents writer.new)) desk.old desk.new result }
     ensures rules { D.rules desk.new ≡ D.rules desk.old }
+    ensures told { (told : List Command) → D.tells desk.old told → GoesOn told (D.tells desk.new) }
 {
     let mut input = Input::new(alloc, MOST_READ_BYTES)?;
     let mut output = Output::new(alloc)?;
@@ -49,7 +55,7 @@ pub(crate) fn answer_lines<R: Read, W: Write, D: Desk>(
     output: &mut Output,
 ) -> Result<(), Fault>
     requires { output.old ≡ [] }
-    ensures served { Serves D.rules D.asks D.looks input.old.unread input.old.budget
+    ensures served { Serves D.rules D.over D.asks D.looks input.old.unread input.old.budget
         (streams (R.remaining reader.old) (W.contents writer.old)) (streams (R.remaining reader.new) (W.contents writer.new)) desk.old desk.new result }
     ensures rules { D.rules desk.new ≡ D.rules desk.old }
 {
@@ -57,6 +63,9 @@ pub(crate) fn answer_lines<R: Read, W: Write, D: Desk>(
     'chunks: loop {
         answer_unread(writer, desk, input, &mut line, output)?;
         output.send(writer)?;
+        if desk.is_over() {
+            return Ok(());
+        }
         if !input.fill(reader)? {
             break;
         }
@@ -85,14 +94,17 @@ fn answer_unread<W: Write, D: Desk>(
     output: &mut Output,
 ) -> Result<(), Fault>
     ensures lines { (partial : List ℕ) → HasNoEnd partial → line.old ≡ take KEPT_BYTES partial
-        → Proceeds D.rules D.asks D.looks (partial ++ input.old.unread) desk.old desk.new
+        → Proceeds D.rules D.over D.asks D.looks (partial ++ input.old.unread) desk.old desk.new
         (W.contents writer.old) (W.contents writer.new) output.old
         line.new input.new.unread output.new result }
     ensures rules { D.rules desk.new ≡ D.rules desk.old }
-    ensures taken { OnOk result (input.new.unread ≡ []) }
+    ensures taken { OnOk result (D.over desk.new ≡ false → input.new.unread ≡ []) }
     ensures read { OnOk result (input.new.budget ≡ input.old.budget) }
 {
-    'lines: while input.take_line(line) {
+    'lines: while !desk.is_over() {
+        if !input.take_line(line) {
+            return Ok(());
+        }
         pass_answer(writer, desk, line.as_slice(), output)?;
         line.clear();
     }
@@ -107,7 +119,7 @@ fn pass_answer<W: Write, D: Desk>(
     line: &[u8],
     output: &mut Output,
 ) -> Result<(), Fault>
-    ensures answer { PassesAnswer D.rules D.asks D.looks desk.old (request_of (D.rules desk.old) line.now) desk.new
+    ensures answer { PassesAnswer D.rules D.over D.asks D.looks desk.old (request_of (D.rules desk.old) line.now) desk.new
         (W.contents writer.old) (W.contents writer.new) output.old output.new result }
     ensures rules { D.rules desk.new ≡ D.rules desk.old }
 {
@@ -128,7 +140,7 @@ fn pass_answer<W: Write, D: Desk>(
 
 /// Adds the answer to a line.
 fn answer_line<D: Desk>(desk: &mut D, line: &[u8], output: &mut Output) -> Result<(), AllocError>
-    ensures answer { AddsAnswer D.rules D.asks D.looks desk.old (request_of (D.rules desk.old) line.now) desk.new
+    ensures answer { AddsAnswer D.rules D.over D.asks D.looks desk.old (request_of (D.rules desk.old) line.now) desk.new
         output.old output.new result }
     ensures rules { D.rules desk.new ≡ D.rules desk.old }
 {
@@ -145,7 +157,7 @@ fn answer_request<D: Desk>(
     output: &mut Output,
 ) -> Result<(), AllocError>
     requires { IsRequestOf (D.rules desk.old) request }
-    ensures answer { AddsAnswer D.rules D.asks D.looks desk.old (Ok request) desk.new
+    ensures answer { AddsAnswer D.rules D.over D.asks D.looks desk.old (Ok request) desk.new
         output.old output.new result }
     ensures rules { D.rules desk.new ≡ D.rules desk.old }
 {

@@ -168,11 +168,12 @@ impl Read for FailingReader<'_> {
     }
 }
 
-/// Takes all of a write, so often, and fails then.
+/// Takes all of a write, and hands it on, each so often, and fails then.
 #[derive(Drop)]
 struct FailingWriter {
     bytes: Vec<u8>,
     writes: usize,
+    flushes: usize,
 }
 
 impl Write for FailingWriter {
@@ -181,6 +182,32 @@ impl Write for FailingWriter {
             return Err(ErrorKind::BrokenPipe.into());
         }
         self.writes -= 1;
+        self.bytes.extend_from_slice(bytes)?;
+        Ok(bytes.len())
+    }
+
+    fn flush(&mut self) -> io::Result<()> {
+        if self.flushes == 0 {
+            return Err(ErrorKind::BrokenPipe.into());
+        }
+        self.flushes -= 1;
+        Ok(())
+    }
+}
+
+/// Takes nothing at its first write, and all from then on.
+#[derive(Drop)]
+struct PausingWriter {
+    bytes: Vec<u8>,
+    writes: usize,
+}
+
+impl Write for PausingWriter {
+    fn write(&mut self, bytes: &[u8]) -> io::Result<usize> {
+        self.writes = self.writes.saturating_add(1);
+        if self.writes == 1 {
+            return Ok(0);
+        }
         self.bytes.extend_from_slice(bytes)?;
         Ok(bytes.len())
     }
@@ -284,31 +311,85 @@ fn each_read_fails_in_turn(rt: HostRuntime) -> Result<(), Fail> {
         };
         let mut output = Vec::new(alloc);
         let result = run_script(alloc, &mut reader, &mut output);
-        assert_eq!(rt; result, Err(Fault::Stream), "{lines}");
+        assert_eq!(rt; result, Err(Fault::Reader), "{lines}");
         assert_eq!(rt; output.as_slice(), FRONTS[lines], "{lines}");
     }
     Ok(())
 }
 
+/// Serves the lines one by one to a writer that fails: what is written, and how many were accepted.
+fn served(
+    alloc: Global,
+    writes: usize,
+    flushes: usize,
+) -> Result<(Vec<u8>, Result<(), Fault>, u32), Fail> {
+    let talk = Talk::new();
+    let mut reader = Lines {
+        talk: &talk,
+        rest: LINES,
+    };
+    let mut writer = FailingWriter {
+        bytes: Vec::new(alloc),
+        writes,
+        flushes,
+    };
+    let mut desk = desk(alloc)?;
+    let result = serve_auction(alloc, &mut reader, &mut writer, &mut desk);
+    Ok((writer.bytes, result, desk.into_auction().count()))
+}
+
 #[test]
-fn each_write_fails_in_turn(rt: HostRuntime) -> Result<(), Fail> {
+fn each_write_and_each_flush_fails_in_turn(rt: HostRuntime) -> Result<(), Fail> {
     let alloc = rt.alloc();
-    for (writes, accepted) in [(0, 1), (1, 2), (2, 3), (3, 3)] {
-        let talk = Talk::new();
-        let mut reader = Lines {
-            talk: &talk,
-            rest: LINES,
-        };
-        let mut writer = FailingWriter {
-            bytes: Vec::new(alloc),
-            writes,
-        };
-        let mut desk = desk(alloc)?;
-        let result = serve(alloc, &mut reader, &mut writer, &mut desk);
-        assert_eq!(rt; result, Err(Fault::Stream), "{writes}");
-        assert_eq!(rt; writer.bytes.as_slice(), FRONTS[writes], "{writes}");
-        assert_eq!(rt; desk.into_auction().count(), accepted, "{writes}");
+    for (line, accepted) in [(0, 1), (1, 2), (2, 3), (3, 3)] {
+        let (written, result, count) = served(alloc, line, usize::MAX)?;
+        assert_eq!(rt; result, Err(Fault::Writer), "{line}");
+        assert_eq!(rt; written.as_slice(), FRONTS[line], "{line}");
+        assert_eq!(rt; count, accepted, "{line}");
+        let (written, result, count) = served(alloc, usize::MAX, line)?;
+        assert_eq!(rt; result, Err(Fault::Writer), "{line}");
+        assert_eq!(rt; written.as_slice(), FRONTS[line + 1], "{line}");
+        assert_eq!(rt; count, accepted, "{line}");
     }
+    let (written, result, count) = served(alloc, 4, 4)?;
+    assert_eq!(rt; result, Ok(()));
+    assert_eq!(rt; written.as_slice(), FRONTS[4]);
+    assert_eq!(rt; count, 3);
+    Ok(())
+}
+
+#[test]
+fn a_writer_that_takes_nothing_has_failed(rt: HostRuntime) -> Result<(), Fail> {
+    let alloc = rt.alloc();
+    let mut input = b"SHOW\n".as_slice();
+    let mut writer = PausingWriter {
+        bytes: Vec::new(alloc),
+        writes: 0,
+    };
+    let mut desk = desk(alloc)?;
+    let result = serve(alloc, &mut input, &mut writer, &mut desk);
+    assert_eq!(rt; result, Err(Fault::Writer));
+    assert_eq!(rt; writer.writes, 1);
+    assert!(rt; writer.bytes.is_empty());
+    Ok(())
+}
+
+#[test]
+fn many_bytes_go_one_by_one(rt: HostRuntime) -> Result<(), Fail> {
+    let alloc = rt.alloc();
+    let text = script(alloc, b"SHOW\n", 100)?;
+    let mut input = text.as_slice();
+    let mut writer = OneByteWriter {
+        bytes: Vec::new(alloc),
+        signal: false,
+    };
+    let result = run_script(alloc, &mut input, &mut writer);
+    assert_eq!(rt; result, Ok(ScriptEnd::Answered));
+    let mut want = Vec::new(alloc);
+    for _ in 0..100 {
+        want.extend_from_slice(b"ROUND 1 STAGE 1 OPEN REVENUE 0 COUNT 0\n")?;
+    }
+    assert_eq!(rt; writer.bytes, want);
     Ok(())
 }
 
@@ -318,12 +399,12 @@ fn no_more_is_read_than_may_be(rt: HostRuntime) -> Result<(), Fail> {
     let text = b"CLOSE 0\nCLOSE 0\nCLOSE 0\n".as_slice();
     let refused = b"ERR 13 old\nERR 13 old\nERR 13 old\nERR 10 line\n".as_slice();
     let table = [
-        (24, Ok(()), &refused[..33]),
-        (23, Err(Fault::Stream), &refused[..22]),
-        (16, Err(Fault::Stream), &refused[..22]),
-        (0, Err(Fault::Stream), b"".as_slice()),
+        (24, Ok(()), &refused[..33], 0),
+        (23, Err(Fault::Reader), &refused[..22], 0),
+        (16, Err(Fault::Reader), &refused[..22], 7),
+        (0, Err(Fault::Reader), b"".as_slice(), 23),
     ];
-    for (budget, end, want) in table {
+    for (budget, end, want, left) in table {
         let mut reader = text;
         let mut written = Vec::new(alloc);
         let mut desk = desk(alloc)?;
@@ -338,6 +419,7 @@ fn no_more_is_read_than_may_be(rt: HostRuntime) -> Result<(), Fail> {
         );
         assert_eq!(rt; result, end, "{budget}");
         assert_eq!(rt; written.as_slice(), want, "{budget}");
+        assert_eq!(rt; reader.len(), left, "{budget}");
     }
     Ok(())
 }
@@ -375,25 +457,86 @@ fn inputs_end_early(rt: HostRuntime) -> Result<(), Fail> {
     Ok(())
 }
 
+/// Bytes that are no definition.
+const NO_DEFINITION: &[u8] = b"{";
+
 #[test]
 fn arguments_are_read(rt: HostRuntime) -> Result<(), Fail> {
     let alloc = rt.alloc();
-    let table: [(&[&str], u8, &str, &str); 5] = [
-        (&["hpb"], 1, "ERR 60 json\n", ""),
-        (&["hpb", "--help"], 0, "", "Usage: hpb"),
-        (&["hpb", "--version"], 0, "", "hpb 0."),
-        (&["hpb", "bogus"], 2, "", "error: "),
-        (&["hpb", "--bogus"], 2, "", "error: "),
+    let table: [(&[&str], u8, &str); 7] = [
+        (&["hpb", "--help"], 0, "Usage: hpb"),
+        (&["hpb", "--version"], 0, "hpb 0."),
+        (&["hpb", "bogus"], 2, "error: "),
+        (&["hpb", "--bogus"], 2, "error: "),
+        (&["hpb", "-b"], 2, "error: "),
+        (&["hpb", ""], 2, "error: "),
+        (&["hpb", "bogus", "--help"], 2, "error: "),
     ];
-    for (arguments, want, line, said) in table {
-        let mut input = b"{".as_slice();
+    for (arguments, want, said) in table {
+        let mut input = NO_DEFINITION;
         let mut output = Vec::new(alloc);
         let mut errors = Vec::new(alloc);
         let status = program(&rt, alloc, arguments, &mut input, &mut output, &mut errors);
         assert_eq!(rt; status, want, "{arguments:?}");
-        assert_eq!(rt; output.as_slice(), line.as_bytes(), "{arguments:?}");
+        assert_eq!(rt; input, NO_DEFINITION, "{arguments:?}");
+        assert!(rt; output.is_empty(), "{arguments:?}");
         let text = String::from_utf8(errors)?;
         assert!(rt; text.contains(said), "{arguments:?} gives {text}");
     }
+    Ok(())
+}
+
+/// Runs the program on no definition: its status, how much of the input is left, and what it writes.
+fn run_on_no_definition(
+    rt: &HostRuntime,
+    alloc: Global,
+    arguments: &[&str],
+) -> (u8, usize, Vec<u8>, Vec<u8>) {
+    let mut input = NO_DEFINITION;
+    let mut output = Vec::new(alloc);
+    let mut errors = Vec::new(alloc);
+    let status = program(rt, alloc, arguments, &mut input, &mut output, &mut errors);
+    (status, input.len(), output, errors)
+}
+
+#[test]
+fn a_script_is_run_without_words(rt: HostRuntime) -> Result<(), Fail> {
+    let alloc = rt.alloc();
+    let (status, left, output, errors) = run_on_no_definition(&rt, alloc, &["hpb"]);
+    assert_eq!(rt; status, 1);
+    assert_eq!(rt; left, 0);
+    assert_eq!(rt; output.as_slice(), b"ERR 60 json\n".as_slice());
+    assert!(rt; errors.is_empty());
+    let (status, left, output, errors) = run_on_no_definition(&rt, alloc, &[]);
+    assert_eq!(rt; status, 1);
+    assert_eq!(rt; left, 0);
+    assert_eq!(rt; output.as_slice(), b"ERR 60 json\n".as_slice());
+    assert!(rt; errors.is_empty());
+    Ok(())
+}
+
+#[test]
+fn arguments_that_are_no_text_are_refused(rt: HostRuntime) -> Result<(), Fail> {
+    let alloc = rt.alloc();
+    let mut errors = Vec::new(alloc);
+    let status = refuse_arguments(&ErrorKind::InvalidData.into(), &mut errors);
+    assert_eq!(rt; status, 2);
+    assert!(rt; String::from_utf8(errors)?.starts_with("error: "));
+    let mut errors = Vec::new(alloc);
+    let status = refuse_arguments(&ErrorKind::OutOfMemory.into(), &mut errors);
+    assert_eq!(rt; status, 1);
+    assert!(rt; errors.is_empty());
+    Ok(())
+}
+
+#[test]
+fn faults_have_the_words_of_their_refusals(rt: HostRuntime) -> Result<(), Fail> {
+    let alloc = rt.alloc();
+    for fault in [Fault::Memory, Fault::Reader, Fault::Writer] {
+        let text = fault.to_string(alloc)?;
+        assert_eq!(rt; text.as_str(), fault.refusal().word());
+    }
+    let text = ArgumentsFault::Memory.to_string(alloc)?;
+    assert_eq!(rt; text.as_str(), Refusal::Memory.word());
     Ok(())
 }

@@ -4,13 +4,13 @@ use Rattle.hpb_server.proofs.ScriptRuns.{given_script, vain_script, given_answer
 use Rattle.hpb_server.proofs.script.run_script.Goals as goal
 
 pub returns-in_err-input : goal.returns-in_err-input
-returns-in_err-input g c = never_run _ c.from_residual.result c.from_residual.ensures.0
+returns-in_err-input g c = never_run _ c.from_residual.result c.from_residual.ensures.1
 
 pub returns-in_err-output : goal.returns-in_err-output
-returns-in_err-output g c = never_run _ c.from_residual-in_err-output.result c.from_residual-in_err-output.ensures.0
+returns-in_err-output g c = never_run _ c.from_residual-in_err-output.result c.from_residual-in_err-output.ensures.1
 
 pub returns-in_err-text : goal.returns-in_err-text
-returns-in_err-text g c = nothing_run _ _ c.from_residual-in_err-text.result c.from_residual-in_err-text.ensures.0 (vain_script c.in_ok-input.ensures _ _ c.in_err-text.ensures.err) (Appends-nil _)
+returns-in_err-text g c = nothing_run _ _ c.in_err-text.field-0.0 c.from_residual-in_err-text.result c.from_residual-in_err-text.ensures.1 c.in_err-text.ensures.err.0 (vain_script c.in_ok-input.ensures _ _ c.in_err-text.ensures.err.1) (Appends-nil _)
 
 pub returns-then-not-text : goal.returns-then-not-text
 returns-then-not-text g c =
@@ -23,7 +23,7 @@ returns-in_err-answer_script-in-Ok g c =
     let given = given_script c.in_ok-input.ensures c.in_ok-text.ensures.ok in
     let accepted = given_answers given (Ok c.in-Ok.definition) c.as_slice.ensures.value c.in-Ok.ensures in
     broken_run given c.in-Ok.definition accepted (g.R.Read.remaining c.answer_script.new.reader) (g.W.Write.contents c.args.writer.now) (g.W.Write.contents c.answer_script.new.writer) c.if-not-text.false
-    c.in_err-answer_script-in-Ok.field-0.0 c.from_residual-in_err-answer_script-in-Ok.result c.from_residual-in_err-answer_script-in-Ok.ensures.0 c.in_err-answer_script-in-Ok.ensures
+    c.in_err-answer_script-in-Ok.field-0.0 c.from_residual-in_err-answer_script-in-Ok.result c.from_residual-in_err-answer_script-in-Ok.ensures.1 c.in_err-answer_script-in-Ok.ensures
 
 pub returns-in-Ok : goal.returns-in-Ok
 returns-in-Ok g c =

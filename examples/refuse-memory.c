@@ -1,0 +1,41 @@
+/* Refuses one request for memory: the one of the number in REFUSED. At the end the number of requests is written to
+   the file in REQUESTS. Loaded before the C library by examples/refuse-memory. */
+#define _GNU_SOURCE
+#include <dlfcn.h>
+#include <stddef.h>
+#include <stdio.h>
+#include <stdlib.h>
+
+static long requests;
+
+static int is_refused(void) {
+    static long refused = -1;
+    if (refused < 0) {
+        const char *text = getenv("REFUSED");
+        refused = text ? atol(text) : 0;
+    }
+    requests += 1;
+    return requests == refused;
+}
+
+void *malloc(size_t size) {
+    static void *(*next)(size_t);
+    if (!next) next = (void *(*)(size_t)) dlsym(RTLD_NEXT, "malloc");
+    return is_refused() ? NULL : next(size);
+}
+
+void *realloc(void *block, size_t size) {
+    static void *(*next)(void *, size_t);
+    if (!next) next = (void *(*)(void *, size_t)) dlsym(RTLD_NEXT, "realloc");
+    return is_refused() ? NULL : next(block, size);
+}
+
+__attribute__((destructor)) static void tell(void) {
+    const char *name = getenv("REQUESTS");
+    long made = requests;
+    FILE *file = name ? fopen(name, "w") : NULL;
+    if (file) {
+        fprintf(file, "%ld\n", made);
+        fclose(file);
+    }
+}
