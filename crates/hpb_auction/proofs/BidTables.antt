@@ -1,8 +1,9 @@
 -- The tables after a bid.
-use Rattle.std.proofs.Common.{◌≡◌, ℕ, suc, ◌+◌, ◌<◌, ◌≤◌, Bool, true, false, ◌&&◌, ◌||◌, eqb, List, map, set, length, Option, Some, None, refl, sym, ap, ◌∙◌, ⊎_elim, arith, subst}
+use Rattle.std.proofs.Common.{◌≡◌, ℕ, suc, ◌+◌, ◌<◌, Bool, true, false, ◌&&◌, ◌||◌, eqb, List, map, set, length, Option, Some, refl, sym, ap, ◌∙◌, arith, subst}
 use Rattle.std.specs.Prelude.{◌==◌, if◌then◌else◌, IfSome}
-use Rattle.std.proofs.lemmas.Bool.{eq-eqb, ne_eqb, eqb-true, cases_eq}
+use Rattle.std.proofs.lemmas.Bool.{eq-eqb, ne_eqb, eqb-true}
 use Rattle.std.proofs.lemmas.List.{get_or-set_same, get_or-set_other}
+use Rattle.hpb_rules.specs.Saved.{restored_last}
 use Rattle.hpb_rules.specs.declared.command.Offer.{Offer}
 use Rattle.hpb_rules.specs.declared.command.Command.{Command}
 use Rattle.hpb_rules.specs.declared.command.Command.TheVariants.{Bid}
@@ -13,10 +14,10 @@ use Rattle.hpb_rules.specs.Values.{node_at, bidder_at, numbered, with_bid, after
 use Rattle.hpb_rules.proofs.Ranges.{map_same, map_set}
 use Rattle.hpb_rules.proofs.ValueParts.{Parts, value_with, same_value, same_state}
 use Rattle.hpb_bids.specs.View.{BooksView, offer_at, has_bid}
-use Rattle.hpb_auction.specs.declared.sender.Accepted.{Accepted}
+use Rattle.hpb_rules.specs.declared.saved.Accepted.{Accepted}
 use Rattle.hpb_auction.specs.declared.sender.BidderRow.{BidderRow}
 use Rattle.hpb_auction.specs.declared.auction.Auction.TheInside.{Inside}
-use Rattle.hpb_auction.specs.Inside.{value_inside, booked, state_at, kept_last, row_at, empty_row, bidder_places, AreBidsOf, IsOfferOf, IsNumbered}
+use Rattle.hpb_auction.specs.Inside.{value_inside, booked, state_at, row_at, empty_row, bidder_places, AreBidsOf, IsOfferOf}
 use Rattle.hpb_auction.proofs.Kept.{greater_kept}
 use Rattle.hpb_auction.proofs.Tables.{node_here, bidder_here}
 
@@ -60,21 +61,6 @@ placed_kept rules books books' b n amount kept new h k = record {
         at true p false q g = absurd (cc)
         at false p y q g = absurd (cc)
     from c m false e f = kept.bids c m f
-
--- a number that is at most the count is at most a greater one
-pub numbered_more : (count more : ℕ) (last : Option Accepted) → count ≤ more → IsNumbered count last → IsNumbered more last
-numbered_more count more None h p = tt
-numbered_more count more (Some accepted) h p = omega (arith, p)
-
-pub set_kept : (rows : List BidderRow) (count number i : ℕ) (row : BidderRow) (accepted : Accepted) → ((c : ℕ) → IsNumbered count (row_at rows c).last) → count ≤ number → accepted.number ≤ number → i < length rows
-    → (c : ℕ) → IsNumbered number (row_at (set rows i (with_last row accepted)) c).last
-set_kept rows count number i row accepted kept more own within c = ⊎_elim
-    (λ e. subst_row _ _ (sym (row_set rows i c (with_last row accepted) (sym e) (omega (arith, e)))) own)
-    (λ e. subst_row _ _ (sym (row_other rows i c (with_last row accepted) e)) (numbered_more count number (row_at rows c).last more (kept c)))
-    (cases_eq c i)
-  where
-    subst_row : (x y : BidderRow) → x ≡ y → IsNumbered number x.last → IsNumbered number y.last
-    subst_row x y e p = subst (λ (r : BidderRow). IsNumbered number r.last) e p
 
 -- ---- the value after a bid
 
@@ -121,7 +107,7 @@ module _ (a : Inside) (books' : BooksView) (rows' : List BidderRow) (b n amount 
       off true v f = rw f refl
       off false v f = refl
 
-  bidders_placed : (last : Command × ℕ) → kept_last (Some accepted) ≡ Some last
+  bidders_placed : (last : Command × ℕ) → restored_last (Some accepted) ≡ Some last
       → set (map (state_at rules a.books rows) (bidder_places rules)) b (after_bid (state_at rules a.books rows b) n last) ≡ map (state_at rules books' rows') (bidder_places rules)
   bidders_placed last is = map_set (state_at rules a.books rows) (state_at rules books' rows') (after_bid (state_at rules a.books rows b) n last) 0 (length rules.bidders) b taken.in_bidders
       (at (0 + b) (omega arith))
@@ -129,7 +115,7 @@ module _ (a : Inside) (books' : BooksView) (rows' : List BidderRow) (b n amount 
       same_state (state_at rules books' rows' c) (state_at rules a.books rows c)
       (ap (λ (row : BidderRow). row.eligibility) (taken.others c another))
       (map_same (has_bid books' c) (has_bid a.books c) 0 (length rules.nodes) (λ m p q. taken.placed.bids c m ∙ off (n == m) (has_bid a.books c m) (ne_eqb b c (λ z. another (sym z)))))
-      (ap (λ (row : BidderRow). kept_last row.last) (taken.others c another)))
+      (ap (λ (row : BidderRow). restored_last row.last) (taken.others c another)))
     where
       off : (y v : Bool) {x : Bool} → x ≡ false → ((x && y) || v) ≡ v
       off y v f = rw f refl
@@ -139,14 +125,14 @@ module _ (a : Inside) (books' : BooksView) (rows' : List BidderRow) (b n amount 
           ∙ same_state (state_at rules books' rows' b) (after_bid (state_at rules a.books rows b) n last)
           (ap (λ (row : BidderRow). row.eligibility) taken.own)
           flags_placed
-          (ap (λ (row : BidderRow). kept_last row.last) taken.own ∙ is)
+          (ap (λ (row : BidderRow). restored_last row.last) taken.own ∙ is)
 
   -- the value with its nodes and its bidders changed
   abbrev pub taken_parts : Parts
   taken_parts = record {
     nodes = map (booked books') (places rules.nodes);
     bidders = map (state_at rules books' rows') (bidder_places rules);
-    auctioneer = kept_last a.auctioneer;
+    auctioneer = restored_last a.auctioneer;
     round = a.round;
     stage = a.stage;
     over = a.closed;

@@ -1,6 +1,7 @@
 -- The tables after a close.
 use Rattle.std.proofs.Common.{◌≡◌, ℕ, ◌+◌, ◌-◌, ◌*◌, ◌/◌, ◌<◌, Bool, true, false, cond, List, map, min, get_or, length, Option, Some, None, sym, ap, ◌∙◌, arith, subst}
 use Rattle.std.specs.Prelude.{slice_index, IfSome}
+use Rattle.hpb_rules.specs.Saved.{restored_last}
 use Rattle.hpb_rules.specs.declared.command.Offer.{Offer}
 use Rattle.hpb_rules.specs.Tree.{Rules, places}
 use Rattle.hpb_rules.specs.declared.command.Command.{Command}
@@ -13,9 +14,9 @@ use Rattle.hpb_rules.proofs.ValueParts.{same_state}
 use Rattle.hpb_bids.specs.View.{BooksView, IsQuiet, offer_at, has_bid}
 use Rattle.hpb_auction.specs.declared.sender.BidderRow.{BidderRow}
 use Rattle.hpb_auction.specs.declared.auction.Auction.TheInside.{Inside}
-use Rattle.hpb_auction.specs.declared.sender.Accepted.{Accepted}
+use Rattle.hpb_rules.specs.declared.saved.Accepted.{Accepted}
 use Rattle.hpb_auction.specs.Rows.{renewed}
-use Rattle.hpb_auction.specs.Inside.{value_inside, booked, state_at, kept_last, row_at, bidder_places, AreBidsOf, IsOfferOf, IsKept}
+use Rattle.hpb_auction.specs.Inside.{value_inside, booked, state_at, row_at, bidder_places, AreBidsOf, IsOfferOf, IsKept}
 use Rattle.hpb_rules.proofs.Tests.{no_bit}
 use Rattle.hpb_auction.proofs.Kept.{greater_kept}
 use Rattle.hpb_auction.proofs.Tables.{node_here, bidder_here}
@@ -67,14 +68,14 @@ module _ (a : Inside) (kept : IsKept a) (books' : BooksView) (rows' : List Bidde
       (ap (λ (row : BidderRow). row.eligibility) row
       ∙ least (sym (ap (λ (state : BidderState). state.eligibility) (bidder_here a b inside))) (sym (activity_here a kept b inside)) new.in_force)
       (map_same (has_bid books' b) (λ n. false) 0 (length a.definition.nodes) (λ n p k. no_bit (get_or books'.bids b 0) n (new.folded.quiet b)))
-      (ap (λ (row : BidderRow). kept_last row.last) row ∙ sym (ap (λ (state : BidderState). state.last) (bidder_here a b inside))))
+      (ap (λ (row : BidderRow). restored_last row.last) row ∙ sym (ap (λ (state : BidderState). state.last) (bidder_here a b inside))))
     where
       least : {e e' u u' p p' : ℕ} → e ≡ e' → u ≡ u' → p ≡ p' → min e (u * 100 / p) ≡ min e' (u' * 100 / p')
       least f g h = cc
 
 -- the value after a close command is the value after its round with the command counted
 pub close_counted : (value : AuctionValue) (accepted : Accepted) → accepted.command ≡ Close (ticket_of accepted.command) → accepted.number ≡ value.count + 1
-    → record (closed_value (record value { count = accepted.number })) { auctioneer = kept_last (Some accepted) } ≡ changed value accepted.command
+    → record (closed_value (record value { count = accepted.number })) { auctioneer = restored_last (Some accepted) } ≡ changed value accepted.command
 close_counted value accepted command count =
     by command (count ∙ omega arith) ∙ ap (changed value) (sym command)
   where

@@ -1,9 +1,9 @@
 -- The tables before the first command.
-use Rattle.std.proofs.Common.{◌≡◌, ℕ, ◌<◌, false, List, [], map, length, get_or, Option, None, refl, sym, ap, ◌∙◌, ⊎_elim, arith, subst}
+use Rattle.std.proofs.Common.{◌≡◌, ℕ, ◌<◌, false, List, [], map, length, get_or, Option, None, refl, sym, ap, ◌∙◌, arith, subst}
 use Rattle.std.specs.Prelude.{IfSome}
-use Rattle.std.proofs.lemmas.Bool.{cases_lt, both_ways}
-use Rattle.std.proofs.lemmas.List.{get_or_past}
+use Rattle.std.proofs.lemmas.Bool.{both_ways}
 use Rattle.std.proofs.lemmas.List.FromFn.{length-map-range_with_len}
+use Rattle.hpb_rules.specs.Saved.{restored_last}
 use Rattle.hpb_rules.specs.declared.command.Offer.{Offer}
 use Rattle.hpb_rules.specs.Tree.{Rules, places}
 use Rattle.hpb_rules.specs.History
@@ -14,7 +14,7 @@ use Rattle.hpb_rules.proofs.Ranges.{map_same}
 use Rattle.hpb_bids.specs.View.{BooksView, IsEmpty, has_bid}
 use Rattle.hpb_auction.specs.declared.sender.BidderRow.{BidderRow}
 use Rattle.hpb_auction.specs.Rows.{first_row, first_rows}
-use Rattle.hpb_auction.specs.Inside.{booked, state_at, kept_last, row_at, empty_row, bidder_places, AreBidsOf, IsOfferOf, IsNumbered}
+use Rattle.hpb_auction.specs.Inside.{booked, state_at, row_at, empty_row, bidder_places, AreBidsOf, IsOfferOf}
 use Rattle.hpb_rules.proofs.Tests.{no_bit}
 use Rattle.hpb_auction.proofs.Tables.{entry_at}
 
@@ -34,15 +34,6 @@ rows_count rules = length-map-range_with_len (first_row rules) 0 (length rules.b
 row_here : (rules : Rules) (b : ℕ) → b < length rules.bidders → row_at (first_rows rules) b ≡ first_row rules b
 row_here rules b h = entry_at (first_row rules) (length rules.bidders) b empty_row h
 
-pub first_numbers : (rules : Rules) (b : ℕ) → IsNumbered 0 (row_at (first_rows rules) b).last
-first_numbers rules b = ⊎_elim
-    (λ less. at _ _ (sym (row_here rules b less)) tt)
-    (λ more. at _ _ (sym (get_or_past (first_rows rules) b empty_row (omega (arith, rows_count rules)))) tt)
-    (cases_lt b (length rules.bidders))
-  where
-    at : (x y : BidderRow) → x ≡ y → IsNumbered 0 x.last → IsNumbered 0 y.last
-    at x y e p = subst (λ (r : BidderRow). IsNumbered 0 r.last) e p
-
 module _ (rules : Rules) (books : BooksView) (empty : IsEmpty books) where
   nodes_first : map (booked books) (places rules.nodes) ≡ map (node_bids []) (places rules.nodes)
   nodes_first = map_same (booked books) (node_bids []) 0 (length rules.nodes) (λ n l m. same (empty.standing n) (empty.incoming n))
@@ -57,7 +48,7 @@ module _ (rules : Rules) (books : BooksView) (empty : IsEmpty books) where
       same_state (state_at rules books rows b) (bidder_state rules [] b)
       (ap (λ (row : BidderRow). row.eligibility) row)
       (map_same (has_bid books b) (History.bid_on [] b) 0 (length rules.nodes) (λ n p k. no_bit (get_or books.bids b 0) n (empty.bids b)))
-      (ap (λ (row : BidderRow). kept_last row.last) row))
+      (ap (λ (row : BidderRow). restored_last row.last) row))
 
   -- the parts of an auction before its first command
   abbrev pub first_parts : List BidderRow → Parts

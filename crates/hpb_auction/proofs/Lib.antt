@@ -10,3 +10,5 @@ pub mod Faults
 pub mod Histories
 pub mod FirstTables
 pub mod Runs
+pub mod Proper
+pub mod SavedEntries

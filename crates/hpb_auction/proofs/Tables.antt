@@ -1,29 +1,25 @@
 -- What is known of a node, of a bidder and of a sender, by the tables.
-use Rattle.std.proofs.Common.{◌≡◌, ℕ, zero, suc, ◌<◌, ◌≤◌, false, List, [], ◌∷◌, length, get_or, map, Option, Some, None, refl, ap, subst, ◌∙◌, arith}
+use Rattle.std.proofs.Common.{◌≡◌, ℕ, ◌<◌, ◌≤◌, false, List, length, get_or, map, Option, Some, None, refl, ap, subst, ◌∙◌, arith}
 use Rattle.std.specs.Prelude.{option_copied, slice_index_or}
 use Rattle.std.specs.Borrow.{Bor}
 use Rattle.std.specs.List.{range_with_len}
 use Rattle.std.proofs.lemmas.List.{get_or_past}
 use Rattle.std.proofs.lemmas.List.FromFn.{get_or-map-range_with_len, length-map-range_with_len}
+use Rattle.hpb_rules.specs.Saved.{restored_last}
+use Rattle.hpb_rules.proofs.Ranges.{any_default}
 use Rattle.hpb_rules.specs.Tree.{places}
 use Rattle.hpb_rules.specs.AuctionValue.{AuctionValue, BidderState}
 use Rattle.hpb_rules.specs.Values.{node_at, no_bids, bidder_at, no_bidder}
 use Rattle.hpb_bids.specs.View.{has_bid}
-use Rattle.hpb_auction.specs.declared.sender.Accepted.{Accepted}
+use Rattle.hpb_rules.specs.declared.saved.Accepted.{Accepted}
 use Rattle.hpb_auction.specs.declared.sender.BidderRow.{BidderRow}
 use Rattle.hpb_auction.specs.declared.auction.Auction.TheInside.{Inside}
 use Rattle.hpb_auction.specs.Verdicts.{read_last, IsFoundIn}
-use Rattle.hpb_auction.specs.Inside.{value_inside, booked, state_at, kept_last, row_at, empty_row, IsNumbered}
+use Rattle.hpb_auction.specs.Inside.{value_inside, booked, state_at, row_at, empty_row, IsNumbered}
 
 -- the entry at a place of a table that is made place by place
 pub entry_at : {X : Type 0} (f : ℕ → X) (n i : ℕ) (d : X) → i < n → get_or (map f (range_with_len 0 n)) i d ≡ f i
 entry_at f n i d h = get_or-map-range_with_len f 0 n i i d h (omega arith)
-
--- within a list the default doesn't matter
-any_default : {X : Type 0} (xs : List X) (i : ℕ) (d e : X) → i < length xs → get_or xs i d ≡ get_or xs i e
-any_default [] i d e h = absurd (omega arith)
-any_default (x ∷ xs) zero d e h = refl
-any_default (x ∷ xs) (suc i) d e h = any_default xs i d e (omega arith)
 
 module _ (a : Inside) where
   pub node_here : (n : ℕ) → n < length a.definition.nodes → node_at (value_inside a) n ≡ booked a.books n
@@ -51,14 +47,14 @@ pub row_found : (rows : List BidderRow) (i b : ℕ) (row : BidderRow) → row �
 row_found rows i b row found same h = found ∙ ap (λ k. get_or rows k row) same ∙ any_default rows b row empty_row h
 
 -- the last command that was read is the one that is kept
-pub last_seen : (read : Option (Bor Accepted)) (last : Option Accepted) → option_copied read ≡ last → read_last read ≡ kept_last last
-last_seen None last e = ap kept_last e
-last_seen (Some accepted) last e = ap kept_last e
+pub last_seen : (read : Option (Bor Accepted)) (last : Option Accepted) → option_copied read ≡ last → read_last read ≡ restored_last last
+last_seen None last e = ap restored_last e
+last_seen (Some accepted) last e = ap restored_last e
 
 -- the last command that was read is the sender's
-pub found_seen : (read : Option (Bor Accepted)) (last : Option Accepted) (count : ℕ) → option_copied read ≡ last → IsNumbered count last → IsFoundIn (kept_last last) count read
-found_seen read last count e h = subst (λ (last : Option Accepted). IsNumbered count last → IsFoundIn (kept_last last) count read) e (by read) h
+pub found_seen : (read : Option (Bor Accepted)) (last : Option Accepted) (count : ℕ) → option_copied read ≡ last → IsNumbered count last → IsFoundIn (restored_last last) count read
+found_seen read last count e h = subst (λ (last : Option Accepted). IsNumbered count last → IsFoundIn (restored_last last) count read) e (by read) h
   where
-    by : (read : Option (Bor Accepted)) → IsNumbered count (option_copied read) → IsFoundIn (kept_last (option_copied read)) count read
+    by : (read : Option (Bor Accepted)) → IsNumbered count (option_copied read) → IsFoundIn (restored_last (option_copied read)) count read
     by None h = record { last = refl; number = omega arith }
     by (Some accepted) h = record { last = refl; number = h }

@@ -1,22 +1,19 @@
 -- What the code of an auction stands for, and what it keeps: its tables are those of its books.
-use Rattle.std.specs.Prelude.{◌≡◌, ℕ, ◌+◌, ◌<◌, ◌≤◌, true, List, map, length, Option, Some, None, slice_index_or, IfSome}
+use Rattle.std.specs.Prelude.{◌≡◌, ℕ, ◌<◌, ◌≤◌, true, List, map, length, Option, None, slice_index_or, IfSome}
 use Rattle.std.specs.List.{range_with_len}
-use Rattle.hpb_rules.specs.declared.command.Command.{Command}
+use Rattle.hpb_rules.specs.Saved.{restored_last}
 use Rattle.hpb_rules.specs.declared.command.Offer.{Offer}
-use Rattle.hpb_rules.specs.declared.limits.TheConstants.{MOST_BIDDERS, MOST_COMMANDS}
+use Rattle.hpb_rules.specs.declared.limits.TheConstants.{MOST_BIDDERS}
 use Rattle.hpb_rules.specs.Tree.{Rules, IsTree, places, tree_of}
 use Rattle.hpb_rules.specs.AuctionValue.{AuctionValue, NodeBids, BidderState}
+use Rattle.hpb_rules.specs.Drafts.{draft_refusal}
+use Rattle.hpb_rules.specs.ProperValues.{IsProper}
 use Rattle.hpb_bids.specs.View.{BooksView, offer_at, has_bid, bid_of}
 use Rattle.hpb_winners.specs.View.{OutcomeView, IsOutcome}
 use Rattle.hpb_prices.specs.View.{PricesView, HasPrices, HasMinima}
-use Rattle.hpb_auction.specs.declared.sender.Accepted.{Accepted}
+use Rattle.hpb_rules.specs.declared.saved.Accepted.{Accepted}
 use Rattle.hpb_auction.specs.declared.sender.BidderRow.{BidderRow}
 use Rattle.hpb_auction.specs.declared.auction.Auction.TheInside.{Inside}
-
--- A sender's last command with its number, as it is kept.
-abbrev pub kept_last : Option Accepted → Option (Command × ℕ)
-kept_last None = None
-kept_last (Some accepted) = Some (accepted.command, accepted.number)
 
 -- The bids on a node by the books.
 abbrev pub booked : BooksView → ℕ → NodeBids
@@ -35,7 +32,7 @@ abbrev pub state_at : Rules → BooksView → List BidderRow → ℕ → BidderS
 state_at rules books rows bidder = record {
   eligibility = (row_at rows bidder).eligibility;
   bid_on = map (has_bid books bidder) (places rules.nodes);
-  last = kept_last (row_at rows bidder).last;
+  last = restored_last (row_at rows bidder).last;
 }
 
 -- The places of the bidders.
@@ -48,7 +45,7 @@ value_inside a = record {
   rules = a.definition;
   nodes = map (booked a.books) (places a.definition.nodes);
   bidders = map (state_at a.definition a.books a.bidders.items) (bidder_places a.definition);
-  auctioneer = kept_last a.auctioneer;
+  auctioneer = restored_last a.auctioneer;
   round = a.round;
   stage = a.stage;
   over = a.closed;
@@ -77,14 +74,10 @@ IsNumbered count last = IfSome last (λ accepted. accepted.number ≤ count)
 
 -- What an auction keeps.
 pub record IsKept (a : Inside) : Type 0 where
+  pub accepted : draft_refusal a.definition ≡ None
+  pub proper : IsProper (value_inside a)
   pub tree : IsTree a.definition.nodes
   pub rows : length a.bidders.items ≡ length a.definition.bidders
   pub most_rows : length a.bidders.items ≤ MOST_BIDDERS
   pub bids : AreBidsOf a.definition a.books
   pub tables : AreTablesOf a.definition a.books a.outcome a.prices
-  pub count : a.count ≤ MOST_COMMANDS
-  pub numbers : (bidder : ℕ) → IsNumbered a.count (row_at a.bidders.items bidder).last
-  pub number : IsNumbered a.count a.auctioneer
-  pub round : a.round ≤ a.count + 1
-  pub some_stage : 0 < a.stage
-  pub most_stage : a.stage ≤ length a.definition.stages

@@ -2,3 +2,4 @@ pub mod Verdicts
 pub mod Inside
 pub mod Rows
 pub mod Acceptable
+pub mod Saving

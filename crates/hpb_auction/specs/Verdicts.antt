@@ -9,7 +9,7 @@ use Rattle.hpb_rules.specs.declared.refusal.Refusal.TheVariants as refusals
 use Rattle.hpb_rules.specs.declared.limits.TheConstants.{MOST_COMMANDS}
 use Rattle.hpb_rules.specs.Answer
 use Rattle.hpb_rules.specs.History.{ticket_of, ticket_of_last}
-use Rattle.hpb_auction.specs.declared.sender.Accepted.{Accepted}
+use Rattle.hpb_rules.specs.declared.saved.Accepted.{Accepted}
 use Rattle.hpb_auction.specs.declared.verdict.Verdict.{Verdict}
 use Rattle.hpb_auction.specs.declared.verdict.Verdict.TheVariants.{New, Repeat, Refused}
 

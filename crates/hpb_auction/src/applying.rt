@@ -9,10 +9,10 @@ ghost use Rattle.hpb_rules.specs.Values.{reply_in, changed, closed_value, next_v
 ghost use Rattle.hpb_auction.specs.Acceptable.{CanTake, IsKnown};
 
 use crate::auction::Auction;
-use crate::sender::{Accepted, renew_eligibility};
+use crate::sender::renew_eligibility;
 use crate::verdict::Verdict;
 use hpb_prices::downward;
-use hpb_rules::{BidderId, Command, NodeId, Reply};
+use hpb_rules::{Accepted, BidderId, Command, NodeId, Reply};
 use hpb_winners::upward;
 
 impl Auction {
@@ -46,6 +46,7 @@ impl Auction {
         requires limit { number ≤ MOST_COMMANDS }
         requires known { IsKnown self.old command.now }
         requires can { CanTake self.old command.now }
+        requires new { reply_in self.old command.now ≡ Reply.Ok number }
         ensures { self.new ≡ changed self.old command.now }
     {
         let accepted = Accepted {
@@ -71,6 +72,7 @@ impl Auction {
         requires limit { accepted.number ≤ MOST_COMMANDS }
         requires known { IsKnown self.old accepted.command }
         requires can { amount ≤ MOST_AMOUNT }
+        requires new { reply_in self.old accepted.command ≡ Reply.Ok accepted.number }
         ensures { self.new ≡ changed self.old accepted.command }
     {
         self.count = accepted.number;
@@ -83,6 +85,7 @@ impl Auction {
         requires command { accepted.command ≡ Close (ticket_of accepted.command) }
         requires count { accepted.number ≡ self.old.count + 1 }
         requires limit { accepted.number ≤ MOST_COMMANDS }
+        requires new { reply_in self.old accepted.command ≡ Reply.Ok accepted.number }
         ensures { self.new ≡ changed self.old accepted.command }
     {
         self.count = accepted.number;
@@ -96,6 +99,7 @@ impl Auction {
         requires count { accepted.number ≡ self.old.count + 1 }
         requires limit { accepted.number ≤ MOST_COMMANDS }
         requires can { CanTake self.old accepted.command }
+        requires new { reply_in self.old accepted.command ≡ Reply.Ok accepted.number }
         ensures { self.new ≡ changed self.old accepted.command }
     {
         self.count = accepted.number;

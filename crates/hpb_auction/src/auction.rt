@@ -2,11 +2,11 @@ ghost use Rattle.std.specs.Prelude.{◌≡◌, ◌+◌, ◌<◌, ◌≤◌, List
 ghost use Rattle.hpb_rules.specs.declared.command.Command.{Command};
 ghost use Rattle.hpb_rules.specs.declared.limits.TheConstants.{MOST_COMMANDS};
 
-use crate::sender::{Accepted, BidderRow, bidder_rows, last_ticket};
+use crate::sender::{BidderRow, bidder_rows, last_ticket};
 use crate::views::{BidderView, NodeView};
 use hpb_bids::Books;
 use hpb_prices::Prices;
-use hpb_rules::{BidderId, NodeId};
+use hpb_rules::{Accepted, BidderId, NodeId};
 use hpb_tree::Definition;
 use hpb_units::activity;
 use hpb_winners::Outcome;

@@ -9,9 +9,8 @@ ghost use Rattle.hpb_auction.specs.Acceptable.{CanTake, IsKnown};
 ghost use Rattle.hpb_auction.specs.Verdicts.{reply_of, state_reply, IfNew, IfRepeat, IsFoundIn};
 
 use crate::auction::Auction;
-use crate::sender::Accepted;
 use crate::verdict::{Verdict, by_ticket};
-use hpb_rules::{BidderId, Command, MOST_AMOUNT, MOST_COMMANDS, NodeId, Refusal, Reply};
+use hpb_rules::{Accepted, BidderId, Command, MOST_AMOUNT, MOST_COMMANDS, NodeId, Refusal, Reply};
 use hpb_units::fits;
 
 impl Auction {

@@ -5,10 +5,13 @@ mod applying;
 mod auction;
 mod judging;
 mod running;
+mod saved_tests;
+mod saving;
 mod sender;
 mod verdict;
 mod views;
 
 pub use auction::Auction;
 pub use running::{Run, run_commands};
+pub use saved_tests::is_saved;
 pub use views::{BidderView, NodeView};

@@ -6,18 +6,11 @@ ghost use Rattle.hpb_auction.specs.Inside.{row_at};
 ghost use Rattle.hpb_auction.specs.Rows.{first_rows, renewed};
 
 use hpb_bids::Books;
-use hpb_rules::{BidderId, Command};
+use hpb_rules::{Accepted, BidderId, Command};
 use hpb_tree::{Definition, Tree};
 use hpb_units::{activity, next_eligibility};
 use hpb_winners::Outcome;
 use std::alloc::{AllocError, Global};
-
-/// A command that was accepted, with its number among all accepted commands, from 1.
-#[derive(Clone, Copy, Debug)]
-pub(crate) struct Accepted {
-    pub(crate) command: Command,
-    pub(crate) number: u32,
-}
 
 /// The ticket that a command carries.
 pub(crate) fn ticket(command: &Command) -> u32

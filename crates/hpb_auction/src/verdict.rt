@@ -3,8 +3,8 @@ ghost use Rattle.hpb_rules.specs.Answer.{repeated};
 ghost use Rattle.hpb_rules.specs.History.{ticket_of, ticket_of_last};
 ghost use Rattle.hpb_auction.specs.Verdicts.{reply_of, read_last, number_of_last, ticket_reply, reply_told, IfNew, IfRepeat};
 
-use crate::sender::{Accepted, last_ticket, ticket};
-use hpb_rules::{Command, Refusal, Reply};
+use crate::sender::{last_ticket, ticket};
+use hpb_rules::{Accepted, Command, Refusal, Reply};
 
 /// What becomes of a command.
 #[derive(Clone, Copy, Debug, PartialEq, Eq)]

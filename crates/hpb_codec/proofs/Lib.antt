@@ -1,4 +1,5 @@
 pub mod Batches
+pub mod Chunks
 pub mod Definitions
 pub mod Entries
 pub mod Fronts
@@ -6,5 +7,8 @@ pub mod HeadPages
 pub mod Lasts
 pub mod Names
 pub mod Numbers
+pub mod OneHead
+pub mod OneToOne
+pub mod Sound
 pub mod States
 pub mod Tables

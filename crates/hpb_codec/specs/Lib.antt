@@ -3,6 +3,7 @@ pub mod BidderEntries
 pub mod BidderPages
 pub mod HeadFields
 pub mod Heads
+pub mod Laws
 pub mod NodeEntries
 pub mod NodePages
 pub mod Numbers

@@ -1,9 +1,12 @@
 //! The body of a slot: a state.
-ghost use Rattle.std.specs.Prelude.{◌≡◌, ℕ, List, Some, IfSome, IsSomeAnd, length};
+ghost use Rattle.std.specs.Prelude.{◌≡◌, ◌<◌, ◌≤◌, ℕ, List, Some, IfSome, IsSomeAnd, length};
 ghost use Rattle.hpb_rules.specs.declared.saved.Saved.{Saved};
+ghost use Rattle.hpb_rules.specs.Saved.{IsSaved};
+ghost use Rattle.hpb_rules.specs.Tree.{Rules};
 ghost use Rattle.hpb_codec.specs.Numbers.{filled};
-ghost use Rattle.hpb_codec.specs.declared.state.TheConstants.{STATE_SIZE};
-ghost use Rattle.hpb_codec.specs.States.{head_in, state_fields, state_of, HasState};
+ghost use Rattle.hpb_codec.specs.declared.state.TheConstants.{CHUNKS, CHUNK_SIZE, STATE_SIZE};
+ghost use Rattle.hpb_codec.specs.Laws.{chunk_of};
+ghost use Rattle.hpb_codec.specs.States.{head_in, state_fields, state_of, HasState, SpellsState};
 
 use crate::bidder_entry::BIDDER_SIZE;
 use crate::node_entry::NODE_SIZE;
@@ -11,7 +14,9 @@ use crate::reader::{front_bytes, is_zero};
 use crate::state_head::{HEAD_SIZE, StateHead};
 use crate::table::{Entry, put_table, read_table};
 use crate::writer::fill_zeros;
+use hpb_auction::is_saved;
 use hpb_rules::{MOST_BIDDERS, MOST_NODES, Saved};
+use hpb_tree::Definition;
 
 /// How many bytes the body of a slot has.
 pub const STATE_SIZE: usize = 16_384;
@@ -37,7 +42,8 @@ fn head_of(saved: &Saved, index: u64) -> StateHead
 /// Writes the body of what is saved and of the number of batches that it covers, every byte of it.
 pub fn encode_state(saved: &Saved, index: u64, out: &mut [u8])
     requires { length out.old ≡ STATE_SIZE }
-    ensures { out.new ≡ state_of saved.now index }
+    ensures written { out.new ≡ state_of saved.now index }
+    ensures spelled { (rules : Rules) → IsSaved rules saved.now → index ≤ saved.now.count → SpellsState rules out.new saved.now index }
 {
     let at = head_of(saved, index).put(out, 0);
     let at = put_table(out, at, &saved.nodes);
@@ -83,4 +89,40 @@ fn read_state(bytes: &[u8], saved: &mut Saved) -> Option<u64>
     saved.count = head.count;
     saved.auctioneer = head.auctioneer;
     Some(head.index)
+}
+
+/// What is saved, and the number of batches that it covers, that the body of a slot spells under a definition, if it
+/// spells such. Where it spells none, what stands in `saved` is of no use.
+pub fn decode_state(bytes: &[u8], definition: &Definition, saved: &mut Saved) -> Option<u64>
+    requires { length bytes.now ≡ STATE_SIZE }
+    ensures found { IfSome result (λ index. SpellsState definition.now bytes.now saved.new index) }
+    ensures only { (s : Saved) (index : ℕ) → SpellsState definition.now bytes.now s index → (result ≡ Some index) × (saved.new ≡ s) }
+{
+    let index = read_state(bytes, saved)?;
+    if index > u64::from(saved.count) {
+        return None;
+    }
+    if !is_saved(saved, definition) {
+        return None;
+    }
+    Some(index)
+}
+
+/// How many chunks a body has, of a page each.
+pub const CHUNKS: usize = 4;
+
+/// How many bytes a chunk has.
+pub const CHUNK_SIZE: usize = 4_096;
+
+/// Chunk i of a body, from 0: the bytes that one write brings to a device.
+#[tactic(auto, unfolding(crate::specs::Laws::chunk_of))]
+pub fn chunk(body: &[u8], i: usize) -> &[u8]
+    requires body { length body.now ≡ STATE_SIZE }
+    requires chunk { i < CHUNKS }
+    ensures value { result.now ≡ chunk_of i body.now }
+    ensures size { length result.now ≡ CHUNK_SIZE }
+{
+    let (_, rest) = body.split_at(i * CHUNK_SIZE);
+    let (chunk, _) = rest.split_at(CHUNK_SIZE);
+    chunk
 }

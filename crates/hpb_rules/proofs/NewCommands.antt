@@ -53,14 +53,14 @@ known_names rules from ticket on amount known =
     (leb-false _ _ bidder_known.0, leb-false _ _ node_known.0)
 
 -- the parts of a reply that accepts
-record Accepts (u : Option Refusal) (t l n : ℕ) (o : Bool) (f : Option Refusal) : Type 0 where
-  known : u ≡ None
-  next : t ≡ suc l
-  room : n < MOST_COMMANDS
-  goes_on : o ≡ false
-  faultless : f ≡ None
+pub record Accepts (u : Option Refusal) (t l n : ℕ) (o : Bool) (f : Option Refusal) : Type 0 where
+  pub known : u ≡ None
+  pub next : t ≡ suc l
+  pub room : n < MOST_COMMANDS
+  pub goes_on : o ≡ false
+  pub faultless : f ≡ None
 
-accepted_by : (u : Option Refusal) (t l : ℕ) (r : Reply) (n : ℕ) (o : Bool) (f : Option Refusal) → (r ≡ replies.Ok (suc n) → ⊥) → reply_by u t l r n o f ≡ replies.Ok (suc n) → Accepts u t l n o f
+pub accepted_by : (u : Option Refusal) (t l : ℕ) (r : Reply) (n : ℕ) (o : Bool) (f : Option Refusal) → (r ≡ replies.Ok (suc n) → ⊥) → reply_by u t l r n o f ≡ replies.Ok (suc n) → Accepts u t l n o f
 accepted_by (Some refusal) t l r n o f other e = absurd (cc)
 accepted_by None t l r n o f other e = by (eqb t 0 || ltb t l) refl (eqb t l) refl (ltb (suc l) t) refl (leb MOST_COMMANDS n) refl o refl f refl e
   where

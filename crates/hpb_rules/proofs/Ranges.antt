@@ -1,7 +1,9 @@
 -- Lists that are made from the places of a range, and tests over them: steps that other crates' proofs cite too.
-use Rattle.std.proofs.Common.{◌≡◌, ℕ, zero, suc, ◌+◌, ◌<◌, ◌≤◌, Bool, true, false, ◌||◌, List, [], ◌∷◌, map, set, refl, sym, ap, ◌∙◌, ⊎_elim, arith}
+use Rattle.std.proofs.Common.{◌≡◌, ℕ, zero, suc, ◌+◌, ◌<◌, ◌≤◌, Bool, true, false, ◌||◌, List, [], ◌∷◌, map, set, get_or, length, refl, sym, ap, ◌∙◌, ⊎_elim, arith}
 use Rattle.std.specs.List.{list_any, range_with_len}
 use Rattle.std.proofs.lemmas.Bool.{cases_eq, cases_lt, both_ways, or_left, or_right, false_from_ne_true}
+use Rattle.std.proofs.lemmas.List.{same_lists, get_or_past}
+use Rattle.std.proofs.lemmas.List.FromFn.{get_or-map-range_with_len, length-map-range_with_len}
 use Rattle.hpb_rules.proofs.Tests.{or_same}
 
 -- the first place or a later one
@@ -59,3 +61,22 @@ list_any_map test f (x ∷ xs) = ap (λ b. test (f x) || b) (list_any_map test f
 pub list_any_same : (p q : ℕ → Bool) (a k : ℕ) → ((n : ℕ) → a ≤ n → n < a + k → p n ≡ q n) → list_any p (range_with_len a k) ≡ list_any q (range_with_len a k)
 list_any_same p q a zero h = refl
 list_any_same p q a (suc k) h = or_same (p a) (q a) _ _ (h a (omega arith) (omega arith)) (list_any_same p q (a + 1) k (λ n l m. h n (omega arith) (omega arith)))
+
+-- within a list the default does not matter
+pub any_default : {A : Type 0} (xs : List A) (place : ℕ) (one other : A) → place < length xs → get_or xs place one ≡ get_or xs place other
+any_default [] place one other h = absurd (omega arith)
+any_default (x ∷ xs) zero one other h = refl
+any_default (x ∷ xs) (suc place) one other h = any_default xs place one other (omega arith)
+
+-- a list that is made place by place is one with the same at each place
+pub made_is : {A : Type 0} (f : ℕ → A) (xs : List A) (count : ℕ) → length xs ≡ count → ((place : ℕ) (default : A) → place < count → f place ≡ get_or xs place default) → map f (range_with_len 0 count) ≡ xs
+made_is f xs count size each = same_lists (map f (range_with_len 0 count)) xs (length-map-range_with_len f 0 count ∙ sym size)
+    (λ place default less. let within : place < count = omega (arith, less, length-map-range_with_len f 0 count) in
+    get_or-map-range_with_len f 0 count place place default within (omega arith) ∙ each place default within)
+
+-- what is made place by place has at each place what the place gives, and the default behind the last one
+pub made_at : {A : Type 0} (f : ℕ → A) (count place : ℕ) (default : A) → (count ≤ place → default ≡ f place) → get_or (map f (range_with_len 0 count)) place default ≡ f place
+made_at f count place default behind = ⊎_elim
+    (λ less. get_or-map-range_with_len f 0 count place place default less (omega arith))
+    (λ more. get_or_past (map f (range_with_len 0 count)) place default (omega (arith, length-map-range_with_len f 0 count)) ∙ behind more)
+    (cases_lt place count)

@@ -18,7 +18,7 @@ use Rattle.hpb_rules.proofs.Closes.{close_changed}
 
 -- ---- one command
 module _ (rules : Rules) (past : List Command) (is : IsPast rules past) where
-  new_changed : (command : Command) → answer_after rules past command ≡ replies.Ok (suc (length past)) → changed (value_of rules past) command ≡ value_of rules (command ∷ past)
+  pub new_changed : (command : Command) → answer_after rules past command ≡ replies.Ok (suc (length past)) → changed (value_of rules past) command ≡ value_of rules (command ∷ past)
   new_changed (Bid from ticket on amount) ok = bid_changed rules past from ticket on amount (accepted_new rules past (Bid from ticket on amount) ok).known
   new_changed (Close ticket) ok = close_changed rules past is ticket
   new_changed (Stage ticket) ok = stage_changed rules past ticket

@@ -15,7 +15,9 @@ pub mod AuctionValue
 pub mod Values
 pub mod ValueText
 pub mod ValueLaws
+pub mod ProperValues
 pub mod Saved
+pub mod SavedLaws
 pub mod Letters
 pub mod LetterLaws
 pub mod Machine

@@ -4,7 +4,6 @@ use Rattle.std.specs.Prelude.{◌≡◌, ℕ, suc, ◌+◌, ◌*◌, ◌<◌, �
 use Rattle.std.specs.Int.{bit_at}
 use Rattle.std.specs.List.{range_with_len}
 use Rattle.hpb_rules.specs.declared.command.Command.{Command}
-use Rattle.hpb_rules.specs.declared.command.Offer.{Offer}
 use Rattle.hpb_rules.specs.declared.limits.TheConstants.{MOST_BIDDERS, MOST_COMMANDS, MOST_NODES}
 use Rattle.hpb_rules.specs.declared.saved.Accepted.{Accepted}
 use Rattle.hpb_rules.specs.declared.saved.Saved.{Saved}
@@ -13,10 +12,9 @@ use Rattle.hpb_rules.specs.declared.saved.SavedNode.{SavedNode}
 use Rattle.hpb_rules.specs.Tree.{Rules, places}
 use Rattle.hpb_rules.specs.Definitions.{IsWithin}
 use Rattle.hpb_rules.specs.History
-use Rattle.hpb_rules.specs.Answer.{unknown}
 use Rattle.hpb_rules.specs.AuctionValue.{NodeBids, BidderState, AuctionValue}
 use Rattle.hpb_rules.specs.Values.{node_at, bidder_at}
-use Rattle.hpb_rules.specs.HistoryLaws.{MeetsRules}
+use Rattle.hpb_rules.specs.ProperValues.{IsOfferOn, IsLastOf}
 
 -- The entry of no node: no bid.
 abbrev pub empty_node : SavedNode
@@ -102,17 +100,9 @@ restored rules saved = record {
   count = saved.count;
 }
 
--- An offer on a node meets the rules.
-abbrev pub IsOfferOn : Rules → ℕ → Offer → Type 0
-IsOfferOn rules node offer = MeetsRules rules offer.bidder node offer.amount
-
--- A sender's last command may be saved: it is the sender's, its bidder and node are the definition's, and its ticket and its number are
--- from 1 to the count.
-pub record IsSavedLast (rules : Rules) (count : ℕ) (sender : History.Sender) (last : Accepted) : Type 0 where
-  pub own : History.sender_of last.command ≡ sender
-  pub known : unknown rules last.command ≡ None
-  pub ticket : IsWithin 1 count (History.ticket_of last.command)
-  pub number : IsWithin 1 count last.number
+-- A last command can be a sender's last among so many.
+abbrev pub IsSavedLast : Rules → ℕ → History.Sender → Accepted → Type 0
+IsSavedLast rules count sender last = IsLastOf rules count sender last.command last.number
 
 -- What may be restored under a definition.
 pub record IsSaved (rules : Rules) (saved : Saved) : Type 0 where
@@ -133,7 +123,7 @@ pub record IsSaved (rules : Rules) (saved : Saved) : Type 0 where
   pub incoming : (node : ℕ) → IfSome (node_in saved node).incoming (IsOfferOn rules node)
   -- A bidder's eligibility is at most the units that it started with.
   pub eligibility : (from : ℕ) → (bidder_in saved from).eligibility ≤ History.bidder_units rules from
-  -- Each sender's last command is one that it may have sent.
+  -- Each last command can be its sender's last.
   pub last : (from : ℕ) → IfSome (bidder_in saved from).last (IsSavedLast rules saved.count (History.bidder from))
   pub auctioneer : IfSome saved.auctioneer (IsSavedLast rules saved.count History.auctioneer)
   -- A bidder's bits name only nodes of the definition that have an incoming bid.

@@ -13,6 +13,7 @@ mod laws_of_history;
 mod laws_of_letters;
 mod laws_of_machine;
 mod laws_of_rounds;
+mod laws_of_saved;
 mod laws_of_text;
 mod laws_of_values;
 mod letter;
@@ -42,6 +43,7 @@ pub use laws_of_rounds::{
     close_takes_greater, eligibility_is_greatest, greatest_is_first, high_is_greatest,
     incoming_is_greatest, over_is_quiet_round, rounds_are_cut,
 };
+pub use laws_of_saved::{next_is_proper, restored_is_saved, saved_is_restored, shown_is_proper};
 pub use laws_of_text::{
     lines_keep_history, lines_text_joins, names_are_found, number_is_one, request_is_one,
     script_text_grows, script_text_is_one, spelling_is_one, words_are,

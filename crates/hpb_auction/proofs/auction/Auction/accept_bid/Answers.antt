@@ -1,5 +1,8 @@
 use Rattle.std.proofs.Common.{rules, ◌≡◌, ◌+◌, ◌<◌, length, sym, ap, ◌∙◌, arith, subst}
 use Rattle.hpb_rules.specs.declared.command.Command.{Command}
+use Rattle.hpb_rules.specs.Drafts.{draft_refusal}
+use Rattle.hpb_rules.specs.ProperValues.{IsProper}
+use Rattle.hpb_auction.proofs.Proper.{taken_proper}
 use Rattle.hpb_rules.specs.AuctionValue.{AuctionValue}
 use Rattle.hpb_rules.specs.Values.{changed}
 use Rattle.hpb_auction.specs.Acceptable.{IsKnown}
@@ -8,7 +11,7 @@ use Rattle.hpb_auction.specs.declared.sender.BidderRow.{BidderRow}
 use Rattle.hpb_auction.specs.Inside.{value_inside, row_at}
 use Rattle.hpb_auction.proofs.Tables.{row_found}
 use Rattle.hpb_auction.proofs.Kept.{tables_stay}
-use Rattle.hpb_auction.proofs.BidTables.{IsPlaced, placed_kept, set_kept, numbered_more, bid_seen, row_set, row_other, with_last}
+use Rattle.hpb_auction.proofs.BidTables.{IsPlaced, placed_kept, bid_seen, row_set, row_other, with_last}
 use Rattle.hpb_auction.proofs.auction.Auction.accept_bid.Goals as goal
 
 known : (c : goal.After-self-2-1) → (c.args.bidder < length c.self.inside.definition.bidders) × (c.args.node < length c.self.inside.definition.nodes)
@@ -28,24 +31,6 @@ in_rows c = omega (arith, (known c).0, c.self.invariant.rows, c.place-2.ensures.
 counted : (c : goal.After-self-2-1) → c.args.accepted.number ≡ c.self.inside.count + 1
 counted c = c.requires.count ∙ ap (λ (value : AuctionValue). value.count + 1) (sym c.self.view_is)
 
-pub invariant_of-self : goal.invariant_of-self
-invariant_of-self c =
-    let a = c.self.inside in
-    let kept = c.self.invariant in
-    record {
-      tree = kept.tree;
-      rows = search rules;
-      most_rows = search rules;
-      bids = placed_kept a.definition a.books c.place.new.self c.args.bidder c.args.node c.args.amount kept.bids (placed c) (known c).0 (known c).1;
-      tables = tables_stay a.definition a.books c.place.new.self a.outcome a.prices (ap bid_of c.place.ensures.value) kept.tables;
-      count = c.requires.limit;
-      numbers = set_kept a.bidders.items a.count c.args.accepted.number c.place-2.result c.index_mut.result.now c.args.accepted kept.numbers (omega (arith, counted c)) (omega arith) (in_rows c);
-      number = numbered_more a.count c.args.accepted.number a.auctioneer (omega (arith, counted c)) kept.number;
-      round = omega (arith, kept.round, counted c);
-      some_stage = kept.some_stage;
-      most_stage = kept.most_stage;
-    }
-
 pub returns : goal.returns
 returns c =
     let a = c.self.inside in
@@ -64,3 +49,17 @@ returns c =
     c.requires.command
     (counted c)
     ∙ ap (λ (value : AuctionValue). changed value c.args.accepted.command) c.self.view_is
+
+pub invariant_of-self : goal.invariant_of-self
+invariant_of-self c =
+    let a = c.self.inside in
+    let kept = c.self.invariant in
+    record {
+      accepted = kept.accepted;
+      proper = subst IsProper (sym (returns c)) (taken_proper c.args.self.now c.args.accepted.command c.args.accepted.number (ap (λ (value : AuctionValue). draft_refusal value.rules) (sym c.self.view_is) ∙ kept.accepted) (subst IsProper c.self.view_is kept.proper) c.requires.new c.requires.count);
+      tree = kept.tree;
+      rows = search rules;
+      most_rows = search rules;
+      bids = placed_kept a.definition a.books c.place.new.self c.args.bidder c.args.node c.args.amount kept.bids (placed c) (known c).0 (known c).1;
+      tables = tables_stay a.definition a.books c.place.new.self a.outcome a.prices (ap bid_of c.place.ensures.value) kept.tables;
+    }

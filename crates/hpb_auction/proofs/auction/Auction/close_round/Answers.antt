@@ -1,19 +1,19 @@
-use Rattle.std.proofs.Common.{◌≡◌, ℕ, ◌+◌, ◌<◌, ◌≤◌, ◌++◌, map, Option, ⊎_elim, ◌||◌, Bool, true, false, not, cond, List, take, drop, length, refl, sym, ap, ◌∙◌, arith, subst}
+use Rattle.std.proofs.Common.{◌≡◌, ℕ, ◌+◌, ◌<◌, ◌≤◌, ◌++◌, map, ◌||◌, Bool, true, false, not, cond, List, take, drop, length, refl, sym, ap, ◌∙◌, arith, subst}
 use mir.Val.{bool_byte}
 use Rattle.std.proofs.Math.Seq.{take-append_seam}
-use Rattle.std.proofs.lemmas.Bool.{cases_lt}
-use Rattle.std.proofs.lemmas.List.{get_or_past}
+use Rattle.hpb_rules.specs.Saved.{restored_last}
 use Rattle.hpb_rules.specs.Tree.{TreeRules, places}
-use Rattle.hpb_rules.proofs.ValueParts.{same_value}
+use Rattle.hpb_rules.proofs.ValueParts.{Parts, value_with, same_value}
+use Rattle.hpb_rules.specs.ProperValues.{IsProper}
+use Rattle.hpb_rules.proofs.ProperValues.{closed_proper}
 use Rattle.hpb_rules.specs.AuctionValue.{AuctionValue}
 use Rattle.hpb_bids.specs.View.{bid_of}
 use Rattle.hpb_winners.specs.View.{IsOutcome}
 use Rattle.hpb_prices.specs.View.{HasPrices, HasMinima}
-use Rattle.hpb_auction.specs.declared.sender.Accepted.{Accepted}
 use Rattle.hpb_auction.specs.declared.sender.BidderRow.{BidderRow}
 use Rattle.hpb_rules.specs.Values.{has_open_bid, closed_value}
 use Rattle.hpb_auction.specs.Rows.{renewed}
-use Rattle.hpb_auction.specs.Inside.{value_inside, booked, state_at, kept_last, bidder_places, row_at, empty_row, IsNumbered}
+use Rattle.hpb_auction.specs.Inside.{value_inside, booked, state_at, bidder_places, row_at}
 use Rattle.hpb_auction.proofs.Quiet.{quiet_seen}
 use Rattle.hpb_auction.proofs.CloseTables.{folded_kept, IsRenewed, nodes_closed, bidders_closed, more_or_same}
 use Rattle.hpb_auction.proofs.auction.Auction.close_round.Goals as goal
@@ -44,43 +44,19 @@ renewed_rows c b h =
 rows_stay : (c : After-downward) → length (kept c) ≡ length c.self.inside.bidders.items
 rows_stay c = ap length (whole c) ∙ c.renew_eligibility.ensures.length ∙ ap length (seen c)
 
-numbers_stay : (c : After-downward) → (b : ℕ) → IsNumbered c.self.inside.count (row_at (kept c) b).last
-numbers_stay c b = ⊎_elim
-    (λ less. along (ap (λ (row : BidderRow). row.last) (renewed_rows c b less)) (c.self.invariant.numbers b))
-    (λ more. along (ap (λ (row : BidderRow). row.last) (get_or_past (kept c) b empty_row (omega (arith, more, rows_stay c)))) tt)
-    (cases_lt b (length c.self.inside.bidders.items))
-  where
-    along : {last last' : Option Accepted} → last ≡ last' → IsNumbered c.self.inside.count last' → IsNumbered c.self.inside.count last
-    along e p = subst (λ (last : Option Accepted). IsNumbered c.self.inside.count last) (sym e) p
+-- the parts of the value that the tables then have
+abbrev closed_parts : After-downward → Parts
+closed_parts c = record {
+  nodes = map (booked c.fold_round.new.self) (places c.self.inside.definition.nodes);
+  bidders = map (state_at c.self.inside.definition c.fold_round.new.self (kept c)) (bidder_places c.self.inside.definition);
+  auctioneer = restored_last c.self.inside.auctioneer;
+  round = c.self.inside.round + c.from.result;
+  stage = c.self.inside.stage;
+  over = c.self.inside.closed || c.is_quiet-quiet.result;
+}
 
-pub invariant_of-self : goal.invariant_of-self
-invariant_of-self c =
-    let a = c.self.inside in
-    let old = c.self.invariant in
-    record {
-      tree = old.tree;
-      rows = rows_stay c ∙ old.rows;
-      most_rows = omega (arith, rows_stay c, old.most_rows);
-      bids = folded_kept a.definition a.books c.fold_round.new.self old.bids (record { standing = c.fold_round.ensures.standing; incoming = c.fold_round.ensures.incoming; quiet = c.fold_round.ensures.quiet });
-      tables = record {
-        reached = subst (λ (t : TreeRules). IsOutcome t.nodes (bid_of c.fold_round.new.self) c.upward.new.outcome) c.tree-tree.ensures c.upward.ensures.outcome;
-        prices = subst (λ (t : TreeRules). HasPrices t.nodes (bid_of c.fold_round.new.self) c.downward.new.prices) c.tree-tree.ensures c.downward.ensures.prices;
-        minima = subst (λ (t : TreeRules). HasMinima t (bid_of c.fold_round.new.self) c.downward.new.prices) c.tree-tree.ensures c.downward.ensures.minima;
-      };
-      count = old.count;
-      numbers = numbers_stay c;
-      number = old.number;
-      round = omega (arith, ap (λ (value : AuctionValue). value.round) c.self.view_is, ap (λ (value : AuctionValue). value.count) c.self.view_is, c.requires, c.from.ensures, at_most_one (not c.is_quiet-quiet.result));
-      some_stage = old.some_stage;
-      most_stage = old.most_stage;
-    }
-  where
-    at_most_one : (b : Bool) → bool_byte b ≤ 1
-    at_most_one true = omega arith
-    at_most_one false = omega arith
-
-pub returns : goal.returns
-returns c =
+seen_closed : (c : After-downward) → value_with c.self.inside.definition c.self.inside.count (closed_parts c) ≡ closed_value (value_inside c.self.inside)
+seen_closed c =
     let a = c.self.inside in
     let quiet : Bool = c.is_quiet-quiet.result in
     let new : IsRenewed a c.fold_round.new.self (kept c) c.percentage-percentage.result = record {
@@ -90,18 +66,11 @@ returns c =
     } in
     let loud : has_open_bid (value_inside a) ≡ not quiet = quiet_seen a c.self.invariant.bids quiet c.is_quiet-quiet.ensures in
     same_value a.definition a.count
-    (record {
-      nodes = map (booked c.fold_round.new.self) (places a.definition.nodes);
-      bidders = map (state_at a.definition c.fold_round.new.self (kept c)) (bidder_places a.definition);
-      auctioneer = kept_last a.auctioneer;
-      round = a.round + c.from.result;
-      stage = a.stage;
-      over = a.closed || quiet;
-    })
+    (closed_parts c)
     (record {
       nodes = (closed_value (value_inside a)).nodes;
       bidders = (closed_value (value_inside a)).bidders;
-      auctioneer = kept_last a.auctioneer;
+      auctioneer = restored_last a.auctioneer;
       round = (closed_value (value_inside a)).round;
       stage = a.stage;
       over = (closed_value (value_inside a)).over;
@@ -114,7 +83,6 @@ returns c =
       stage = refl;
       over = over a.closed quiet (has_open_bid (value_inside a)) loud;
     })
-    ∙ ap closed_value c.self.view_is
   where
     one : (b : Bool) → bool_byte b ≡ cond b 1 0
     one true = refl
@@ -125,3 +93,25 @@ returns c =
     over true false bid e = rw e refl
     over false true bid e = rw e refl
     over false false bid e = rw e refl
+
+pub invariant_of-self : goal.invariant_of-self
+invariant_of-self c =
+    let a = c.self.inside in
+    let old = c.self.invariant in
+    let room : a.round ≤ a.count = omega (arith, ap (λ (value : AuctionValue). value.round) c.self.view_is, ap (λ (value : AuctionValue). value.count) c.self.view_is, c.requires) in
+    record {
+      accepted = old.accepted;
+      proper = subst IsProper (sym (seen_closed c)) (closed_proper (value_inside a) old.proper room);
+      tree = old.tree;
+      rows = rows_stay c ∙ old.rows;
+      most_rows = omega (arith, rows_stay c, old.most_rows);
+      bids = folded_kept a.definition a.books c.fold_round.new.self old.bids (record { standing = c.fold_round.ensures.standing; incoming = c.fold_round.ensures.incoming; quiet = c.fold_round.ensures.quiet });
+      tables = record {
+        reached = subst (λ (t : TreeRules). IsOutcome t.nodes (bid_of c.fold_round.new.self) c.upward.new.outcome) c.tree-tree.ensures c.upward.ensures.outcome;
+        prices = subst (λ (t : TreeRules). HasPrices t.nodes (bid_of c.fold_round.new.self) c.downward.new.prices) c.tree-tree.ensures c.downward.ensures.prices;
+        minima = subst (λ (t : TreeRules). HasMinima t (bid_of c.fold_round.new.self) c.downward.new.prices) c.tree-tree.ensures c.downward.ensures.minima;
+      };
+    }
+
+pub returns : goal.returns
+returns c = seen_closed c ∙ ap closed_value c.self.view_is

@@ -1,0 +1,37 @@
+-- The law of each table.
+use Rattle.std.specs.Prelude.{◌≡◌, ℕ, ◌*◌, List, ◌++◌, length, take, drop}
+use Rattle.hpb_rules.specs.declared.saved.Saved.{Saved}
+use Rattle.hpb_rules.specs.Tree.{Rules}
+use Rattle.hpb_codec.specs.Batches.{SpellsBatch}
+use Rattle.hpb_codec.specs.Heads.{SpellsHead}
+use Rattle.hpb_codec.specs.Records.{SpellsRecord}
+use Rattle.hpb_codec.specs.States.{SpellsState}
+
+-- A value has one spelling, and bytes spell at most one value.
+pub record IsOneToOne {V : Type 0} (Spells : List ℕ → V → Type 0) : Type 0 where
+  pub one_spelling : (value : V) (bytes others : List ℕ) → Spells bytes value → Spells others value → bytes ≡ others
+  pub one_value : (bytes : List ℕ) (value other : V) → Spells bytes value → Spells bytes other → value ≡ other
+
+-- So it is of records.
+abbrev pub RecordsAreOne : Type 0
+RecordsAreOne = IsOneToOne SpellsRecord
+
+-- So it is of the bodies of frames.
+abbrev pub BatchesAreOne : Type 0
+BatchesAreOne = (rules : Rules) → IsOneToOne (SpellsBatch rules)
+
+-- So it is of the bodies of slots, which spell what is saved and a batch index.
+abbrev pub StatesAreOne : Type 0
+StatesAreOne = (rules : Rules) → IsOneToOne {V = Saved × ℕ} (λ bytes state. SpellsState rules bytes state.0 state.1)
+
+-- So it is of heads.
+abbrev pub HeadsAreOne : Type 0
+HeadsAreOne = IsOneToOne SpellsHead
+
+-- Chunk i of a body, a page of 4,096 bytes.
+unfoldable pub chunk_of : ℕ → List ℕ → List ℕ
+chunk_of i body = take 4096 (drop (i * 4096) body)
+
+-- The four chunks of a body, one behind the other, are the body.
+abbrev pub ChunksAreBody : Type 0
+ChunksAreBody = (body : List ℕ) → length body ≡ 16384 → body ≡ chunk_of 0 body ++ chunk_of 1 body ++ chunk_of 2 body ++ chunk_of 3 body
