@@ -7,6 +7,8 @@ pub mod HeadPages
 pub mod Lasts
 pub mod Names
 pub mod Numbers
+pub mod OneHead
 pub mod OneToOne
+pub mod Sound
 pub mod States
 pub mod Tables
