@@ -100,6 +100,10 @@ bidder_read bidder entry name rest after units has e cut len four small =
 pub same_bidder : {n m : List ℕ} {u v : ℕ} → n ≡ m → u ≡ v → ◌≡◌ {A = Bidder} (record { name = n; units = u }) (record { name = m; units = v })
 same_bidder e f = cc
 
+pub parent_small : (p : Option ℕ) → IfSome p (λ q. q < 255) → nodes.parent_byte p < 256
+parent_small None h = omega arith
+parent_small (Some p) h = omega (arith, h)
+
 -- the fields of a node's bytes, as they are read one behind the other
 module _ (entry name r1 r2 r3 unused r4 r5 r6 : List ℕ) (parent kind units opening : ℕ)
     (cut : entry ≡ name ++ r1) (len : length name ≡ 16) (e1 : r1 ≡ number 1 parent ++ r2) (e2 : r2 ≡ number 1 kind ++ r3) (e3 : r3 ≡ unused ++ r4) (two : length unused ≡ 2) (e4 : r4 ≡ number 4 units ++ r5) (e5 : r5 ≡ number 8 opening ++ r6)
@@ -126,10 +130,6 @@ module _ (entry name r1 r2 r3 unused r4 r5 r6 : List ℕ) (parent kind units ope
     pub name_is : name ≡ filled 16 node.name
     pub parent_is : parent ≡ nodes.parent_byte node.parent
     pub terms_are : (read : Option TermsDraft) → (kind ≡ 1 → read ≡ Some (record { units = units; opening = opening })) → (kind ≡ 0 → read ≡ None) → option_map terms_said read ≡ node.terms
-
-  parent_small : (p : Option ℕ) → IfSome p (λ q. q < 255) → nodes.parent_byte p < 256
-  parent_small None h = omega arith
-  parent_small (Some p) h = omega (arith, h)
 
   pub node_read : (node : Node) → nodes.HasEntry node → entry ≡ nodes.node_of node → ReadsNode node
   unfolding nodes.entry_of

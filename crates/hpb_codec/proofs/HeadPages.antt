@@ -71,6 +71,13 @@ filled_sized : (size : ℕ) (bytes : List ℕ) → length bytes ≤ size → len
 unfolding filled
 filled_sized size bytes fits = length-append bytes (number (size - length bytes) 0) ∙ omega (arith, length-number (size - length bytes) 0)
 
+-- a page is full
+pub head_page_sized : (rules : Rules) (pages : ℕ) → IsDefinition rules → length (head_page_of rules pages) ≡ 4080
+head_page_sized rules pages def = filled_sized 4080 (head_fields rules pages) (omega (arith, fields_sized rules pages def.stages.1))
+
+pub node_page_sized : (rules : Rules) → IsDefinition rules → length (node_page_of rules.nodes) ≡ 4096
+node_page_sized rules def = filled_sized 4096 (flat_map node_of rules.nodes) (omega (arith, entries_sized node_of HasEntry 32 node_sized rules.nodes (nodes_fit rules def), def.nodes.1))
+
 -- the pages of a head are what its bytes are cut into
 pub record Cut (rules : Rules) (pages : ℕ) (page nodes bidders : List ℕ) : Type 0 where
   pub head : page ≡ head_page_of rules pages
@@ -81,10 +88,8 @@ pub cut_head : (rules : Rules) (pages : ℕ) → IsDefinition rules → (bytes p
     → Cut rules pages page nodes bidders
 unfolding head_of
 cut_head rules pages def bytes page rest nodes bidders cut size cut_rest node_size e =
-    let few : length (head_fields rules pages) ≤ 4080 = omega (arith, fields_sized rules pages def.stages.1) in
-    let some : length (flat_map node_of rules.nodes) ≤ 4096 = omega (arith, entries_sized node_of HasEntry 32 node_sized rules.nodes (nodes_fit rules def), def.nodes.1) in
-    let s0 = same_text 4080 page (head_page_of rules pages) rest _ size (filled_sized 4080 (head_fields rules pages) few) (sym cut ∙ e) in
-    let s1 = same_text 4096 nodes (node_page_of rules.nodes) bidders _ node_size (filled_sized 4096 (flat_map node_of rules.nodes) some) (sym cut_rest ∙ s0.1) in
+    let s0 = same_text 4080 page (head_page_of rules pages) rest _ size (head_page_sized rules pages def) (sym cut ∙ e) in
+    let s1 = same_text 4096 nodes (node_page_of rules.nodes) bidders _ node_size (node_page_sized rules def) (sym cut_rest ∙ s0.1) in
     record { head = s0.0; node_page = s1.0; bidder_page = s1.1 ∙ append-nil (bidder_page_of rules.bidders) }
 
 pub same_head : {d e : Rules} {p q : ℕ} → d ≡ e → p ≡ q → ◌≡◌ {A = Head} (record { definition = d; journal_pages = p }) (record { definition = e; journal_pages = q })

@@ -7,6 +7,7 @@ pub mod HeadPages
 pub mod Lasts
 pub mod Names
 pub mod Numbers
+pub mod OneHead
 pub mod OneToOne
 pub mod Sound
 pub mod States

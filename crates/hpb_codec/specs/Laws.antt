@@ -4,6 +4,7 @@ use Rattle.hpb_rules.specs.declared.saved.Saved.{Saved}
 use Rattle.hpb_rules.specs.Tree.{Rules}
 use Rattle.hpb_codec.specs.declared.batch.Batch.{Batch}
 use Rattle.hpb_codec.specs.Batches.{SpellsBatch}
+use Rattle.hpb_codec.specs.Heads.{SpellsHead}
 use Rattle.hpb_codec.specs.Numbers.{leading}
 use Rattle.hpb_codec.specs.Records.{SpellsRecord}
 use Rattle.hpb_codec.specs.States.{SpellsState}
@@ -28,6 +29,10 @@ BatchBegins = (rules : Rules) (bytes : List ℕ) (batch : Batch) → SpellsBatch
 -- So it is of the bodies of slots, which spell what is saved and a batch index.
 abbrev pub StatesAreOne : Type 0
 StatesAreOne = (rules : Rules) → IsOneToOne {V = Saved × ℕ} (λ bytes state. SpellsState rules bytes state.0 state.1)
+
+-- So it is of heads.
+abbrev pub HeadsAreOne : Type 0
+HeadsAreOne = IsOneToOne SpellsHead
 
 -- Chunk i of a body, a page of 4,096 bytes.
 unfoldable pub chunk_of : ℕ → List ℕ → List ℕ

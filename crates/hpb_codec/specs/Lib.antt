@@ -1,9 +1,9 @@
 pub mod Batches
 pub mod BidderEntries
-pub mod Laws
 pub mod BidderPages
 pub mod HeadFields
 pub mod Heads
+pub mod Laws
 pub mod NodeEntries
 pub mod NodePages
 pub mod Numbers

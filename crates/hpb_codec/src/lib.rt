@@ -25,7 +25,9 @@ mod writer;
 
 pub use batch::{BATCH_SIZE, Batch, decode_batch, encode_batch};
 pub use head::{HEAD_SIZE, Head, decode_head, encode_head, has_magic};
-pub use laws::{batch_begins, batches_are_one, chunks_are_body, records_are_one, states_are_one};
+pub use laws::{
+    batch_begins, batches_are_one, chunks_are_body, heads_are_one, records_are_one, states_are_one,
+};
 pub use reader::{
     front_bytes, front_u8, front_u16, front_u32, front_u64, front_u128, is_same, is_zero,
 };

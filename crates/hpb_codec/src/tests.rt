@@ -2,4 +2,5 @@
 
 mod batches;
 mod examples;
+mod heads;
 mod states;

@@ -12,7 +12,8 @@ use Rattle.hpb_journal.specs.Frames.{Kept, joined}
 use Rattle.hpb_journal.specs.Journals.{IsJournal, PagesAreJournal}
 use Rattle.hpb_slots.specs.Newest.{IsNewest}
 use Rattle.hpb_slots.specs.Laws.{NewestIsOne}
-use Rattle.hpb_image.specs.Drafts.{Head, HeadsAreOne}
+use Rattle.hpb_codec.specs.declared.head.Head.{Head}
+use Rattle.hpb_codec.specs.Laws.{HeadsAreOne}
 use Rattle.hpb_image.specs.Heads.{IsLaidOut, layout_of}
 use Rattle.hpb_image.specs.Readings.{Found, Reaches, HasLater, layout_in, checkpoint, next_index}
 
@@ -23,7 +24,7 @@ joined_both (commands ∷ batches) others = ap (λ (l : List Command). commands 
 -- Two readings agree on all but how far they went.
 module _ (heads : HeadsAreOne) (newest : NewestIsOne) (pages : PagesAreJournal) (f g : Found) (image : List ℕ) (one : Reaches f image) (other : Reaches g image) where
   pub heads_agree : f.head ≡ g.head
-  heads_agree = heads (part 16 12272 image) f.head g.head one.laid.spelled other.laid.spelled
+  heads_agree = heads.one_value (part 16 12272 image) f.head g.head one.laid.spelled other.laid.spelled
 
   newest_here : IsNewest f.head.definition g.slot g.covered g.saved image
   newest_here = subst (λ (head : Head). IsNewest head.definition g.slot g.covered g.saved image) (sym heads_agree) other.newest

@@ -12,7 +12,8 @@ use Rattle.hpb_journal.specs.Frames.{IsOwn, IsFrame, Kept, joined}
 use Rattle.hpb_journal.specs.Journals.{IsJournal, PagesAreJournal}
 use Rattle.hpb_image.specs.declared.flaw.Flaw.{Flaw}
 use Rattle.hpb_image.specs.declared.flaw.Flaw.TheVariants.{Unformatted, Layout, Checkpoint, Frame}
-use Rattle.hpb_image.specs.Drafts.{Head, HeadsAreOne}
+use Rattle.hpb_codec.specs.declared.head.Head.{Head}
+use Rattle.hpb_codec.specs.Laws.{HeadsAreOne}
 use Rattle.hpb_image.specs.Heads.{IsLaidOut, layout_of}
 use Rattle.hpb_slots.specs.Slots.{Holds}
 use Rattle.hpb_slots.specs.Newest.{IsWithout}
@@ -68,7 +69,7 @@ module _ (heads : HeadsAreOne) (f : Found) (image : List ℕ) (reaches : Reaches
   -- what is read has a state in a slot, under the one head that there is
   has_state : (head : Head) → IsLaidOut head image → IsWithout head.definition image → ⊥
   has_state head laid none =
-      let same : f.head ≡ head = heads (part 16 12272 image) f.head head reaches.laid.spelled laid.spelled in
+      let same : f.head ≡ head = heads.one_value (part 16 12272 image) f.head head reaches.laid.spelled laid.spelled in
       none f.slot f.covered f.saved (subst (λ (head : Head). Holds head.definition f.slot f.covered f.saved image) same reaches.newest.holds)
 
   reached : (flaw : Flaw) → HasFlaw flaw image → flaw ≡ Frame

@@ -10,7 +10,7 @@ use Rattle.hpb_rules.proofs.RunLaws.{rest_is_accepted, rest_is_shown}
 use Rattle.hpb_slots.specs.Laws.{NewestIsOne}
 use Rattle.hpb_journal.specs.Frames.{Kept, joined}
 use Rattle.hpb_journal.specs.Journals.{PagesAreJournal}
-use Rattle.hpb_image.specs.Drafts.{HeadsAreOne}
+use Rattle.hpb_codec.specs.Laws.{HeadsAreOne}
 use Rattle.hpb_image.specs.Heads.{layout_of}
 use Rattle.hpb_image.specs.Standing.{Stands}
 use Rattle.hpb_image.specs.Readings.{Found, Reads, layout_in, checkpoint, last_value}

@@ -1,4 +1,3 @@
-pub mod Drafts
 pub mod Heads
 pub mod Standing
 pub mod Readings

@@ -1,7 +1,7 @@
 //! The laws of what an image stands for.
-ghost use Rattle.hpb_image.specs.Drafts.{HeadsAreOne};
 ghost use Rattle.hpb_image.specs.Laws.{FlawIsOne, ReadIsFlawless, ReadIsShown, ReadingIsOne, StandsForOne, StandsIsRead};
 
+use hpb_codec::heads_are_one;
 use hpb_journal::pages_are_journal;
 use hpb_slots::newest_is_one;
 
@@ -13,37 +13,43 @@ pub fn stands_is_read()
 
 /// One thing at most is to be read in an image.
 pub fn reading_is_one()
-    ensures { HeadsAreOne → ReadingIsOne }
+    ensures { ReadingIsOne }
 {
+    heads_are_one();
     newest_is_one();
     pages_are_journal();
 }
 
 /// The value that is read in an image shows each list of commands that the image stands for.
 pub fn read_is_shown()
-    ensures { HeadsAreOne → ReadIsShown }
+    ensures { ReadIsShown }
 {
+    heads_are_one();
     newest_is_one();
     pages_are_journal();
 }
 
 /// An image stands for one value at most.
 pub fn stands_for_one()
-    ensures { HeadsAreOne → StandsForOne }
+    ensures { StandsForOne }
 {
+    heads_are_one();
     newest_is_one();
     pages_are_journal();
 }
 
 /// An image has one flaw at most.
 pub fn flaw_is_one()
-    ensures { HeadsAreOne → FlawIsOne }
-{}
+    ensures { FlawIsOne }
+{
+    heads_are_one();
+}
 
 /// What can be read has no flaw.
 pub fn read_is_flawless()
-    ensures { HeadsAreOne → ReadIsFlawless }
+    ensures { ReadIsFlawless }
 {
+    heads_are_one();
     newest_is_one();
     pages_are_journal();
 }

@@ -43,6 +43,7 @@ pub record IsReplayed (layout : Layout) (covered next : ℕ) (known : List Bool)
   pub most : length known ≤ layout.count
   pub gates : AreGates layout covered known image
   pub ended : NoneIsOwn layout next (covered + length known) image
+  pub all : next ≡ covered + length known → length known ≡ layout.count
 
 -- The frames from an index on are clean up to the first that is open, or to the end.
 pub record IsClean (layout : Layout) (next end clean : ℕ) (image : List ℕ) : Type 0 where
@@ -50,3 +51,19 @@ pub record IsClean (layout : Layout) (next end clean : ℕ) (image : List ℕ) :
   pub to : clean ≤ end
   pub shut : (b : ℕ) → next ≤ b → b < clean → IsOpen layout b image → ⊥
   pub first : clean < end → IsOpen layout clean image
+
+-- Reading stops, though that frame or a later one is open with its own index.
+pub record IsBroken (layout : Layout) (covered : ℕ) (value : AuctionValue) (image : List ℕ) : Type 0 where
+  pub next : ℕ
+  pub reached : AuctionValue
+  pub leads : Leads layout covered value image next reached
+  pub stopped : HasStopped layout value.rules next reached image
+  pub later : OneIsOwn layout next (covered + layout.count) image
+
+-- All batches were read, and what is behind them.
+pub record IsWhole (layout : Layout) (covered : ℕ) (value : AuctionValue) (image : List ℕ) (next clean : ℕ) (known : List Bool) (reached : AuctionValue) : Type 0 where
+  pub leads : Leads layout covered value image next reached
+  pub ended : NoneIsOwn layout next (covered + layout.count) image
+  pub clean_ones : IsClean layout next (covered + layout.count) clean image
+  pub gates : AreGates layout covered known image
+  pub all : length known ≡ layout.count

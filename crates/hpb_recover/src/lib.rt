@@ -2,6 +2,7 @@
 #![tactic(auto)]
 
 mod cause;
+mod journal;
 mod replay;
 mod rest;
 
