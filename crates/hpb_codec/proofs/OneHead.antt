@@ -1,12 +1,12 @@
 -- The law of heads: bytes are the head of at most one definition with one journal.
-use Rattle.std.proofs.Common.{◌≡◌, ℕ, ◌*◌, ◌<◌, ◌≤◌, List, [], ◌∷◌, ◌++◌, length, take, Option, Some, None, refl, sym, ap, ◌∙◌, arith}
+use Rattle.std.proofs.Common.{◌≡◌, ℕ, ◌*◌, ◌<◌, List, [], ◌∷◌, ◌++◌, length, take, Option, Some, None, refl, sym, ap, ◌∙◌, arith}
 use Rattle.std.specs.Prelude.{◌==◌, ◌^◌, IfSome}
 use Rattle.std.specs.List.{flat_map, position, AllByRecursion}
 use Rattle.std.specs.Option.{unwrap_or}
 use Rattle.std.proofs.lemmas.List.{append-nil}
 use Rattle.std.proofs.lemmas.List.Concat.{flat_map-cons}
 use Rattle.hpb_rules.specs.declared.licence.Terms.{Terms}
-use Rattle.hpb_rules.specs.Tree.{Rules, Node, Bidder}
+use Rattle.hpb_rules.specs.Tree.{Node, Bidder}
 use Rattle.hpb_rules.specs.Definitions.{IsName}
 use Rattle.hpb_rules.proofs.TreeLaws.{accepted_is_definition}
 use Rattle.hpb_codec.specs.declared.head.Head.{Head}
@@ -14,7 +14,7 @@ use Rattle.hpb_codec.specs.Numbers.{number, filled, before}
 use Rattle.hpb_codec.specs.Sizes.{length-number}
 use Rattle.hpb_codec.specs.NodePages as nodes
 use Rattle.hpb_codec.specs.BidderPages as bidders
-use Rattle.hpb_codec.specs.Heads.{head_fields, head_of, head_page_of, magic, SpellsHead}
+use Rattle.hpb_codec.specs.Heads.{head_of, head_page_of, magic, SpellsHead}
 use Rattle.hpb_codec.proofs.Names.{name_cut}
 use Rattle.hpb_codec.proofs.Fronts.{same_text}
 use Rattle.hpb_codec.proofs.Definitions.{bidders_fit, nodes_fit, same_rules}
