@@ -1,6 +1,8 @@
 //! The body of a slot: a state.
-ghost use Rattle.std.specs.Prelude.{◌≡◌, ◌<◌, ℕ, List, Some, IfSome, IsSomeAnd, length};
+ghost use Rattle.std.specs.Prelude.{◌≡◌, ◌<◌, ◌≤◌, ℕ, List, Some, IfSome, IsSomeAnd, length};
 ghost use Rattle.hpb_rules.specs.declared.saved.Saved.{Saved};
+ghost use Rattle.hpb_rules.specs.Saved.{IsSaved};
+ghost use Rattle.hpb_rules.specs.Tree.{Rules};
 ghost use Rattle.hpb_codec.specs.Numbers.{filled};
 ghost use Rattle.hpb_codec.specs.declared.state.TheConstants.{CHUNKS, CHUNK_SIZE, STATE_SIZE};
 ghost use Rattle.hpb_codec.specs.Laws.{chunk_of};
@@ -40,7 +42,8 @@ fn head_of(saved: &Saved, index: u64) -> StateHead
 /// Writes the body of what is saved and of the number of batches that it covers, every byte of it.
 pub fn encode_state(saved: &Saved, index: u64, out: &mut [u8])
     requires { length out.old ≡ STATE_SIZE }
-    ensures { out.new ≡ state_of saved.now index }
+    ensures written { out.new ≡ state_of saved.now index }
+    ensures spelled { (rules : Rules) → IsSaved rules saved.now → index ≤ saved.now.count → SpellsState rules out.new saved.now index }
 {
     let at = head_of(saved, index).put(out, 0);
     let at = put_table(out, at, &saved.nodes);

@@ -2,7 +2,7 @@
 ghost use Rattle.std.specs.Prelude.{◌≡◌, ◌≤◌, ◌+◌, ◌++◌, Bool, Some, IfSome, length};
 ghost use Rattle.hpb_codec.specs.Numbers.{before};
 ghost use Rattle.hpb_codec.specs.declared.state_head.StateHead.{StateHead};
-ghost use Rattle.hpb_codec.specs.States.{flag, head_fields, head_sized, HasHead};
+ghost use Rattle.hpb_codec.specs.States.{flag, head_fields, head_sized, HasHead, HeadHasTicket};
 
 use crate::bidder_entry::{last_of, put_last, put_last_record};
 use crate::reader::{front_bytes, front_u8, front_u32, front_u64, is_same};
@@ -78,6 +78,8 @@ impl Entry for StateHead {
     ghost spelling = { head_fields };
 
     ghost fits = { HasHead };
+
+    ghost sound = { HeadHasTicket };
 
     fn put(&self, out: &mut [u8], at: usize) -> usize {
         let at = put_u8(out, at, STATE_FORMAT);
