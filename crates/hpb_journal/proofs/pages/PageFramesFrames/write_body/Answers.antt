@@ -11,7 +11,7 @@ returns-in-Ok-clause-written g c rules is =
       is = is;
       spelled = body_says c.elsewhere_stays.ensures c.put_is_torn.ensures c.args.self.now.count c.args.batch.now.index (c.page.result + 16) c.encode_batch.new.out here c.encode_batch.auto.out
           c.put_is_read.ensures (d.seen c.args.disk.now) (d.seen c.write_at.new.self) (omega (arith, c.page.ensures.inside, c.requires.room, c.encode_batch.auto.out)) c.in-Ok.ensures.written
-          ∙ c.encode_batch.ensures;
+          ∙ c.encode_batch.ensures.written;
     }
 
 pub returns-in-Ok-clause-rest : goal.returns-in-Ok-clause-rest
