@@ -1,7 +1,11 @@
 pub mod Batches
 pub mod Chunks
+pub mod Definitions
+pub mod Entries
 pub mod Fronts
+pub mod HeadPages
 pub mod Lasts
+pub mod Names
 pub mod Numbers
 pub mod OneToOne
 pub mod Sound

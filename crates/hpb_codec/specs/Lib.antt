@@ -1,7 +1,11 @@
 pub mod Batches
 pub mod BidderEntries
 pub mod Laws
+pub mod BidderPages
+pub mod HeadFields
+pub mod Heads
 pub mod NodeEntries
+pub mod NodePages
 pub mod Numbers
 pub mod Records
 pub mod Sizes

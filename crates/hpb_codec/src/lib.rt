@@ -8,8 +8,12 @@
 
 mod batch;
 mod bidder_entry;
+mod bidders;
+mod head;
 mod laws;
+mod name;
 mod node_entry;
+mod nodes;
 mod reader;
 mod record;
 mod state;
@@ -20,6 +24,7 @@ mod tests;
 mod writer;
 
 pub use batch::{BATCH_SIZE, Batch, decode_batch, encode_batch};
+pub use head::{HEAD_SIZE, Head, decode_head, encode_head, has_magic};
 pub use laws::{batch_begins, batches_are_one, chunks_are_body, records_are_one, states_are_one};
 pub use reader::{
     front_bytes, front_u8, front_u16, front_u32, front_u64, front_u128, is_same, is_zero,

@@ -12,7 +12,8 @@ use Rattle.hpb_journal.specs.Frames.{Kept, joined}
 use Rattle.hpb_journal.specs.Journals.{IsJournal, PagesAreJournal}
 use Rattle.hpb_slots.specs.Newest.{IsNewest}
 use Rattle.hpb_slots.specs.Laws.{NewestIsOne}
-use Rattle.hpb_image.specs.Drafts.{Head, HeadsAreOne}
+use Rattle.hpb_codec.specs.declared.head.Head.{Head}
+use Rattle.hpb_image.specs.Drafts.{HeadsAreOne}
 use Rattle.hpb_image.specs.Heads.{IsLaidOut, layout_of}
 use Rattle.hpb_image.specs.Readings.{Found, Reaches, HasLater, layout_in, checkpoint, next_index}
 

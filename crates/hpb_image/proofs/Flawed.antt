@@ -12,7 +12,8 @@ use Rattle.hpb_journal.specs.Frames.{IsOwn, IsFrame, Kept, joined}
 use Rattle.hpb_journal.specs.Journals.{IsJournal, PagesAreJournal}
 use Rattle.hpb_image.specs.declared.flaw.Flaw.{Flaw}
 use Rattle.hpb_image.specs.declared.flaw.Flaw.TheVariants.{Unformatted, Layout, Checkpoint, Frame}
-use Rattle.hpb_image.specs.Drafts.{Head, HeadsAreOne}
+use Rattle.hpb_codec.specs.declared.head.Head.{Head}
+use Rattle.hpb_image.specs.Drafts.{HeadsAreOne}
 use Rattle.hpb_image.specs.Heads.{IsLaidOut, layout_of}
 use Rattle.hpb_slots.specs.Slots.{Holds}
 use Rattle.hpb_slots.specs.Newest.{IsWithout}

@@ -6,7 +6,8 @@ use Rattle.hpb_rules.specs.declared.saved.Saved.{Saved}
 use Rattle.hpb_slots.specs.declared.slot.Slot.{Slot}
 use Rattle.hpb_slots.specs.Laws.{NewestIsOne}
 use Rattle.hpb_journal.specs.Journals.{PagesAreJournal}
-use Rattle.hpb_image.specs.Drafts.{Head, HeadsAreOne}
+use Rattle.hpb_codec.specs.declared.head.Head.{Head}
+use Rattle.hpb_image.specs.Drafts.{HeadsAreOne}
 use Rattle.hpb_image.specs.Readings.{Found, Reaches, Reads}
 use Rattle.hpb_image.specs.Laws.{ReadingIsOne}
 use Rattle.hpb_image.proofs.Agreeing.{heads_agree, slot_agrees, covered_agrees, saved_agrees, is_front, no_longer}

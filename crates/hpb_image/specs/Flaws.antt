@@ -8,7 +8,7 @@ use Rattle.hpb_journal.specs.Frames.{IsFrame}
 use Rattle.hpb_image.specs.declared.flaw.Flaw.{Flaw}
 use Rattle.hpb_image.specs.declared.flaw.Flaw.TheVariants as flaws
 use Rattle.hpb_slots.specs.Newest.{IsWithout}
-use Rattle.hpb_image.specs.Drafts.{Head}
+use Rattle.hpb_codec.specs.declared.head.Head.{Head}
 use Rattle.hpb_image.specs.Heads.{IsFormatted, IsLaidOut}
 use Rattle.hpb_image.specs.Readings.{Found, Reaches, HasLater, layout_in, next_index, last_value}
 

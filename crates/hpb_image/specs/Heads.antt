@@ -4,8 +4,10 @@ use Rattle.hpb_disk.specs.Images.{part}
 use Rattle.hpb_disk.specs.Gates.{HasOpenGate}
 use Rattle.hpb_journal.specs.Layouts.{Layout}
 use Rattle.hpb_journal.specs.Pages.{page_layout}
-use Rattle.hpb_image.specs.declared.limits.TheConstants.{PAGE_BYTES, HEAD_AT, HEAD_BYTES, MAGIC_BYTES, LEAST_PAGES}
-use Rattle.hpb_image.specs.Drafts.{Head, SpellsHead, magic}
+use Rattle.hpb_image.specs.declared.limits.TheConstants.{PAGE_BYTES, HEAD_AT, MAGIC_BYTES, LEAST_PAGES}
+use Rattle.hpb_codec.specs.Heads.{SpellsHead, magic}
+use Rattle.hpb_codec.specs.declared.head.Head.{Head}
+use Rattle.hpb_codec.specs.declared.head.TheConstants.{HEAD_SIZE}
 
 -- The head's gate is open, and behind it is the text that a head begins with.
 pub record IsHeaded (image : List ℕ) : Type 0 where
@@ -24,5 +26,5 @@ layout_of head = page_layout head.journal_pages
 
 -- The first three pages spell this head, and the image is as long as its layout wants.
 pub record IsLaidOut (head : Head) (image : List ℕ) : Type 0 where
-  pub spelled : SpellsHead (part HEAD_AT HEAD_BYTES image) head
+  pub spelled : SpellsHead (part HEAD_AT HEAD_SIZE image) head
   pub size : length image ≡ (layout_of head).size

@@ -10,7 +10,7 @@ use Rattle.hpb_journal.specs.Layouts.{Layout}
 use Rattle.hpb_journal.specs.Frames.{IsOwn, Kept, joined}
 use Rattle.hpb_slots.specs.declared.slot.Slot.{Slot}
 use Rattle.hpb_slots.specs.Newest.{IsNewest}
-use Rattle.hpb_image.specs.Drafts.{Head}
+use Rattle.hpb_codec.specs.declared.head.Head.{Head}
 use Rattle.hpb_image.specs.Heads.{IsFormatted, IsLaidOut, layout_of}
 
 -- The head, the newest slot, how many batches it covers and what is saved there, and the batches after it.

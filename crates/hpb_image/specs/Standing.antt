@@ -9,7 +9,7 @@ use Rattle.hpb_rules.specs.Saved.{restored}
 use Rattle.hpb_journal.specs.Frames.{IsOwn, Kept, joined}
 use Rattle.hpb_slots.specs.declared.slot.Slot.{Slot}
 use Rattle.hpb_slots.specs.Newest.{IsNewest}
-use Rattle.hpb_image.specs.Drafts.{Head}
+use Rattle.hpb_codec.specs.declared.head.Head.{Head}
 use Rattle.hpb_image.specs.Heads.{IsFormatted, IsLaidOut, layout_of}
 
 -- An image stands for a list of commands where the newest slot shows a front of the list, and the frames from the slot's index on spell the

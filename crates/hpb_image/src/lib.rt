@@ -13,4 +13,4 @@ pub use flaw::Flaw;
 pub use laws::{
     flaw_is_one, read_is_flawless, read_is_shown, reading_is_one, stands_for_one, stands_is_read,
 };
-pub use limits::{HEAD_AT, HEAD_BYTES, LEAST_PAGES, MAGIC_BYTES, PAGE_BYTES};
+pub use limits::{HEAD_AT, LEAST_PAGES, MAGIC_BYTES, PAGE_BYTES};

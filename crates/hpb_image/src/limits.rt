@@ -7,8 +7,5 @@ pub const LEAST_PAGES: usize = 17;
 /// Where the head begins, behind its gate.
 pub const HEAD_AT: usize = 16;
 
-/// The bytes of the head, to the end of the third page.
-pub const HEAD_BYTES: usize = 12_272;
-
 /// The bytes of the text that a head begins with.
 pub const MAGIC_BYTES: usize = 8;

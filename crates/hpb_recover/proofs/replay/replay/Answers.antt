@@ -1,0 +1,62 @@
+use Rattle.std.proofs.Common.{rules, ◌≡◌, ◌+◌, ℕ, List, sym, ◌∙◌, subst, arith}
+use Rattle.hpb_rules.specs.Tree.{Rules}
+use Rattle.hpb_rules.specs.AuctionValue.{AuctionValue}
+use Rattle.hpb_journal.specs.Layouts.{Layout}
+use Rattle.hpb_journal.specs.Frames.{IsRead, IsFrame}
+use Rattle.hpb_journal.specs.declared.frame.Frame.{Frame}
+use Rattle.hpb_recover.specs.Replaying.{AreGates, HasStopped}
+use Rattle.hpb_recover.proofs.Leading.{led_rules, leads_on, own_of_frame, has_stopped}
+use Rattle.hpb_recover.proofs.replay.replay.Goals as goal
+
+pub returns-in-Damaged-clause-next : goal.returns-in-Damaged-clause-next
+returns-in-Damaged-clause-next g c =
+    let layout = g.F.Frames.layout c.args.frames.now in
+    let b = c.loop-index.index in
+    let image = g.D.Disk.seen c.args.disk.now in
+    let inv = c.loop-index.invariant in
+    let rules = c.definition.ensures ∙ led_rules layout c.args.covered c.args.auction.now image b c.loop-index.auction inv.leads in
+    let read = subst (λ (l : List ℕ). IsRead layout c.definition.result.now b l c.in_ok-read_frame.field-0) inv.same c.in_ok-read_frame.ensures.frame in
+    let here = subst (λ (r : Rules). IsRead layout r b image c.in_ok-read_frame.field-0) rules read in
+    let damaged = subst (IsRead layout c.args.auction.now.rules b image) c.in-Damaged.is here in
+    (b, c.loop-index.auction, inv.leads, omega (arith, c.loop-index-test.true, c.count.ensures), damaged.0, λ commands frame accepted. damaged.1 _ commands frame)
+
+pub returns-then-not-goes_on-clause-next : goal.returns-then-not-goes_on-clause-next
+returns-then-not-goes_on-clause-next g c =
+    let layout = g.F.Frames.layout c.args.frames.now in
+    let b = c.loop-index.index in
+    let image = g.D.Disk.seen c.args.disk.now in
+    let inv = c.loop-index.invariant in
+    let batch = c.in-Batch.batch in
+    let read = subst (λ (l : List ℕ). IsRead layout c.definition.result.now b l c.in_ok-read_frame.field-0) inv.same c.in_ok-read_frame.ensures.frame in
+    let here = subst (λ (r : Rules). IsRead layout r b image c.in_ok-read_frame.field-0) c.definition.ensures read in
+    let filled = subst (IsRead layout c.loop-index.auction.rules b image) c.in-Batch.is here in
+    let led = led_rules layout c.args.covered c.args.auction.now image b c.loop-index.auction inv.leads in
+    let stopped = has_stopped layout c.laws.ensures b batch.first c.loop-index.auction batch.commands image filled.1 c.if-not-goes_on.ensures in (
+      b,
+      c.loop-index.auction,
+      inv.leads,
+      omega (arith, c.loop-index-test.true, c.count.ensures),
+      own_of_frame layout c.laws.ensures c.loop-index.auction.rules b batch.first batch.commands image filled.1,
+      subst (λ (r : Rules). HasStopped layout r b c.loop-index.auction image) led stopped,
+    )
+
+pub loop-index-preserved : goal.loop-index-preserved
+loop-index-preserved g c =
+    let layout = g.F.Frames.layout c.args.frames.now in
+    let b = c.loop-index.index in
+    let image = g.D.Disk.seen c.args.disk.now in
+    let inv = c.loop-index.invariant in
+    let batch = c.in-Batch.batch in
+    let read = subst (λ (l : List ℕ). IsRead layout c.definition.result.now b l c.in_ok-read_frame.field-0) inv.same c.in_ok-read_frame.ensures.frame in
+    let here = subst (λ (r : Rules). IsRead layout r b image c.in_ok-read_frame.field-0) c.definition.ensures read in
+    let filled = subst (IsRead layout c.loop-index.auction.rules b image) c.in-Batch.is here in
+    let took = c.if-not-goes_on.ensures in
+    record {
+      same = c.read_frame.ensures.seen ∙ inv.same;
+      crash = λ left may. inv.crash left (c.read_frame.ensures.crash left may);
+      few = omega (arith, c.read_frame.ensures.time.next, inv.few);
+      works = c.in_ok-read_frame.ensures.cause ∙ inv.works;
+      leads = leads_on layout c.args.covered c.args.auction.now image b batch.first c.loop-index.auction batch.commands filled.1 c.kept_goes_on.ensures c.goes_on.new.auction inv.leads took.0 took.1;
+      gates = search rules;
+      known = search rules;
+    }

@@ -1,0 +1,52 @@
+-- How far the batches of a journal lead.
+use Rattle.std.specs.Prelude.{◌≡◌, ◌↔◌, ℕ, suc, ◌+◌, ◌<◌, ◌≤◌, Bool, false, IsTrue, List, length, slice_index_or}
+use Rattle.hpb_rules.specs.declared.command.Command.{Command}
+use Rattle.hpb_rules.specs.Tree.{Rules}
+use Rattle.hpb_rules.specs.AuctionValue.{AuctionValue}
+use Rattle.hpb_rules.specs.Values.{value_after}
+use Rattle.hpb_rules.specs.AcceptedRuns.{AllAccepted}
+use Rattle.hpb_journal.specs.Layouts.{Layout}
+use Rattle.hpb_journal.specs.Frames.{IsFrame, IsOpen, IsOwn, Kept, joined}
+
+-- A batch goes on with a value where it is numbered on and each of its commands is newly accepted.
+abbrev pub GoesOn : AuctionValue → ℕ → List Command → Type 0
+GoesOn value first commands = (first ≡ suc value.count) × AllAccepted value commands
+
+-- From an index on the frames spell batches up to the next index, numbered on and each command newly accepted. They lead from one value to another.
+pub record Leads (layout : Layout) (covered : ℕ) (value : AuctionValue) (image : List ℕ) (next : ℕ) (reached : AuctionValue) : Type 0 where
+  pub batches : List (List Command)
+  pub count : next ≡ covered + length batches
+  pub kept : Kept layout value.rules covered (suc value.count) batches image
+  pub accepted : AllAccepted value (joined batches)
+  pub after : reached ≡ value_after value (joined batches)
+
+-- The frame spells no batch that goes on.
+abbrev pub HasStopped : Layout → Rules → ℕ → AuctionValue → List ℕ → Type 0
+HasStopped layout rules next reached image =
+    (commands : List Command) → IsFrame layout rules next (suc reached.count) commands image → AllAccepted reached commands → ⊥
+
+-- The frames from an index on have these gates: true where one is open.
+abbrev pub AreGates : Layout → ℕ → List Bool → List ℕ → Type 0
+AreGates layout covered gates image = (k : ℕ) → k < length gates → IsTrue (slice_index_or gates k false) ↔ IsOpen layout (covered + k) image
+
+-- Of the frames from one index up to another none is open with its own index.
+abbrev pub NoneIsOwn : Layout → ℕ → ℕ → List ℕ → Type 0
+NoneIsOwn layout start end image = (b : ℕ) → start ≤ b → b < end → IsOwn layout b image → ⊥
+
+-- One of them is.
+abbrev pub OneIsOwn : Layout → ℕ → ℕ → List ℕ → Type 0
+OneIsOwn layout start end image = (b : ℕ) × (start ≤ b) × (b < end) × IsOwn layout b image
+
+-- The gates of the frames before an index are known, and perhaps those of some after it, none of which is open with its own index.
+pub record IsReplayed (layout : Layout) (covered next : ℕ) (known : List Bool) (image : List ℕ) : Type 0 where
+  pub least : next ≤ covered + length known
+  pub most : length known ≤ layout.count
+  pub gates : AreGates layout covered known image
+  pub ended : NoneIsOwn layout next (covered + length known) image
+
+-- The frames from an index on are clean up to the first that is open, or to the end.
+pub record IsClean (layout : Layout) (next end clean : ℕ) (image : List ℕ) : Type 0 where
+  pub from : next ≤ clean
+  pub to : clean ≤ end
+  pub shut : (b : ℕ) → next ≤ b → b < clean → IsOpen layout b image → ⊥
+  pub first : clean < end → IsOpen layout clean image

@@ -1,0 +1,46 @@
+//! Why a device isn't opened.
+ghost use Rattle.std.specs.Prelude.{◌≡◌};
+ghost use Rattle.hpb_recover.specs.declared.cause.Cause.TheVariants.{Device, Memory};
+
+use hpb_disk::DiskFailed;
+use hpb_image::Flaw;
+use std::alloc::{AllocError, AllocFailed};
+use thiserror::Error;
+
+/// Why a device isn't opened. The words are those of an `ERR` line.
+#[derive(Clone, Copy, Debug, PartialEq, Eq, Error)]
+pub enum Cause {
+    /// 40, 42, 44 or 45: what is wrong with its bytes.
+    #[error(transparent)]
+    Flawed(Flaw),
+    /// 90: memory was refused.
+    #[error("memory")]
+    Memory,
+    /// 91: a call of the device failed.
+    #[error("device")]
+    Device,
+}
+
+impl From<DiskFailed> for Cause {
+    ghost from_gives = { λ _ cause. cause ≡ Device };
+
+    fn from(_failed: DiskFailed) -> Cause {
+        Cause::Device
+    }
+}
+
+impl From<AllocError> for Cause {
+    ghost from_gives = { λ _ cause. cause ≡ Memory };
+
+    fn from(_error: AllocError) -> Cause {
+        Cause::Memory
+    }
+}
+
+impl<T: Drop> From<AllocFailed<T>> for Cause {
+    ghost from_gives = { λ _ cause. cause ≡ Memory };
+
+    fn from(_error: AllocFailed<T>) -> Cause {
+        Cause::Memory
+    }
+}

@@ -1,0 +1,104 @@
+//! The batches after a checkpoint.
+ghost use Rattle.std.specs.Prelude.{◌≡◌, ◌+◌, ◌<◌, ◌≤◌, ◌∷◌, [], List, ℕ, length, IfErr, IfOk, MatchBool, MatchOption, OnOk};
+ghost use Rattle.hpb_rules.specs.declared.limits.TheConstants.{MOST_COMMANDS};
+ghost use Rattle.hpb_rules.specs.AuctionValue.{AuctionValue};
+ghost use Rattle.hpb_rules.specs.Values.{value_after};
+ghost use Rattle.hpb_rules.specs.AcceptedRuns.{AllAccepted};
+ghost use Rattle.hpb_recover.specs.Quiet.{IsQuiet};
+ghost use Rattle.hpb_recover.specs.Replaying.{GoesOn, HasStopped, IsReplayed, Leads};
+ghost use Rattle.hpb_recover.specs.Causes.{HasCause};
+ghost use Rattle.hpb_journal.specs.Frames.{IsOwn};
+
+use crate::Cause;
+use hpb_auction::Auction;
+use hpb_codec::Batch;
+use hpb_disk::Disk;
+use hpb_journal::{Frame, Frames, kept_goes_on};
+use hpb_rules::{Command, Reply};
+use hpb_tree::Definition;
+
+// Whether a command is newly accepted. The auction has taken it in then.
+fn is_taken(auction: &mut Auction, command: &Command) -> bool
+    ensures { MatchBool result
+        (AllAccepted auction.old (command.now ∷ []) × (auction.new ≡ value_after auction.old (command.now ∷ [])))
+        (AllAccepted auction.old (command.now ∷ []) → ⊥) }
+{
+    let number = auction.count() + 1;
+    match auction.apply(command) {
+        Reply::Ok(given) => given == number,
+        Reply::Refused(_) => false,
+    }
+}
+
+// Whether all commands are newly accepted. The auction has taken them in then.
+fn are_taken(auction: &mut Auction, commands: &[Command]) -> bool
+    ensures { MatchBool result
+        (AllAccepted auction.old commands.now × (auction.new ≡ value_after auction.old commands.now))
+        (AllAccepted auction.old commands.now → ⊥) }
+{
+    for command in commands {
+        if !is_taken(auction, command) {
+            return false;
+        }
+    }
+    true
+}
+
+// Whether a batch goes on with the auction, which has taken it in then.
+fn goes_on(auction: &mut Auction, batch: &Batch) -> bool
+    ensures { MatchBool result
+        (GoesOn auction.old batch.now.first batch.now.commands × (auction.new ≡ value_after auction.old batch.now.commands))
+        (GoesOn auction.old batch.now.first batch.now.commands → ⊥) }
+{
+    if batch.first != u64::from(auction.count()) + 1 {
+        return false;
+    }
+    are_taken(auction, batch.commands.as_slice())
+}
+
+/// Takes in batch after batch from the frames of a journal, and gives the index after the last one. `None` where a frame
+/// is open with its own index and doesn't go on. The gates of the frames that were read are put behind one another.
+pub(crate) fn replay<D: Disk, F: Frames>(
+    disk: &mut D,
+    frames: &F,
+    covered: u64,
+    auction: &mut Auction,
+    gates: &mut Vec<bool>,
+) -> Result<Option<u64>, Cause>
+    requires most { covered ≤ MOST_COMMANDS }
+    requires room { (F.layout frames.now).size ≤ length (D.seen disk.old) }
+    requires none { gates.old.items ≡ [] }
+    ensures next { IfOk result (λ next. MatchOption next
+        ((b : ℕ) × (reached : AuctionValue) × Leads (F.layout frames.now) covered auction.old (D.seen disk.old) b reached
+        × (b < covered + (F.layout frames.now).count) × IsOwn (F.layout frames.now) b (D.seen disk.old)
+        × HasStopped (F.layout frames.now) auction.old.rules b reached (D.seen disk.old))
+        (λ next. Leads (F.layout frames.now) covered auction.old (D.seen disk.old) next auction.new
+        × IsReplayed (F.layout frames.now) covered next gates.new.items (D.seen disk.old))) }
+    ensures quiet { IsQuiet D.seen D.may_leave D.moment (F.layout frames.now).count disk.old disk.new }
+    ensures works { OnOk result (D.failures disk.new ≡ D.failures disk.old) }
+    ensures cause { IfErr result (HasCause (D.failures disk.old) (D.failures disk.new)) }
+{
+    kept_goes_on(frames);
+    frames.laws();
+    let end = covered + u64::from(frames.count());
+    for index in covered..end {
+        match frames.read_frame(disk, index, auction.definition())? {
+            Frame::Closed => {
+                gates.push(false)?;
+                return Ok(Some(index));
+            }
+            Frame::Other => {
+                gates.push(true)?;
+                return Ok(Some(index));
+            }
+            Frame::Damaged => return Ok(None),
+            Frame::Batch(batch) => {
+                gates.push(true)?;
+                if !goes_on(auction, &batch) {
+                    return Ok(None);
+                }
+            }
+        }
+    }
+    Ok(Some(end))
+}

@@ -1,0 +1,62 @@
+//! The frames behind the last batch.
+ghost use Rattle.std.specs.Prelude.{◌≡◌, ◌+◌, ◌<◌, ◌≤◌, ℕ, Bool, true, false, length, slice_index_or, IfErr, IfOk, MatchBool, OnOk};
+ghost use Rattle.hpb_rules.specs.declared.limits.TheConstants.{MOST_COMMANDS};
+ghost use Rattle.hpb_recover.specs.Causes.{HasCause};
+ghost use Rattle.hpb_recover.specs.Quiet.{IsQuiet};
+ghost use Rattle.hpb_recover.specs.Replaying.{AreGates, NoneIsOwn, OneIsOwn};
+
+use crate::Cause;
+use hpb_disk::Disk;
+use hpb_journal::{Frame, Frames};
+use hpb_tree::Definition;
+
+/// Reads the frames behind those whose gates are known, and puts their gates behind those. `false` where one is open with
+/// its own index.
+pub(crate) fn read_rest<D: Disk, F: Frames>(
+    disk: &mut D,
+    frames: &F,
+    definition: &Definition,
+    covered: u64,
+    gates: &mut Vec<bool>,
+) -> Result<bool, Cause>
+    requires index { covered ≤ MOST_COMMANDS }
+    requires most { length gates.old.items ≤ (F.layout frames.now).count }
+    requires room { (F.layout frames.now).size ≤ length (D.seen disk.old) }
+    requires known { AreGates (F.layout frames.now) covered gates.old.items (D.seen disk.old) }
+    ensures rest { IfOk result (λ sound. MatchBool sound
+        (AreGates (F.layout frames.now) covered gates.new.items (D.seen disk.old)
+        × (length gates.new.items ≡ (F.layout frames.now).count)
+        × NoneIsOwn (F.layout frames.now) (covered + length gates.old.items) (covered + (F.layout frames.now).count) (D.seen disk.old))
+        (OneIsOwn (F.layout frames.now) (covered + length gates.old.items) (covered + (F.layout frames.now).count) (D.seen disk.old))) }
+    ensures quiet { IsQuiet D.seen D.may_leave D.moment (F.layout frames.now).count disk.old disk.new }
+    ensures works { OnOk result (D.failures disk.new ≡ D.failures disk.old) }
+    ensures cause { IfErr result (HasCause (D.failures disk.old) (D.failures disk.new)) }
+{
+    frames.laws();
+    let start = covered + gates.len() as u64;
+    let end = covered + u64::from(frames.count());
+    for index in start..end {
+        match frames.read_frame(disk, index, definition)? {
+            Frame::Closed => gates.push(false)?,
+            Frame::Other => gates.push(true)?,
+            Frame::Damaged | Frame::Batch(_) => return Ok(false),
+        }
+    }
+    Ok(true)
+}
+
+/// The place of the first open gate from a place on, or the number of gates.
+pub(crate) fn first_open(gates: &[bool], from: usize) -> usize
+    requires { from ≤ length gates.now }
+    ensures from { from ≤ result }
+    ensures to { result ≤ length gates.now }
+    ensures shut { (k : ℕ) → from ≤ k → k < result → slice_index_or gates.now k false ≡ false }
+    ensures open { result < length gates.now → slice_index_or gates.now result false ≡ true }
+{
+    for place in from..gates.len() {
+        if gates[place] {
+            return place;
+        }
+    }
+    gates.len()
+}
