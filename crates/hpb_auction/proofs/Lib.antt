@@ -12,3 +12,5 @@ pub mod FirstTables
 pub mod Runs
 pub mod Proper
 pub mod SavedEntries
+pub mod Restored
+pub mod SavedTables

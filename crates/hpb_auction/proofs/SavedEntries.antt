@@ -1,5 +1,5 @@
 -- A saved auction may be restored exactly where its numbers and its entries are in order.
-use Rattle.std.proofs.Common.{◌≡◌, ℕ, ◌+◌, ◌<◌, ◌≤◌, true, get_or, length, Option, Some, None, refl, sym, ap, ◌∙◌, ⊎_elim, arith, subst}
+use Rattle.std.proofs.Common.{◌≡◌, ℕ, ◌<◌, ◌≤◌, true, get_or, length, Option, Some, None, refl, sym, ap, ⊎_elim, arith, subst}
 use Rattle.std.specs.Prelude.{IfSome, IsSome}
 use Rattle.std.proofs.lemmas.Bool.{cases_lt, both_ways}
 use Rattle.std.proofs.lemmas.List.{get_or_past}
@@ -15,7 +15,7 @@ use Rattle.hpb_rules.specs.Tree.{Rules}
 use Rattle.hpb_rules.proofs.Masks.{no_bits}
 use Rattle.hpb_rules.proofs.Ranges.{any_default}
 use Rattle.hpb_rules.proofs.Tests.{no_bit}
-use Rattle.hpb_auction.specs.Saving.{AreNumbers, AreBits, IsNodeEntry, IsOwnEntry, IsBidderEntry}
+use Rattle.hpb_auction.specs.Saving.{AreNumbers, IsNodeEntry, IsOwnEntry, IsBidderEntry}
 
 -- what the tests say of all entries
 abbrev pub AreNodes : Rules → Saved → Type 0

@@ -1,6 +1,6 @@
 -- What the entries of a saved auction must meet, one by one, and what the tables are that are restored.
-use Rattle.std.specs.Prelude.{◌≡◌, ℕ, ◌+◌, ◌<◌, ◌≤◌, true, false, List, map, take, length, IfSome, IsSome, slice_index_or}
-use Rattle.hpb_rules.specs.declared.limits.TheConstants.{MOST_COMMANDS}
+use Rattle.std.specs.Prelude.{◌≡◌, ℕ, ◌+◌, ◌<◌, ◌≤◌, true, List, map, length, IfSome, IsSome, slice_index_or}
+use Rattle.hpb_rules.specs.declared.limits.TheConstants.{MOST_AMOUNT, MOST_COMMANDS}
 use Rattle.hpb_rules.specs.declared.saved.Saved.{Saved}
 use Rattle.hpb_rules.specs.declared.saved.SavedBidder.{SavedBidder}
 use Rattle.hpb_rules.specs.declared.saved.SavedNode.{SavedNode}
@@ -36,6 +36,11 @@ pub record IsOwnEntry (rules : Rules) (count : ℕ) (nodes : List SavedNode) (fr
 abbrev pub IsBidderEntry : Rules → ℕ → List SavedNode → ℕ → SavedBidder → Type 0
 IsBidderEntry rules count nodes from entry =
     (length rules.bidders ≤ from → entry ≡ empty_bidder) × (from < length rules.bidders → IsOwnEntry rules count nodes from entry)
+
+-- The bids of an entry are at most the greatest amount.
+pub record IsSmallEntry (entry : SavedNode) : Type 0 where
+  pub high : IfSome entry.high (λ offer. offer.amount ≤ MOST_AMOUNT)
+  pub incoming : IfSome entry.incoming (λ offer. offer.amount ≤ MOST_AMOUNT)
 
 -- The books that are saved.
 abbrev pub books_in : Saved → BooksView

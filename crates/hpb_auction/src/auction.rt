@@ -94,6 +94,22 @@ impl Auction {
         })
     }
 
+    /// Becomes the same as another auction of the same definition. Takes no memory.
+    pub fn copy_from(&mut self, other: &Auction)
+        requires { self.old.rules ≡ other.now.rules }
+        ensures { self.new ≡ other.now }
+    {
+        self.books.copy_from(&other.books);
+        self.outcome.copy_from(&other.outcome);
+        self.prices.copy_from(&other.prices);
+        self.bidders.copy_from_slice(other.bidders.as_slice());
+        self.auctioneer = other.auctioneer;
+        self.count = other.count;
+        self.round = other.round;
+        self.stage = other.stage;
+        self.closed = other.closed;
+    }
+
     /// What the auction is of.
     pub fn definition(&self) -> &Definition
         ensures { result.now ≡ self.now.rules }

@@ -10,8 +10,8 @@ ghost use Rattle.hpb_rules.specs.Tree.{opening};
 ghost use Rattle.hpb_auction.specs.Saving.{AreNumbers, AreBits, IsNodeEntry, IsOwnEntry, IsBidderEntry};
 
 use hpb_rules::{
-    Accepted, BidderId, Command, MOST_AMOUNT, MOST_BIDDERS, MOST_COMMANDS, MOST_NODES, NodeId, Offer, Saved,
-    SavedBidder, SavedNode,
+    Accepted, BidderId, Command, MOST_AMOUNT, MOST_BIDDERS, MOST_COMMANDS, MOST_NODES, NodeId,
+    Offer, Saved, SavedBidder, SavedNode,
 };
 use hpb_tree::Definition;
 

@@ -87,6 +87,14 @@ impl Books {
         })
     }
 
+    /// Becomes the same as other books. Takes no memory.
+    pub fn copy_from(&mut self, other: &Books)
+        ensures { self.new ≡ other.now }
+    {
+        self.nodes.copy_from_slice(other.nodes.as_slice());
+        self.bids.copy_from_slice(other.bids.as_slice());
+    }
+
     /// What is known of all books: their tables have their sizes, and no bid is above `MOST_AMOUNT`.
     pub fn facts(&self)
         ensures { IsBooks self.now }

@@ -4,5 +4,6 @@ pub mod Fronts
 pub mod Lasts
 pub mod Numbers
 pub mod OneToOne
+pub mod Sound
 pub mod States
 pub mod Tables

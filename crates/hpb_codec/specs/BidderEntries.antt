@@ -5,7 +5,7 @@ use Rattle.hpb_rules.specs.declared.saved.Accepted.{Accepted}
 use Rattle.hpb_rules.specs.declared.saved.SavedBidder.{SavedBidder}
 use Rattle.hpb_rules.specs.History.{ticket_of}
 use Rattle.hpb_codec.specs.Numbers.{number, zeros}
-use Rattle.hpb_codec.specs.Records.{record_of, record_sized, HasRecord}
+use Rattle.hpb_codec.specs.Records.{record_of, record_sized, HasRecord, HasTicket}
 use Rattle.hpb_codec.specs.Sizes.{behind, behind_text, length-number}
 
 -- Of a sender's last command the ticket, its number and its record, each zero where there is none.
@@ -38,6 +38,13 @@ HasLast last = IfSome last (λ accepted. (accepted.number < 2 ^ 32) × HasRecord
 
 abbrev pub HasBidderEntry : SavedBidder → Type 0
 HasBidderEntry bidder = (bidder.eligibility < 2 ^ 32) × HasLast bidder.last × (bidder.bid_on < 2 ^ 128)
+
+-- What a last command and a bidder need to have this, besides the ranges of their types.
+abbrev pub LastHasTicket : Option Accepted → Type 0
+LastHasTicket last = IfSome last (λ accepted. HasTicket accepted.command)
+
+abbrev pub BidderHasTicket : SavedBidder → Type 0
+BidderHasTicket bidder = LastHasTicket bidder.last
 
 -- Bytes are the entry of a bidder.
 abbrev pub SpellsBidder : List ℕ → SavedBidder → Type 0

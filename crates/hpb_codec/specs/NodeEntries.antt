@@ -33,6 +33,10 @@ HasBid bid = IfSome bid (λ offer. (0 < offer.amount) × (offer.amount < 2 ^ 64)
 abbrev pub HasNodeEntry : SavedNode → Type 0
 HasNodeEntry node = HasBid node.high × HasBid node.incoming
 
+-- What a node needs to have an entry, besides the ranges of its type.
+abbrev pub HasAmounts : SavedNode → Type 0
+HasAmounts node = IfSome node.high (λ offer. 0 < offer.amount) × IfSome node.incoming (λ offer. 0 < offer.amount)
+
 -- Bytes are the entry of a node.
 abbrev pub SpellsNode : List ℕ → SavedNode → Type 0
 SpellsNode bytes node = HasNodeEntry node × (bytes ≡ node_entry node)

@@ -4,6 +4,7 @@ use Rattle.std.specs.List.{concat}
 use Rattle.hpb_rules.specs.declared.command.Command.{Command}
 use Rattle.hpb_rules.specs.declared.command.Command.TheVariants.{Bid, Close, Stage}
 use Rattle.hpb_rules.specs.declared.limits.TheConstants.{MOST_BIDDERS, MOST_NODES}
+use Rattle.hpb_rules.specs.History.{ticket_of}
 use Rattle.hpb_codec.specs.Numbers.{number, zeros}
 use Rattle.hpb_codec.specs.Sizes.{behind}
 
@@ -29,6 +30,10 @@ abbrev pub HasRecord : Command → Type 0
 HasRecord (Bid bidder ticket node amount) = (bidder < MOST_BIDDERS) × (node < MOST_NODES) × (0 < ticket) × (ticket < 2 ^ 32) × (amount < 2 ^ 64)
 HasRecord (Close ticket) = (0 < ticket) × (ticket < 2 ^ 32)
 HasRecord (Stage ticket) = (0 < ticket) × (ticket < 2 ^ 32)
+
+-- What a command needs to have a record, besides the ranges of its type.
+abbrev pub HasTicket : Command → Type 0
+HasTicket command = 0 < ticket_of command
 
 -- Bytes are the record of a command.
 abbrev pub SpellsRecord : List ℕ → Command → Type 0

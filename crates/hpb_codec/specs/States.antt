@@ -8,7 +8,7 @@ use Rattle.hpb_rules.specs.Tree.{Rules}
 use Rattle.hpb_codec.specs.declared.state_head.StateHead.{StateHead}
 use Rattle.hpb_codec.specs.Numbers.{filled, number, zeros}
 use Rattle.hpb_codec.specs.NodeEntries.{node_entry, HasNodeEntry}
-use Rattle.hpb_codec.specs.BidderEntries.{bidder_entry, last_number, last_record, last_record_sized, last_ticket, HasBidderEntry, HasLast}
+use Rattle.hpb_codec.specs.BidderEntries.{bidder_entry, last_number, last_record, last_record_sized, last_ticket, HasBidderEntry, HasLast, LastHasTicket}
 use Rattle.hpb_codec.specs.Sizes.{behind, behind_text}
 
 -- 1 says yes.
@@ -56,6 +56,10 @@ pub record HasHead (head : StateHead) : Type 0 where
   pub count : head.count < 2 ^ 32
   pub index : head.index < 2 ^ 64
   pub last : HasLast head.auctioneer
+
+-- What this needs to fit, besides the ranges of its type.
+abbrev pub HeadHasTicket : StateHead → Type 0
+HeadHasTicket head = LastHasTicket head.auctioneer
 
 -- What has a body, whatever the definition: each number fits into its field.
 pub record HasState (saved : Saved) (index : ℕ) : Type 0 where

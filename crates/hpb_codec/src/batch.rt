@@ -3,11 +3,12 @@ ghost use Rattle.std.specs.Prelude.{◌≡◌, ◌↔◌, ◌≤◌, ◌<◌, �
 ghost use Rattle.std.specs.List.{AllByRecursion};
 ghost use Rattle.hpb_rules.specs.declared.limits.TheConstants.{MOST_LETTERS};
 ghost use Rattle.hpb_rules.specs.Answer.{unknown};
-ghost use Rattle.hpb_codec.specs.Numbers.{before, filled};
+ghost use Rattle.hpb_rules.specs.Tree.{Rules};
+ghost use Rattle.hpb_codec.specs.Numbers.{before, filled, leading};
 ghost use Rattle.hpb_codec.specs.declared.batch.Batch.{Batch};
 ghost use Rattle.hpb_codec.specs.declared.batch.TheConstants.{BATCH_SIZE};
 ghost use Rattle.hpb_codec.specs.Batches.{batch_of, batch_fields, SpellsBatch};
-ghost use Rattle.hpb_codec.specs.Records.{record_of, HasRecord};
+ghost use Rattle.hpb_codec.specs.Records.{record_of, HasRecord, HasTicket};
 ghost use Rattle.hpb_rules.specs.declared.command.Command.{Command};
 ghost use Rattle.std.specs.List.{flat_map};
 
@@ -35,7 +36,9 @@ pub struct Batch {
 /// Writes the body of a batch, every byte of it.
 pub fn encode_batch(batch: &Batch, out: &mut [u8])
     requires { length out.old ≡ BATCH_SIZE }
-    ensures { out.new ≡ batch_of batch.now }
+    ensures written { out.new ≡ batch_of batch.now }
+    ensures spelled { (rules : Rules) → 0 < length batch.now.commands → AllByRecursion HasTicket batch.now.commands
+        → AllByRecursion (λ command. unknown rules command ≡ None) batch.now.commands → SpellsBatch rules out.new batch.now }
 {
     let commands = batch.commands.as_slice();
     let at = put_u64(out, 0, batch.index);
@@ -107,7 +110,7 @@ fn fields_of(bytes: &[u8]) -> Option<(u64, u64, usize, &[u8])>
     let (index, rest) = front_u64(bytes);
     let (first, rest) = front_u64(rest);
     let (count, rest) = front_u16(rest);
-    let (unused, rest) = front_bytes(rest, 6);
+    let (reserved, rest) = front_bytes(rest, 6);
     let count = usize::from(count);
     if count == 0 {
         return None;
@@ -115,7 +118,7 @@ fn fields_of(bytes: &[u8]) -> Option<(u64, u64, usize, &[u8])>
     if count > MOST_LETTERS {
         return None;
     }
-    if !is_zero(unused) {
+    if !is_zero(reserved) {
         return None;
     }
     let (records, unused) = front_bytes(rest, count * RECORD_SIZE);
@@ -123,6 +126,15 @@ fn fields_of(bytes: &[u8]) -> Option<(u64, u64, usize, &[u8])>
         return None;
     }
     Some((index, first, count, records))
+}
+
+/// The batch index with which the body of a frame begins, whether it spells a batch or not.
+pub fn batch_index(bytes: &[u8]) -> u64
+    requires { length bytes.now ≡ BATCH_SIZE }
+    ensures { result ≡ leading 8 bytes.now }
+{
+    let (index, _) = front_u64(bytes);
+    index
 }
 
 /// The batch that the body of a frame spells under a definition, if it spells one.

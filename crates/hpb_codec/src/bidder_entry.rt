@@ -1,10 +1,10 @@
 //! The entry of a bidder in a state, and what is kept of a sender's last command.
-ghost use Rattle.std.specs.Prelude.{◌≡◌, ◌≤◌, ◌+◌, ◌++◌, Option, Some, IfSome, length};
+ghost use Rattle.std.specs.Prelude.{◌≡◌, ◌≤◌, ◌<◌, ◌+◌, ◌^◌, ◌++◌, Option, Some, IfSome, length};
 ghost use Rattle.hpb_rules.specs.declared.saved.Accepted.{Accepted};
 ghost use Rattle.hpb_rules.specs.declared.saved.SavedBidder.{SavedBidder};
 ghost use Rattle.hpb_rules.specs.History.{ticket_of};
 ghost use Rattle.hpb_codec.specs.Numbers.{before, number};
-ghost use Rattle.hpb_codec.specs.BidderEntries.{bidder_entry, bidder_sized, last_number, last_record, last_ticket, HasBidderEntry, HasLast, SpellsBidder};
+ghost use Rattle.hpb_codec.specs.BidderEntries.{bidder_entry, bidder_sized, last_number, last_record, last_ticket, BidderHasTicket, HasBidderEntry, HasLast, LastHasTicket, SpellsBidder};
 
 use crate::reader::{front_bytes, front_u32, front_u128, is_same};
 use crate::record::RECORD_SIZE;
@@ -25,18 +25,35 @@ fn ticket(command: &Command) -> u32
     }
 }
 
+/// The ticket of a sender's last command, 0 where there is none.
+fn ticket_or_zero(last: &Option<Accepted>) -> u32
+    ensures { result ≡ last_ticket last.now }
+{
+    match last {
+        None => 0,
+        Some(accepted) => ticket(&accepted.command),
+    }
+}
+
+/// The number of a sender's last command, 0 where there is none.
+fn number_or_zero(last: &Option<Accepted>) -> u32
+    ensures { result ≡ last_number last.now }
+{
+    match last {
+        None => 0,
+        Some(accepted) => accepted.number,
+    }
+}
+
 /// Writes the ticket of a sender's last command, and its number.
 pub(crate) fn put_last(out: &mut [u8], at: usize, last: &Option<Accepted>) -> usize
     requires { at + 8 ≤ length out.old }
     ensures written { before result out.new ≡ before at out.old ++ number 4 (last_ticket last.now) ++ number 4 (last_number last.now) }
+    ensures number { last_number last.now < 2 ^ 32 }
     ensures next { result ≡ at + 8 }
 {
-    let (ticket, number) = match last {
-        None => (0, 0),
-        Some(accepted) => (ticket(&accepted.command), accepted.number),
-    };
-    let at = put_u32(out, at, ticket);
-    put_u32(out, at, number)
+    let at = put_u32(out, at, ticket_or_zero(last));
+    put_u32(out, at, number_or_zero(last))
 }
 
 /// Writes the record of a sender's last command.
@@ -44,6 +61,7 @@ pub(crate) fn put_last(out: &mut [u8], at: usize, last: &Option<Accepted>) -> us
 pub(crate) fn put_last_record(out: &mut [u8], at: usize, last: &Option<Accepted>) -> usize
     requires { at + 16 ≤ length out.old }
     ensures written { before result out.new ≡ before at out.old ++ last_record last.now }
+    ensures fits { LastHasTicket last.now → last_number last.now < 2 ^ 32 → HasLast last.now }
     ensures next { result ≡ at + 16 }
 {
     match last {
@@ -95,6 +113,8 @@ impl Entry for SavedBidder {
     ghost spelling = { bidder_entry };
 
     ghost fits = { HasBidderEntry };
+
+    ghost sound = { BidderHasTicket };
 
     fn put(&self, out: &mut [u8], at: usize) -> usize {
         let at = put_u32(out, at, self.eligibility);

@@ -1,9 +1,10 @@
 //! The entry of a node in a state.
 ghost use Rattle.std.specs.Prelude.{◌≡◌, ◌≤◌, ◌<◌, ◌+◌, ◌++◌, Option, Some, IfSome, length};
 ghost use Rattle.hpb_rules.specs.declared.command.Offer.{Offer};
+ghost use Rattle.hpb_rules.specs.declared.limits.TheConstants.{MOST_BIDDERS};
 ghost use Rattle.hpb_rules.specs.declared.saved.SavedNode.{SavedNode};
 ghost use Rattle.hpb_codec.specs.Numbers.{before};
-ghost use Rattle.hpb_codec.specs.NodeEntries.{amount_or_zero, bidder_or_zero, node_entry, node_sized, HasBid, HasNodeEntry, SpellsNode};
+ghost use Rattle.hpb_codec.specs.NodeEntries.{amount_or_zero, bidder_or_zero, node_entry, node_sized, HasAmounts, HasBid, HasNodeEntry, SpellsNode};
 
 use crate::reader::{front_u8, front_u64, is_same};
 use crate::table::Entry;
@@ -25,7 +26,8 @@ fn amount(bid: &Option<Offer>) -> u64
 
 /// The bidder of a bid, 0 where there is none.
 fn bidder(bid: &Option<Offer>) -> u8
-    ensures { result ≡ bidder_or_zero bid.now }
+    ensures value { result ≡ bidder_or_zero bid.now }
+    ensures bound { result < MOST_BIDDERS }
 {
     match bid {
         None => 0,
@@ -76,6 +78,8 @@ impl Entry for SavedNode {
     ghost spelling = { node_entry };
 
     ghost fits = { HasNodeEntry };
+
+    ghost sound = { HasAmounts };
 
     fn put(&self, out: &mut [u8], at: usize) -> usize {
         let at = put_u64(out, at, amount(&self.high));

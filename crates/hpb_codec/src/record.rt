@@ -3,7 +3,7 @@ ghost use Rattle.std.specs.Prelude.{◌≡◌, ◌≤◌, ◌<◌, ◌+◌, ◌+
 ghost use Rattle.hpb_rules.specs.declared.command.Command.{Command};
 ghost use Rattle.hpb_rules.specs.declared.limits.TheConstants.{MOST_BIDDERS, MOST_NODES};
 ghost use Rattle.hpb_codec.specs.Numbers.{before};
-ghost use Rattle.hpb_codec.specs.Records.{record_fields, record_of, record_sized, HasRecord, SpellsRecord};
+ghost use Rattle.hpb_codec.specs.Records.{record_fields, record_of, record_sized, HasRecord, HasTicket, SpellsRecord};
 
 use crate::reader::{front_u8, front_u32, front_u64, is_same};
 use crate::table::Entry;
@@ -91,6 +91,8 @@ impl Entry for Command {
     ghost spelling = { record_of };
 
     ghost fits = { HasRecord };
+
+    ghost sound = { HasTicket };
 
     fn put(&self, out: &mut [u8], at: usize) -> usize {
         match *self {

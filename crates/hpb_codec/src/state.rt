@@ -1,6 +1,8 @@
 //! The body of a slot: a state.
-ghost use Rattle.std.specs.Prelude.{◌≡◌, ◌<◌, ℕ, List, Some, IfSome, IsSomeAnd, length};
+ghost use Rattle.std.specs.Prelude.{◌≡◌, ◌<◌, ◌≤◌, ℕ, List, Some, IfSome, IsSomeAnd, length};
 ghost use Rattle.hpb_rules.specs.declared.saved.Saved.{Saved};
+ghost use Rattle.hpb_rules.specs.Saved.{IsSaved};
+ghost use Rattle.hpb_rules.specs.Tree.{Rules};
 ghost use Rattle.hpb_codec.specs.Numbers.{filled};
 ghost use Rattle.hpb_codec.specs.declared.state.TheConstants.{CHUNKS, CHUNK_SIZE, STATE_SIZE};
 ghost use Rattle.hpb_codec.specs.Laws.{chunk_of};
@@ -9,7 +11,7 @@ ghost use Rattle.hpb_codec.specs.States.{head_in, state_fields, state_of, HasSta
 use crate::bidder_entry::BIDDER_SIZE;
 use crate::node_entry::NODE_SIZE;
 use crate::reader::{front_bytes, is_zero};
-use crate::state_head::{HEAD_SIZE, StateHead};
+use crate::state_head::{STATE_HEAD_SIZE, StateHead};
 use crate::table::{Entry, put_table, read_table};
 use crate::writer::fill_zeros;
 use hpb_auction::is_saved;
@@ -40,7 +42,8 @@ fn head_of(saved: &Saved, index: u64) -> StateHead
 /// Writes the body of what is saved and of the number of batches that it covers, every byte of it.
 pub fn encode_state(saved: &Saved, index: u64, out: &mut [u8])
     requires { length out.old ≡ STATE_SIZE }
-    ensures { out.new ≡ state_of saved.now index }
+    ensures written { out.new ≡ state_of saved.now index }
+    ensures spelled { (rules : Rules) → IsSaved rules saved.now → index ≤ saved.now.count → SpellsState rules out.new saved.now index }
 {
     let at = head_of(saved, index).put(out, 0);
     let at = put_table(out, at, &saved.nodes);
@@ -57,7 +60,7 @@ fn fields_of(bytes: &[u8]) -> Option<(&[u8], &[u8], &[u8])>
         → bytes.now ≡ filled 16384 (state_fields head nodes bidders)
         → IsSomeAnd result (λ f. (f.0.now ≡ head) × (f.1.now ≡ nodes) × (f.2.now ≡ bidders)) }
 {
-    let (head, rest) = front_bytes(bytes, HEAD_SIZE);
+    let (head, rest) = front_bytes(bytes, STATE_HEAD_SIZE);
     let (nodes, rest) = front_bytes(rest, NODES_SIZE);
     let (bidders, unused) = front_bytes(rest, BIDDERS_SIZE);
     if !is_zero(unused) {

@@ -2,7 +2,7 @@
 ghost use Rattle.std.specs.Prelude.{◌≡◌, ◌≤◌, ◌+◌, ◌++◌, Bool, Some, IfSome, length};
 ghost use Rattle.hpb_codec.specs.Numbers.{before};
 ghost use Rattle.hpb_codec.specs.declared.state_head.StateHead.{StateHead};
-ghost use Rattle.hpb_codec.specs.States.{flag, head_fields, head_sized, HasHead};
+ghost use Rattle.hpb_codec.specs.States.{flag, head_fields, head_sized, HasHead, HeadHasTicket};
 
 use crate::bidder_entry::{last_of, put_last, put_last_record};
 use crate::reader::{front_bytes, front_u8, front_u32, front_u64, is_same};
@@ -12,7 +12,7 @@ use crate::writer::{put_u8, put_u32, put_u64, put_zeros};
 use hpb_rules::Accepted;
 
 /// How many bytes stand before the tables of a state.
-pub(crate) const HEAD_SIZE: usize = 48;
+pub(crate) const STATE_HEAD_SIZE: usize = 48;
 
 /// The format of states that is written and read here.
 const STATE_FORMAT: u8 = 1;
@@ -71,13 +71,15 @@ fn candidate(bytes: &[u8]) -> Option<StateHead>
 }
 
 impl Entry for StateHead {
-    const SIZE: usize = HEAD_SIZE;
+    const SIZE: usize = STATE_HEAD_SIZE;
 
     ghost SIZE = { 48 };
 
     ghost spelling = { head_fields };
 
     ghost fits = { HasHead };
+
+    ghost sound = { HeadHasTicket };
 
     fn put(&self, out: &mut [u8], at: usize) -> usize {
         let at = put_u8(out, at, STATE_FORMAT);
@@ -95,7 +97,7 @@ impl Entry for StateHead {
     #[tactic(auto, using(crate::proofs::Numbers::whole))]
     fn read(bytes: &[u8]) -> Option<Self> {
         let head = candidate(bytes)?;
-        let mut spelled = [0; HEAD_SIZE];
+        let mut spelled = [0; STATE_HEAD_SIZE];
         head.put(&mut spelled, 0);
         if is_same(&spelled, bytes) {
             Some(head)

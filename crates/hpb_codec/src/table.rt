@@ -16,10 +16,14 @@ pub trait Entry: Copy {
     /// What has a spelling.
     ghost fits: { Self → Type 0 };
 
+    /// What a value needs to have a spelling, besides the ranges of its type.
+    ghost sound: { Self → Type 0 };
+
     /// Writes the bytes, and answers the place behind them.
     fn put(&self, out: &mut [u8], at: usize) -> usize
         requires { at + SIZE ≤ length out.old }
         ensures written { before result out.new ≡ before at out.old ++ spelling self.now }
+        ensures fits { sound self.now → fits self.now }
         ensures next { result ≡ at + SIZE };
 
     /// The value that the bytes spell, if they spell one.
@@ -34,6 +38,7 @@ pub trait Entry: Copy {
 pub fn put_table<T: Entry>(out: &mut [u8], at: usize, table: &[T]) -> usize
     requires { at + length table.now * T.SIZE ≤ length out.old }
     ensures written { before result out.new ≡ before at out.old ++ flat_map T.spelling table.now }
+    ensures fits { AllByRecursion T.sound table.now → AllByRecursion T.fits table.now }
     ensures next { result ≡ at + length table.now * T.SIZE }
 {
     let mut next = at;

@@ -68,6 +68,15 @@ impl Prices {
         self.minima[index]
     }
 
+    /// Become the same as other prices, of a tree with as many nodes. Takes no memory.
+    pub fn copy_from(&mut self, other: &Prices)
+        requires { length self.old.prices ≡ length other.now.prices }
+        ensures { self.new ≡ other.now }
+    {
+        self.prices.copy_from_slice(other.prices.as_slice());
+        self.minima.copy_from_slice(other.minima.as_slice());
+    }
+
     /// The same prices once more. Fails only where memory is refused.
     pub fn copy(&self, alloc: Global) -> Result<Prices, AllocError>
         ensures { IfOk result (λ prices. prices ≡ self.now) }

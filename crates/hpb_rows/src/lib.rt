@@ -10,6 +10,8 @@ mod rows_of_lines;
 #[cfg(test)]
 mod rows_of_rounds;
 #[cfg(test)]
+mod rows_of_saved;
+#[cfg(test)]
 mod rows_of_sums;
 #[cfg(test)]
 mod rows_of_units;

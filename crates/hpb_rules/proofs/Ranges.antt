@@ -80,3 +80,9 @@ made_at f count place default behind = ⊎_elim
     (λ less. get_or-map-range_with_len f 0 count place place default less (omega arith))
     (λ more. get_or_past (map f (range_with_len 0 count)) place default (omega (arith, length-map-range_with_len f 0 count)) ∙ behind more)
     (cases_lt place count)
+
+-- what is made of each item, at any place
+pub map_at : {A B : Type 0} (f : A → B) (xs : List A) (place : ℕ) (default : A) (other : B) → f default ≡ other → get_or (map f xs) place other ≡ f (get_or xs place default)
+map_at f [] place default other e = sym e
+map_at f (x ∷ xs) zero default other e = refl
+map_at f (x ∷ xs) (suc place) default other e = map_at f xs place default other e

@@ -31,11 +31,11 @@ use Rattle.hpb_rules.proofs.Runs.{new_changed}
 use Rattle.hpb_rules.proofs.ValueParts.{same_value, same_state}
 
 -- ---- last commands
-again_last : (last : Option (Command × ℕ)) → restored_last (saved_last last) ≡ last
+pub again_last : (last : Option (Command × ℕ)) → restored_last (saved_last last) ≡ last
 again_last None = refl
 again_last (Some last) = refl
 
-given_last : (last : Option Accepted) → saved_last (restored_last last) ≡ last
+pub given_last : (last : Option Accepted) → saved_last (restored_last last) ≡ last
 given_last None = refl
 given_last (Some last) = refl
 

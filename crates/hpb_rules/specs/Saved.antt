@@ -1,6 +1,6 @@
 -- What is saved of an auction beside its definition, which of it may be restored, and what it then is.
 -- Source: this project's own.
-use Rattle.std.specs.Prelude.{◌≡◌, ℕ, suc, ◌+◌, ◌*◌, ◌<◌, ◌≤◌, ◌==◌, Bool, true, cond, List, [], ◌∷◌, map, Option, Some, None, IfSome, IsSome, length, slice_index_or}
+use Rattle.std.specs.Prelude.{◌≡◌, ℕ, suc, ◌+◌, ◌*◌, ◌<◌, ◌≤◌, ◌==◌, Bool, true, false, cond, List, [], ◌∷◌, map, Option, Some, None, IfSome, IsSome, length, replicate, slice_index_or}
 use Rattle.std.specs.Int.{bit_at}
 use Rattle.std.specs.List.{range_with_len}
 use Rattle.hpb_rules.specs.declared.command.Command.{Command}
@@ -23,6 +23,18 @@ empty_node = record { high = None; incoming = None }
 -- The entry of no bidder: no units, no command, no bit.
 abbrev pub empty_bidder : SavedBidder
 empty_bidder = record { eligibility = 0; last = None; bid_on = 0 }
+
+-- What is of no auction: every entry is empty, and the round is 0.
+abbrev pub nothing_saved : Saved
+nothing_saved = record {
+  round = 0;
+  stage = 0;
+  over = false;
+  count = 0;
+  auctioneer = None;
+  nodes = replicate MOST_NODES empty_node;
+  bidders = replicate MOST_BIDDERS empty_bidder;
+}
 
 -- The entry of a node.
 abbrev pub node_in : Saved → ℕ → SavedNode

@@ -1,3 +1,6 @@
+ghost use Rattle.std.specs.Prelude.{◌≡◌};
+ghost use Rattle.hpb_rules.specs.Saved.{nothing_saved};
+
 use crate::command::{Command, Offer};
 use crate::limits::{MOST_BIDDERS, MOST_NODES};
 
@@ -43,4 +46,30 @@ pub struct Saved {
     pub auctioneer: Option<Accepted>,
     pub nodes: [SavedNode; MOST_NODES],
     pub bidders: [SavedBidder; MOST_BIDDERS],
+}
+
+impl Saved {
+    /// What is to be written into. It is of no auction: its round is 0, and no definition lets it be restored.
+    pub fn empty() -> Self
+        ensures { result ≡ nothing_saved }
+    {
+        let node = SavedNode {
+            high: None,
+            incoming: None,
+        };
+        let bidder = SavedBidder {
+            eligibility: 0,
+            last: None,
+            bid_on: 0,
+        };
+        Saved {
+            round: 0,
+            stage: 0,
+            over: false,
+            count: 0,
+            auctioneer: None,
+            nodes: [node; MOST_NODES],
+            bidders: [bidder; MOST_BIDDERS],
+        }
+    }
 }

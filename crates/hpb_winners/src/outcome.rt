@@ -92,6 +92,17 @@ impl Outcome {
         self.revenue
     }
 
+    /// Becomes the same as another outcome, of a tree with as many nodes. Takes no memory.
+    pub fn copy_from(&mut self, other: &Outcome)
+        requires { length self.old.values ≡ length other.now.values }
+        ensures { self.new ≡ other.now }
+    {
+        self.inside.copy_from_slice(other.inside.as_slice());
+        self.values.copy_from_slice(other.values.as_slice());
+        self.wins.copy_from_slice(other.wins.as_slice());
+        self.revenue = other.revenue;
+    }
+
     /// The same outcome once more. Fails only where memory is refused.
     pub fn copy(&self, alloc: Global) -> Result<Outcome, AllocError>
         ensures { IfOk result (λ outcome. outcome ≡ self.now) }

@@ -1,4 +1,4 @@
-use Rattle.std.proofs.Common.{◌≡◌, ◌<◌, ◌^◌, ℕ, true, eqb, refl, ap, ⊎_elim, arith}
+use Rattle.std.proofs.Common.{ℕ, eqb, refl, ap, ⊎_elim, arith}
 use Rattle.std.proofs.lemmas.Bool.{cases_lt, both_ways}
 use Rattle.std.proofs.lemmas.Nat.Bits.{bit_at_above}
 use Rattle.hpb_rules.specs.Saved.{has_bit}
