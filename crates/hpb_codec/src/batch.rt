@@ -4,7 +4,7 @@ ghost use Rattle.std.specs.List.{AllByRecursion};
 ghost use Rattle.hpb_rules.specs.declared.limits.TheConstants.{MOST_LETTERS};
 ghost use Rattle.hpb_rules.specs.Answer.{unknown};
 ghost use Rattle.hpb_rules.specs.Tree.{Rules};
-ghost use Rattle.hpb_codec.specs.Numbers.{before, filled};
+ghost use Rattle.hpb_codec.specs.Numbers.{before, filled, leading};
 ghost use Rattle.hpb_codec.specs.declared.batch.Batch.{Batch};
 ghost use Rattle.hpb_codec.specs.declared.batch.TheConstants.{BATCH_SIZE};
 ghost use Rattle.hpb_codec.specs.Batches.{batch_of, batch_fields, SpellsBatch};
@@ -126,6 +126,15 @@ fn fields_of(bytes: &[u8]) -> Option<(u64, u64, usize, &[u8])>
         return None;
     }
     Some((index, first, count, records))
+}
+
+/// The batch index with which the body of a frame begins, whether it spells a batch or not.
+pub fn batch_index(bytes: &[u8]) -> u64
+    requires { length bytes.now ≡ BATCH_SIZE }
+    ensures { result ≡ leading 8 bytes.now }
+{
+    let (index, _) = front_u64(bytes);
+    index
 }
 
 /// The batch that the body of a frame spells under a definition, if it spells one.

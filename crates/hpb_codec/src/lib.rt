@@ -3,7 +3,7 @@
 //!
 //! A reader gives the value that the bytes spell, and `None` exactly where they spell none; a writer gives the one
 //! spelling of a value, the unused bytes as zero. Nothing is taken from a length that bytes claim, and no bytes make a
-//! reader fail in any other way.
+//! reader fail in any other way. No call takes memory.
 #![tactic(auto)]
 
 mod batch;
@@ -23,15 +23,10 @@ mod table;
 mod tests;
 mod writer;
 
-pub use batch::{BATCH_SIZE, Batch, decode_batch, encode_batch};
+pub use batch::{BATCH_SIZE, Batch, batch_index, decode_batch, encode_batch};
 pub use head::{HEAD_SIZE, Head, decode_head, encode_head, has_magic};
 pub use laws::{
     batch_begins, batches_are_one, chunks_are_body, heads_are_one, records_are_one, states_are_one,
 };
-pub use reader::{
-    front_bytes, front_u8, front_u16, front_u32, front_u64, front_u128, is_same, is_zero,
-};
 pub use record::RECORD_SIZE;
 pub use state::{CHUNK_SIZE, CHUNKS, STATE_SIZE, chunk, decode_state, encode_state};
-pub use table::{Entry, put_table, read_table};
-pub use writer::{fill_zeros, put_bytes, put_u8, put_u16, put_u32, put_u64, put_u128, put_zeros};

@@ -11,7 +11,7 @@ ghost use Rattle.hpb_codec.specs.States.{head_in, state_fields, state_of, HasSta
 use crate::bidder_entry::BIDDER_SIZE;
 use crate::node_entry::NODE_SIZE;
 use crate::reader::{front_bytes, is_zero};
-use crate::state_head::{HEAD_SIZE, StateHead};
+use crate::state_head::{STATE_HEAD_SIZE, StateHead};
 use crate::table::{Entry, put_table, read_table};
 use crate::writer::fill_zeros;
 use hpb_auction::is_saved;
@@ -60,7 +60,7 @@ fn fields_of(bytes: &[u8]) -> Option<(&[u8], &[u8], &[u8])>
         → bytes.now ≡ filled 16384 (state_fields head nodes bidders)
         → IsSomeAnd result (λ f. (f.0.now ≡ head) × (f.1.now ≡ nodes) × (f.2.now ≡ bidders)) }
 {
-    let (head, rest) = front_bytes(bytes, HEAD_SIZE);
+    let (head, rest) = front_bytes(bytes, STATE_HEAD_SIZE);
     let (nodes, rest) = front_bytes(rest, NODES_SIZE);
     let (bidders, unused) = front_bytes(rest, BIDDERS_SIZE);
     if !is_zero(unused) {

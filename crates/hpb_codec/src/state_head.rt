@@ -12,7 +12,7 @@ use crate::writer::{put_u8, put_u32, put_u64, put_zeros};
 use hpb_rules::Accepted;
 
 /// How many bytes stand before the tables of a state.
-pub(crate) const HEAD_SIZE: usize = 48;
+pub(crate) const STATE_HEAD_SIZE: usize = 48;
 
 /// The format of states that is written and read here.
 const STATE_FORMAT: u8 = 1;
@@ -71,7 +71,7 @@ fn candidate(bytes: &[u8]) -> Option<StateHead>
 }
 
 impl Entry for StateHead {
-    const SIZE: usize = HEAD_SIZE;
+    const SIZE: usize = STATE_HEAD_SIZE;
 
     ghost SIZE = { 48 };
 
@@ -97,7 +97,7 @@ impl Entry for StateHead {
     #[tactic(auto, using(crate::proofs::Numbers::whole))]
     fn read(bytes: &[u8]) -> Option<Self> {
         let head = candidate(bytes)?;
-        let mut spelled = [0; HEAD_SIZE];
+        let mut spelled = [0; STATE_HEAD_SIZE];
         head.put(&mut spelled, 0);
         if is_same(&spelled, bytes) {
             Some(head)

@@ -1,12 +1,21 @@
 -- What the frames of an image say.
-use Rattle.std.specs.Prelude.{◌≡◌, ◌≢◌, ℕ, suc, ◌+◌, List, [], ◌∷◌, ◌++◌, length}
+use Rattle.std.specs.Prelude.{◌≡◌, ◌≢◌, ℕ, suc, ◌+◌, List, [], ◌∷◌, ◌++◌, None, length, ◌<◌}
+use Rattle.std.specs.List.{AllByRecursion}
 use Rattle.hpb_rules.specs.Tree.{Rules}
+use Rattle.hpb_codec.specs.Records.{HasTicket}
+use Rattle.hpb_rules.specs.Answer.{unknown}
 use Rattle.hpb_rules.specs.declared.command.Command.{Command}
 use Rattle.hpb_codec.specs.declared.batch.Batch.{Batch}
 use Rattle.hpb_disk.specs.Gates.{open_byte}
 use Rattle.hpb_journal.specs.declared.frame.Frame.{Frame}
 use Rattle.hpb_journal.specs.declared.frame.Frame.TheVariants as frames
 use Rattle.hpb_journal.specs.Layouts.{Layout}
+
+-- A batch that may be kept under a definition: it has a command, and each has a ticket, and bidder and node of the definition.
+pub record MayBeKept (rules : Rules) (batch : Batch) : Type 0 where
+  pub some : 0 < length batch.commands
+  pub tickets : AllByRecursion HasTicket batch.commands
+  pub known : AllByRecursion (λ command. unknown rules command ≡ None) batch.commands
 
 -- The gate of the frame is open.
 abbrev pub IsOpen : Layout → ℕ → List ℕ → Type 0

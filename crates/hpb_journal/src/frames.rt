@@ -1,10 +1,9 @@
 //! The frames of a journal.
 ghost use Rattle.std.specs.Prelude.{◌≡◌, ◌≤◌, length, true, false, OnOk, IfOk};
 ghost use Rattle.hpb_rules.specs.Tree.{Rules};
-ghost use Rattle.hpb_codec.specs.Batches.{IsBatch};
 ghost use Rattle.hpb_disk.specs.Images.{Within, Elapses, CountsFailure};
 ghost use Rattle.hpb_journal.specs.Layouts.{Layout, IsLayout};
-ghost use Rattle.hpb_journal.specs.Frames.{IsOpen, IsClosed, IsRead, Says};
+ghost use Rattle.hpb_journal.specs.Frames.{IsOpen, IsClosed, IsRead, MayBeKept, Says};
 ghost use Rattle.hpb_journal.specs.Changes.{ChangesBody, ChangesGate, TornBody, TornGate};
 
 use crate::Frame;
@@ -34,9 +33,9 @@ pub trait Frames {
     /// nothing, whole or torn.
     fn write_body<D: Disk>(&self, disk: &mut D, batch: &Batch) -> Result<(), DiskFailed>
         requires room { (layout self.now).size ≤ length (D.seen disk.old) }
-        // After a write that succeeds a read gives the batch, under each definition that it may be one under, and all
+        // After a write that succeeds a read gives the batch, under each definition under which it may be kept, and all
         // else as it was.
-        ensures written { (rules : Rules) → IsBatch rules batch.now → OnOk result (Says (layout self.now) rules batch.now (D.seen disk.new)) }
+        ensures written { (rules : Rules) → MayBeKept rules batch.now → OnOk result (Says (layout self.now) rules batch.now (D.seen disk.new)) }
         ensures rest { OnOk result (ChangesBody (layout self.now) batch.now.index (D.seen disk.old) (D.seen disk.new)) }
         ensures size { length (D.seen disk.new) ≡ length (D.seen disk.old) }
         // A crash from then on, or within the call, may leave any bytes in this body, and elsewhere what it could.

@@ -5,7 +5,7 @@ ghost use Rattle.hpb_journal.specs.Pages.{IsInPage};
 
 use crate::Frame;
 use crate::limits::{BODY_AT, PAGE_BYTES};
-use hpb_codec::{batch_begins, decode_batch, front_u64};
+use hpb_codec::{batch_begins, batch_index, decode_batch};
 use hpb_tree::Definition;
 
 const OPEN: u8 = 0xa5;
@@ -19,7 +19,7 @@ pub(crate) fn frame_in(page: &[u8], index: u64, definition: &Definition) -> Fram
         return Frame::Closed;
     }
     let body = &page[BODY_AT..];
-    let (found, _) = front_u64(body);
+    let found = batch_index(body);
     if found != index {
         return Frame::Other;
     }

@@ -1,5 +1,6 @@
+use crate::table::Entry;
 use crate::tests::examples::{body_with, change, first_bid, scribbled, six_nodes};
-use crate::{BATCH_SIZE, Batch, Entry, decode_batch, encode_batch};
+use crate::{BATCH_SIZE, Batch, decode_batch, encode_batch};
 use hpb_rules::{BidderId, Command, Commands, NodeId};
 use hpb_tree::Definition;
 use std::test::*;

@@ -5,16 +5,16 @@ use Rattle.hpb_journal.proofs.page.frame_in.Goals as goal
 pub returns-then-found-index : goal.returns-then-found-index
 returns-then-found-index c =
     let page = c.args.page.now in
-    other_in_page c.args.definition.now c.args.index page (gate_here page c.requires c.if-page.false) _ c.front_u64-found.result.0 (body_here page c.requires) c.front_u64-found.ensures.value c.if-found-index.true
+    other_in_page c.args.definition.now c.args.index page (gate_here page c.requires c.if-page.false) _ c.batch_index-found.result (body_here page c.requires) c.batch_index-found.ensures c.if-found-index.true
 
 pub returns-in-Some : goal.returns-in-Some
 returns-in-Some c =
     let page = c.args.page.now in
-    batch_in_page c.args.definition.now c.args.index page (gate_here page c.requires c.if-page.false) _ (body_here page c.requires) (sym c.if-found-index.false ∙ c.front_u64-found.ensures.value)
+    batch_in_page c.args.definition.now c.args.index page (gate_here page c.requires c.if-page.false) _ (body_here page c.requires) (sym c.if-found-index.false ∙ c.batch_index-found.ensures)
     c.batch_begins.ensures c.in-Some.batch c.in-Some.ensures.found
 
 pub returns-in-None : goal.returns-in-None
 returns-in-None c =
     let page = c.args.page.now in
-    damaged_in_page c.args.definition.now c.args.index page (gate_here page c.requires c.if-page.false) _ (body_here page c.requires) (sym c.if-found-index.false ∙ c.front_u64-found.ensures.value)
+    damaged_in_page c.args.definition.now c.args.index page (gate_here page c.requires c.if-page.false) _ (body_here page c.requires) (sym c.if-found-index.false ∙ c.batch_index-found.ensures)
     (λ batch spells. let no = c.in-None.ensures.only batch spells in absurd (search rules))

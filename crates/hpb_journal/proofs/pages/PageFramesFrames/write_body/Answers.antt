@@ -1,18 +1,16 @@
-use Rattle.std.proofs.Common.{◌≡◌, ℕ, ◌+◌, ap, ◌∙◌, arith}
+use Rattle.std.proofs.Common.{◌≡◌, ℕ, ◌+◌, List, sym, ap, subst, arith}
+use Rattle.hpb_codec.specs.Batches.{SpellsBatch}
 use Rattle.hpb_journal.specs.Pages.{page_of}
 use Rattle.hpb_journal.proofs.PageRegions.{body_rest, body_crash, body_time, body_says}
 use Rattle.hpb_journal.proofs.pages.PageFramesFrames.write_body.Goals as goal
 
 pub returns-in-Ok-clause-written : goal.returns-in-Ok-clause-written
-returns-in-Ok-clause-written g c rules is =
+returns-in-Ok-clause-written g c rules may =
     let d = g.D.Disk in
     let here : c.page.result + 16 ≡ page_of c.args.self.now.count c.args.batch.now.index + 16 = ap (λ (n : ℕ). n + 16) c.page.ensures.value in
-    record {
-      is = is;
-      spelled = body_says c.elsewhere_stays.ensures c.put_is_torn.ensures c.args.self.now.count c.args.batch.now.index (c.page.result + 16) c.encode_batch.new.out here c.encode_batch.auto.out
-          c.put_is_read.ensures (d.seen c.args.disk.now) (d.seen c.write_at.new.self) (omega (arith, c.page.ensures.inside, c.requires.room, c.encode_batch.auto.out)) c.in-Ok.ensures.written
-          ∙ c.encode_batch.ensures.written;
-    }
+    let read = body_says c.elsewhere_stays.ensures c.put_is_torn.ensures c.args.self.now.count c.args.batch.now.index (c.page.result + 16) c.encode_batch.new.out here c.encode_batch.auto.out
+    c.put_is_read.ensures (d.seen c.args.disk.now) (d.seen c.write_at.new.self) (omega (arith, c.page.ensures.inside, c.requires.room, c.encode_batch.auto.out)) c.in-Ok.ensures.written in
+    subst (λ (bytes : List ℕ). SpellsBatch rules bytes c.args.batch.now) (sym read) (c.encode_batch.ensures.spelled rules may.some may.tickets may.known)
 
 pub returns-in-Ok-clause-rest : goal.returns-in-Ok-clause-rest
 returns-in-Ok-clause-rest g c =
