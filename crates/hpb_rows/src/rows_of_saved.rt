@@ -41,13 +41,12 @@ fn play_first_round(auction: &mut Auction)
     auction.apply(&bid(3, 2, 4, 250));
 }
 
-/// What is saved after the first round.
-fn saved_first_round(alloc: Global) -> Result<Saved, Fail> {
+/// Saves an auction after the first round.
+fn save_first_round(alloc: Global, saved: &mut Saved) -> Result<(), Fail> {
     let mut auction = six_nodes(alloc)?;
     play_first_round(&mut auction);
-    let mut saved = Saved::empty();
-    auction.save(&mut saved);
-    Ok(saved)
+    auction.save(saved);
+    Ok(())
 }
 
 /// What the first round shows, and how it goes on after the bid in the second.
@@ -69,7 +68,8 @@ fn shown(alloc: Global, auction: Auction) -> Result<String, Fail> {
 #[test]
 fn restored_auction_shows_the_same(rt: HostRuntime) -> Result<(), Fail> {
     let alloc = rt.alloc();
-    let saved = saved_first_round(alloc)?;
+    let mut saved = Saved::empty();
+    save_first_round(alloc, &mut saved)?;
     let mut auction = six_nodes(alloc)?;
     auction.apply(&Command::Close { ticket: 1 });
     assert!(rt; auction.restore(&saved));
@@ -157,7 +157,8 @@ fn break_bidders(saved: &mut Saved, condition: usize) {
 #[test]
 fn what_breaks_a_condition_is_not_restored(rt: HostRuntime) -> Result<(), Fail> {
     let alloc = rt.alloc();
-    let sound = saved_first_round(alloc)?;
+    let mut sound = Saved::empty();
+    save_first_round(alloc, &mut sound)?;
     let mut auction = six_nodes(alloc)?;
     auction.apply(&Command::Close { ticket: 1 });
     for condition in 0..11 {
