@@ -1,6 +1,6 @@
 //! Auctions that are saved, restored and copied. None of these calls is handed an allocator.
 
-ghost use Rattle.std.specs.Prelude.{◌<◌};
+ghost use Rattle.std.specs.Prelude.{◌≡◌, ◌<◌};
 
 use crate::script::SIX_NODES;
 use hpb_auction::Auction;
@@ -23,25 +23,30 @@ fn bid(bidder: usize, ticket: u32, node: usize, amount: u64) -> Command
     }
 }
 
-/// A first round in which a package beats its parts, and a bid in the second.
-fn first_round(alloc: Global) -> Result<Auction, Fail> {
+/// An auction of six nodes before its first command.
+fn six_nodes(alloc: Global) -> Result<Auction, Fail> {
     let definition = read_definition(alloc, SIX_NODES.as_bytes())?;
-    let mut auction = Auction::new(alloc, &definition)?;
+    Ok(Auction::new(alloc, &definition)?)
+}
+
+/// A first round in which a package beats its parts, and a bid in the second.
+fn play_first_round(auction: &mut Auction)
+    ensures { auction.new.rules ≡ auction.old.rules }
+{
     auction.apply(&bid(0, 1, 2, 100));
     auction.apply(&bid(1, 1, 3, 150));
     auction.apply(&bid(2, 1, 0, 500));
     auction.apply(&bid(3, 1, 4, 100));
     auction.apply(&Command::Close { ticket: 1 });
     auction.apply(&bid(3, 2, 4, 250));
-    Ok(auction)
 }
 
-/// An auction of the same definition that ended at once.
-fn ended(alloc: Global) -> Result<Auction, Fail> {
-    let definition = read_definition(alloc, SIX_NODES.as_bytes())?;
-    let mut auction = Auction::new(alloc, &definition)?;
-    auction.apply(&Command::Close { ticket: 1 });
-    Ok(auction)
+/// Saves an auction after the first round.
+fn save_first_round(alloc: Global, saved: &mut Saved) -> Result<(), Fail> {
+    let mut auction = six_nodes(alloc)?;
+    play_first_round(&mut auction);
+    auction.save(saved);
+    Ok(())
 }
 
 /// What the first round shows, and how it goes on after the bid in the second.
@@ -64,8 +69,9 @@ fn shown(alloc: Global, auction: Auction) -> Result<String, Fail> {
 fn restored_auction_shows_the_same(rt: HostRuntime) -> Result<(), Fail> {
     let alloc = rt.alloc();
     let mut saved = Saved::empty();
-    first_round(alloc)?.save(&mut saved);
-    let mut auction = ended(alloc)?;
+    save_first_round(alloc, &mut saved)?;
+    let mut auction = six_nodes(alloc)?;
+    auction.apply(&Command::Close { ticket: 1 });
     assert!(rt; auction.restore(&saved));
     assert_eq!(rt; shown(alloc, auction)?.as_str(), SHOWN);
     Ok(())
@@ -74,9 +80,12 @@ fn restored_auction_shows_the_same(rt: HostRuntime) -> Result<(), Fail> {
 #[test]
 fn copied_auction_shows_the_same(rt: HostRuntime) -> Result<(), Fail> {
     let alloc = rt.alloc();
-    let mut auction = ended(alloc)?;
-    auction.copy_from(&first_round(alloc)?);
-    assert_eq!(rt; shown(alloc, auction)?.as_str(), SHOWN);
+    let mut auction = six_nodes(alloc)?;
+    let mut other = auction.copy(alloc)?;
+    play_first_round(&mut auction);
+    other.apply(&Command::Close { ticket: 1 });
+    other.copy_from(&auction);
+    assert_eq!(rt; shown(alloc, other)?.as_str(), SHOWN);
     Ok(())
 }
 
@@ -149,8 +158,9 @@ fn break_bidders(saved: &mut Saved, condition: usize) {
 fn what_breaks_a_condition_is_not_restored(rt: HostRuntime) -> Result<(), Fail> {
     let alloc = rt.alloc();
     let mut sound = Saved::empty();
-    first_round(alloc)?.save(&mut sound);
-    let mut auction = ended(alloc)?;
+    save_first_round(alloc, &mut sound)?;
+    let mut auction = six_nodes(alloc)?;
+    auction.apply(&Command::Close { ticket: 1 });
     for condition in 0..11 {
         let mut saved = sound;
         break_numbers(&mut saved, condition);
