@@ -4,8 +4,8 @@
 mod applying;
 mod auction;
 mod judging;
+mod restorable;
 mod running;
-mod saved_tests;
 mod saving;
 mod sender;
 mod verdict;

@@ -1,16 +1,14 @@
-ghost use Rattle.std.specs.Prelude.{◌≡◌, ℕ, List, ◌<◌, ◌≤◌, map, take, length, All, IsTrue, IsFalse, IfSome, slice_index, slice_index_or};
-ghost use Rattle.hpb_rules.specs.declared.command.Command.{Command};
-ghost use Rattle.hpb_rules.specs.declared.limits.TheConstants.{MOST_AMOUNT, MOST_BIDDERS, MOST_NODES};
+ghost use Rattle.std.specs.Prelude.{◌≡◌, ℕ, ◌<◌, ◌≤◌, map, take, length, All, IsTrue, IsFalse, slice_index, slice_index_or};
+ghost use Rattle.hpb_rules.specs.declared.limits.TheConstants.{MOST_BIDDERS, MOST_NODES};
 ghost use Rattle.hpb_rules.specs.declared.saved.SavedBidder.{SavedBidder};
 ghost use Rattle.hpb_rules.specs.declared.saved.SavedNode.{SavedNode};
-ghost use Rattle.hpb_rules.specs.AuctionValue.{Shows};
 ghost use Rattle.hpb_rules.specs.Saved.{saved_of, restored, IsSaved};
 ghost use Rattle.hpb_bids.specs.View.{offer_at};
 ghost use Rattle.hpb_auction.specs.Inside.{row_at};
-ghost use Rattle.hpb_auction.specs.Saving.{IsSmallEntry, books_in, row_in};
+ghost use Rattle.hpb_auction.specs.Saving.{IsSmallEntry, row_in};
 
 use crate::auction::Auction;
-use crate::saved_tests::is_saved;
+use crate::restorable::is_saved;
 use crate::sender::BidderRow;
 use hpb_bids::Books;
 use hpb_prices::downward;

@@ -2,7 +2,7 @@ use Rattle.std.proofs.Common.{ℕ, eqb, refl, ap, ⊎_elim, arith}
 use Rattle.std.proofs.lemmas.Bool.{cases_lt, both_ways}
 use Rattle.std.proofs.lemmas.Nat.Bits.{bit_at_above}
 use Rattle.hpb_rules.specs.Saved.{has_bit}
-use Rattle.hpb_auction.proofs.saved_tests.are_bits.Goals as goal
+use Rattle.hpb_auction.proofs.restorable.are_bits.Goals as goal
 
 pub returns : goal.returns
 returns c = (

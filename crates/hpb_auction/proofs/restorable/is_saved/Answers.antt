@@ -1,7 +1,7 @@
 use Rattle.std.proofs.Common.{arith}
 use Rattle.std.proofs.lemmas.Bool.{both_ways}
 use Rattle.hpb_auction.proofs.SavedEntries.{nodes_of, bidders_of, quiet_of, is_saved_of}
-use Rattle.hpb_auction.proofs.saved_tests.is_saved.Goals as goal
+use Rattle.hpb_auction.proofs.restorable.is_saved.Goals as goal
 
 pub returns-then-not-are_nodes-clause-only : goal.returns-then-not-are_nodes-clause-only
 returns-then-not-are_nodes-clause-only c is = absurd (both_ways _ c.if-not-are_nodes.true (c.are_nodes.ensures.1 (nodes_of c.args.definition.now c.args.saved.now is)))

@@ -1,4 +1,4 @@
-ghost use Rattle.std.specs.Prelude.{◌≡◌, ◌↔◌, ◌+◌, ◌%◌, ◌<◌, ◌≤◌, ℕ, None, IsTrue, IfSome, length, slice_index_or};
+ghost use Rattle.std.specs.Prelude.{◌≡◌, ◌↔◌, ◌%◌, ◌<◌, ◌≤◌, ℕ, None, IsTrue, IfSome, length, slice_index_or};
 ghost use Rattle.hpb_rules.specs.declared.limits.TheConstants.{MOST_AMOUNT, MOST_BIDDERS, MOST_NODES};
 ghost use Rattle.hpb_rules.specs.declared.saved.SavedBidder.{SavedBidder};
 ghost use Rattle.hpb_rules.specs.declared.saved.SavedNode.{SavedNode};
