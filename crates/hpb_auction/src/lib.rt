@@ -12,6 +12,6 @@ mod verdict;
 mod views;
 
 pub use auction::Auction;
+pub use restorable::is_saved;
 pub use running::{Run, run_commands};
-pub use saved_tests::is_saved;
 pub use views::{BidderView, NodeView};

@@ -1,10 +1,7 @@
-ghost use Rattle.std.specs.Prelude.{◌<◌};
-
 use crate::tests::examples::{body_with, change, first_bid, scribbled, six_nodes};
 use crate::{CHUNK_SIZE, CHUNKS, STATE_SIZE, chunk, decode_state, encode_state};
-use hpb_rules::{
-    Accepted, BidderId, Command, MOST_BIDDERS, MOST_NODES, Offer, Saved, SavedBidder, SavedNode,
-};
+use hpb_auction::Auction;
+use hpb_rules::{Command, MOST_BIDDERS, MOST_NODES, Saved, SavedBidder, SavedNode};
 use hpb_tree::Definition;
 use std::alloc::Global;
 use std::test::*;
@@ -47,70 +44,41 @@ const AFTER_A_CLOSE: [(usize, &[u8]); 19] = [
     (3_256, &[1, 3, 4, 0, 0, 0, 0, 1, 0, 0, 0, 0, 0, 0, 0, 100]),
 ];
 
-const NO_BID: SavedNode = SavedNode {
-    high: None,
-    incoming: None,
-};
-
-const NOBODY: SavedBidder = SavedBidder {
-    eligibility: 0,
-    last: None,
-    bid_on: 0,
-};
-
-/// The empty auction of six nodes.
-fn empty() -> Saved {
-    let mut bidders = [NOBODY; MOST_BIDDERS];
-    bidders[0].eligibility = 10;
-    bidders[1].eligibility = 10;
-    bidders[2].eligibility = 40;
-    bidders[3].eligibility = 25;
+/// What is saved of nothing, to be overwritten.
+fn blank() -> Saved {
     Saved {
-        round: 1,
-        stage: 1,
-        over: false,
+        round: 0,
+        stage: 0,
+        over: true,
         count: 0,
         auctioneer: None,
-        nodes: [NO_BID; MOST_NODES],
-        bidders,
+        nodes: [SavedNode {
+            high: None,
+            incoming: None,
+        }; MOST_NODES],
+        bidders: [SavedBidder {
+            eligibility: 0,
+            last: None,
+            bid_on: 0,
+        }; MOST_BIDDERS],
     }
 }
 
-/// A bidder's first bid, which is accepted and becomes the high bid of its node.
-fn bid(saved: &mut Saved, bidder: usize, node: usize, amount: u64)
-    requires bidder { bidder < 4 }
-    requires node { node < 6 }
-{
-    saved.nodes[node].high = Some(Offer {
-        amount,
-        bidder: BidderId::new(bidder),
-    });
-    saved.bidders[bidder].last = Some(Accepted {
-        command: first_bid(bidder, node, amount),
-        number: bidder as u32 + 1,
-    });
-}
-
-/// The same auction after four bids and a close.
-fn after_a_close() -> Saved {
-    let mut saved = empty();
-    bid(&mut saved, 0, 2, 100);
-    bid(&mut saved, 1, 3, 150);
-    bid(&mut saved, 2, 0, 500);
-    bid(&mut saved, 3, 4, 100);
-    saved.round = 2;
-    saved.count = 5;
-    saved.auctioneer = Some(Accepted {
-        command: Command::Close { ticket: 1 },
-        number: 5,
-    });
-    saved
-}
-
-/// The body of what is saved.
-fn body_of(alloc: Global, saved: &Saved, index: u64) -> Result<Vec<u8>, Fail> {
+/// The body of the auction of six nodes after commands.
+fn body_after(
+    alloc: Global,
+    definition: &Definition,
+    commands: &[Command],
+    index: u64,
+) -> Result<Vec<u8>, Fail> {
+    let mut auction = Auction::new(alloc, definition)?;
+    for command in commands {
+        auction.apply(command);
+    }
+    let mut saved = blank();
+    auction.save(&mut saved);
     let mut bytes = scribbled(alloc, STATE_SIZE)?;
-    encode_state(saved, index, &mut bytes);
+    encode_state(&saved, index, &mut bytes);
     Ok(bytes)
 }
 
@@ -122,33 +90,52 @@ fn index_of(bytes: &[u8], definition: &Definition, saved: &mut Saved) -> Option<
     decode_state(bytes, definition, saved)
 }
 
+/// The body of what a body says, if it says this batch index.
+fn body_again(
+    alloc: Global,
+    definition: &Definition,
+    bytes: &[u8],
+    index: u64,
+) -> Result<Vec<u8>, Fail> {
+    let mut saved = blank();
+    let mut again = scribbled(alloc, STATE_SIZE)?;
+    if index_of(bytes, definition, &mut saved) == Some(index) {
+        encode_state(&saved, index, &mut again);
+    }
+    Ok(again)
+}
+
 #[test]
 fn state_bytes_empty(rt: HostRuntime) -> Result<(), Fail> {
     let alloc = rt.alloc();
-    let bytes = body_of(alloc, &empty(), 0)?;
+    let definition = six_nodes(alloc)?;
+    let bytes = body_after(alloc, &definition, &[], 0)?;
     assert!(rt; bytes == body_with(alloc, STATE_SIZE, &EMPTY)?);
-    let mut saved = after_a_close();
-    assert_eq!(rt; index_of(&bytes, &six_nodes(alloc)?, &mut saved), Some(0));
-    assert!(rt; body_of(alloc, &saved, 0)? == bytes);
+    assert!(rt; body_again(alloc, &definition, &bytes, 0)? == bytes);
     Ok(())
 }
 
 #[test]
 fn state_bytes_after_a_close(rt: HostRuntime) -> Result<(), Fail> {
     let alloc = rt.alloc();
-    let bytes = body_of(alloc, &after_a_close(), 1)?;
+    let definition = six_nodes(alloc)?;
+    let commands = [
+        first_bid(0, 2, 100),
+        first_bid(1, 3, 150),
+        first_bid(2, 0, 500),
+        first_bid(3, 4, 100),
+        Command::Close { ticket: 1 },
+    ];
+    let bytes = body_after(alloc, &definition, &commands, 1)?;
     assert!(rt; bytes == body_with(alloc, STATE_SIZE, &AFTER_A_CLOSE)?);
-    let mut saved = empty();
-    assert_eq!(rt; index_of(&bytes, &six_nodes(alloc)?, &mut saved), Some(1));
-    assert_eq!(rt; saved.bidders[3].last, after_a_close().bidders[3].last);
-    assert!(rt; body_of(alloc, &saved, 1)? == bytes);
+    assert!(rt; body_again(alloc, &definition, &bytes, 1)? == bytes);
     Ok(())
 }
 
 #[test]
 fn chunks_are_pages(rt: HostRuntime) -> Result<(), Fail> {
     let alloc = rt.alloc();
-    let bytes = body_of(alloc, &after_a_close(), 1)?;
+    let bytes = body_with(alloc, STATE_SIZE, &AFTER_A_CLOSE)?;
     let bytes = bytes.as_slice();
     assert_eq!(rt; bytes.len(), STATE_SIZE);
     for i in 0..CHUNKS {
@@ -158,23 +145,46 @@ fn chunks_are_pages(rt: HostRuntime) -> Result<(), Fail> {
     Ok(())
 }
 
-#[test]
-fn zero_bytes_are_zero(rt: HostRuntime) -> Result<(), Fail> {
-    let alloc = rt.alloc();
+/// The first zero byte of a range of the empty auction's body that says something if it is 1, and shouldn't, or the other
+/// way round.
+fn first_loose(alloc: Global, from: usize, to: usize) -> Result<Option<usize>, Fail> {
     let definition = six_nodes(alloc)?;
-    let mut saved = empty();
+    let mut saved = blank();
     let mut bytes = body_with(alloc, STATE_SIZE, &EMPTY)?;
-    for at in 0..bytes.len() {
+    let bytes = bytes.as_mut_slice();
+    for at in from..to {
+        if at >= bytes.len() {
+            return Ok(Some(at));
+        }
         if bytes[at] != 0 {
             continue;
         }
         bytes[at] = 1;
-        // An auction may be over from the beginning, and may have accepted bids that don't stand any more.
-        let wanted = matches!(at, 2 | 9..=11);
-        let is = index_of(&bytes, &definition, &mut saved).is_some();
-        assert_eq!(rt; is, wanted, "at {at}");
+        let is = index_of(bytes, &definition, &mut saved).is_some();
         bytes[at] = 0;
+        // An auction may be over from the beginning, and may have accepted bids that don't stand any more.
+        if is != matches!(at, 2 | 9..=11) {
+            return Ok(Some(at));
+        }
     }
+    Ok(None)
+}
+
+#[test]
+fn zero_bytes_to_the_nodes(rt: HostRuntime) -> Result<(), Fail> {
+    assert_eq!(rt; first_loose(rt.alloc(), 0, 3_096)?, None);
+    Ok(())
+}
+
+#[test]
+fn zero_bytes_of_bidders(rt: HostRuntime) -> Result<(), Fail> {
+    assert_eq!(rt; first_loose(rt.alloc(), 3_096, 6_168)?, None);
+    Ok(())
+}
+
+#[test]
+fn zero_bytes_behind_the_tables(rt: HostRuntime) -> Result<(), Fail> {
+    assert_eq!(rt; first_loose(rt.alloc(), 6_168, STATE_SIZE)?, None);
     Ok(())
 }
 
@@ -186,7 +196,7 @@ fn is_state_with(
 ) -> Result<bool, Fail> {
     let mut bytes = body_with(alloc, STATE_SIZE, &AFTER_A_CLOSE)?;
     change(&mut bytes, changes);
-    let mut saved = empty();
+    let mut saved = blank();
     Ok(index_of(&bytes, definition, &mut saved).is_some())
 }
 
