@@ -65,8 +65,8 @@ page_is_one : {X : Type 0} (f : X → List ℕ) (P : X → Type 0) (size : ℕ) 
 page_is_one f P size sized one xs ys len a b e =
     let long = length xs * size in
     entries_are_one f P size sized one xs ys len a b (
-        sym (page_front (flat_map f xs) 4096 long (entries_sized f P size sized xs a)) ∙ ap (before long) e
-        ∙ page_front (flat_map f ys) 4096 long (entries_sized f P size sized ys b ∙ ap (λ (n : ℕ). n * size) (sym len)))
+    sym (page_front (flat_map f xs) 4096 long (entries_sized f P size sized xs a)) ∙ ap (before long) e
+    ∙ page_front (flat_map f ys) 4096 long (entries_sized f P size sized ys b ∙ ap (λ (n : ℕ). n * size) (sym len)))
 
 pub head_is_one : (bytes : List ℕ) (head other : Head) → SpellsHead bytes head → SpellsHead bytes other → head ≡ other
 unfolding head_of
@@ -77,10 +77,10 @@ head_is_one bytes head other a b =
     let also = accepted_is_definition o b.is.definition in
     let cut = cut_head o other.journal_pages also bytes (head_page_of h head.journal_pages) _ (nodes.node_page_of h.nodes) (bidders.bidder_page_of h.bidders ++ []) a.spelled (head_page_sized h head.journal_pages def) refl (node_page_sized h def) b.spelled in
     let read = page_read o other.journal_pages also (omega (arith, b.is.journal.1)) (head_page_of h head.journal_pages) magic _ _ _ _ _ _ _ (filled 4 h.stages) _ (number 2 0) _ _ _ 1 1 (length h.nodes) (length h.bidders) h.percent (length h.stages) h.step head.journal_pages
-        (page_is h head.journal_pages) refl refl refl refl refl refl refl refl (stages_sized h.stages def.stages.1) refl (length-number 2 0) refl refl
-        (omega arith) (omega arith) (omega (arith, def.nodes.1)) (omega (arith, def.bidders.1)) (omega (arith, def.percent.1)) (omega (arith, def.stages.1)) (omega (arith, def.most_step)) (omega (arith, a.is.journal.1)) cut.head in
+    (page_is h head.journal_pages) refl refl refl refl refl refl refl refl (stages_sized h.stages def.stages.1) refl (length-number 2 0) refl refl
+    (omega arith) (omega arith) (omega (arith, def.nodes.1)) (omega (arith, def.bidders.1)) (omega (arith, def.percent.1)) (omega (arith, def.stages.1)) (omega (arith, def.most_step)) (omega (arith, a.is.journal.1)) cut.head in
     same_head (same_rules read.step_is read.percent_is
-        (sym (stages_front h.stages) ∙ ap (λ (n : ℕ). take n (filled 4 h.stages)) read.count ∙ ap (take (length o.stages)) read.stages_are ∙ stages_front o.stages)
-        (page_is_one nodes.node_of nodes.HasEntry 32 node_sized node_is_one h.nodes o.nodes read.nodes (nodes_fit h def) (nodes_fit o also) cut.node_page)
-        (page_is_one bidders.bidder_of bidders.HasEntry 24 bidder_sized bidder_is_one h.bidders o.bidders read.bidders (bidders_fit h def) (bidders_fit o also) (sym (append-nil (bidders.bidder_page_of h.bidders)) ∙ cut.bidder_page)))
+    (sym (stages_front h.stages) ∙ ap (λ (n : ℕ). take n (filled 4 h.stages)) read.count ∙ ap (take (length o.stages)) read.stages_are ∙ stages_front o.stages)
+    (page_is_one nodes.node_of nodes.HasEntry 32 node_sized node_is_one h.nodes o.nodes read.nodes (nodes_fit h def) (nodes_fit o also) cut.node_page)
+    (page_is_one bidders.bidder_of bidders.HasEntry 24 bidder_sized bidder_is_one h.bidders o.bidders read.bidders (bidders_fit h def) (bidders_fit o also) (sym (append-nil (bidders.bidder_page_of h.bidders)) ∙ cut.bidder_page)))
     read.journal_is

@@ -1,18 +1,23 @@
-ghost use Rattle.std.specs.Prelude.{◌≡◌, ◌≤◌, IfOk, length};
-
 use crate::tests::examples::{body_with, change, scribbled, six_nodes};
-use crate::{HEAD_SIZE, decode_head, encode_head, has_magic};
+use crate::{HEAD_SIZE, Head, decode_head, encode_head, has_magic};
 use hpb_rules::{BidderId, NodeId};
 use hpb_tree::{BidderDraft, Definition, Draft, NodeDraft, TermsDraft};
 use std::alloc::{AllocError, Global};
-use std::ops::Range;
 use std::test::*;
 
 /// Where page 1 begins: a head begins with byte 16 of page 0.
 const NODES: usize = 4_080;
 
+/// Where its licences begin and end, of six nodes the last four.
+const LICENCES: usize = NODES + 64;
+
+const LICENCES_END: usize = LICENCES + 128;
+
 /// Where page 2 begins.
 const BIDDERS: usize = 8_176;
+
+/// Where the last of four bidders ends.
+const BIDDERS_END: usize = BIDDERS + 96;
 
 /// What stands in the head of six nodes and a journal of 1,024 pages.
 const SIX_NODES: [(usize, &[u8]); 29] = [
@@ -76,35 +81,56 @@ const REFUSED: [(usize, &[u8]); 14] = [
 ];
 
 /// The head of six nodes and a journal of 1,024 pages.
-fn written_out(alloc: Global) -> Result<Vec<u8>, AllocError>
-    ensures { IfOk result (λ bytes. length bytes.items ≡ HEAD_SIZE) }
-{
+fn written_out(alloc: Global) -> Result<Vec<u8>, AllocError> {
     body_with(alloc, HEAD_SIZE, &SIX_NODES)
 }
 
-/// Whether bytes are a head's.
-fn is_head(alloc: Global, bytes: &[u8]) -> Result<bool, AllocError>
-    requires { length bytes.now ≡ HEAD_SIZE }
-{
-    Ok(decode_head(alloc, bytes)?.is_some())
+/// A head as it is encoded.
+fn encoded(
+    alloc: Global,
+    definition: &Definition,
+    journal_pages: u32,
+) -> Result<Vec<u8>, AllocError> {
+    let mut bytes = scribbled(alloc, HEAD_SIZE)?;
+    encode_head(definition, journal_pages, &mut bytes);
+    Ok(bytes)
+}
+
+/// The head that bytes are, if they are as many and are one.
+fn decoded(alloc: Global, bytes: &[u8]) -> Result<Option<Head>, AllocError> {
+    if bytes.len() != HEAD_SIZE {
+        return Ok(None);
+    }
+    decode_head(alloc, bytes)
+}
+
+fn begins_a_head(bytes: &[u8]) -> bool {
+    bytes.len() >= 8 && has_magic(bytes)
+}
+
+/// Some of the bytes, and none where they aren't there.
+fn part(bytes: &[u8], from: usize, to: usize) -> &[u8] {
+    bytes.get(from..to).unwrap_or(&[])
+}
+
+/// The pages of a head's journal, and the places of a node and of a bidder by their names.
+fn found(head: &Head, node: &[u8], bidder: &[u8]) -> (u32, Option<usize>, Option<usize>) {
+    let definition = &head.definition;
+    (
+        head.journal_pages,
+        definition.find_node(node).map(NodeId::place),
+        definition.find_bidder(bidder).map(BidderId::place),
+    )
 }
 
 #[test]
 fn head_bytes(rt: HostRuntime) -> Result<(), Fail> {
     let alloc = rt.alloc();
     let wanted = written_out(alloc)?;
-    let mut bytes = scribbled(alloc, HEAD_SIZE)?;
-    encode_head(&six_nodes(alloc)?, 1_024, &mut bytes);
-    assert!(rt; bytes == wanted);
-    match decode_head(alloc, &wanted)? {
-        Some(head) => {
-            assert_eq!(rt; head.journal_pages, 1_024);
-            assert_eq!(rt; head.definition.stages(), [80, 95].as_slice());
-            assert_eq!(rt; head.definition.find_node(b"d"), Some(NodeId::new(5)));
-            assert_eq!(rt; head.definition.find_bidder(b"w"), Some(BidderId::new(3)));
-        }
-        None => assert!(rt; false),
-    }
+    assert!(rt; encoded(alloc, &six_nodes(alloc)?, 1_024)? == wanted);
+    let head = decoded(alloc, &wanted)?;
+    let found = head.as_ref().map(|head| found(head, b"d", b"w"));
+    assert_eq!(rt; found, Some((1_024, Some(5), Some(3))));
     Ok(())
 }
 
@@ -112,72 +138,93 @@ fn head_bytes(rt: HostRuntime) -> Result<(), Fail> {
 fn each_byte_of_page_0_counts(rt: HostRuntime) -> Result<(), Fail> {
     let alloc = rt.alloc();
     let mut bytes = written_out(alloc)?;
-    assert!(rt; has_magic(&bytes));
-    for at in 0..NODES {
+    assert!(rt; begins_a_head(&bytes));
+    for at in 0..bytes.len() {
+        if at >= NODES {
+            break;
+        }
         bytes[at] = !bytes[at];
-        assert_eq!(rt; has_magic(&bytes), at >= 8, "{at}");
-        assert!(rt; !is_head(alloc, &bytes)?, "{at}");
+        assert_eq!(rt; begins_a_head(&bytes), at >= 8, "{at}");
+        assert!(rt; decoded(alloc, &bytes)?.is_none(), "{at}");
         bytes[at] = !bytes[at];
     }
-    assert!(rt; is_head(alloc, &bytes)?);
+    assert!(rt; decoded(alloc, &bytes)?.is_some());
     Ok(())
 }
 
 /// Whether a byte of the head of six nodes is one of a licence's units or opening, or of a bidder's units.
 fn is_number(at: usize) -> bool {
-    let licence = (NODES + 2 * 32..NODES + 6 * 32).contains(&at) && (at - NODES) % 32 >= 20;
-    let bidder = (BIDDERS..BIDDERS + 4 * 24).contains(&at)
-        && (16..20).contains(&((at - BIDDERS) % 24));
-    licence || bidder
+    match at {
+        LICENCES..LICENCES_END => (at - LICENCES) % 32 >= 20,
+        BIDDERS..BIDDERS_END => matches!((at - BIDDERS) % 24, 16..=19),
+        _ => false,
+    }
 }
 
-/// Whether the head of six nodes is refused with 0xFF in place of each byte of a page that has to be zero, and how many
-/// these are.
-fn zeros_that_count(alloc: Global, page: Range<usize>) -> Result<(bool, usize), AllocError>
-    requires { page.end ≤ HEAD_SIZE }
-{
+/// How many bytes of the head of six nodes have to be zero between two places. None, where there is still a head with
+/// 0xFF in place of one of them.
+fn zeros_that_count(alloc: Global, from: usize, to: usize) -> Result<Option<usize>, AllocError> {
     let mut bytes = written_out(alloc)?;
     let mut tried = 0;
-    for at in page {
-        if bytes[at] != 0 || is_number(at) {
+    for at in 0..bytes.len() {
+        if at < from || at >= to || bytes[at] != 0 || is_number(at) {
             continue;
         }
         bytes[at] = 0xff;
-        if is_head(alloc, &bytes)? {
-            return Ok((false, at));
+        if decoded(alloc, &bytes)?.is_some() {
+            return Ok(None);
         }
         bytes[at] = 0;
         tried += 1;
     }
-    Ok((is_head(alloc, &bytes)?, tried))
+    Ok(Some(tried))
 }
 
 #[test]
 fn each_zero_byte_of_page_1_counts(rt: HostRuntime) -> Result<(), Fail> {
     // 4,096 bytes, less 11 of names, 8 of parents and kinds, and 12 of each of 4 licences.
-    let counted = zeros_that_count(rt.alloc(), NODES..BIDDERS)?;
-    assert_eq!(rt; counted, (true, 4_096 - 11 - 8 - 48));
+    let tried = zeros_that_count(rt.alloc(), NODES, BIDDERS)?;
+    assert_eq!(rt; tried, Some(4_029));
     Ok(())
 }
 
 #[test]
 fn each_zero_byte_of_page_2_counts(rt: HostRuntime) -> Result<(), Fail> {
     // 4,096 bytes, less 4 of names, and 4 of each of 4 bidders.
-    let counted = zeros_that_count(rt.alloc(), BIDDERS..HEAD_SIZE)?;
-    assert_eq!(rt; counted, (true, 4_096 - 4 - 16));
+    let tried = zeros_that_count(rt.alloc(), BIDDERS, HEAD_SIZE)?;
+    assert_eq!(rt; tried, Some(4_076));
     Ok(())
 }
 
 #[test]
 fn no_heads(rt: HostRuntime) -> Result<(), Fail> {
     let alloc = rt.alloc();
-    for (at, part) in &REFUSED {
+    for (at, put) in &REFUSED {
         let mut bytes = written_out(alloc)?;
-        assert!(rt; is_head(alloc, &bytes)?);
-        change(&mut bytes, &[(*at, *part)]);
-        assert!(rt; !is_head(alloc, &bytes)?, "{at}");
+        change(&mut bytes, &[(*at, *put)]);
+        assert!(rt; decoded(alloc, &bytes)?.is_none(), "{at}");
     }
     Ok(())
+}
+
+/// A node of the greatest definition: the first 63 are packages of two.
+fn greatest_node(alloc: Global, n: u64) -> Result<NodeDraft, AllocError> {
+    let terms = TermsDraft {
+        units: 1_000_000,
+        opening: 10_000_000_000,
+    };
+    Ok(NodeDraft {
+        name: format!(in alloc; "a_long_node_{n:04}")?,
+        parent: if n == 0 { None } else { Some((n - 1) / 2) },
+        terms: if n < 63 { None } else { Some(terms) },
+    })
+}
+
+fn greatest_bidder(alloc: Global, b: u64) -> Result<BidderDraft, AllocError> {
+    Ok(BidderDraft {
+        name: format!(in alloc; "a_bidder_{b:07}")?,
+        units: 64_000_000,
+    })
 }
 
 /// 63 packages of two and 64 licences, and 64 bidders, all with names of 16 bytes.
@@ -189,25 +236,11 @@ fn greatest(alloc: Global) -> Result<Definition, Fail> {
         nodes: Vec::new(alloc),
         bidders: Vec::new(alloc),
     };
-    for n in 0..127_u64 {
-        draft.nodes.push(NodeDraft {
-            name: format!(in alloc; "a_long_node_{n:04}")?,
-            parent: if n == 0 { None } else { Some((n - 1) / 2) },
-            terms: if n < 63 {
-                None
-            } else {
-                Some(TermsDraft {
-                    units: 1_000_000,
-                    opening: 10_000_000_000,
-                })
-            },
-        })?;
+    for n in 0..127 {
+        draft.nodes.push(greatest_node(alloc, n)?)?;
     }
     for b in 0..64 {
-        draft.bidders.push(BidderDraft {
-            name: format!(in alloc; "a_bidder_{b:07}")?,
-            units: 64_000_000,
-        })?;
+        draft.bidders.push(greatest_bidder(alloc, b)?)?;
     }
     Ok(Definition::check(alloc, &draft)?)
 }
@@ -215,34 +248,15 @@ fn greatest(alloc: Global) -> Result<Definition, Fail> {
 #[test]
 fn greatest_definition_comes_back(rt: HostRuntime) -> Result<(), Fail> {
     let alloc = rt.alloc();
-    let mut bytes = scribbled(alloc, HEAD_SIZE)?;
-    encode_head(&greatest(alloc)?, 4, &mut bytes);
-    assert!(rt; &bytes[10..20] == [127, 64, 50, 4, 50, 60, 70, 100, 0, 0].as_slice());
-    assert!(rt; &bytes[NODES + 126 * 32..NODES + 126 * 32 + 16] == b"a_long_node_0126".as_slice());
-    assert!(rt;
-        &bytes[NODES + 126 * 32 + 16..NODES + 127 * 32]
-            == [
-                62, 1, 0, 0, 0, 0x0f, 0x42, 0x40, 0, 0, 0, 2, 0x54, 0x0b, 0xe4, 0
-            ]
-            .as_slice()
-    );
-    assert!(rt;
-        &bytes[BIDDERS + 63 * 24..BIDDERS + 64 * 24]
-            == b"a_bidder_0000063\x03\xd0\x90\0\0\0\0\0".as_slice()
-    );
-    match decode_head(alloc, &bytes)? {
-        Some(head) => {
-            assert_eq!(rt; head.journal_pages, 4);
-            assert_eq!(rt;
-                head.definition.find_node(b"a_long_node_0126"),
-                Some(NodeId::new(126))
-            );
-            assert_eq!(rt;
-                head.definition.find_bidder(b"a_bidder_0000063"),
-                Some(BidderId::new(63))
-            );
-        }
-        None => assert!(rt; false),
-    }
+    let bytes = encoded(alloc, &greatest(alloc)?, 4)?;
+    assert!(rt; part(&bytes, 10, 20) == [127, 64, 50, 4, 50, 60, 70, 100, 0, 0].as_slice());
+    assert!(rt; part(&bytes, 8_112, 8_128) == b"a_long_node_0126".as_slice());
+    assert!(rt; part(&bytes, 8_128, 8_136) == [62, 1, 0, 0, 0, 0x0f, 0x42, 0x40].as_slice());
+    assert!(rt; part(&bytes, 8_136, 8_144) == [0, 0, 0, 2, 0x54, 0x0b, 0xe4, 0].as_slice());
+    assert!(rt; part(&bytes, 9_688, 9_704) == b"a_bidder_0000063".as_slice());
+    assert!(rt; part(&bytes, 9_704, 9_712) == [0x03, 0xd0, 0x90, 0, 0, 0, 0, 0].as_slice());
+    let head = decoded(alloc, &bytes)?;
+    let found = head.as_ref().map(|head| found(head, b"a_long_node_0126", b"a_bidder_0000063"));
+    assert_eq!(rt; found, Some((4, Some(126), Some(63))));
     Ok(())
 }
