@@ -1,6 +1,7 @@
 //! What the page of a frame says.
-ghost use Rattle.std.specs.Prelude.{◌≡◌, length};
+ghost use Rattle.std.specs.Prelude.{◌≡◌, ◌↔◌, IsTrue, length};
 ghost use Rattle.hpb_journal.specs.declared.limits.TheConstants.{PAGE_BYTES};
+ghost use Rattle.hpb_journal.specs.declared.page.TheConstants.{OPEN};
 ghost use Rattle.hpb_journal.specs.Pages.{IsInPage};
 
 use crate::Frame;
@@ -10,12 +11,19 @@ use hpb_tree::Definition;
 
 const OPEN: u8 = 0xa5;
 
+/// Whether a gate of this value is open.
+fn is_open(gate: u8) -> bool
+    ensures { IsTrue result ↔ gate ≡ OPEN }
+{
+    gate == OPEN
+}
+
 /// What a page says of the batch of this index.
 pub(crate) fn frame_in(page: &[u8], index: u64, definition: &Definition) -> Frame
     requires { length page.now ≡ PAGE_BYTES }
     ensures { IsInPage definition.now index page.now result }
 {
-    if page[0] != OPEN {
+    if !is_open(page[0]) {
         return Frame::Closed;
     }
     let body = &page[BODY_AT..];
