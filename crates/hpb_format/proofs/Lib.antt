@@ -1,0 +1,6 @@
+pub mod Runs
+pub mod Closed
+pub mod Made
+pub mod Unheaded
+pub mod Beginning
+pub mod Standing

@@ -1,0 +1,22 @@
+use Rattle.std.proofs.Common.{refl, sym, subst}
+use Rattle.hpb_disk.specs.Gates.{HasOpenGate}
+use Rattle.hpb_format.proofs.Closed.{closes_on, quiet_closes, gate_closes}
+use Rattle.hpb_format.proofs.closing.close_if_open.Goals as goal
+
+pub returns-in-Ok-clause-any_moment : goal.returns-in-Ok-clause-any_moment
+returns-in-Ok-clause-any_moment g c =
+    let d = g.D.Disk in let first = c.args.disk.now in let middle = c.gate_is_open.new.disk in let last = c.close_gate.new.disk in
+    let read = c.in_ok-gate_is_open.ensures in let close = c.in-Ok.ensures in
+    closes_on d.seen d.may_leave d.moment d.left_since first middle last
+    (quiet_closes d.seen d.may_leave d.moment d.left_since first middle read.time read.crash)
+    (gate_closes d.seen d.may_leave d.moment d.left_since c.elsewhere_stays.ensures c.args.at c.requires.apart middle last (g.met.D.Disk.seen_may_stay middle)
+    (subst (HasOpenGate c.args.at) (sym read.seen) (read.open.0 c.if-not-branch.false)) (close.time refl) (close.crash refl))
+
+pub returns-in-Err-clause-any_moment : goal.returns-in-Err-clause-any_moment
+returns-in-Err-clause-any_moment g c =
+    let d = g.D.Disk in let first = c.args.disk.now in let middle = c.gate_is_open.new.disk in let last = c.close_gate.new.disk in
+    let read = c.in_ok-gate_is_open.ensures in let close = c.in-Err.ensures in
+    closes_on d.seen d.may_leave d.moment d.left_since first middle last
+    (quiet_closes d.seen d.may_leave d.moment d.left_since first middle read.time read.crash)
+    (gate_closes d.seen d.may_leave d.moment d.left_since c.elsewhere_stays.ensures c.args.at c.requires.apart middle last (g.met.D.Disk.seen_may_stay middle)
+    (subst (HasOpenGate c.args.at) (sym read.seen) (read.open.0 c.if-not-branch.false)) (close.time refl) (close.crash refl))

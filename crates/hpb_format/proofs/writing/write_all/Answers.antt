@@ -1,0 +1,44 @@
+use Rattle.std.proofs.Common.{ℕ, List, length, sym, ◌∙◌, ap, subst, arith}
+use Rattle.hpb_disk.specs.Gates.{HasClosedGate}
+use Rattle.hpb_format.specs.Stages.{IsWritten}
+use Rattle.hpb_format.specs.declared.place.TheConstants.{HEAD_GATE}
+use Rattle.hpb_format.proofs.Made.{written}
+use Rattle.hpb_format.proofs.Runs.{keeps_on, quiet_keeps}
+use Rattle.hpb_format.proofs.writing.write_all.Goals as goal
+
+pub returns-in_err-write_state-clause-any_moment : goal.returns-in_err-write_state-clause-any_moment
+returns-in_err-write_state-clause-any_moment g c =
+    let d = g.D.Disk in
+    keeps_on d.may_leave d.moment d.left_since (HasClosedGate HEAD_GATE) c.args.disk.now c.write_head.new.disk c.write_state.new.disk
+    c.in_ok-write_head.ensures.any_moment c.in_err-write_state.ensures.any_moment
+
+pub returns-in_err-write_state-clause-cause : goal.returns-in_err-write_state-clause-cause
+returns-in_err-write_state-clause-cause g c = grind (arith, c.from_residual-in_err-write_state, c.in_ok-write_head.ensures.cause, c.in_err-write_state.ensures.cause)
+
+pub returns-in-Ok-clause-written : goal.returns-in-Ok-clause-written
+returns-in-Ok-clause-written g c =
+    let d = g.D.Disk in let layout = g.F.Frames.layout c.args.frames.now in
+    let head = c.in_ok-write_head.ensures in let state = c.in_ok-write_state.ensures in
+    subst (IsWritten layout c.args.head.now c.args.state.now) (sym c.in-Ok.ensures.seen)
+    (written layout c.laws.ensures c.elsewhere_stays.ensures c.chunks_are_whole.ensures c.args.head.now c.args.state.now (d.seen c.args.disk.now) (d.seen c.write_head.new.disk) (d.seen c.write_state.new.disk)
+    c.requires.room c.requires.state c.requires.closed head.rest head.written state.rest state.written)
+
+pub returns-in-Ok-clause-size : goal.returns-in-Ok-clause-size
+returns-in-Ok-clause-size g c = ap (λ (l : List ℕ). length l) c.in-Ok.ensures.seen ∙ c.in_ok-write_state.ensures.size ∙ c.in_ok-write_head.ensures.size
+
+pub returns-in-Err-clause-size : goal.returns-in-Err-clause-size
+returns-in-Err-clause-size g c = ap (λ (l : List ℕ). length l) c.in-Err.ensures.seen ∙ c.in_ok-write_state.ensures.size ∙ c.in_ok-write_head.ensures.size
+
+pub returns-in-Ok-clause-any_moment : goal.returns-in-Ok-clause-any_moment
+returns-in-Ok-clause-any_moment g c =
+    let d = g.D.Disk in
+    keeps_on d.may_leave d.moment d.left_since (HasClosedGate HEAD_GATE) c.args.disk.now c.write_state.new.disk c.sync.new.self
+    (keeps_on d.may_leave d.moment d.left_since (HasClosedGate HEAD_GATE) c.args.disk.now c.write_head.new.disk c.write_state.new.disk c.in_ok-write_head.ensures.any_moment c.in_ok-write_state.ensures.any_moment)
+    (quiet_keeps d.may_leave d.moment d.left_since (HasClosedGate HEAD_GATE) c.write_state.new.disk c.sync.new.self c.in-Ok.ensures.time c.in-Ok.ensures.crash)
+
+pub returns-in-Err-clause-any_moment : goal.returns-in-Err-clause-any_moment
+returns-in-Err-clause-any_moment g c =
+    let d = g.D.Disk in
+    keeps_on d.may_leave d.moment d.left_since (HasClosedGate HEAD_GATE) c.args.disk.now c.write_state.new.disk c.sync.new.self
+    (keeps_on d.may_leave d.moment d.left_since (HasClosedGate HEAD_GATE) c.args.disk.now c.write_head.new.disk c.write_state.new.disk c.in_ok-write_head.ensures.any_moment c.in_ok-write_state.ensures.any_moment)
+    (quiet_keeps d.may_leave d.moment d.left_since (HasClosedGate HEAD_GATE) c.write_state.new.disk c.sync.new.self c.in-Err.ensures.time c.in-Err.ensures.crash)

@@ -1,0 +1,53 @@
+use Rattle.std.proofs.Common.{arith}
+use Rattle.hpb_format.specs.Stages.{IsUnheadedOrMade}
+use Rattle.hpb_format.proofs.Runs.{after_run}
+use Rattle.hpb_format.proofs.Unheaded.{unheaded_closing, unheaded_behind, unheaded_opening}
+use Rattle.hpb_format.proofs.writing.write_new.Goals as goal
+
+pub returns-in_err-close_all-clause-any_moment : goal.returns-in_err-close_all-clause-any_moment
+returns-in_err-close_all-clause-any_moment g c =
+    let d = g.D.Disk in let layout = g.F.Frames.layout c.args.frames.now in
+    unheaded_closing d.seen d.may_leave d.moment d.left_since layout c.args.new.now.head.items c.args.new.now.state.items c.open_or_closed.ensures c.args.disk.now c.close_all.new.disk
+    c.in_err-close_all.ensures.any_moment c.requires.settled c.requires.unheaded
+
+pub returns-in_err-write_behind-clause-any_moment : goal.returns-in_err-write_behind-clause-any_moment
+returns-in_err-write_behind-clause-any_moment g c =
+    let d = g.D.Disk in let layout = g.F.Frames.layout c.args.frames.now in
+    let close = c.in_ok-close_all.ensures in
+    after_run d.may_leave d.moment d.left_since c.args.disk.now c.close_all.new.disk c.write_behind.new.disk (IsUnheadedOrMade layout c.args.new.now.head.items c.args.new.now.state.items)
+    (unheaded_closing d.seen d.may_leave d.moment d.left_since layout c.args.new.now.head.items c.args.new.now.state.items c.open_or_closed.ensures c.args.disk.now c.close_all.new.disk
+    close.any_moment c.requires.settled c.requires.unheaded)
+    (unheaded_behind d.seen d.may_leave d.moment d.left_since layout c.args.new.now.head.items c.args.new.now.state.items c.open_or_closed.ensures c.close_all.new.disk c.write_behind.new.disk
+    c.in_err-write_behind.ensures.any_moment close.settled close.closed.head)
+
+pub returns-in-Ok-clause-any_moment : goal.returns-in-Ok-clause-any_moment
+returns-in-Ok-clause-any_moment g c =
+    let d = g.D.Disk in let layout = g.F.Frames.layout c.args.frames.now in
+    let close = c.in_ok-close_all.ensures in
+    let write = c.in_ok-write_behind.ensures in
+    let head = c.args.new.now.head.items in
+    let state = c.args.new.now.state.items in
+    after_run d.may_leave d.moment d.left_since c.args.disk.now c.write_behind.new.disk c.open_head.new.disk (IsUnheadedOrMade layout head state)
+    (after_run d.may_leave d.moment d.left_since c.args.disk.now c.close_all.new.disk c.write_behind.new.disk (IsUnheadedOrMade layout head state)
+    (unheaded_closing d.seen d.may_leave d.moment d.left_since layout head state c.open_or_closed.ensures c.args.disk.now c.close_all.new.disk close.any_moment c.requires.settled c.requires.unheaded)
+    (unheaded_behind d.seen d.may_leave d.moment d.left_since layout head state c.open_or_closed.ensures c.close_all.new.disk c.write_behind.new.disk write.any_moment close.settled close.closed.head))
+    (unheaded_opening d.seen d.may_leave d.moment d.left_since layout head state c.open_or_closed.ensures c.write_behind.new.disk c.open_head.new.disk (c.in-Ok.ensures.any_moment head state write.made))
+
+pub returns-in-Err-clause-any_moment : goal.returns-in-Err-clause-any_moment
+returns-in-Err-clause-any_moment g c =
+    let d = g.D.Disk in let layout = g.F.Frames.layout c.args.frames.now in
+    let close = c.in_ok-close_all.ensures in
+    let write = c.in_ok-write_behind.ensures in
+    let head = c.args.new.now.head.items in
+    let state = c.args.new.now.state.items in
+    after_run d.may_leave d.moment d.left_since c.args.disk.now c.write_behind.new.disk c.open_head.new.disk (IsUnheadedOrMade layout head state)
+    (after_run d.may_leave d.moment d.left_since c.args.disk.now c.close_all.new.disk c.write_behind.new.disk (IsUnheadedOrMade layout head state)
+    (unheaded_closing d.seen d.may_leave d.moment d.left_since layout head state c.open_or_closed.ensures c.args.disk.now c.close_all.new.disk close.any_moment c.requires.settled c.requires.unheaded)
+    (unheaded_behind d.seen d.may_leave d.moment d.left_since layout head state c.open_or_closed.ensures c.close_all.new.disk c.write_behind.new.disk write.any_moment close.settled close.closed.head))
+    (unheaded_opening d.seen d.may_leave d.moment d.left_since layout head state c.open_or_closed.ensures c.write_behind.new.disk c.open_head.new.disk (c.in-Err.ensures.any_moment head state write.made))
+
+pub returns-in-Ok-clause-made : goal.returns-in-Ok-clause-made
+returns-in-Ok-clause-made g c = c.in-Ok.ensures.made c.args.new.now.head.items c.args.new.now.state.items c.in_ok-write_behind.ensures.made
+
+pub returns-in_err-write_behind-clause-cause : goal.returns-in_err-write_behind-clause-cause
+returns-in_err-write_behind-clause-cause g c = grind (arith, c.from_residual-in_err-write_behind, c.in_ok-close_all.ensures.cause, c.in_err-write_behind.ensures.cause)

@@ -1,0 +1,74 @@
+-- What holds of the images of a device while it is formatted.
+use Rattle.std.specs.Prelude.{◌≡◌, ◌⊎◌, ℕ, List, length}
+use Rattle.hpb_disk.specs.Gates.{HasOpenGate, HasClosedGate}
+use Rattle.hpb_disk.specs.Images.{part, SameBefore, SameFrom, Within, LeavesOnly}
+use Rattle.hpb_journal.specs.Layouts.{Layout}
+use Rattle.hpb_journal.specs.Frames.{IsClosed}
+use Rattle.hpb_slots.specs.declared.limits.TheConstants.{SLOTS_AT, SLOTS_END}
+use Rattle.hpb_slots.specs.declared.slot.Slot.{Slot}
+use Rattle.hpb_slots.specs.declared.slot.Slot.TheVariants.{First, Second}
+use Rattle.hpb_slots.specs.Slots as slots
+use Rattle.hpb_codec.specs.declared.head.TheConstants.{HEAD_SIZE}
+use Rattle.hpb_image.specs.declared.limits.TheConstants.{HEAD_AT, MAGIC_BYTES}
+use Rattle.hpb_image.specs.Heads.{IsHeaded}
+use Rattle.hpb_format.specs.declared.place.TheConstants.{HEAD_GATE}
+
+-- All gates are closed: the head's, those of the two slots, and that of each batch's frame.
+pub record AreClosed (layout : Layout) (image : List ℕ) : Type 0 where
+  pub head : HasClosedGate HEAD_GATE image
+  pub slots : (slot : Slot) → slots.IsClosed slot image
+  pub frames : (b : ℕ) → IsClosed layout b image
+
+-- What a device that isn't formatted keeps while gates are closed: the bytes where the magic stands, and a closed gate of the head.
+pub record HasHeadOf (first image : List ℕ) : Type 0 where
+  pub magic : part HEAD_AT MAGIC_BYTES image ≡ part HEAD_AT MAGIC_BYTES first
+  pub gate : HasClosedGate HEAD_GATE first → HasClosedGate HEAD_GATE image
+
+-- Where all that a crash may leave of a device is of this set, a crash from then on, up to the next device, leaves only such images.
+abbrev pub Keeps : {D : Type 0} → (D → List ℕ → Type 0) → (D → ℕ) → (D → ℕ → List ℕ → Type 0) → (List ℕ → Type 0) → D → D → Type 0
+Keeps may_leave moment left_since images here next =
+    Within (may_leave here) images → LeavesOnly (moment here) (moment next) (left_since here) (left_since next) (may_leave next) images
+
+-- Gates are closed at most.
+abbrev pub OnlyCloses : {D : Type 0} → (D → List ℕ → Type 0) → (D → ℕ) → (D → ℕ → List ℕ → Type 0) → D → D → Type 0
+OnlyCloses may_leave moment left_since here next = (first : List ℕ) → Keeps may_leave moment left_since (HasHeadOf first) here next
+
+-- The gate of the head stays closed.
+abbrev pub StaysClosed : {D : Type 0} → (D → List ℕ → Type 0) → (D → ℕ) → (D → ℕ → List ℕ → Type 0) → D → D → Type 0
+StaysClosed may_leave moment left_since = Keeps may_leave moment left_since (HasClosedGate HEAD_GATE)
+
+-- The images differ at most in the body of the first slot.
+pub record ChangesBody (old new : List ℕ) : Type 0 where
+  pub before : SameBefore SLOTS_AT old new
+  pub behind : SameFrom SLOTS_END old new
+  pub size : length new ≡ length old
+  pub gates : (slot : Slot) → slots.gate_of slot new ≡ slots.gate_of slot old
+
+-- Head and state are written, and all gates are closed.
+pub record IsWritten (layout : Layout) (head_bytes state_bytes image : List ℕ) : Type 0 where
+  pub size : length image ≡ layout.size
+  pub head : part HEAD_AT HEAD_SIZE image ≡ head_bytes
+  pub state : slots.body_of First image ≡ state_bytes
+  pub closed : AreClosed layout image
+
+-- They are written, and of all gates but the head's only the first slot's is open.
+pub record IsMade (layout : Layout) (head_bytes state_bytes image : List ℕ) : Type 0 where
+  pub size : length image ≡ layout.size
+  pub head : part HEAD_AT HEAD_SIZE image ≡ head_bytes
+  pub state : slots.body_of First image ≡ state_bytes
+  pub first : slots.IsOpen First image
+  pub second : slots.IsClosed Second image
+  pub frames : (b : ℕ) → IsClosed layout b image
+
+-- And the head's gate is open.
+pub record IsOpenAndMade (layout : Layout) (head_bytes state_bytes image : List ℕ) : Type 0 where
+  pub gate : HasOpenGate HEAD_GATE image
+  pub made : IsMade layout head_bytes state_bytes image
+
+-- The head's gate is closed, or all is there.
+abbrev pub IsClosedOrMade : Layout → (head state image : List ℕ) → Type 0
+IsClosedOrMade layout head state image = HasClosedGate HEAD_GATE image ⊎ IsOpenAndMade layout head state image
+
+-- The device isn't headed, or all is there.
+abbrev pub IsUnheadedOrMade : Layout → (head state image : List ℕ) → Type 0
+IsUnheadedOrMade layout head state image = (IsHeaded image → ⊥) ⊎ IsOpenAndMade layout head state image

@@ -1,0 +1,121 @@
+//! Closing the gates of a device that is not formatted, before anything is written behind them.
+ghost use Rattle.std.specs.Prelude.{◌≡◌, ◌⊎◌, ◌+◌, ◌<◌, ◌≤◌, ℕ, length, OnOk};
+ghost use Rattle.hpb_disk.specs.Gates.{HasClosedGate};
+ghost use Rattle.hpb_disk.specs.Images.{Only, SameBefore, Torn, CountsFailure};
+ghost use Rattle.hpb_journal.specs.Changes.{ChangesGate};
+ghost use Rattle.hpb_journal.specs.Frames.{IsClosed};
+ghost use Rattle.hpb_journal.specs.declared.limits.TheConstants.{JOURNAL_AT};
+ghost use Rattle.hpb_slots.specs.declared.slot.Slot.{Slot};
+ghost use Rattle.hpb_slots.specs.Slots.{IsClosed as IsClosedSlot};
+ghost use Rattle.hpb_format.specs.Stages.{AreClosed, OnlyCloses};
+ghost use Rattle.hpb_image.specs.declared.limits.TheConstants.{HEAD_AT, MAGIC_BYTES};
+ghost use Rattle.hpb_format.specs.declared.place.TheConstants.{HEAD_GATE};
+
+use crate::place::{FIRST_GATE, HEAD_GATE, SECOND_GATE};
+use hpb_disk::{Disk, DiskFailed, close_gate, elsewhere_stays, gate_is_open, put_is_torn};
+use hpb_journal::{Frame, Frames};
+use hpb_tree::Definition;
+
+/// Closes a gate, if it reads open.
+fn close_if_open<D: Disk>(disk: &mut D, at: usize) -> Result<(), DiskFailed>
+    requires room { at < length (D.seen disk.old) }
+    requires apart { (at ≡ HEAD_GATE) ⊎ (HEAD_AT + MAGIC_BYTES ≤ at) }
+    ensures closed { OnOk result (HasClosedGate at (D.seen disk.new)) }
+    ensures rest { OnOk result (Torn at 1 (D.seen disk.old) (D.seen disk.new)) }
+    ensures size { length (D.seen disk.new) ≡ length (D.seen disk.old) }
+    ensures any_moment { OnlyCloses D.may_leave D.moment D.left_since disk.old disk.new }
+    ensures cause { CountsFailure result (D.failures disk.old) (D.failures disk.new) }
+{
+    elsewhere_stays();
+    put_is_torn();
+    if !gate_is_open(disk, at)? {
+        return Ok(());
+    }
+    match close_gate(disk, at, true) {
+        Ok(()) => Ok(()),
+        Err(failed) => Err(failed),
+    }
+}
+
+/// Closes the gate of a batch's frame, if it reads open.
+fn close_frame_if_open<D: Disk, F: Frames>(
+    disk: &mut D,
+    frames: &F,
+    index: u64,
+    definition: &Definition,
+) -> Result<(), DiskFailed>
+    requires room { (F.layout frames.now).size ≤ length (D.seen disk.old) }
+    ensures closed { OnOk result (IsClosed (F.layout frames.now) index (D.seen disk.new)) }
+    ensures rest { OnOk result (ChangesGate (F.layout frames.now) index (D.seen disk.old) (D.seen disk.new)) }
+    ensures size { length (D.seen disk.new) ≡ length (D.seen disk.old) }
+    ensures any_moment { OnlyCloses D.may_leave D.moment D.left_since disk.old disk.new }
+    ensures cause { CountsFailure result (D.failures disk.old) (D.failures disk.new) }
+{
+    if matches!(frames.read_frame(disk, index, definition)?, Frame::Closed) {
+        return Ok(());
+    }
+    match frames.close_frame(disk, index, true) {
+        Ok(()) => Ok(()),
+        Err(failed) => Err(failed),
+    }
+}
+
+/// Closes the gates of all frames that read open.
+fn close_frames<D: Disk, F: Frames>(
+    disk: &mut D,
+    frames: &F,
+    definition: &Definition,
+) -> Result<(), DiskFailed>
+    requires room { (F.layout frames.now).size ≤ length (D.seen disk.old) }
+    ensures closed { OnOk result ((b : ℕ) → IsClosed (F.layout frames.now) b (D.seen disk.new)) }
+    ensures before { OnOk result (SameBefore JOURNAL_AT (D.seen disk.old) (D.seen disk.new)) }
+    ensures size { length (D.seen disk.new) ≡ length (D.seen disk.old) }
+    ensures any_moment { OnlyCloses D.may_leave D.moment D.left_since disk.old disk.new }
+    ensures cause { CountsFailure result (D.failures disk.old) (D.failures disk.new) }
+{
+    frames.laws();
+    for index in 0..u64::from(frames.count()) {
+        close_frame_if_open(disk, frames, index, definition)?;
+    }
+    Ok(())
+}
+
+/// Closes the gates before the journal that read open: the head's, and those of the slots.
+fn close_head_and_slots<D: Disk>(disk: &mut D) -> Result<(), DiskFailed>
+    requires room { JOURNAL_AT ≤ length (D.seen disk.old) }
+    ensures head { OnOk result (HasClosedGate HEAD_GATE (D.seen disk.new)) }
+    ensures slots { OnOk result ((slot : Slot) → IsClosedSlot slot (D.seen disk.new)) }
+    ensures size { length (D.seen disk.new) ≡ length (D.seen disk.old) }
+    ensures any_moment { OnlyCloses D.may_leave D.moment D.left_since disk.old disk.new }
+    ensures cause { CountsFailure result (D.failures disk.old) (D.failures disk.new) }
+{
+    elsewhere_stays();
+    close_if_open(disk, HEAD_GATE)?;
+    close_if_open(disk, FIRST_GATE)?;
+    match close_if_open(disk, SECOND_GATE) {
+        Ok(()) => Ok(()),
+        Err(failed) => Err(failed),
+    }
+}
+
+/// Closes all gates that read open, and syncs.
+pub(crate) fn close_all<D: Disk, F: Frames>(
+    disk: &mut D,
+    frames: &F,
+    definition: &Definition,
+) -> Result<(), DiskFailed>
+    requires room { (F.layout frames.now).size ≤ length (D.seen disk.old) }
+    ensures closed { OnOk result (AreClosed (F.layout frames.now) (D.seen disk.new)) }
+    ensures settled { OnOk result (Only (D.seen disk.new) (D.may_leave disk.new)) }
+    ensures size { length (D.seen disk.new) ≡ length (D.seen disk.old) }
+    ensures any_moment { OnlyCloses D.may_leave D.moment D.left_since disk.old disk.new }
+    ensures cause { CountsFailure result (D.failures disk.old) (D.failures disk.new) }
+{
+    frames.laws();
+    close_head_and_slots(disk)?;
+    close_frames(disk, frames, definition)?;
+    match disk.sync() {
+        Ok(()) => Ok(()),
+        Err(failed) => Err(failed),
+    }
+}

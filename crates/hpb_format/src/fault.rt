@@ -1,0 +1,43 @@
+ghost use Rattle.std.specs.Prelude.{◌≡◌};
+ghost use Rattle.hpb_format.specs.Outcomes.{refusal_of};
+
+use hpb_rules::Refusal;
+use thiserror::Error;
+
+/// Why a device was not formatted. The words are those of an `ERR` line.
+#[derive(Clone, Copy, Debug, PartialEq, Eq, Error)]
+pub enum FormatCause {
+    /// 43: the number of frames is out of range, or the device isn't as long as they want it.
+    #[error("length")]
+    Length,
+    /// 41: the device is formatted already.
+    #[error("formatted")]
+    Formatted,
+    /// 91: a call of the device failed.
+    #[error("device")]
+    Device,
+    /// 90: memory was refused.
+    #[error("memory")]
+    Memory,
+}
+
+impl FormatCause {
+    /// The refusal that it is told by.
+    pub fn refusal(self) -> Refusal
+        ensures { result ≡ refusal_of self }
+    {
+        match self {
+            FormatCause::Length => Refusal::Length,
+            FormatCause::Formatted => Refusal::Formatted,
+            FormatCause::Device => Refusal::Device,
+            FormatCause::Memory => Refusal::Memory,
+        }
+    }
+}
+
+/// A device that was not formatted is handed back.
+#[derive(Debug, Drop)]
+pub struct FormatFault<D> {
+    pub disk: D,
+    pub cause: FormatCause,
+}

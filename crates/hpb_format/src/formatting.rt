@@ -1,0 +1,182 @@
+//! Formatting a device.
+ghost use Rattle.std.specs.Prelude.{◌≡◌, ◌⊎◌, ◌+◌, ◌≤◌, ◌↔◌, List, ℕ, length, IfOk, IfSome, IsNone, IsTrue, OnOk};
+ghost use Rattle.hpb_codec.specs.declared.state.TheConstants.{STATE_SIZE};
+ghost use Rattle.hpb_disk.specs.Images.{Only, Within, CountsFailure, LeavesOnly};
+ghost use Rattle.hpb_image.specs.Heads.{IsFormatted, IsHeaded};
+ghost use Rattle.hpb_codec.specs.declared.head.TheConstants.{HEAD_SIZE};
+ghost use Rattle.hpb_image.specs.declared.limits.TheConstants.{HEAD_AT, MAGIC_BYTES};
+ghost use Rattle.hpb_format.specs.Beginnings.{IsFirstHead, IsFirstState};
+ghost use Rattle.hpb_format.specs.Outcomes.{answer_of, given, CountsCause, FailsAtMostBy, FailsBy, HasLength, IsBlank, IsNew, WasOrIsBlank};
+ghost use Rattle.hpb_format.specs.declared.fault.FormatCause.TheVariants.{Formatted, Length, Memory};
+
+use crate::fault::{FormatCause, FormatFault};
+use crate::new_device::NewDevice;
+use crate::place::HEAD_GATE;
+use crate::writing::write_new;
+use hpb_codec::has_magic;
+use hpb_disk::{Disk, DiskFailed, gate_is_open};
+use hpb_image::{HEAD_AT, MAGIC_BYTES};
+use hpb_journal::{Frames, LEAST_FRAMES, MOST_FRAMES, PageFrames};
+use hpb_slots::holds_one;
+use hpb_tree::Definition;
+use std::alloc::Global;
+
+/// Whether the head's gate reads open, with the magic behind it.
+fn is_headed<D: Disk>(disk: &mut D) -> Result<bool, DiskFailed>
+    requires room { HEAD_AT + MAGIC_BYTES ≤ length (D.seen disk.old) }
+    ensures headed { IfOk result (λ is. IsTrue is ↔ IsHeaded (D.seen disk.old)) }
+    ensures seen { D.seen disk.new ≡ D.seen disk.old }
+    ensures any_moment { LeavesOnly (D.moment disk.old) (D.moment disk.new) (D.left_since disk.old) (D.left_since disk.new) (D.may_leave disk.new)
+        (D.may_leave disk.old) }
+    ensures cause { CountsFailure result (D.failures disk.old) (D.failures disk.new) }
+{
+    if !gate_is_open(disk, HEAD_GATE)? {
+        return Ok(false);
+    }
+    let mut magic = [0; MAGIC_BYTES];
+    match disk.read_into(HEAD_AT, &mut magic) {
+        Ok(()) => Ok(has_magic(&magic)),
+        Err(failed) => Err(failed),
+    }
+}
+
+/// The frames of a journal, if there may be so many and a device of this length has them.
+fn page_frames(frames: u32, len: usize) -> Option<PageFrames>
+    ensures found { IfSome result (λ found. (found.count ≡ frames) × ((image : List ℕ) → length image ≡ len → HasLength frames image)) }
+    ensures none { IsNone result → (image : List ℕ) → length image ≡ len → HasLength frames image → ⊥ }
+{
+    if frames < LEAST_FRAMES || MOST_FRAMES < frames {
+        return None;
+    }
+    let found = PageFrames::new(frames);
+    if len == found.device_len() {
+        Some(found)
+    } else {
+        None
+    }
+}
+
+/// Syncs, and reads whether the device is formatted.
+fn settle_and_read<D: Disk>(disk: &mut D) -> Result<bool, DiskFailed>
+    requires room { HEAD_AT + MAGIC_BYTES ≤ length (D.seen disk.old) }
+    ensures headed { IfOk result (λ is. IsTrue is ↔ IsHeaded (D.seen disk.old)) }
+    ensures seen { D.seen disk.new ≡ D.seen disk.old }
+    ensures settled { OnOk result (Only (D.seen disk.new) (D.may_leave disk.new)) }
+    ensures any_moment { LeavesOnly (D.moment disk.old) (D.moment disk.new) (D.left_since disk.old) (D.left_since disk.new) (D.may_leave disk.new)
+        (D.may_leave disk.old) }
+    ensures cause { CountsFailure result (D.failures disk.old) (D.failures disk.new) }
+{
+    disk.sync()?;
+    match is_headed(disk) {
+        Ok(headed) => Ok(headed),
+        Err(failed) => Err(failed),
+    }
+}
+
+/// Formats a device of the length that these frames want.
+fn format_fitting<D: Disk>(
+    disk: &mut D,
+    frames: &PageFrames,
+    definition: &Definition,
+    new: &NewDevice,
+) -> Result<(), FormatCause>
+    requires length { HasLength frames.now.count (D.seen disk.old) }
+    requires head { IsFirstHead definition.now frames.now.count new.now.head.items }
+    requires head_size { length new.now.head.items ≡ HEAD_SIZE }
+    requires state { IsFirstState definition.now new.now.state.items }
+    requires state_size { length new.now.state.items ≡ STATE_SIZE }
+    ensures stands { OnOk result (Within (D.may_leave disk.new) (IsNew definition.now frames.now.count)) }
+    ensures length { FailsBy result Length → ⊥ }
+    ensures memory { FailsBy result Memory → ⊥ }
+    ensures formatted { FailsBy result Formatted → IsFormatted (D.seen disk.old) }
+    ensures refused { IsFormatted (D.seen disk.old) → FailsAtMostBy result Formatted }
+    ensures same { IsFormatted (D.seen disk.old) → D.seen disk.new ≡ D.seen disk.old }
+    ensures kept { IsFormatted (D.seen disk.old)
+        → LeavesOnly (D.moment disk.old) (D.moment disk.new) (D.left_since disk.old) (D.left_since disk.new) (D.may_leave disk.new) (D.may_leave disk.old) }
+    ensures any_moment { LeavesOnly (D.moment disk.old) (D.moment disk.new) (D.left_since disk.old) (D.left_since disk.new) (D.may_leave disk.new)
+        (WasOrIsBlank D.may_leave disk.old definition.now frames.now.count) }
+    ensures cause { CountsCause result (D.failures disk.old) (D.failures disk.new) }
+{
+    frames.laws();
+    holds_one();
+    let Ok(headed) = settle_and_read(disk) else {
+        return Err(FormatCause::Device);
+    };
+    if headed {
+        return Err(FormatCause::Formatted);
+    }
+    match write_new(disk, frames, definition, new) {
+        Ok(()) => Ok(()),
+        Err(_) => Err(FormatCause::Device),
+    }
+}
+
+/// Formats a device in place.
+fn format_in_place<D: Disk>(
+    alloc: Global,
+    disk: &mut D,
+    definition: &Definition,
+    frames: u32,
+) -> Result<(), FormatCause>
+    ensures stands { OnOk result (Within (D.may_leave disk.new) (IsNew definition.now frames)) }
+    ensures length { FailsBy result Length ↔ (HasLength frames (D.seen disk.old) → ⊥) }
+    ensures formatted { FailsBy result Formatted → IsFormatted (D.seen disk.old) }
+    ensures refused { HasLength frames (D.seen disk.old) → IsFormatted (D.seen disk.old) → FailsAtMostBy result Formatted }
+    ensures untouched { FailsBy result Length ⊎ FailsBy result Memory → disk.new ≡ disk.old }
+    ensures same { IsFormatted (D.seen disk.old) → D.seen disk.new ≡ D.seen disk.old }
+    ensures kept { IsFormatted (D.seen disk.old)
+        → LeavesOnly (D.moment disk.old) (D.moment disk.new) (D.left_since disk.old) (D.left_since disk.new) (D.may_leave disk.new) (D.may_leave disk.old) }
+    ensures any_moment { LeavesOnly (D.moment disk.old) (D.moment disk.new) (D.left_since disk.old) (D.left_since disk.new) (D.may_leave disk.new)
+        (WasOrIsBlank D.may_leave disk.old definition.now frames) }
+    ensures cause { CountsCause result (D.failures disk.old) (D.failures disk.new) }
+{
+    let Some(frames) = page_frames(frames, disk.len()) else {
+        return Err(FormatCause::Length);
+    };
+    let Ok(new) = NewDevice::new(alloc, definition, frames.count) else {
+        return Err(FormatCause::Memory);
+    };
+    format_fitting(disk, &frames, definition, &new)
+}
+
+/// Makes a device that stands for the auction of a definition before its first command, with so many frames, from 4 to
+/// 1,024, for its journal. A device that was not formatted is handed back with the cause.
+///
+/// 43 comes where the number of frames is out of range, or the device isn't as long as they want it: 13 pages and one for
+/// each frame. 90 comes where memory is refused; all of it is taken before the first call of the device. 41 comes where
+/// the device is formatted already, after a sync: nothing was written. 91 comes where a call of the device fails.
+///
+/// It syncs, closes all gates that read open, syncs, writes head and first slot, syncs, opens the slot, syncs, opens the
+/// head, and syncs. A crash at any moment of that leaves a device that isn't formatted, or the new one.
+pub fn format<D: Disk + Drop>(
+    alloc: Global,
+    disk: D,
+    definition: &Definition,
+    frames: u32,
+) -> Result<D, FormatFault<D>>
+    // At `Ok` each crash leaves an image that stands for no command, under this definition and with so many frames.
+    ensures stands { IfOk result (λ new. Within (D.may_leave new) (IsNew definition.now frames)) }
+    ensures length { FailsBy (answer_of result) Length ↔ (HasLength frames (D.seen disk) → ⊥) }
+    ensures formatted { FailsBy (answer_of result) Formatted → IsFormatted (D.seen disk) }
+    ensures refused { HasLength frames (D.seen disk) → IsFormatted (D.seen disk) → FailsAtMostBy (answer_of result) Formatted }
+    // Before 43 and 90 no call of the device was made.
+    ensures untouched { FailsBy (answer_of result) Length ⊎ FailsBy (answer_of result) Memory → given result ≡ disk }
+    // A formatted device is left as it was, at any moment.
+    ensures same { IsFormatted (D.seen disk) → D.seen (given result) ≡ D.seen disk }
+    ensures kept { IsFormatted (D.seen disk) → LeavesOnly (D.moment disk) (D.moment (given result)) (D.left_since disk) (D.left_since (given result))
+        (D.may_leave (given result)) (D.may_leave disk) }
+    // Of any other a crash at any moment leaves what it could before, or an image that isn't formatted or is new,
+    ensures any_moment { LeavesOnly (D.moment disk) (D.moment (given result)) (D.left_since disk) (D.left_since (given result))
+        (D.may_leave (given result)) (WasOrIsBlank D.may_leave disk definition.now frames) }
+    // and where nothing was pending only such.
+    ensures blank { Only (D.seen disk) (D.may_leave disk) → (IsFormatted (D.seen disk) → ⊥)
+        → LeavesOnly (D.moment disk) (D.moment (given result)) (D.left_since disk) (D.left_since (given result)) (D.may_leave (given result)) (IsBlank definition.now frames) }
+    // 91 is told exactly where a call failed.
+    ensures cause { CountsCause (answer_of result) (D.failures disk) (D.failures (given result)) }
+{
+    let mut disk = disk;
+    match format_in_place(alloc, &mut disk, definition, frames) {
+        Ok(()) => Ok(disk),
+        Err(cause) => Err(FormatFault { disk, cause }),
+    }
+}

@@ -1,0 +1,178 @@
+//! Writing a new device behind its closed gates, and opening it.
+ghost use Rattle.std.specs.Prelude.{◌≡◌, ◌≤◌, ℕ, List, length, OnOk};
+ghost use Rattle.hpb_codec.specs.declared.state.TheConstants.{CHUNKS, STATE_SIZE};
+ghost use Rattle.hpb_disk.specs.Images.{part, Only, Torn, Within, CountsFailure, LeavesOnly};
+ghost use Rattle.hpb_slots.specs.declared.limits.TheConstants.{SLOTS_AT, SLOTS_END};
+ghost use Rattle.hpb_slots.specs.declared.slot.Slot.TheVariants.{First};
+ghost use Rattle.hpb_slots.specs.Slots.{HasChunks};
+ghost use Rattle.hpb_format.specs.Stages.{AreClosed, ChangesBody, IsClosedOrMade, IsMade, IsOpenAndMade, IsUnheadedOrMade, IsWritten, StaysClosed};
+ghost use Rattle.hpb_image.specs.Heads.{IsHeaded};
+ghost use Rattle.hpb_codec.specs.declared.head.TheConstants.{HEAD_SIZE};
+ghost use Rattle.hpb_image.specs.declared.limits.TheConstants.{HEAD_AT};
+ghost use Rattle.hpb_format.specs.declared.place.TheConstants.{HEAD_GATE};
+
+use crate::closing::close_all;
+use crate::new_device::NewDevice;
+use crate::place::HEAD_GATE;
+use hpb_codec::CHUNKS;
+use hpb_disk::{
+    Disk, DiskFailed, elsewhere_stays, open_gate, open_or_closed, put_is_read, put_is_torn,
+};
+use hpb_image::HEAD_AT;
+use hpb_journal::Frames;
+use hpb_slots::{Slot, chunks_are_whole, open_slot, write_chunk};
+use hpb_tree::Definition;
+
+/// Writes the head behind its gate.
+fn write_head<D: Disk>(disk: &mut D, head: &[u8]) -> Result<(), DiskFailed>
+    requires room { SLOTS_AT ≤ length (D.seen disk.old) }
+    requires head { length head.now ≡ HEAD_SIZE }
+    ensures written { OnOk result (part HEAD_AT HEAD_SIZE (D.seen disk.new) ≡ head.now) }
+    ensures rest { OnOk result (Torn HEAD_AT HEAD_SIZE (D.seen disk.old) (D.seen disk.new)) }
+    ensures size { length (D.seen disk.new) ≡ length (D.seen disk.old) }
+    ensures any_moment { StaysClosed D.may_leave D.moment D.left_since disk.old disk.new }
+    ensures cause { CountsFailure result (D.failures disk.old) (D.failures disk.new) }
+{
+    elsewhere_stays();
+    put_is_read();
+    put_is_torn();
+    match disk.write_at(HEAD_AT, head) {
+        Ok(()) => Ok(()),
+        Err(failed) => Err(failed),
+    }
+}
+
+/// Writes the body of the first slot.
+fn write_state<D: Disk>(disk: &mut D, state: &[u8]) -> Result<(), DiskFailed>
+    requires room { SLOTS_END ≤ length (D.seen disk.old) }
+    requires state { length state.now ≡ STATE_SIZE }
+    ensures written { OnOk result (HasChunks First CHUNKS state.now (D.seen disk.new)) }
+    ensures rest { OnOk result (ChangesBody (D.seen disk.old) (D.seen disk.new)) }
+    ensures size { length (D.seen disk.new) ≡ length (D.seen disk.old) }
+    ensures any_moment { StaysClosed D.may_leave D.moment D.left_since disk.old disk.new }
+    ensures cause { CountsFailure result (D.failures disk.old) (D.failures disk.new) }
+{
+    for i in 0..CHUNKS {
+        write_chunk(disk, Slot::First, i, state)?;
+    }
+    Ok(())
+}
+
+/// Writes head and state of a device whose gates are all closed, and syncs.
+fn write_all<D: Disk, F: Frames>(
+    disk: &mut D,
+    frames: &F,
+    head: &[u8],
+    state: &[u8],
+) -> Result<(), DiskFailed>
+    requires room { length (D.seen disk.old) ≡ (F.layout frames.now).size }
+    requires closed { AreClosed (F.layout frames.now) (D.seen disk.old) }
+    requires head { length head.now ≡ HEAD_SIZE }
+    requires state { length state.now ≡ STATE_SIZE }
+    ensures written { OnOk result (IsWritten (F.layout frames.now) head.now state.now (D.seen disk.new)) }
+    ensures size { length (D.seen disk.new) ≡ length (D.seen disk.old) }
+    ensures any_moment { StaysClosed D.may_leave D.moment D.left_since disk.old disk.new }
+    ensures cause { CountsFailure result (D.failures disk.old) (D.failures disk.new) }
+{
+    frames.laws();
+    elsewhere_stays();
+    chunks_are_whole();
+    write_head(disk, head)?;
+    write_state(disk, state)?;
+    match disk.sync() {
+        Ok(()) => Ok(()),
+        Err(failed) => Err(failed),
+    }
+}
+
+/// Opens the first slot of a device that is written, and syncs.
+fn open_first<D: Disk, F: Frames>(disk: &mut D, frames: &F) -> Result<(), DiskFailed>
+    requires room { SLOTS_END ≤ length (D.seen disk.old) }
+    ensures made { (head state : List ℕ) → IsWritten (F.layout frames.now) head state (D.seen disk.old)
+        → OnOk result (IsMade (F.layout frames.now) head state (D.seen disk.new)) }
+    ensures settled { OnOk result (Only (D.seen disk.new) (D.may_leave disk.new)) }
+    ensures size { length (D.seen disk.new) ≡ length (D.seen disk.old) }
+    ensures any_moment { StaysClosed D.may_leave D.moment D.left_since disk.old disk.new }
+    ensures cause { CountsFailure result (D.failures disk.old) (D.failures disk.new) }
+{
+    frames.laws();
+    open_slot(disk, Slot::First)?;
+    match disk.sync() {
+        Ok(()) => Ok(()),
+        Err(failed) => Err(failed),
+    }
+}
+
+/// Writes all but the head's gate of a device whose gates are all closed, and syncs.
+fn write_behind<D: Disk, F: Frames>(
+    disk: &mut D,
+    frames: &F,
+    new: &NewDevice,
+) -> Result<(), DiskFailed>
+    requires room { length (D.seen disk.old) ≡ (F.layout frames.now).size }
+    requires closed { AreClosed (F.layout frames.now) (D.seen disk.old) }
+    requires head { length new.now.head.items ≡ HEAD_SIZE }
+    requires state { length new.now.state.items ≡ STATE_SIZE }
+    ensures made { OnOk result (IsMade (F.layout frames.now) new.now.head.items new.now.state.items (D.seen disk.new)) }
+    ensures settled { OnOk result (Only (D.seen disk.new) (D.may_leave disk.new)) }
+    ensures size { length (D.seen disk.new) ≡ length (D.seen disk.old) }
+    ensures any_moment { StaysClosed D.may_leave D.moment D.left_since disk.old disk.new }
+    ensures cause { CountsFailure result (D.failures disk.old) (D.failures disk.new) }
+{
+    frames.laws();
+    write_all(disk, frames, &new.head, &new.state)?;
+    match open_first(disk, frames) {
+        Ok(()) => Ok(()),
+        Err(failed) => Err(failed),
+    }
+}
+
+/// Opens the head of a device on which all else stands, and syncs.
+fn open_head<D: Disk, F: Frames>(disk: &mut D, frames: &F) -> Result<(), DiskFailed>
+    requires room { SLOTS_END ≤ length (D.seen disk.old) }
+    requires settled { Only (D.seen disk.old) (D.may_leave disk.old) }
+    ensures made { (head state : List ℕ) → IsMade (F.layout frames.now) head state (D.seen disk.old)
+        → OnOk result (Within (D.may_leave disk.new) (IsOpenAndMade (F.layout frames.now) head state)) }
+    ensures any_moment { (head state : List ℕ) → IsMade (F.layout frames.now) head state (D.seen disk.old)
+        → LeavesOnly (D.moment disk.old) (D.moment disk.new) (D.left_since disk.old) (D.left_since disk.new) (D.may_leave disk.new)
+        (IsClosedOrMade (F.layout frames.now) head state) }
+    ensures cause { CountsFailure result (D.failures disk.old) (D.failures disk.new) }
+{
+    frames.laws();
+    elsewhere_stays();
+    put_is_torn();
+    open_or_closed();
+    open_gate(disk, HEAD_GATE)?;
+    match disk.sync() {
+        Ok(()) => Ok(()),
+        Err(failed) => Err(failed),
+    }
+}
+
+/// Makes a new device of one that isn't headed and has nothing pending: closes all gates that read open, writes what stands
+/// behind them, and opens the first slot's gate and then the head's, with a sync after each of these four.
+pub(crate) fn write_new<D: Disk, F: Frames>(
+    disk: &mut D,
+    frames: &F,
+    definition: &Definition,
+    new: &NewDevice,
+) -> Result<(), DiskFailed>
+    requires room { length (D.seen disk.old) ≡ (F.layout frames.now).size }
+    requires settled { Only (D.seen disk.old) (D.may_leave disk.old) }
+    requires unheaded { IsHeaded (D.seen disk.old) → ⊥ }
+    requires head { length new.now.head.items ≡ HEAD_SIZE }
+    requires state { length new.now.state.items ≡ STATE_SIZE }
+    ensures made { OnOk result (Within (D.may_leave disk.new) (IsOpenAndMade (F.layout frames.now) new.now.head.items new.now.state.items)) }
+    ensures any_moment { LeavesOnly (D.moment disk.old) (D.moment disk.new) (D.left_since disk.old) (D.left_since disk.new) (D.may_leave disk.new)
+        (IsUnheadedOrMade (F.layout frames.now) new.now.head.items new.now.state.items) }
+    ensures cause { CountsFailure result (D.failures disk.old) (D.failures disk.new) }
+{
+    frames.laws();
+    open_or_closed();
+    close_all(disk, frames, definition)?;
+    write_behind(disk, frames, new)?;
+    match open_head(disk, frames) {
+        Ok(()) => Ok(()),
+        Err(failed) => Err(failed),
+    }
+}
