@@ -3,7 +3,7 @@
 //!
 //! A reader gives the value that the bytes spell, and `None` exactly where they spell none; a writer gives the one
 //! spelling of a value, the unused bytes as zero. Nothing is taken from a length that bytes claim, and no bytes make a
-//! reader fail in any other way. No call takes memory.
+//! reader fail in any other way. No call but `decode_head` takes memory.
 #![tactic(auto)]
 
 mod batch;
