@@ -1,2 +1,4 @@
 pub mod Leading
 pub mod Behind
+pub mod Heading
+pub mod Planning

@@ -1,6 +1,7 @@
 -- Why a call ended early.
-use Rattle.std.specs.Prelude.{ℕ, ◌<◌}
+use Rattle.std.specs.Prelude.{ℕ, ◌<◌, List}
 use Rattle.hpb_image.specs.declared.flaw.Flaw.{Flaw}
+use Rattle.hpb_image.specs.Flaws.{HasFlaw}
 use Rattle.hpb_recover.specs.declared.cause.Cause.{Cause}
 use Rattle.hpb_recover.specs.declared.cause.Cause.TheVariants as causes
 
@@ -9,3 +10,9 @@ abbrev pub HasCause : (failures later : ℕ) → Cause → Type 0
 HasCause failures later (causes.Flawed flaw) = ⊥
 HasCause failures later causes.Memory = Unit {0}
 HasCause failures later causes.Device = failures < later
+
+-- What a call that met a flaw says of the image: the flaw is there. Of the machine it says that it failed.
+abbrev pub IsCauseAt : (image : List ℕ) (failures later : ℕ) → Cause → Type 0
+IsCauseAt image failures later (causes.Flawed flaw) = HasFlaw flaw image
+IsCauseAt image failures later causes.Memory = Unit {0}
+IsCauseAt image failures later causes.Device = failures < later

@@ -1,3 +1,6 @@
 pub mod Causes
 pub mod Replaying
 pub mod Quiet
+pub mod Checkpoints
+pub mod Beginnings
+pub mod Plans

@@ -2,8 +2,12 @@
 #![tactic(auto)]
 
 mod cause;
+mod checkpoint;
+mod head;
 mod journal;
+mod plan;
 mod replay;
 mod rest;
 
 pub use cause::Cause;
+pub use plan::Plan;

@@ -1,0 +1,20 @@
+use Rattle.std.proofs.Common.{◌≡◌, ◌≤◌, sym, ap, ◌∙◌, subst, arith}
+use Rattle.hpb_rules.specs.Tree.{Rules}
+use Rattle.hpb_rules.specs.AuctionValue.{AuctionValue}
+use Rattle.hpb_rules.specs.Saved.{IsSaved, restored}
+use Rattle.hpb_recover.proofs.checkpoint.read_checkpoint.Goals as goal
+
+pub returns-clause-checkpoint : goal.returns-clause-checkpoint
+returns-clause-checkpoint g c =
+    let saved = c.read_newest.new.saved in
+    let read = rw c.in-Some.is at c.in_ok-newest.ensures.newest in
+    let spells = read.0.holds.1 in
+    let same : c.in_ok-auction.auction.rules ≡ c.args.definition.now = ap (λ (v : AuctionValue). v.rules) c.in_ok-auction.ensures.value in
+    let allowed : IsSaved c.in_ok-auction.auction.rules saved = subst (λ (rules : Rules). IsSaved rules saved) (sym same) spells.allowed in
+    record {
+      saved = saved;
+      newest = read.0;
+      value = c.restore-is_restored.ensures.value (c.restore-is_restored.ensures.only allowed) ∙ ap (λ (rules : Rules). restored rules saved) same;
+      covered = omega (arith, spells.covered, spells.allowed.count);
+      other = read.1;
+    }

@@ -1,0 +1,68 @@
+use Rattle.std.proofs.Common.{◌≡◌, ℕ, List, length, sym, ◌∙◌, ap, arith}
+use Rattle.hpb_disk.specs.Images.{part}
+use Rattle.hpb_recover.specs.Beginnings.{Begins}
+use Rattle.hpb_recover.proofs.Heading.{buffer_read, cause_at}
+use Rattle.hpb_recover.proofs.head.read_head.Goals as goal
+
+pub returns-in_err-read_into-clause-quiet : goal.returns-in_err-read_into-clause-quiet
+returns-in_err-read_into-clause-quiet g c = record {
+  same = c.read_into.ensures.seen ∙ c.gate_is_open.ensures.seen;
+  crash = λ left may. c.gate_is_open.ensures.crash left (c.read_into.ensures.crash left may);
+  few = omega (arith, c.read_into.ensures.time.next, c.gate_is_open.ensures.time.next);
+}
+
+pub returns-in-Ok-clause-formatted : goal.returns-in-Ok-clause-formatted
+returns-in-Ok-clause-formatted g c =
+    let image = g.D.Disk.seen c.args.disk.now in
+    let begins : Begins c.deref.result.now c.len-len.result image = record {
+      size = sym c.len-len.ensures;
+      whole = c.if-len-ne0.false;
+      least = c.if-len.false;
+      gate = c.in_ok-gate_is_open.ensures.open.0 c.if-not-branch.false;
+      head = c.deref.ensures.value ∙ buffer_read c.read_into.new.out c.in_ok-bytes.bytes.items (g.D.Disk.seen c.gate_is_open.new.disk) c.in_ok-bytes.bytes.len (length c.deref_mut.result.now)
+          (c.read_into.auto.out ∙ c.deref_mut.ensures.len) (c.deref_mut.ensures.len ∙ c.in_ok-bytes.ensures.len) c.in_ok-read_into.ensures.bytes
+          ∙ ap (part 16 12272) c.gate_is_open.ensures.seen;
+    } in
+    rw c.in-Ok.is at c.head_in.ensures.formatted image begins
+
+pub returns-in-Ok-clause-laid : goal.returns-in-Ok-clause-laid
+returns-in-Ok-clause-laid g c =
+    let image = g.D.Disk.seen c.args.disk.now in
+    let begins : Begins c.deref.result.now c.len-len.result image = record {
+      size = sym c.len-len.ensures;
+      whole = c.if-len-ne0.false;
+      least = c.if-len.false;
+      gate = c.in_ok-gate_is_open.ensures.open.0 c.if-not-branch.false;
+      head = c.deref.ensures.value ∙ buffer_read c.read_into.new.out c.in_ok-bytes.bytes.items (g.D.Disk.seen c.gate_is_open.new.disk) c.in_ok-bytes.bytes.len (length c.deref_mut.result.now)
+          (c.read_into.auto.out ∙ c.deref_mut.ensures.len) (c.deref_mut.ensures.len ∙ c.in_ok-bytes.ensures.len) c.in_ok-read_into.ensures.bytes
+          ∙ ap (part 16 12272) c.gate_is_open.ensures.seen;
+    } in
+    rw c.in-Ok.is at c.head_in.ensures.laid image begins
+
+pub returns-in-Ok-clause-quiet : goal.returns-in-Ok-clause-quiet
+returns-in-Ok-clause-quiet g c = record {
+  same = c.read_into.ensures.seen ∙ c.gate_is_open.ensures.seen;
+  crash = λ left may. c.gate_is_open.ensures.crash left (c.read_into.ensures.crash left may);
+  few = omega (arith, c.read_into.ensures.time.next, c.gate_is_open.ensures.time.next);
+}
+
+pub returns-clause-quiet : goal.returns-clause-quiet
+returns-clause-quiet g c = record {
+  same = c.read_into.ensures.seen ∙ c.gate_is_open.ensures.seen;
+  crash = λ left may. c.gate_is_open.ensures.crash left (c.read_into.ensures.crash left may);
+  few = omega (arith, c.read_into.ensures.time.next, c.gate_is_open.ensures.time.next);
+}
+
+pub returns-clause-cause : goal.returns-clause-cause
+returns-clause-cause g c =
+    let image = g.D.Disk.seen c.args.disk.now in
+    let begins : Begins c.deref.result.now c.len-len.result image = record {
+      size = sym c.len-len.ensures;
+      whole = c.if-len-ne0.false;
+      least = c.if-len.false;
+      gate = c.in_ok-gate_is_open.ensures.open.0 c.if-not-branch.false;
+      head = c.deref.ensures.value ∙ buffer_read c.read_into.new.out c.in_ok-bytes.bytes.items (g.D.Disk.seen c.gate_is_open.new.disk) c.in_ok-bytes.bytes.len (length c.deref_mut.result.now)
+          (c.read_into.auto.out ∙ c.deref_mut.ensures.len) (c.deref_mut.ensures.len ∙ c.in_ok-bytes.ensures.len) c.in_ok-read_into.ensures.bytes
+          ∙ ap (part 16 12272) c.gate_is_open.ensures.seen;
+    } in
+    cause_at image (g.D.Disk.failures c.args.disk.now) (g.D.Disk.failures c.read_into.new.self) c.in-Err.cause (rw c.in-Err.is at c.head_in.ensures.cause image begins)

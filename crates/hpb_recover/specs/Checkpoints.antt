@@ -1,0 +1,27 @@
+-- The checkpoint that a device was found to have.
+use Rattle.std.specs.Prelude.{◌≡◌, ◌↔◌, ℕ, ◌<◌, ◌≤◌, List, IsTrue}
+use Rattle.hpb_rules.specs.declared.limits.TheConstants.{MOST_COMMANDS}
+use Rattle.hpb_rules.specs.declared.saved.Saved.{Saved}
+use Rattle.hpb_rules.specs.Tree.{Rules}
+use Rattle.hpb_rules.specs.AuctionValue.{AuctionValue}
+use Rattle.hpb_rules.specs.Saved.{restored}
+use Rattle.hpb_image.specs.declared.flaw.Flaw.TheVariants as flaws
+use Rattle.hpb_slots.specs.declared.newest.Newest.{Newest}
+use Rattle.hpb_slots.specs.Slots.{IsOpen, other_of}
+use Rattle.hpb_slots.specs.Newest.{IsNewest, IsWithout}
+use Rattle.hpb_recover.specs.declared.cause.Cause.{Cause}
+use Rattle.hpb_recover.specs.declared.cause.Cause.TheVariants as causes
+
+-- It is the newest, the auction is the one that it saves, and the gate of the other slot is known.
+pub record IsCheckpoint (rules : Rules) (found : Newest) (auction : AuctionValue) (image : List ℕ) : Type 0 where
+  pub saved : Saved
+  pub newest : IsNewest rules found.slot found.index saved image
+  pub value : auction ≡ restored rules saved
+  pub covered : found.index ≤ MOST_COMMANDS
+  pub other : IsTrue found.other_open ↔ IsOpen (other_of found.slot) image
+
+-- There is none, or the machine failed.
+abbrev pub IsUnlessWithout : (rules : Rules) (image : List ℕ) (failures later : ℕ) → Cause → Type 0
+IsUnlessWithout rules image failures later (causes.Flawed flaw) = (flaw ≡ flaws.Checkpoint) × IsWithout rules image
+IsUnlessWithout rules image failures later causes.Memory = Unit {0}
+IsUnlessWithout rules image failures later causes.Device = failures < later
