@@ -6,6 +6,8 @@ mod fault;
 mod formatting;
 mod new_device;
 mod place;
+#[cfg(test)]
+mod tests;
 mod writing;
 
 pub use fault::{FormatCause, FormatFault};
