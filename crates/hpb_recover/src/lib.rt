@@ -5,6 +5,7 @@ mod cause;
 mod checkpoint;
 mod head;
 mod journal;
+mod opening;
 mod plan;
 mod replay;
 mod rest;
