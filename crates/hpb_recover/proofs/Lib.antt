@@ -2,3 +2,4 @@ pub mod Leading
 pub mod Behind
 pub mod Heading
 pub mod Planning
+pub mod Faulting

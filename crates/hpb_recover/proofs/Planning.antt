@@ -6,10 +6,14 @@ use Rattle.hpb_codec.specs.declared.head.Head.{Head}
 use Rattle.hpb_slots.specs.declared.newest.Newest.{Newest}
 use Rattle.hpb_image.specs.Heads.{IsFormatted, IsLaidOut, layout_of}
 use Rattle.hpb_image.specs.Readings.{Found, Reaches, Reads, last_value}
-use Rattle.hpb_image.specs.Flaws.{IsDamaged}
+use Rattle.hpb_image.specs.declared.flaw.Flaw.{Flaw}
+use Rattle.hpb_image.specs.Flaws.{HasFlaw, IsDamaged}
+use Rattle.hpb_recover.specs.Causes.{HasCause, IsCauseAt}
+use Rattle.hpb_recover.specs.declared.cause.Cause.{Cause}
+use Rattle.hpb_recover.specs.declared.cause.Cause.TheVariants.{Flawed, Memory, Device}
 use Rattle.hpb_image.specs.Laws.{ReadingIsOne}
 use Rattle.hpb_recover.specs.declared.plan.Plan.{Plan}
-use Rattle.hpb_recover.specs.Checkpoints.{IsCheckpoint}
+use Rattle.hpb_recover.specs.Checkpoints.{IsCheckpoint, IsUnlessWithout}
 use Rattle.hpb_recover.specs.Plans.{IsPlan, IsPlanOf}
 use Rattle.hpb_recover.specs.Replaying.{HasStopped, IsBroken, IsWhole, Leads, OneIsOwn}
 use Rattle.hpb_recover.proofs.Leading.{led_rules}
@@ -17,7 +21,7 @@ use Rattle.hpb_recover.proofs.Leading.{led_rules}
 module _ (head : Head) (newest : Newest) (image : List ℕ) (formatted : IsFormatted image) (laid : IsLaidOut head image)
     (value : AuctionValue) (checkpoint : IsCheckpoint head.definition newest value image) where
   module _ (next : ℕ) (reached : AuctionValue) (leads : Leads (layout_of head) newest.index value image next reached) where
-    here : Leads (layout_of head) newest.index (restored head.definition checkpoint.saved) image next reached
+    pub here : Leads (layout_of head) newest.index (restored head.definition checkpoint.saved) image next reached
     here = subst (λ (v : AuctionValue). Leads (layout_of head) newest.index v image next reached) checkpoint.value leads
 
     abbrev pub found : Found
@@ -66,3 +70,15 @@ module _ (head : Head) (newest : Newest) (image : List ℕ) (formatted : IsForma
 
     pub plan_of_one : (f : Found) → Reads f image → IsPlanOf plan f
     plan_of_one f it = subst (IsPlanOf plan) (one (found plan.next plan.auction whole.leads) f image reads it) is_plan_of
+
+-- Why the checkpoint or the journal was not read, at the device as it was before the head was read.
+pub cause_of_checkpoint : (head : Head) (image : List ℕ) → IsFormatted image → IsLaidOut head image → (failures before later : ℕ) (cause : Cause) → before ≡ failures
+    → IsUnlessWithout head.definition image before later cause → IsCauseAt image failures later cause
+cause_of_checkpoint head image formatted laid failures before later (Flawed flaw) same is = subst (λ (f : Flaw). HasFlaw f image) (sym is.0) (formatted, head, laid, is.1)
+cause_of_checkpoint head image formatted laid failures before later Memory same is = tt
+cause_of_checkpoint head image formatted laid failures before later Device same is = omega (arith, same, is)
+
+pub cause_of_journal : (image : List ℕ) (failures before later : ℕ) (cause : Cause) → before ≡ failures → HasCause before later cause → IsCauseAt image failures later cause
+cause_of_journal image failures before later (Flawed flaw) same is = absurd is
+cause_of_journal image failures before later Memory same is = tt
+cause_of_journal image failures before later Device same is = omega (arith, same, is)

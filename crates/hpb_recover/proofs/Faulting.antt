@@ -1,0 +1,19 @@
+-- Why a device isn't opened.
+use Rattle.std.proofs.Common.{◌≡◌, ℕ, List, sym}
+use Rattle.hpb_image.specs.declared.flaw.Flaw.{Flaw}
+use Rattle.hpb_image.specs.Flaws.{HasFlaw}
+use Rattle.hpb_image.specs.Laws.{FlawIsOne, ReadIsFlawless}
+use Rattle.hpb_image.specs.Readings.{Found, Reads}
+use Rattle.hpb_recover.specs.Causes.{IsCauseAt, IsMachine, IsUnlessMachine}
+use Rattle.hpb_recover.specs.declared.cause.Cause.{Cause}
+use Rattle.hpb_recover.specs.declared.cause.Cause.TheVariants.{Flawed, Memory, Device}
+
+pub machine_only : ReadIsFlawless → (found : Found) (image : List ℕ) → Reads found image → (failures later : ℕ) (cause : Cause) → IsCauseAt image failures later cause → IsMachine cause
+machine_only flawless found image reads failures later (Flawed flaw) is = flawless found flaw image reads is
+machine_only flawless found image reads failures later Memory is = tt
+machine_only flawless found image reads failures later Device is = tt
+
+pub exact_cause : FlawIsOne → (flaw : Flaw) (image : List ℕ) → HasFlaw flaw image → (failures later : ℕ) (cause : Cause) → IsCauseAt image failures later cause → IsUnlessMachine flaw cause
+exact_cause one flaw image has failures later (Flawed other) is = one other flaw image is has
+exact_cause one flaw image has failures later Memory is = tt
+exact_cause one flaw image has failures later Device is = tt

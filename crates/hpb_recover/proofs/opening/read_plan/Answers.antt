@@ -1,0 +1,96 @@
+use Rattle.std.proofs.Common.{◌≡◌, ℕ, ◌+◌, ◌*◌, List, refl, sym, ◌∙◌, ap, subst, arith}
+use Rattle.hpb_journal.specs.Pages.{page_layout}
+use Rattle.hpb_image.specs.Heads.{layout_of}
+use Rattle.hpb_recover.specs.declared.plan.Plan.{Plan}
+use Rattle.hpb_recover.specs.Checkpoints.{IsCheckpoint, IsUnlessWithout}
+use Rattle.hpb_recover.specs.Replaying.{IsBroken, IsWhole}
+use Rattle.hpb_recover.proofs.Planning.{damaged, found, reads, is_plan_of, plan_of_one, cause_of_checkpoint, cause_of_journal}
+use Rattle.hpb_recover.proofs.opening.read_plan.Goals as goal
+
+pub returns-in-Err-clause-cause : goal.returns-in-Err-clause-cause
+returns-in-Err-clause-cause g c =
+    let d = g.D.Disk in
+    let image = d.seen c.args.disk.now in
+    let head = c.in_ok-head.head in
+    let failures = d.failures c.read_head.new.disk in
+    let later = d.failures c.read_checkpoint.new.disk in
+    let here = subst (λ (l : List ℕ). IsUnlessWithout head.definition l failures later c.in-Err.cause) c.read_head.ensures.quiet.same c.in-Err.ensures.cause in
+    cause_of_checkpoint head image c.in_ok-head.ensures.formatted c.in_ok-head.ensures.laid (d.failures c.args.disk.now) failures later c.in-Err.cause c.in_ok-head.ensures.works here
+
+pub returns-in-Err-read_journal-clause-crash : goal.returns-in-Err-read_journal-clause-crash
+returns-in-Err-read_journal-clause-crash g c left may = c.read_head.ensures.quiet.crash left (c.read_checkpoint.ensures.quiet.crash left (c.read_journal.ensures.quiet.crash left may))
+
+pub returns-in-Err-read_journal-clause-cause : goal.returns-in-Err-read_journal-clause-cause
+returns-in-Err-read_journal-clause-cause g c =
+    let d = g.D.Disk in
+    cause_of_journal (d.seen c.args.disk.now) (d.failures c.args.disk.now) (d.failures c.read_checkpoint.new.disk) (d.failures c.read_journal.new.disk) c.in-Err-read_journal.cause
+    (c.in-Ok.ensures.works ∙ c.in_ok-head.ensures.works) c.in-Err-read_journal.ensures.cause
+
+pub returns-in-Ok-None-clause-crash : goal.returns-in-Ok-None-clause-crash
+returns-in-Ok-None-clause-crash g c left may = c.read_head.ensures.quiet.crash left (c.read_checkpoint.ensures.quiet.crash left (c.read_journal.ensures.quiet.crash left may))
+
+pub returns-in-Ok-None-clause-cause : goal.returns-in-Ok-None-clause-cause
+returns-in-Ok-None-clause-cause g c =
+    let d = g.D.Disk in
+    let image = d.seen c.args.disk.now in
+    let head = c.in_ok-head.head in
+    let newest = c.in-Ok.checkpoint.newest in
+    let value = c.in-Ok.checkpoint.auction in
+    let checkpoint = subst (IsCheckpoint head.definition newest value) c.read_head.ensures.quiet.same c.in-Ok.ensures.checkpoint in
+    let broken = rw c.in-Ok-None.field-0-is at c.in-Ok-None.ensures.journal in
+    let here = subst (IsBroken (page_layout c.new-frames.result.count) newest.index value) (c.read_checkpoint.ensures.quiet.same ∙ c.read_head.ensures.quiet.same) broken in
+    damaged head newest image c.in_ok-head.ensures.formatted c.in_ok-head.ensures.laid value checkpoint
+    (subst (λ (n : ℕ). IsBroken (page_layout n) newest.index value image) c.new-frames.ensures here)
+
+pub returns-clause-found : goal.returns-clause-found
+returns-clause-found g c =
+    let d = g.D.Disk in
+    let image = d.seen c.args.disk.now in
+    let head = c.in_ok-head.head in
+    let newest = c.in-Ok.checkpoint.newest in
+    let value = c.in-Ok.checkpoint.auction in
+    let journal = c.in-Ok-Some.journal in
+    let checkpoint = subst (IsCheckpoint head.definition newest value) c.read_head.ensures.quiet.same c.in-Ok.ensures.checkpoint in
+    let plan : Plan = record { frames = c.new-frames.result; slot = newest.slot; other_open = newest.other_open; covered = newest.index; next = journal.next; clean_end = journal.clean_end; gates = journal.gates; auction = c.read_journal.new.auction } in
+    let was = rw c.in-Ok-Some.field-0-is at c.in-Ok-Some.ensures.journal in
+    let there = subst (λ (l : List ℕ). IsWhole (page_layout c.new-frames.result.count) newest.index value l plan.next plan.clean_end plan.gates.items plan.auction)
+    (c.read_checkpoint.ensures.quiet.same ∙ c.read_head.ensures.quiet.same) was in
+    let whole : IsWhole (layout_of head) newest.index value image plan.next plan.clean_end plan.gates.items plan.auction =
+    subst (λ (n : ℕ). IsWhole (page_layout n) newest.index value image plan.next plan.clean_end plan.gates.items plan.auction) c.new-frames.ensures there in
+    let f = c.in_ok-head.ensures.formatted in
+    let l = c.in_ok-head.ensures.laid in
+    let one = c.reading_is_one.ensures in (
+      found head newest image f l value checkpoint plan.next plan.auction whole.leads,
+      reads head newest image f l value checkpoint one plan c.new-frames.ensures refl refl refl whole,
+      is_plan_of head newest image f l value checkpoint one plan c.new-frames.ensures refl refl refl whole,
+    )
+
+pub returns-clause-plan : goal.returns-clause-plan
+returns-clause-plan g c =
+    let d = g.D.Disk in
+    let image = d.seen c.args.disk.now in
+    let head = c.in_ok-head.head in
+    let newest = c.in-Ok.checkpoint.newest in
+    let value = c.in-Ok.checkpoint.auction in
+    let journal = c.in-Ok-Some.journal in
+    let checkpoint = subst (IsCheckpoint head.definition newest value) c.read_head.ensures.quiet.same c.in-Ok.ensures.checkpoint in
+    let plan : Plan = record { frames = c.new-frames.result; slot = newest.slot; other_open = newest.other_open; covered = newest.index; next = journal.next; clean_end = journal.clean_end; gates = journal.gates; auction = c.read_journal.new.auction } in
+    let was = rw c.in-Ok-Some.field-0-is at c.in-Ok-Some.ensures.journal in
+    let there = subst (λ (l : List ℕ). IsWhole (page_layout c.new-frames.result.count) newest.index value l plan.next plan.clean_end plan.gates.items plan.auction)
+    (c.read_checkpoint.ensures.quiet.same ∙ c.read_head.ensures.quiet.same) was in
+    let whole : IsWhole (layout_of head) newest.index value image plan.next plan.clean_end plan.gates.items plan.auction =
+    subst (λ (n : ℕ). IsWhole (page_layout n) newest.index value image plan.next plan.clean_end plan.gates.items plan.auction) c.new-frames.ensures there in
+    let f = c.in_ok-head.ensures.formatted in
+    let l = c.in_ok-head.ensures.laid in
+    record {
+      size = l.size ∙ ap (λ (n : ℕ). 53248 + 4096 * n) (sym c.new-frames.ensures);
+      few = checkpoint.covered;
+      clean = there.clean_ones;
+      other = checkpoint.other;
+      gates = there.gates;
+      all = there.all;
+      reads = plan_of_one head newest image f l value checkpoint c.reading_is_one.ensures plan c.new-frames.ensures refl refl refl whole;
+    }
+
+pub returns-clause-crash : goal.returns-clause-crash
+returns-clause-crash g c left may = c.read_head.ensures.quiet.crash left (c.read_checkpoint.ensures.quiet.crash left (c.read_journal.ensures.quiet.crash left may))

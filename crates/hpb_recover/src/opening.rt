@@ -1,0 +1,93 @@
+//! Opening a device.
+ghost use Rattle.std.specs.Prelude.{◌≡◌, List, IfErr, IfOk, IsErrAnd};
+ghost use Rattle.hpb_rules.specs.declared.command.Command.{Command};
+ghost use Rattle.hpb_rules.specs.AuctionValue.{Shows};
+ghost use Rattle.hpb_image.specs.declared.flaw.Flaw.{Flaw};
+ghost use Rattle.hpb_image.specs.Flaws.{HasFlaw};
+ghost use Rattle.hpb_image.specs.Standing.{Stands};
+ghost use Rattle.hpb_image.specs.Readings.{Found, Reads};
+ghost use Rattle.hpb_disk.specs.Images.{Within};
+ghost use Rattle.hpb_recover.specs.Causes.{IsCauseAt, IsMachine, IsUnlessMachine};
+ghost use Rattle.hpb_recover.specs.Plans.{HasClean, IsPlan, IsPlanOf};
+
+use crate::checkpoint::{Checkpoint, read_checkpoint};
+use crate::head::read_head;
+use crate::journal::read_journal;
+use crate::{Cause, OpenFault, Opened, Plan};
+use hpb_disk::Disk;
+use hpb_image::{
+    Flaw, flaw_is_one, read_is_flawless, read_is_shown, reading_is_one, stands_is_read,
+};
+use hpb_journal::PageFrames;
+use std::alloc::Global;
+
+/// What all of a device says.
+fn read_plan<D: Disk>(alloc: Global, disk: &mut D) -> Result<Plan, Cause>
+    ensures found { IfOk result (λ plan. (found : Found) × Reads found (D.seen disk.old) × IsPlanOf plan found) }
+    ensures plan { IfOk result (λ plan. IsPlan plan (D.seen disk.old)) }
+    ensures seen { D.seen disk.new ≡ D.seen disk.old }
+    ensures crash { Within (D.may_leave disk.new) (D.may_leave disk.old) }
+    ensures cause { IfErr result (IsCauseAt (D.seen disk.old) (D.failures disk.old) (D.failures disk.new)) }
+{
+    reading_is_one();
+    let head = read_head(alloc, disk)?;
+    let frames = PageFrames::new(head.journal_pages);
+    let Checkpoint {
+        newest,
+        mut auction,
+    } = match read_checkpoint(alloc, disk, &head.definition) {
+        Ok(checkpoint) => checkpoint,
+        Err(cause) => return Err(cause),
+    };
+    match read_journal(alloc, disk, &frames, newest.index, &mut auction) {
+        Err(cause) => Err(cause),
+        Ok(None) => Err(Cause::Flawed(Flaw::Frame)),
+        Ok(Some(journal)) => Ok(Plan {
+            frames,
+            slot: newest.slot,
+            other_open: newest.other_open,
+            covered: newest.index,
+            next: journal.next,
+            clean_end: journal.clean_end,
+            gates: journal.gates,
+            auction,
+        }),
+    }
+}
+
+/// Opens a device: the newest checkpoint, and the batches after it. It syncs first, and writes nothing. A fault hands the
+/// device back.
+pub fn open<D: Disk + Drop>(alloc: Global, disk: D) -> Result<Opened<D>, OpenFault<D>>
+    // Where what a read gives stands for a history, the auction shows it, unless the device or memory fails.
+    ensures shows { (history : List Command) → Stands history (D.seen disk) → IfOk result (λ opened. Shows opened.plan.auction history) }
+    ensures stands { (history : List Command) → Stands history (D.seen disk) → IfErr result (λ fault. IsMachine fault.cause) }
+    // What is opened is all that is to be read, whether it stands for a history or not.
+    ensures read { IfOk result (λ opened. (found : Found) × Reads found (D.seen disk) × IsPlanOf opened.plan found) }
+    // A flaw is told only where it is, and where it is, unless the device or memory fails; a failed device has counted it.
+    ensures refused { IfErr result (λ fault. IsCauseAt (D.seen disk) (D.failures disk) (D.failures fault.disk) fault.cause) }
+    ensures exact { (flaw : Flaw) → HasFlaw flaw (D.seen disk) → IsErrAnd result (λ fault. IsUnlessMachine flaw fault.cause) }
+    ensures clean { IfOk result (λ opened. HasClean opened.plan (D.seen disk)) }
+    // Nothing is written.
+    ensures same { IfOk result (λ opened. D.seen opened.disk ≡ D.seen disk) }
+    ensures handed_back { IfErr result (λ fault. D.seen fault.disk ≡ D.seen disk) }
+    ensures crash { IfErr result (λ fault. Within (D.may_leave fault.disk) (D.may_leave disk)) }
+{
+    stands_is_read();
+    read_is_shown();
+    read_is_flawless();
+    flaw_is_one();
+    let mut disk = disk;
+    match disk.sync() {
+        Ok(()) => {}
+        Err(_) => {
+            return Err(OpenFault {
+                disk,
+                cause: Cause::Device,
+            });
+        }
+    }
+    match read_plan(alloc, &mut disk) {
+        Ok(plan) => Ok(Opened { disk, plan }),
+        Err(cause) => Err(OpenFault { disk, cause }),
+    }
+}
