@@ -1,5 +1,6 @@
-/* Refuses one request for memory: the one of the number in REFUSED. At the end the number of requests is written to
-   the file in REQUESTS. Loaded before the C library by examples/refuse-memory. */
+/* Refuses requests for memory: the one of the number in REFUSED, and each after the number in ALLOWED. At the end the
+   number of requests is written to the file in REQUESTS. Loaded before the C library by examples/refuse-memory and
+   examples/take-no-memory. */
 #define _GNU_SOURCE
 #include <dlfcn.h>
 #include <stddef.h>
@@ -8,14 +9,19 @@
 
 static long requests;
 
+static long number_in(const char *name, long otherwise) {
+    const char *text = getenv(name);
+    return text ? atol(text) : otherwise;
+}
+
 static int is_refused(void) {
-    static long refused = -1;
+    static long refused = -1, allowed;
     if (refused < 0) {
-        const char *text = getenv("REFUSED");
-        refused = text ? atol(text) : 0;
+        refused = number_in("REFUSED", 0);
+        allowed = number_in("ALLOWED", -1);
     }
     requests += 1;
-    return requests == refused;
+    return requests == refused || (allowed >= 0 && requests > allowed);
 }
 
 void *malloc(size_t size) {

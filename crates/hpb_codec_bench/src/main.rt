@@ -1,10 +1,13 @@
-//! Writes or reads a body so many times, for a benchmark: `bench/codec` runs it.
+//! Does a call that takes no memory so many times: writes or reads a body, saves, restores or copies an auction, fills lists.
+//! `bench/codec` times it, and `examples/take-no-memory` sees that it takes none.
 #![tactic(auto)]
 
 mod bodies;
 mod rounds;
 
-use crate::rounds::{decode_batches, decode_states, encode_batches, encode_states};
+use crate::rounds::{
+    copies, decode_batches, decode_states, encode_batches, encode_states, lists, restores, saves,
+};
 use anyhow::{Result, bail};
 use std::process::ExitCode;
 
@@ -20,7 +23,7 @@ fn run(rt: &HostRuntime) -> Result<()> {
     let alloc = rt.alloc();
     let words: Vec<String> = std::env::args(rt)?.collect(alloc)?;
     let (Some(what), Some(rounds)) = (words.get(1), words.get(2)) else {
-        bail!("encode-batch, decode-batch, encode-state or decode-state, and how often");
+        bail!("a call, and how often");
     };
     let rounds = rounds.parse::<u64>()?;
     let sum = match what.as_str() {
@@ -28,7 +31,11 @@ fn run(rt: &HostRuntime) -> Result<()> {
         "decode-batch" => decode_batches(alloc, rounds)?,
         "encode-state" => encode_states(alloc, rounds)?,
         "decode-state" => decode_states(alloc, rounds)?,
-        _ => bail!("encode-batch, decode-batch, encode-state or decode-state"),
+        "save" => saves(alloc, rounds)?,
+        "restore" => restores(alloc, rounds)?,
+        "copy-from" => copies(alloc, rounds)?,
+        "lists" => lists(rounds),
+        _ => bail!("no such call"),
     };
     println!(rt; "{sum}")?;
     Ok(())

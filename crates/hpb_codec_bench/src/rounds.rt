@@ -1,9 +1,10 @@
-//! So many rounds of one call. Each answers a sum of bytes that it wrote or of batch indices that it read, so that no call
-//! can be left out.
+//! So many rounds of one call. Each answers a sum of what it wrote or read, so that no call can be left out.
 
 use crate::bodies::{batch, definition, saved};
 use anyhow::Result;
+use hpb_auction::Auction;
 use hpb_codec::{BATCH_SIZE, STATE_SIZE, decode_batch, decode_state, encode_batch, encode_state};
+use hpb_rules::{Answer, Answers, Command, Letter, Letters, MOST_LETTERS, Reply, Saved};
 use std::alloc::Global;
 
 /// How many batch indices are in use.
@@ -70,4 +71,76 @@ pub(crate) fn decode_states(alloc: Global, rounds: u64) -> Result<u64> {
         }
     }
     Ok(sum)
+}
+
+/// Saves an auction.
+pub(crate) fn saves(alloc: Global, rounds: u64) -> Result<u64> {
+    let auction = Auction::new(alloc, &definition(alloc)?)?;
+    let mut saved = Saved::empty();
+    let mut sum = 0_u64;
+    for _ in 0..rounds {
+        auction.save(&mut saved);
+        sum = sum.wrapping_add(u64::from(saved.round));
+    }
+    Ok(sum)
+}
+
+/// Restores an auction.
+pub(crate) fn restores(alloc: Global, rounds: u64) -> Result<u64> {
+    let mut auction = Auction::new(alloc, &definition(alloc)?)?;
+    let saved = saved();
+    let mut sum = 0_u64;
+    for _ in 0..rounds {
+        if auction.restore(&saved) {
+            sum = sum.wrapping_add(u64::from(auction.round()));
+        }
+    }
+    Ok(sum)
+}
+
+/// Copies an auction into its copy, which was closed before; at most once.
+pub(crate) fn copies(alloc: Global, rounds: u64) -> Result<u64> {
+    let auction = Auction::new(alloc, &definition(alloc)?)?;
+    let mut copy = auction.copy(alloc)?;
+    copy.apply(&Command::Close { ticket: 1 });
+    if rounds > 0 {
+        copy.copy_from(&auction);
+    }
+    Ok(u64::from(copy.count()))
+}
+
+fn letter() -> Letter {
+    Letter {
+        seat: 1,
+        command: Command::Close { ticket: 1 },
+    }
+}
+
+fn answer() -> Answer {
+    Answer {
+        letter: letter(),
+        at: 0,
+        reply: Reply::Ok(1),
+    }
+}
+
+/// A list of letters that is full, and one of answers: how long they are.
+fn full_lists() -> usize {
+    let mut letters = Letters::new();
+    let mut answers = Answers::new();
+    for _ in 0..MOST_LETTERS {
+        let _ = letters.push(letter());
+        let _ = answers.push(answer());
+    }
+    let _ = letters.push(letter());
+    letters.len() + answers.len()
+}
+
+/// Fills lists of letters and of answers.
+pub(crate) fn lists(rounds: u64) -> u64 {
+    let mut sum = 0_u64;
+    for _ in 0..rounds {
+        sum = sum.wrapping_add(full_lists() as u64);
+    }
+    sum
 }
