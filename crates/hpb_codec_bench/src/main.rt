@@ -6,7 +6,8 @@ mod bodies;
 mod rounds;
 
 use crate::rounds::{
-    copies, decode_batches, decode_states, encode_batches, encode_states, lists, restores, saves,
+    copies, decode_batches, decode_states, encode_batches, encode_heads, encode_states, lists,
+    restores, saves,
 };
 use anyhow::{Result, bail};
 use std::process::ExitCode;
@@ -31,6 +32,7 @@ fn run(rt: &HostRuntime) -> Result<()> {
         "decode-batch" => decode_batches(alloc, rounds)?,
         "encode-state" => encode_states(alloc, rounds)?,
         "decode-state" => decode_states(alloc, rounds)?,
+        "encode-head" => encode_heads(alloc, rounds)?,
         "save" => saves(alloc, rounds)?,
         "restore" => restores(alloc, rounds)?,
         "copy-from" => copies(alloc, rounds)?,

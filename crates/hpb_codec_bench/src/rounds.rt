@@ -3,7 +3,10 @@
 use crate::bodies::{batch, definition, saved};
 use anyhow::Result;
 use hpb_auction::Auction;
-use hpb_codec::{BATCH_SIZE, STATE_SIZE, decode_batch, decode_state, encode_batch, encode_state};
+use hpb_codec::{
+    BATCH_SIZE, HEAD_SIZE, STATE_SIZE, decode_batch, decode_state, encode_batch, encode_head,
+    encode_state,
+};
 use hpb_rules::{Answer, Answers, Command, Letter, Letters, MOST_LETTERS, Reply, Saved};
 use std::alloc::Global;
 
@@ -14,6 +17,9 @@ const INDICES: u64 = 200;
 const INDEX_IN_BATCH: usize = 7;
 
 const INDEX_IN_STATE: usize = 23;
+
+/// The place of the lowest byte of the journal's pages in a head.
+const PAGES_IN_HEAD: usize = 27;
 
 pub(crate) fn encode_batches(alloc: Global, rounds: u64) -> Result<u64> {
     let mut batch = batch();
@@ -69,6 +75,19 @@ pub(crate) fn decode_states(alloc: Global, rounds: u64) -> Result<u64> {
         if let Some(index) = decode_state(body, &definition, &mut saved) {
             sum = sum.wrapping_add(index);
         }
+    }
+    Ok(sum)
+}
+
+/// Writes a head.
+pub(crate) fn encode_heads(alloc: Global, rounds: u64) -> Result<u64> {
+    let definition = definition(alloc)?;
+    let mut head = vec![in alloc; 0; HEAD_SIZE]?;
+    let head = head.as_mut_slice();
+    let mut sum = 0_u64;
+    for _ in 0..rounds {
+        encode_head(&definition, 4, head);
+        sum = sum.wrapping_add(u64::from(head[PAGES_IN_HEAD]));
     }
     Ok(sum)
 }
