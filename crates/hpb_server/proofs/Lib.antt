@@ -1,4 +1,5 @@
 mod Errors
+mod Asking
 mod Cut
 mod Kept
 mod Writing

@@ -10,4 +10,5 @@ pub mod Serving
 pub mod Session
 pub mod Script
 pub mod ScriptLaws
+pub mod Arguments
 pub mod Program

@@ -10,6 +10,7 @@ use Rattle.hpb_server.specs.declared.arguments.Job.{Job}
 use Rattle.hpb_server.specs.declared.arguments.Job.TheVariants.{Script}
 use Rattle.hpb_server.specs.declared.arguments.ArgumentsFault.{ArgumentsFault}
 use Rattle.hpb_server.specs.declared.arguments.ArgumentsFault.TheVariants.{Memory, Refused}
+use Rattle.hpb_server.specs.Arguments.{AsksFor}
 use Rattle.hpb_server.specs.Script.{RunsScript}
 use Rattle.hpb_server.specs.Streams.{Streams, AreKept}
 
@@ -47,6 +48,6 @@ abbrev pub RunsAsked : Result Job ArgumentsFault → (before after : Streams) (e
 RunsAsked (Ok job) before after errors_old errors_new status = RunsJob job before after status × Keeps errors_old errors_new
 RunsAsked (Err fault) before after errors_old errors_new status = AreKept before after × SaysFault errors_old errors_new fault × HasStatus fault × (status ≡ status_of_arguments fault)
 
--- What some arguments ask for is done.
-abbrev pub RunsProgram : (before after : Streams) (errors_old errors_new : Option (List ℕ)) → ℕ → Type 0
-RunsProgram before after errors_old errors_new status = (asked : Result Job ArgumentsFault) × RunsAsked asked before after errors_old errors_new status
+-- What the words ask for is done.
+abbrev pub RunsProgram : (words : List (List ℕ)) (before after : Streams) (errors_old errors_new : Option (List ℕ)) → ℕ → Type 0
+RunsProgram words before after errors_old errors_new status = (asked : Result Job ArgumentsFault) × AsksFor words asked × RunsAsked asked before after errors_old errors_new status

@@ -1,4 +1,7 @@
-ghost use Rattle.std.specs.Prelude.{◌≡◌, IfErr, IfOk};
+ghost use Rattle.std.specs.Prelude.{◌≡◌, IfErr, IfOk, map};
+ghost use Rattle.clap.specs.Values.{kind_of};
+ghost use Rattle.clap.specs.Words.{app_of};
+ghost use Rattle.hpb_server.specs.Arguments.{hpb, AsksFor, IsTold};
 ghost use Rattle.hpb_server.specs.declared.arguments.ArgumentsFault.TheVariants.{Memory};
 ghost use Rattle.hpb_server.specs.Program.{HasStatus};
 
@@ -72,7 +75,8 @@ pub fn read_arguments<'a, S: AsStr>(
     alloc: Global,
     arguments: &'a [S],
 ) -> Result<Job, ArgumentsFault>
-    ensures { IfErr result HasStatus }
+    ensures status { IfErr result HasStatus }
+    ensures asked { AsksFor (map S.text arguments.now) result }
 {
     let command = command(alloc);
     match command.try_get_matches_from(arguments) {
@@ -83,21 +87,22 @@ pub fn read_arguments<'a, S: AsStr>(
 
 /// What becomes of arguments that `clap` gives no matches for.
 fn refused(alloc: Global, error: &clap::Error) -> Result<ArgumentsFault, AllocError>
-    ensures { IfOk result HasStatus }
+    ensures status { IfOk result HasStatus }
+    ensures told { IfOk result (IsTold (kind_of error.now)) }
 {
     if error.kind() == ErrorKind::OutOfMemory {
         return Ok(ArgumentsFault::Memory);
     }
     let text = error.to_string(alloc)?;
-    let status = if error.use_stderr() {
-        WRONG_ARGUMENTS
-    } else {
-        WELL
-    };
+    let is_shown = error.kind() == ErrorKind::DisplayHelp
+        || error.kind() == ErrorKind::DisplayVersion;
+    let status = if is_shown { WELL } else { WRONG_ARGUMENTS };
     Ok(ArgumentsFault::Refused { text, status })
 }
 
-fn command<'a>(alloc: Global) -> Command<'a> {
+fn command<'a>(alloc: Global) -> Command<'a>
+    ensures { app_of result ≡ hpb }
+{
     Command::new(alloc, "hpb")
         .version("0.1.0")
         .about(ABOUT)

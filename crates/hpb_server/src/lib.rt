@@ -17,7 +17,7 @@ mod status;
 pub use arguments::{ArgumentsFault, Job, read_arguments};
 pub use desk::{Desk, ScriptDesk};
 pub use fault::Fault;
-pub use laws::{input_is_text, session_is_text};
+pub use laws::{input_is_text, session_is_text, words_ask_for};
 pub use running::{program, refuse_arguments};
 pub use script::{ScriptEnd, run_script, serve_auction};
 pub use serving::serve;

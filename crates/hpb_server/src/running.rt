@@ -1,4 +1,4 @@
-ghost use Rattle.std.specs.Prelude.{◌≡◌, ◌≢◌, ◌≤◌, IfErr};
+ghost use Rattle.std.specs.Prelude.{◌≡◌, ◌≢◌, ◌≤◌, IfErr, map};
 ghost use Rattle.std.specs.Io.KnownBytes.{Keeps};
 ghost use Rattle.std.specs.IoError.{error_kind};
 ghost use Rattle.hpb_server.specs.Program.{HasStatus, RunsAsked, RunsJob, RunsProgram, Says, SaysFault, status_of_arguments, status_of_script};
@@ -29,7 +29,7 @@ pub fn program<H, S: AsStr, R: Read, W: Write, E: Write>(
     errors: &mut E,
 ) -> u8
     ensures status { result ≤ WRONG_ARGUMENTS }
-    ensures streams { RunsProgram (streams (R.remaining input.old) (W.contents output.old)) (streams (R.remaining input.new) (W.contents output.new))
+    ensures streams { RunsProgram (map S.text arguments.now) (streams (R.remaining input.old) (W.contents output.old)) (streams (R.remaining input.new) (W.contents output.new))
         (E.contents errors.old) (E.contents errors.new) result }
 {
     run_asked(

@@ -168,6 +168,24 @@ impl Read for FailingReader<'_> {
     }
 }
 
+/// Ends once, and would give one more line after that.
+#[derive(Drop)]
+struct EndingReader<'a> {
+    rest: &'a [u8],
+    has_ended: bool,
+}
+
+impl Read for EndingReader<'_> {
+    fn read(&mut self, buffer: &mut [u8]) -> io::Result<usize> {
+        if self.has_ended {
+            self.rest = b"SHOW\n";
+        }
+        self.has_ended = self.rest.is_empty();
+        let length = self.rest.len();
+        give(&mut self.rest, buffer, length)
+    }
+}
+
 /// Takes all of a write, and hands it on, each so often, and fails then.
 #[derive(Drop)]
 struct FailingWriter {
@@ -304,15 +322,40 @@ const FRONTS: [&[u8]; 5] = [
 fn each_read_fails_in_turn(rt: HostRuntime) -> Result<(), Fail> {
     let alloc = rt.alloc();
     let text = script(alloc, LINES, 1)?;
-    for lines in 0..FRONTS.len() {
+    // The first read gives the definition.
+    for (reads, lines) in [(0, 0), (1, 0), (2, 1), (3, 2), (4, 3), (5, 4)] {
         let mut reader = FailingReader {
             rest: text.as_slice(),
-            reads: lines + 1,
+            reads,
         };
         let mut output = Vec::new(alloc);
         let result = run_script(alloc, &mut reader, &mut output);
-        assert_eq!(rt; result, Err(Fault::Reader), "{lines}");
-        assert_eq!(rt; output.as_slice(), FRONTS[lines], "{lines}");
+        assert_eq!(rt; result, Err(Fault::Reader), "{reads}");
+        assert_eq!(rt; output.as_slice(), FRONTS[lines], "{reads}");
+    }
+    Ok(())
+}
+
+#[test]
+fn nothing_is_read_after_the_end(rt: HostRuntime) -> Result<(), Fail> {
+    let alloc = rt.alloc();
+    let definition = &DEFINITION[..DEFINITION.len() - 1];
+    let lines = script(alloc, LINES, 1)?;
+    let table = [
+        (definition, ScriptEnd::Answered, FRONTS[0]),
+        (DEFINITION, ScriptEnd::Answered, FRONTS[0]),
+        (lines.as_slice(), ScriptEnd::Answered, FRONTS[4]),
+        (b"{", ScriptEnd::Refused(Refusal::Json), b"ERR 60 json\n"),
+    ];
+    for (text, end, want) in table {
+        let mut reader = EndingReader {
+            rest: text,
+            has_ended: false,
+        };
+        let mut output = Vec::new(alloc);
+        let result = run_script(alloc, &mut reader, &mut output);
+        assert_eq!(rt; result, Ok(end), "{}", text.len());
+        assert_eq!(rt; output.as_slice(), want, "{}", text.len());
     }
     Ok(())
 }
@@ -397,9 +440,9 @@ fn many_bytes_go_one_by_one(rt: HostRuntime) -> Result<(), Fail> {
 fn no_more_is_read_than_may_be(rt: HostRuntime) -> Result<(), Fail> {
     let alloc = rt.alloc();
     let text = b"CLOSE 0\nCLOSE 0\nCLOSE 0\n".as_slice();
-    let refused = b"ERR 13 old\nERR 13 old\nERR 13 old\nERR 10 line\n".as_slice();
+    let refused = b"ERR 13 old\nERR 13 old\nERR 13 old\n".as_slice();
     let table = [
-        (24, Ok(()), &refused[..33], 0),
+        (24, Ok(()), refused, 0),
         (23, Err(Fault::Reader), &refused[..22], 0),
         (16, Err(Fault::Reader), &refused[..22], 7),
         (0, Err(Fault::Reader), b"".as_slice(), 23),
@@ -538,5 +581,10 @@ fn faults_have_the_words_of_their_refusals(rt: HostRuntime) -> Result<(), Fail> 
     }
     let text = ArgumentsFault::Memory.to_string(alloc)?;
     assert_eq!(rt; text.as_str(), Refusal::Memory.word());
+    let refused = ArgumentsFault::Refused {
+        text: String::from_str(alloc, "error: no such word")?,
+        status: 2,
+    };
+    assert_eq!(rt; refused.to_string(alloc)?.as_str(), "error: no such word");
     Ok(())
 }
