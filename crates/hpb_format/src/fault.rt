@@ -36,7 +36,8 @@ impl FormatCause {
 }
 
 /// A device that was not formatted is handed back.
-#[derive(Debug, Drop)]
+#[derive(Debug, Drop, Error)]
+#[error("{cause}")]
 pub struct FormatFault<D> {
     pub disk: D,
     pub cause: FormatCause,

@@ -2,7 +2,7 @@
 use Rattle.std.specs.Prelude.{ℕ, ◌≤◌}
 use Rattle.hpb_journal.specs.declared.limits.TheConstants.{LEAST_FRAMES, MOST_FRAMES}
 use Rattle.hpb_journal.specs.Layouts.{Layout, IsLayout}
-use Rattle.hpb_journal.specs.Laws.{KeptGoesOn, KeptIsCut, KeptIsOne, KeptIsOwn}
+use Rattle.hpb_journal.specs.Laws.{ClosedShowsNothing, KeptGoesOn, KeptIsCut, KeptIsOne, KeptIsOwn, KeptStays, NearAreApart}
 use Rattle.hpb_journal.specs.Pages.{page_layout}
 
 -- A layout of which the laws hold: what a journal contains has frames of its own, is one list, and can be cut and gone on with.
@@ -12,6 +12,9 @@ pub record IsJournal (layout : Layout) : Type 0 where
   pub one : KeptIsOne layout
   pub cut : KeptIsCut layout
   pub goes_on : KeptGoesOn layout
+  pub stays : KeptStays layout
+  pub near : NearAreApart layout
+  pub closed : ClosedShowsNothing layout
 
 -- From 4 to 1,024 frames of one page each are such a layout.
 abbrev pub PagesAreJournal : Type 0

@@ -1,11 +1,11 @@
 -- What is behind the last batch.
-use Rattle.std.proofs.Common.{◌≡◌, ◌↔◌, inl, inr, IsTrue, Bool, true, false, ℕ, suc, ◌+◌, ◌-◌, ◌<◌, ◌≤◌, List, length, refl, sym, subst, arith}
+use Rattle.std.proofs.Common.{◌≡◌, inl, inr, IsTrue, Bool, true, false, ℕ, suc, ◌+◌, ◌-◌, ◌<◌, ◌≤◌, List, length, sym, subst, arith}
 use Rattle.std.specs.Prelude.{slice_index_or}
 use Rattle.std.proofs.lemmas.Bool.{cases_eq, cases_lt}
 use Rattle.hpb_rules.specs.AuctionValue.{AuctionValue}
 use Rattle.hpb_journal.specs.Layouts.{Layout, IsLayout}
 use Rattle.hpb_journal.specs.Frames.{IsOpen}
-use Rattle.hpb_recover.specs.Replaying.{AreGates, HasStopped, IsBroken, IsClean, IsReplayed, IsWhole, Leads, NoneIsOwn, OneIsOwn}
+use Rattle.hpb_recover.specs.Replaying.{AreGates, IsBroken, IsReplayed, IsWhole, Leads, NoneIsOwn, OneIsOwn}
 use Rattle.hpb_recover.proofs.Leading.{own_of_frame}
 
 no : (b : Bool) → b ≡ false → IsTrue b → ⊥

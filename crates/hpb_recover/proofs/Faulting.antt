@@ -1,5 +1,5 @@
 -- Why a device isn't opened.
-use Rattle.std.proofs.Common.{◌≡◌, ℕ, List, sym}
+use Rattle.std.proofs.Common.{ℕ, List}
 use Rattle.hpb_image.specs.declared.flaw.Flaw.{Flaw}
 use Rattle.hpb_image.specs.Flaws.{HasFlaw}
 use Rattle.hpb_image.specs.Laws.{FlawIsOne, ReadIsFlawless}

@@ -1,5 +1,5 @@
 -- The head of an image by its bytes.
-use Rattle.std.proofs.Common.{◌≡◌, ℕ, ◌%◌, ◌++◌, List, Option, Some, take, drop, length, sym, ◌∙◌, ap, subst, arith}
+use Rattle.std.proofs.Common.{◌≡◌, ℕ, ◌%◌, ◌++◌, List, take, drop, length, sym, ◌∙◌, ap, subst, arith}
 use Rattle.std.proofs.lemmas.List.{take-take, take_at}
 use Rattle.hpb_disk.specs.Images.{part}
 use Rattle.hpb_codec.specs.Heads.{SpellsHead, magic}

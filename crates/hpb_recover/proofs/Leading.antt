@@ -1,8 +1,6 @@
 -- Batches one after another.
-use Rattle.std.proofs.Common.{◌≡◌, ◌↔◌, ◌⊎◌, inl, inr, ⊎_elim, IsTrue, Bool, false, ℕ, suc, ◌+◌, ◌<◌, ◌≤◌, List, [], ◌∷◌, ◌++◌, length, refl, sym, ◌∙◌, ap, subst, arith, append_assoc, length-append}
-use Rattle.std.specs.Prelude.{slice_index_or}
+use Rattle.std.proofs.Common.{◌≡◌, ℕ, suc, ◌+◌, List, [], ◌∷◌, ◌++◌, length, refl, sym, ◌∙◌, ap, subst, arith, append_assoc, length-append}
 use Rattle.std.proofs.lemmas.List.{append-nil}
-use Rattle.std.proofs.lemmas.Bool.{cases_lt}
 use Rattle.hpb_rules.specs.declared.command.Command.{Command}
 use Rattle.hpb_rules.specs.Tree.{Rules}
 use Rattle.hpb_rules.specs.AuctionValue.{AuctionValue}
@@ -12,8 +10,8 @@ use Rattle.hpb_rules.proofs.RunLaws.{accepted_join, accepted_are_counted}
 use Rattle.hpb_codec.specs.declared.batch.Batch.{Batch}
 use Rattle.hpb_journal.specs.Layouts.{Layout, IsLayout}
 use Rattle.hpb_journal.specs.Laws.{KeptGoesOn}
-use Rattle.hpb_journal.specs.Frames.{IsFrame, IsOpen, IsOwn, Kept, batch_at, joined}
-use Rattle.hpb_recover.specs.Replaying.{AreGates, GoesOn, HasStopped, Leads}
+use Rattle.hpb_journal.specs.Frames.{IsFrame, IsOwn, batch_at, joined}
+use Rattle.hpb_recover.specs.Replaying.{GoesOn, HasStopped, Leads}
 
 joined_more : (batches : List (List Command)) (commands : List Command) → joined (batches ++ commands ∷ []) ≡ joined batches ++ commands
 joined_more [] commands = append-nil commands

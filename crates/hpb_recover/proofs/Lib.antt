@@ -3,3 +3,4 @@ pub mod Behind
 pub mod Heading
 pub mod Planning
 pub mod Faulting
+pub mod Quietly

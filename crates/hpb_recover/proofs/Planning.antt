@@ -1,5 +1,5 @@
 -- From what the parts of a reading say to what all of it says.
-use Rattle.std.proofs.Common.{◌≡◌, ◌↔◌, ℕ, suc, ◌+◌, ◌≤◌, List, length, refl, sym, ◌∙◌, ap, subst, arith}
+use Rattle.std.proofs.Common.{◌≡◌, ℕ, ◌+◌, List, length, sym, subst, arith}
 use Rattle.hpb_rules.specs.AuctionValue.{AuctionValue}
 use Rattle.hpb_rules.specs.Saved.{restored}
 use Rattle.hpb_codec.specs.declared.head.Head.{Head}
@@ -14,8 +14,8 @@ use Rattle.hpb_recover.specs.declared.cause.Cause.TheVariants.{Flawed, Memory, D
 use Rattle.hpb_image.specs.Laws.{ReadingIsOne}
 use Rattle.hpb_recover.specs.declared.plan.Plan.{Plan}
 use Rattle.hpb_recover.specs.Checkpoints.{IsCheckpoint, IsUnlessWithout}
-use Rattle.hpb_recover.specs.Plans.{IsPlan, IsPlanOf}
-use Rattle.hpb_recover.specs.Replaying.{HasStopped, IsBroken, IsWhole, Leads, OneIsOwn}
+use Rattle.hpb_recover.specs.Plans.{IsPlanOf}
+use Rattle.hpb_recover.specs.Replaying.{HasStopped, IsBroken, IsWhole, Leads}
 use Rattle.hpb_recover.proofs.Leading.{led_rules}
 
 module _ (head : Head) (newest : Newest) (image : List ℕ) (formatted : IsFormatted image) (laid : IsLaidOut head image)

@@ -1,9 +1,30 @@
 -- Why a call ended early.
-use Rattle.std.specs.Prelude.{◌≡◌, ℕ, ◌<◌, List}
+use Rattle.std.specs.Prelude.{◌≡◌, ℕ, ◌*◌, ◌%◌, ◌<◌, ◌≤◌, List, length}
+use Rattle.hpb_disk.specs.Gates.{HasOpenGate}
+use Rattle.hpb_image.specs.declared.limits.TheConstants.{PAGE_BYTES, LEAST_PAGES}
 use Rattle.hpb_image.specs.declared.flaw.Flaw.{Flaw}
 use Rattle.hpb_image.specs.Flaws.{HasFlaw}
+use Rattle.hpb_image.specs.Flaws as flaws
+use Rattle.hpb_rules.specs.declared.refusal.Refusal.{Refusal}
+use Rattle.hpb_rules.specs.declared.refusal.Refusal.TheVariants as refusals
 use Rattle.hpb_recover.specs.declared.cause.Cause.{Cause}
 use Rattle.hpb_recover.specs.declared.cause.Cause.TheVariants as causes
+
+-- The refusal that a cause is told by.
+abbrev pub refusal_of : Cause → Refusal
+refusal_of (causes.Flawed flaw) = flaws.refusal_of flaw
+refusal_of causes.Memory = refusals.Memory
+refusal_of causes.Device = refusals.Device
+
+-- An image looks as that of a formatted device before any memory is asked for: it has whole pages, enough of them, and an open gate.
+pub record LooksFormatted (image : List ℕ) : Type 0 where
+  pub whole : length image % PAGE_BYTES ≡ 0
+  pub least : PAGE_BYTES * LEAST_PAGES ≤ length image
+  pub gate : HasOpenGate 0 image
+
+-- Memory is refused only where it is asked for.
+abbrev pub AsksMemory : List ℕ → Cause → Type 0
+AsksMemory image cause = cause ≡ causes.Memory → LooksFormatted image
 
 -- The machine failed: the device, which counts it, or memory.
 abbrev pub HasCause : (failures later : ℕ) → Cause → Type 0

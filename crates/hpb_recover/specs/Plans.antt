@@ -29,6 +29,7 @@ HasClean plan image = IsClean (layout_in plan) plan.next (plan.covered + (layout
 pub record IsPlan (plan : Plan) (image : List ℕ) : Type 0 where
   pub size : length image ≡ (layout_in plan).size
   pub few : plan.covered ≤ MOST_COMMANDS
+  pub follows : plan.covered ≤ plan.next
   pub clean : HasClean plan image
   pub other : IsTrue plan.other_open ↔ IsOpen (other_of plan.slot) image
   pub gates : AreGates (layout_in plan) plan.covered plan.gates.items image

@@ -1,9 +1,26 @@
--- Calls that only read.
-use Rattle.std.specs.Prelude.{◌≡◌, ℕ, ◌+◌, ◌≤◌, List}
+-- Calls that only read or sync.
+use Rattle.std.specs.Prelude.{◌≡◌, ℕ, ◌+◌, ◌-◌, ◌*◌, ◌/◌, ◌≤◌, List, length}
 use Rattle.hpb_disk.specs.Images.{Within}
+use Rattle.hpb_journal.specs.declared.limits.TheConstants.{JOURNAL_AT}
+use Rattle.hpb_image.specs.declared.limits.TheConstants.{PAGE_BYTES}
 
--- A read gives what it gave, a crash leaves nothing that it couldn't before, and there were at most so many calls of the device.
-pub record IsQuiet {D : Type 0} (seen : D → List ℕ) (may_leave : D → List ℕ → Type 0) (moment : D → ℕ) (calls : ℕ) (old new : D) : Type 0 where
+-- Since each earlier moment a crash may leave what it could have left before these calls, no more and no less.
+pub record LeavesNothingNew (before now : ℕ) (past since : ℕ → List ℕ → Type 0) : Type 0 where
+  pub later : before ≤ now
+  pub nothing_else : (moment : ℕ) → moment ≤ before → Within (since moment) (past moment)
+  pub keeps : (moment : ℕ) → moment ≤ before → Within (past moment) (since moment)
+
+-- A read gives what it gave, a crash leaves nothing that it couldn't before, now or since an earlier moment, and there were at most so many calls of the device.
+pub record IsQuiet {D : Type 0} (seen : D → List ℕ) (may_leave : D → List ℕ → Type 0) (moment : D → ℕ) (left_since : D → ℕ → List ℕ → Type 0) (calls : ℕ) (old new : D) : Type 0 where
   pub same : seen new ≡ seen old
   pub crash : Within (may_leave new) (may_leave old)
+  pub since : LeavesNothingNew (moment old) (moment new) (left_since old) (left_since new)
   pub few : moment new ≤ moment old + calls
+
+-- So many frames have room in an image, a page each.
+abbrev pub frames_in : List ℕ → ℕ
+frames_in image = (length image - JOURNAL_AT) / PAGE_BYTES
+
+-- So many reads go over an image once: two of the head, two of each slot, and one of each frame.
+abbrev pub reads_in : List ℕ → ℕ
+reads_in image = 2 + 2 * 2 + frames_in image

@@ -37,6 +37,15 @@ NoneIsOwn layout start end image = (b : ℕ) → start ≤ b → b < end → IsO
 abbrev pub OneIsOwn : Layout → ℕ → ℕ → List ℕ → Type 0
 OneIsOwn layout start end image = (b : ℕ) × (start ≤ b) × (b < end) × IsOwn layout b image
 
+-- The batches lead to a frame that is open with its own index, and spells none that goes on.
+pub record HasBrokenOff (layout : Layout) (covered : ℕ) (value : AuctionValue) (image : List ℕ) : Type 0 where
+  pub next : ℕ
+  pub reached : AuctionValue
+  pub leads : Leads layout covered value image next reached
+  pub below : next < covered + layout.count
+  pub own : IsOwn layout next image
+  pub stopped : HasStopped layout value.rules next reached image
+
 -- The gates of the frames before an index are known, and perhaps those of some after it, none of which is open with its own index.
 pub record IsReplayed (layout : Layout) (covered next : ℕ) (known : List Bool) (image : List ℕ) : Type 0 where
   pub least : next ≤ covered + length known

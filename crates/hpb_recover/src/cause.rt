@@ -1,9 +1,11 @@
 //! Why a device isn't opened.
 ghost use Rattle.std.specs.Prelude.{◌≡◌};
+ghost use Rattle.hpb_recover.specs.Causes.{refusal_of};
 ghost use Rattle.hpb_recover.specs.declared.cause.Cause.TheVariants.{Device, Memory};
 
 use hpb_disk::DiskFailed;
 use hpb_image::Flaw;
+use hpb_rules::Refusal;
 use std::alloc::{AllocError, AllocFailed};
 use thiserror::Error;
 
@@ -19,6 +21,19 @@ pub enum Cause {
     /// 91: a call of the device failed.
     #[error("device")]
     Device,
+}
+
+impl Cause {
+    /// The refusal that it is told by.
+    pub fn refusal(self) -> Refusal
+        ensures { result ≡ refusal_of self }
+    {
+        match self {
+            Cause::Flawed(flaw) => flaw.refusal(),
+            Cause::Memory => Refusal::Memory,
+            Cause::Device => Refusal::Device,
+        }
+    }
 }
 
 impl From<DiskFailed> for Cause {

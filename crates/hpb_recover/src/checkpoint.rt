@@ -51,7 +51,7 @@ pub(crate) fn read_checkpoint<D: Disk>(
 ) -> Result<Checkpoint, Cause>
     requires room { SLOTS_END ≤ length (D.seen disk.old) }
     ensures checkpoint { IfOk result (λ checkpoint. IsCheckpoint definition.now checkpoint.newest checkpoint.auction (D.seen disk.old)) }
-    ensures quiet { IsQuiet D.seen D.may_leave D.moment 4 disk.old disk.new }
+    ensures quiet { IsQuiet D.seen D.may_leave D.moment D.left_since 4 disk.old disk.new }
     ensures works { OnOk result (D.failures disk.new ≡ D.failures disk.old) }
     ensures cause { IfErr result (IsUnlessWithout definition.now (D.seen disk.old) (D.failures disk.old) (D.failures disk.new)) }
 {

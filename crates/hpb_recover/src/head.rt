@@ -3,7 +3,7 @@ ghost use Rattle.std.specs.Prelude.{◌≡◌, ℕ, List, length, IfErr, IfOk, O
 ghost use Rattle.hpb_codec.specs.declared.head.TheConstants.{HEAD_SIZE};
 ghost use Rattle.hpb_image.specs.Heads.{IsFormatted, IsLaidOut};
 ghost use Rattle.hpb_recover.specs.Beginnings.{Begins};
-ghost use Rattle.hpb_recover.specs.Causes.{IsCauseAt};
+ghost use Rattle.hpb_recover.specs.Causes.{AsksMemory, IsCauseAt};
 ghost use Rattle.hpb_recover.specs.Quiet.{IsQuiet};
 
 use crate::Cause;
@@ -36,8 +36,9 @@ fn head_in(alloc: Global, bytes: &[u8], len: usize) -> Result<Head, Cause>
 pub(crate) fn read_head<D: Disk>(alloc: Global, disk: &mut D) -> Result<Head, Cause>
     ensures formatted { IfOk result (λ head. IsFormatted (D.seen disk.old)) }
     ensures laid { IfOk result (λ head. IsLaidOut head (D.seen disk.old)) }
-    ensures quiet { IsQuiet D.seen D.may_leave D.moment 2 disk.old disk.new }
+    ensures quiet { IsQuiet D.seen D.may_leave D.moment D.left_since 2 disk.old disk.new }
     ensures works { OnOk result (D.failures disk.new ≡ D.failures disk.old) }
+    ensures memory { IfErr result (AsksMemory (D.seen disk.old)) }
     ensures cause { IfErr result (IsCauseAt (D.seen disk.old) (D.failures disk.old) (D.failures disk.new)) }
 {
     let len = disk.len();

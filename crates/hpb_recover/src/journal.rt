@@ -38,7 +38,7 @@ pub(crate) fn read_journal<D: Disk, F: Frames>(
     ensures journal { IfOk result (λ found. MatchOption found
         (IsBroken (F.layout frames.now) covered auction.old (D.seen disk.old))
         (λ journal. IsWhole (F.layout frames.now) covered auction.old (D.seen disk.old) journal.next journal.clean_end journal.gates.items auction.new)) }
-    ensures quiet { IsQuiet D.seen D.may_leave D.moment (2 * (F.layout frames.now).count) disk.old disk.new }
+    ensures quiet { IsQuiet D.seen D.may_leave D.moment D.left_since (F.layout frames.now).count disk.old disk.new }
     ensures works { OnOk result (D.failures disk.new ≡ D.failures disk.old) }
     ensures cause { IfErr result (HasCause (D.failures disk.old) (D.failures disk.new)) }
 {

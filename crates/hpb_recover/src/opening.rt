@@ -1,32 +1,45 @@
 //! Opening a device.
-ghost use Rattle.std.specs.Prelude.{◌≡◌, List, IfErr, IfOk, IsErrAnd};
+ghost use Rattle.std.specs.Prelude.{◌≡◌, ◌+◌, ◌≤◌, List, IfErr, IfOk, IsErrAnd, MatchResult, OnOk};
 ghost use Rattle.hpb_rules.specs.declared.command.Command.{Command};
 ghost use Rattle.hpb_rules.specs.AuctionValue.{Shows};
 ghost use Rattle.hpb_image.specs.declared.flaw.Flaw.{Flaw};
 ghost use Rattle.hpb_image.specs.Flaws.{HasFlaw};
 ghost use Rattle.hpb_image.specs.Standing.{Stands};
 ghost use Rattle.hpb_image.specs.Readings.{Found, Reads};
-ghost use Rattle.hpb_disk.specs.Images.{Within};
-ghost use Rattle.hpb_recover.specs.Causes.{IsCauseAt, IsMachine, IsUnlessMachine};
+ghost use Rattle.hpb_disk.specs.Images.{CountsFailure, Only, Within};
+ghost use Rattle.hpb_recover.specs.Causes.{AsksMemory, IsCauseAt, IsMachine, IsUnlessMachine};
 ghost use Rattle.hpb_recover.specs.Plans.{HasClean, IsPlan, IsPlanOf};
+ghost use Rattle.hpb_recover.specs.Quiet.{IsQuiet, LeavesNothingNew, reads_in};
 
 use crate::checkpoint::{Checkpoint, read_checkpoint};
 use crate::head::read_head;
 use crate::journal::read_journal;
 use crate::{Cause, OpenFault, Opened, Plan};
-use hpb_disk::Disk;
+use hpb_disk::{Disk, DiskFailed};
 use hpb_image::{
     Flaw, flaw_is_one, read_is_flawless, read_is_shown, reading_is_one, stands_is_read,
 };
 use hpb_journal::PageFrames;
 use std::alloc::Global;
 
+/// Syncs, so that a crash leaves what is then read.
+fn settle<D: Disk>(disk: &mut D) -> Result<(), DiskFailed>
+    ensures settled { OnOk result (Only (D.seen disk.new) (D.may_leave disk.new)) }
+    ensures quiet { IsQuiet D.seen D.may_leave D.moment D.left_since 1 disk.old disk.new }
+    ensures cause { CountsFailure result (D.failures disk.old) (D.failures disk.new) }
+{
+    match disk.sync() {
+        Ok(()) => Ok(()),
+        Err(failed) => Err(failed),
+    }
+}
+
 /// What all of a device says.
 fn read_plan<D: Disk>(alloc: Global, disk: &mut D) -> Result<Plan, Cause>
     ensures found { IfOk result (λ plan. (found : Found) × Reads found (D.seen disk.old) × IsPlanOf plan found) }
     ensures plan { IfOk result (λ plan. IsPlan plan (D.seen disk.old)) }
-    ensures seen { D.seen disk.new ≡ D.seen disk.old }
-    ensures crash { Within (D.may_leave disk.new) (D.may_leave disk.old) }
+    ensures quiet { IsQuiet D.seen D.may_leave D.moment D.left_since (reads_in (D.seen disk.old)) disk.old disk.new }
+    ensures memory { IfErr result (AsksMemory (D.seen disk.old)) }
     ensures cause { IfErr result (IsCauseAt (D.seen disk.old) (D.failures disk.old) (D.failures disk.new)) }
 {
     reading_is_one();
@@ -66,18 +79,28 @@ pub fn open<D: Disk + Drop>(alloc: Global, disk: D) -> Result<Opened<D>, OpenFau
     // A flaw is told only where it is, and where it is, unless the device or memory fails; a failed device has counted it.
     ensures refused { IfErr result (λ fault. IsCauseAt (D.seen disk) (D.failures disk) (D.failures fault.disk) fault.cause) }
     ensures exact { (flaw : Flaw) → HasFlaw flaw (D.seen disk) → IsErrAnd result (λ fault. IsUnlessMachine flaw fault.cause) }
+    // No memory is asked for before the length and the head's gate were looked at.
+    ensures memory { IfErr result (λ fault. AsksMemory (D.seen disk) fault.cause) }
     ensures clean { IfOk result (λ opened. HasClean opened.plan (D.seen disk)) }
     // Nothing is written.
     ensures same { IfOk result (λ opened. D.seen opened.disk ≡ D.seen disk) }
     ensures handed_back { IfErr result (λ fault. D.seen fault.disk ≡ D.seen disk) }
     ensures crash { IfErr result (λ fault. Within (D.may_leave fault.disk) (D.may_leave disk)) }
+    // Since each earlier moment, too, a crash may leave what it could have left before the call.
+    ensures since { MatchResult result
+        (λ opened. LeavesNothingNew (D.moment disk) (D.moment opened.disk) (D.left_since disk) (D.left_since opened.disk))
+        (λ fault. LeavesNothingNew (D.moment disk) (D.moment fault.disk) (D.left_since disk) (D.left_since fault.disk)) }
+    // There is one sync, and each byte is read once at most.
+    ensures calls { MatchResult result
+        (λ opened. D.moment opened.disk ≤ D.moment disk + 1 + reads_in (D.seen disk))
+        (λ fault. D.moment fault.disk ≤ D.moment disk + 1 + reads_in (D.seen disk)) }
 {
     stands_is_read();
     read_is_shown();
     read_is_flawless();
     flaw_is_one();
     let mut disk = disk;
-    match disk.sync() {
+    match settle(&mut disk) {
         Ok(()) => {}
         Err(_) => {
             return Err(OpenFault {

@@ -1,13 +1,11 @@
 //! The batches after a checkpoint.
-ghost use Rattle.std.specs.Prelude.{◌≡◌, ◌+◌, ◌<◌, ◌≤◌, ◌∷◌, [], List, ℕ, length, IfErr, IfOk, MatchBool, MatchOption, OnOk};
+ghost use Rattle.std.specs.Prelude.{◌≡◌, ◌+◌, ◌≤◌, ◌∷◌, [], length, IfErr, IfOk, MatchBool, MatchOption, OnOk, OnSome};
 ghost use Rattle.hpb_rules.specs.declared.limits.TheConstants.{MOST_COMMANDS};
-ghost use Rattle.hpb_rules.specs.AuctionValue.{AuctionValue};
 ghost use Rattle.hpb_rules.specs.Values.{value_after};
 ghost use Rattle.hpb_rules.specs.AcceptedRuns.{AllAccepted};
 ghost use Rattle.hpb_recover.specs.Quiet.{IsQuiet};
-ghost use Rattle.hpb_recover.specs.Replaying.{GoesOn, HasStopped, IsReplayed, Leads};
+ghost use Rattle.hpb_recover.specs.Replaying.{GoesOn, HasBrokenOff, IsReplayed, Leads};
 ghost use Rattle.hpb_recover.specs.Causes.{HasCause};
-ghost use Rattle.hpb_journal.specs.Frames.{IsOwn};
 
 use crate::Cause;
 use hpb_auction::Auction;
@@ -69,12 +67,12 @@ pub(crate) fn replay<D: Disk, F: Frames>(
     requires room { (F.layout frames.now).size ≤ length (D.seen disk.old) }
     requires none { gates.old.items ≡ [] }
     ensures next { IfOk result (λ next. MatchOption next
-        ((b : ℕ) × (reached : AuctionValue) × Leads (F.layout frames.now) covered auction.old (D.seen disk.old) b reached
-        × (b < covered + (F.layout frames.now).count) × IsOwn (F.layout frames.now) b (D.seen disk.old)
-        × HasStopped (F.layout frames.now) auction.old.rules b reached (D.seen disk.old))
+        (HasBrokenOff (F.layout frames.now) covered auction.old (D.seen disk.old))
         (λ next. Leads (F.layout frames.now) covered auction.old (D.seen disk.old) next auction.new
         × IsReplayed (F.layout frames.now) covered next gates.new.items (D.seen disk.old))) }
-    ensures quiet { IsQuiet D.seen D.may_leave D.moment (F.layout frames.now).count disk.old disk.new }
+    ensures quiet { IsQuiet D.seen D.may_leave D.moment D.left_since (F.layout frames.now).count disk.old disk.new }
+    // Each read of which a gate is known.
+    ensures each { IfOk result (λ next. OnSome next (D.moment disk.new ≤ D.moment disk.old + length gates.new.items)) }
     ensures works { OnOk result (D.failures disk.new ≡ D.failures disk.old) }
     ensures cause { IfErr result (HasCause (D.failures disk.old) (D.failures disk.new)) }
 {

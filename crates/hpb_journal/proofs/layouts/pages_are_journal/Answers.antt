@@ -3,6 +3,7 @@ use Rattle.hpb_disk.specs.Images.{part}
 use Rattle.hpb_journal.specs.Layouts.{IsLayout}
 use Rattle.hpb_journal.specs.Pages.{page_layout}
 use Rattle.hpb_journal.proofs.Containing as containing
+use Rattle.hpb_journal.proofs.Containing.{shows_the_same}
 use Rattle.hpb_journal.proofs.layouts.pages_are_journal.Goals as goal
 
 pub returns : goal.returns
@@ -24,4 +25,7 @@ returns c count least most =
       one = λ rules. containing.kept_is_one (page_layout count) is rules;
       cut = containing.kept_is_cut (page_layout count);
       goes_on = containing.kept_goes_on (page_layout count);
+      stays = λ rules. containing.kept_stays (page_layout count) rules;
+      near = containing.near_are_apart (page_layout count) is;
+      closed = shows_the_same (page_layout count) is;
     }

@@ -1,7 +1,8 @@
-use Rattle.std.proofs.Common.{◌≡◌, ◌≤◌, sym, ap, ◌∙◌, subst, arith}
+use Rattle.std.proofs.Common.{◌≡◌, sym, ap, ◌∙◌, subst, arith}
 use Rattle.hpb_rules.specs.Tree.{Rules}
 use Rattle.hpb_rules.specs.AuctionValue.{AuctionValue}
 use Rattle.hpb_rules.specs.Saved.{IsSaved, restored}
+use Rattle.hpb_recover.proofs.Quietly.{of_calls}
 use Rattle.hpb_recover.proofs.checkpoint.read_checkpoint.Goals as goal
 
 pub returns-clause-checkpoint : goal.returns-clause-checkpoint
@@ -18,3 +19,18 @@ returns-clause-checkpoint g c =
       covered = omega (arith, spells.covered, spells.allowed.count);
       other = read.1;
     }
+
+pub returns-in_err-newest-clause-quiet : goal.returns-in_err-newest-clause-quiet
+returns-in_err-newest-clause-quiet g c =
+    let d = g.D.Disk in
+    of_calls d.seen d.may_leave d.moment d.left_since g.met.D.Disk.counts_now 4 c.args.disk.now c.read_newest.new.disk c.read_newest.ensures.seen c.read_newest.ensures.time c.read_newest.ensures.calls
+
+pub returns-in_default-clause-quiet : goal.returns-in_default-clause-quiet
+returns-in_default-clause-quiet g c =
+    let d = g.D.Disk in
+    of_calls d.seen d.may_leave d.moment d.left_since g.met.D.Disk.counts_now 4 c.args.disk.now c.read_newest.new.disk c.read_newest.ensures.seen c.read_newest.ensures.time c.read_newest.ensures.calls
+
+pub returns-clause-quiet : goal.returns-clause-quiet
+returns-clause-quiet g c =
+    let d = g.D.Disk in
+    of_calls d.seen d.may_leave d.moment d.left_since g.met.D.Disk.counts_now 4 c.args.disk.now c.read_newest.new.disk c.read_newest.ensures.seen c.read_newest.ensures.time c.read_newest.ensures.calls

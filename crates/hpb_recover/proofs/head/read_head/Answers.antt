@@ -1,15 +1,16 @@
-use Rattle.std.proofs.Common.{◌≡◌, ℕ, List, length, sym, ◌∙◌, ap, arith}
+use Rattle.std.proofs.Common.{length, sym, ◌∙◌, ap, arith}
 use Rattle.hpb_disk.specs.Images.{part}
 use Rattle.hpb_recover.specs.Beginnings.{Begins}
 use Rattle.hpb_recover.proofs.Heading.{buffer_read, cause_at}
+use Rattle.hpb_recover.proofs.Quietly.{one_call, more_calls}
 use Rattle.hpb_recover.proofs.head.read_head.Goals as goal
 
 pub returns-in_err-read_into-clause-quiet : goal.returns-in_err-read_into-clause-quiet
-returns-in_err-read_into-clause-quiet g c = record {
-  same = c.read_into.ensures.seen ∙ c.gate_is_open.ensures.seen;
-  crash = λ left may. c.gate_is_open.ensures.crash left (c.read_into.ensures.crash left may);
-  few = omega (arith, c.read_into.ensures.time.next, c.gate_is_open.ensures.time.next);
-}
+returns-in_err-read_into-clause-quiet g c =
+    let d = g.D.Disk in
+    let gate = one_call d.seen d.may_leave d.moment d.left_since g.met.D.Disk.counts_now c.args.disk.now c.gate_is_open.new.disk c.gate_is_open.ensures.seen c.gate_is_open.ensures.crash c.gate_is_open.ensures.time in
+    let head = one_call d.seen d.may_leave d.moment d.left_since g.met.D.Disk.counts_now c.gate_is_open.new.disk c.read_into.new.self c.read_into.ensures.seen c.read_into.ensures.crash c.read_into.ensures.time in
+    more_calls d.seen d.may_leave d.moment d.left_since 1 1 2 c.args.disk.now c.gate_is_open.new.disk c.read_into.new.self (omega arith) gate head
 
 pub returns-in-Ok-clause-formatted : goal.returns-in-Ok-clause-formatted
 returns-in-Ok-clause-formatted g c =
@@ -40,18 +41,18 @@ returns-in-Ok-clause-laid g c =
     rw c.in-Ok.is at c.head_in.ensures.laid image begins
 
 pub returns-in-Ok-clause-quiet : goal.returns-in-Ok-clause-quiet
-returns-in-Ok-clause-quiet g c = record {
-  same = c.read_into.ensures.seen ∙ c.gate_is_open.ensures.seen;
-  crash = λ left may. c.gate_is_open.ensures.crash left (c.read_into.ensures.crash left may);
-  few = omega (arith, c.read_into.ensures.time.next, c.gate_is_open.ensures.time.next);
-}
+returns-in-Ok-clause-quiet g c =
+    let d = g.D.Disk in
+    let gate = one_call d.seen d.may_leave d.moment d.left_since g.met.D.Disk.counts_now c.args.disk.now c.gate_is_open.new.disk c.gate_is_open.ensures.seen c.gate_is_open.ensures.crash c.gate_is_open.ensures.time in
+    let head = one_call d.seen d.may_leave d.moment d.left_since g.met.D.Disk.counts_now c.gate_is_open.new.disk c.read_into.new.self c.read_into.ensures.seen c.read_into.ensures.crash c.read_into.ensures.time in
+    more_calls d.seen d.may_leave d.moment d.left_since 1 1 2 c.args.disk.now c.gate_is_open.new.disk c.read_into.new.self (omega arith) gate head
 
 pub returns-clause-quiet : goal.returns-clause-quiet
-returns-clause-quiet g c = record {
-  same = c.read_into.ensures.seen ∙ c.gate_is_open.ensures.seen;
-  crash = λ left may. c.gate_is_open.ensures.crash left (c.read_into.ensures.crash left may);
-  few = omega (arith, c.read_into.ensures.time.next, c.gate_is_open.ensures.time.next);
-}
+returns-clause-quiet g c =
+    let d = g.D.Disk in
+    let gate = one_call d.seen d.may_leave d.moment d.left_since g.met.D.Disk.counts_now c.args.disk.now c.gate_is_open.new.disk c.gate_is_open.ensures.seen c.gate_is_open.ensures.crash c.gate_is_open.ensures.time in
+    let head = one_call d.seen d.may_leave d.moment d.left_since g.met.D.Disk.counts_now c.gate_is_open.new.disk c.read_into.new.self c.read_into.ensures.seen c.read_into.ensures.crash c.read_into.ensures.time in
+    more_calls d.seen d.may_leave d.moment d.left_since 1 1 2 c.args.disk.now c.gate_is_open.new.disk c.read_into.new.self (omega arith) gate head
 
 pub returns-clause-cause : goal.returns-clause-cause
 returns-clause-cause g c =

@@ -1,4 +1,4 @@
-use Rattle.std.proofs.Common.{◌≡◌, ◌+◌, ℕ, List, Bool, length, sym, ◌∙◌, subst}
+use Rattle.std.proofs.Common.{◌+◌, length, subst}
 use Rattle.hpb_recover.specs.Replaying.{AreGates, NoneIsOwn, OneIsOwn}
 use Rattle.hpb_recover.proofs.Behind.{broken, whole}
 use Rattle.hpb_recover.proofs.journal.read_journal.Goals as goal

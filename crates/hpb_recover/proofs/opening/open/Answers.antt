@@ -1,26 +1,47 @@
-use Rattle.std.proofs.Common.{sym, ◌∙◌, subst}
+use Rattle.std.proofs.Common.{sym, ◌∙◌, subst, arith}
 use Rattle.hpb_rules.specs.AuctionValue.{AuctionValue, Shows}
 use Rattle.hpb_image.specs.Standing.{Stands}
 use Rattle.hpb_recover.specs.Plans.{IsPlan}
 use Rattle.hpb_recover.proofs.Faulting.{machine_only}
+use Rattle.hpb_recover.proofs.Quietly.{opened_calls}
 use Rattle.hpb_recover.proofs.opening.open.Goals as goal
 
 pub returns-in-Ok-read_plan-clause-shows : goal.returns-in-Ok-read_plan-clause-shows
 returns-in-Ok-read_plan-clause-shows g c history stands =
-    let image = g.D.Disk.seen c.sync.new.self in
-    let here = subst (Stands history) (sym c.sync.ensures.seen) stands in
+    let image = g.D.Disk.seen c.settle.new.disk in
+    let here = subst (Stands history) (sym c.settle.ensures.quiet.same) stands in
     let found = c.in-Ok-read_plan.ensures.found in
     subst (λ (value : AuctionValue). Shows value history) (sym found.2.auction) (c.read_is_shown.ensures history found.0 image here found.1)
 
 pub returns-in-Err-read_plan-clause-stands : goal.returns-in-Err-read_plan-clause-stands
 returns-in-Err-read_plan-clause-stands g c history stands =
     let d = g.D.Disk in
-    let image = d.seen c.sync.new.self in
-    let read = (c.stands_is_read.ensures history image).0 (subst (Stands history) (sym c.sync.ensures.seen) stands) in
-    machine_only c.read_is_flawless.ensures read.0 image read.1 (d.failures c.sync.new.self) (d.failures c.read_plan.new.disk) c.in-Err-read_plan.cause c.in-Err-read_plan.ensures.cause
+    let image = d.seen c.settle.new.disk in
+    let read = (c.stands_is_read.ensures history image).0 (subst (Stands history) (sym c.settle.ensures.quiet.same) stands) in
+    machine_only c.read_is_flawless.ensures read.0 image read.1 (d.failures c.settle.new.disk) (d.failures c.read_plan.new.disk) c.in-Err-read_plan.cause c.in-Err-read_plan.ensures.cause
 
 pub invariant_of-result : goal.invariant_of-result
 invariant_of-result g c = record {
-  durable = λ other left. c.in-Ok.ensures.durable other (c.read_plan.ensures.crash other left) ∙ sym c.sync.ensures.seen ∙ sym c.read_plan.ensures.seen;
-  read = subst (IsPlan c.in-Ok-read_plan.plan) (sym c.read_plan.ensures.seen) c.in-Ok-read_plan.ensures.plan;
+  durable = λ other left. c.in-Ok.ensures.settled other (c.read_plan.ensures.quiet.crash other left) ∙ sym c.read_plan.ensures.quiet.same;
+  read = subst (IsPlan c.in-Ok-read_plan.plan) (sym c.read_plan.ensures.quiet.same) c.in-Ok-read_plan.ensures.plan;
 }
+
+pub returns-in-Ok-read_plan-clause-since : goal.returns-in-Ok-read_plan-clause-since
+returns-in-Ok-read_plan-clause-since g c =
+    let d = g.D.Disk in
+    (opened_calls d.seen d.may_leave d.moment d.left_since c.args.disk c.settle.new.disk c.read_plan.new.disk c.settle.ensures.quiet c.read_plan.ensures.quiet).since
+
+pub returns-in-Ok-read_plan-clause-calls : goal.returns-in-Ok-read_plan-clause-calls
+returns-in-Ok-read_plan-clause-calls g c =
+    let d = g.D.Disk in
+    omega (arith, (opened_calls d.seen d.may_leave d.moment d.left_since c.args.disk c.settle.new.disk c.read_plan.new.disk c.settle.ensures.quiet c.read_plan.ensures.quiet).few)
+
+pub returns-in-Err-read_plan-clause-since : goal.returns-in-Err-read_plan-clause-since
+returns-in-Err-read_plan-clause-since g c =
+    let d = g.D.Disk in
+    (opened_calls d.seen d.may_leave d.moment d.left_since c.args.disk c.settle.new.disk c.read_plan.new.disk c.settle.ensures.quiet c.read_plan.ensures.quiet).since
+
+pub returns-in-Err-read_plan-clause-calls : goal.returns-in-Err-read_plan-clause-calls
+returns-in-Err-read_plan-clause-calls g c =
+    let d = g.D.Disk in
+    omega (arith, (opened_calls d.seen d.may_leave d.moment d.left_since c.args.disk c.settle.new.disk c.read_plan.new.disk c.settle.ensures.quiet c.read_plan.ensures.quiet).few)

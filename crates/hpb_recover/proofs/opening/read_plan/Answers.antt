@@ -1,11 +1,24 @@
-use Rattle.std.proofs.Common.{◌≡◌, ℕ, ◌+◌, ◌*◌, List, refl, sym, ◌∙◌, ap, subst, arith}
+use Rattle.std.proofs.Common.{ℕ, ◌+◌, ◌*◌, List, refl, sym, ◌∙◌, ap, subst, arith}
 use Rattle.hpb_journal.specs.Pages.{page_layout}
 use Rattle.hpb_image.specs.Heads.{layout_of}
 use Rattle.hpb_recover.specs.declared.plan.Plan.{Plan}
 use Rattle.hpb_recover.specs.Checkpoints.{IsCheckpoint, IsUnlessWithout}
 use Rattle.hpb_recover.specs.Replaying.{IsBroken, IsWhole}
+use Rattle.hpb_recover.specs.Quiet.{IsQuiet, reads_in}
+use Rattle.hpb_recover.proofs.Quietly.{at_most, begun_reads, all_reads}
 use Rattle.hpb_recover.proofs.Planning.{damaged, found, reads, is_plan_of, plan_of_one, cause_of_checkpoint, cause_of_journal}
 use Rattle.hpb_recover.proofs.opening.read_plan.Goals as goal
+
+pub returns-in_err-head-clause-quiet : goal.returns-in_err-head-clause-quiet
+returns-in_err-head-clause-quiet g c =
+    let d = g.D.Disk in
+    at_most d.seen d.may_leave d.moment d.left_since 2 (reads_in (d.seen c.args.disk.now)) c.args.disk.now c.read_head.new.disk (omega arith) c.read_head.ensures.quiet
+
+pub returns-in-Err-clause-quiet : goal.returns-in-Err-clause-quiet
+returns-in-Err-clause-quiet g c =
+    let d = g.D.Disk in
+    at_most d.seen d.may_leave d.moment d.left_since 6 (reads_in (d.seen c.args.disk.now)) c.args.disk.now c.read_checkpoint.new.disk (omega arith)
+    (begun_reads d.seen d.may_leave d.moment d.left_since c.args.disk.now c.read_head.new.disk c.read_checkpoint.new.disk c.read_head.ensures.quiet c.read_checkpoint.ensures.quiet)
 
 pub returns-in-Err-clause-cause : goal.returns-in-Err-clause-cause
 returns-in-Err-clause-cause g c =
@@ -17,8 +30,12 @@ returns-in-Err-clause-cause g c =
     let here = subst (λ (l : List ℕ). IsUnlessWithout head.definition l failures later c.in-Err.cause) c.read_head.ensures.quiet.same c.in-Err.ensures.cause in
     cause_of_checkpoint head image c.in_ok-head.ensures.formatted c.in_ok-head.ensures.laid (d.failures c.args.disk.now) failures later c.in-Err.cause c.in_ok-head.ensures.works here
 
-pub returns-in-Err-read_journal-clause-crash : goal.returns-in-Err-read_journal-clause-crash
-returns-in-Err-read_journal-clause-crash g c left may = c.read_head.ensures.quiet.crash left (c.read_checkpoint.ensures.quiet.crash left (c.read_journal.ensures.quiet.crash left may))
+pub returns-in-Err-read_journal-clause-quiet : goal.returns-in-Err-read_journal-clause-quiet
+returns-in-Err-read_journal-clause-quiet g c =
+    let d = g.D.Disk in
+    all_reads d.seen d.may_leave d.moment d.left_since c.in_ok-head.head.journal_pages c.args.disk.now c.read_head.new.disk c.read_checkpoint.new.disk c.read_journal.new.disk
+    c.in_ok-head.ensures.laid.size c.read_head.ensures.quiet c.read_checkpoint.ensures.quiet
+    (subst (λ (n : ℕ). IsQuiet d.seen d.may_leave d.moment d.left_since n c.read_checkpoint.new.disk c.read_journal.new.disk) c.new-frames.ensures c.read_journal.ensures.quiet)
 
 pub returns-in-Err-read_journal-clause-cause : goal.returns-in-Err-read_journal-clause-cause
 returns-in-Err-read_journal-clause-cause g c =
@@ -26,8 +43,12 @@ returns-in-Err-read_journal-clause-cause g c =
     cause_of_journal (d.seen c.args.disk.now) (d.failures c.args.disk.now) (d.failures c.read_checkpoint.new.disk) (d.failures c.read_journal.new.disk) c.in-Err-read_journal.cause
     (c.in-Ok.ensures.works ∙ c.in_ok-head.ensures.works) c.in-Err-read_journal.ensures.cause
 
-pub returns-in-Ok-None-clause-crash : goal.returns-in-Ok-None-clause-crash
-returns-in-Ok-None-clause-crash g c left may = c.read_head.ensures.quiet.crash left (c.read_checkpoint.ensures.quiet.crash left (c.read_journal.ensures.quiet.crash left may))
+pub returns-in-Ok-None-clause-quiet : goal.returns-in-Ok-None-clause-quiet
+returns-in-Ok-None-clause-quiet g c =
+    let d = g.D.Disk in
+    all_reads d.seen d.may_leave d.moment d.left_since c.in_ok-head.head.journal_pages c.args.disk.now c.read_head.new.disk c.read_checkpoint.new.disk c.read_journal.new.disk
+    c.in_ok-head.ensures.laid.size c.read_head.ensures.quiet c.read_checkpoint.ensures.quiet
+    (subst (λ (n : ℕ). IsQuiet d.seen d.may_leave d.moment d.left_since n c.read_checkpoint.new.disk c.read_journal.new.disk) c.new-frames.ensures c.read_journal.ensures.quiet)
 
 pub returns-in-Ok-None-clause-cause : goal.returns-in-Ok-None-clause-cause
 returns-in-Ok-None-clause-cause g c =
@@ -85,6 +106,7 @@ returns-clause-plan g c =
     record {
       size = l.size ∙ ap (λ (n : ℕ). 53248 + 4096 * n) (sym c.new-frames.ensures);
       few = checkpoint.covered;
+      follows = omega (arith, whole.leads.count);
       clean = there.clean_ones;
       other = checkpoint.other;
       gates = there.gates;
@@ -92,5 +114,9 @@ returns-clause-plan g c =
       reads = plan_of_one head newest image f l value checkpoint c.reading_is_one.ensures plan c.new-frames.ensures refl refl refl whole;
     }
 
-pub returns-clause-crash : goal.returns-clause-crash
-returns-clause-crash g c left may = c.read_head.ensures.quiet.crash left (c.read_checkpoint.ensures.quiet.crash left (c.read_journal.ensures.quiet.crash left may))
+pub returns-clause-quiet : goal.returns-clause-quiet
+returns-clause-quiet g c =
+    let d = g.D.Disk in
+    all_reads d.seen d.may_leave d.moment d.left_since c.in_ok-head.head.journal_pages c.args.disk.now c.read_head.new.disk c.read_checkpoint.new.disk c.read_journal.new.disk
+    c.in_ok-head.ensures.laid.size c.read_head.ensures.quiet c.read_checkpoint.ensures.quiet
+    (subst (λ (n : ℕ). IsQuiet d.seen d.may_leave d.moment d.left_since n c.read_checkpoint.new.disk c.read_journal.new.disk) c.new-frames.ensures c.read_journal.ensures.quiet)

@@ -1,10 +1,7 @@
-use Rattle.std.proofs.Common.{rules, ◌≡◌, ◌+◌, ℕ, List, sym, ◌∙◌, subst, arith}
+use Rattle.std.proofs.Common.{rules, ℕ, List, ◌∙◌, subst, arith}
 use Rattle.hpb_rules.specs.Tree.{Rules}
-use Rattle.hpb_rules.specs.AuctionValue.{AuctionValue}
-use Rattle.hpb_journal.specs.Layouts.{Layout}
-use Rattle.hpb_journal.specs.Frames.{IsRead, IsFrame}
-use Rattle.hpb_journal.specs.declared.frame.Frame.{Frame}
-use Rattle.hpb_recover.specs.Replaying.{AreGates, HasStopped}
+use Rattle.hpb_journal.specs.Frames.{IsRead}
+use Rattle.hpb_recover.specs.Replaying.{HasBrokenOff, HasStopped}
 use Rattle.hpb_recover.proofs.Leading.{led_rules, leads_on, own_of_frame, has_stopped}
 use Rattle.hpb_recover.proofs.replay.replay.Goals as goal
 
@@ -15,10 +12,18 @@ returns-in-Damaged-clause-next g c =
     let image = g.D.Disk.seen c.args.disk.now in
     let inv = c.loop-index.invariant in
     let rules = c.definition.ensures ∙ led_rules layout c.args.covered c.args.auction.now image b c.loop-index.auction inv.leads in
-    let read = subst (λ (l : List ℕ). IsRead layout c.definition.result.now b l c.in_ok-read_frame.field-0) inv.same c.in_ok-read_frame.ensures.frame in
+    let read = subst (λ (l : List ℕ). IsRead layout c.definition.result.now b l c.in_ok-read_frame.field-0) inv.quiet.same c.in_ok-read_frame.ensures.frame in
     let here = subst (λ (r : Rules). IsRead layout r b image c.in_ok-read_frame.field-0) rules read in
     let damaged = subst (IsRead layout c.args.auction.now.rules b image) c.in-Damaged.is here in
-    (b, c.loop-index.auction, inv.leads, omega (arith, c.loop-index-test.true, c.count.ensures), damaged.0, λ commands frame accepted. damaged.1 _ commands frame)
+    let broken : HasBrokenOff layout c.args.covered c.args.auction.now image = record {
+      next = b;
+      reached = c.loop-index.auction;
+      leads = inv.leads;
+      below = omega (arith, c.loop-index-test.true, c.count.ensures);
+      own = damaged.0;
+      stopped = λ commands frame accepted. damaged.1 _ commands frame;
+    } in
+    search (rules, broken)
 
 pub returns-then-not-goes_on-clause-next : goal.returns-then-not-goes_on-clause-next
 returns-then-not-goes_on-clause-next g c =
@@ -27,18 +32,20 @@ returns-then-not-goes_on-clause-next g c =
     let image = g.D.Disk.seen c.args.disk.now in
     let inv = c.loop-index.invariant in
     let batch = c.in-Batch.batch in
-    let read = subst (λ (l : List ℕ). IsRead layout c.definition.result.now b l c.in_ok-read_frame.field-0) inv.same c.in_ok-read_frame.ensures.frame in
+    let read = subst (λ (l : List ℕ). IsRead layout c.definition.result.now b l c.in_ok-read_frame.field-0) inv.quiet.same c.in_ok-read_frame.ensures.frame in
     let here = subst (λ (r : Rules). IsRead layout r b image c.in_ok-read_frame.field-0) c.definition.ensures read in
     let filled = subst (IsRead layout c.loop-index.auction.rules b image) c.in-Batch.is here in
     let led = led_rules layout c.args.covered c.args.auction.now image b c.loop-index.auction inv.leads in
-    let stopped = has_stopped layout c.laws.ensures b batch.first c.loop-index.auction batch.commands image filled.1 c.if-not-goes_on.ensures in (
-      b,
-      c.loop-index.auction,
-      inv.leads,
-      omega (arith, c.loop-index-test.true, c.count.ensures),
-      own_of_frame layout c.laws.ensures c.loop-index.auction.rules b batch.first batch.commands image filled.1,
-      subst (λ (r : Rules). HasStopped layout r b c.loop-index.auction image) led stopped,
-    )
+    let stopped = has_stopped layout c.laws.ensures b batch.first c.loop-index.auction batch.commands image filled.1 c.if-not-goes_on.ensures in
+    let broken : HasBrokenOff layout c.args.covered c.args.auction.now image = record {
+      next = b;
+      reached = c.loop-index.auction;
+      leads = inv.leads;
+      below = omega (arith, c.loop-index-test.true, c.count.ensures);
+      own = own_of_frame layout c.laws.ensures c.loop-index.auction.rules b batch.first batch.commands image filled.1;
+      stopped = subst (λ (r : Rules). HasStopped layout r b c.loop-index.auction image) led stopped;
+    } in
+    search (rules, broken)
 
 pub loop-index-preserved : goal.loop-index-preserved
 loop-index-preserved g c =
@@ -47,14 +54,12 @@ loop-index-preserved g c =
     let image = g.D.Disk.seen c.args.disk.now in
     let inv = c.loop-index.invariant in
     let batch = c.in-Batch.batch in
-    let read = subst (λ (l : List ℕ). IsRead layout c.definition.result.now b l c.in_ok-read_frame.field-0) inv.same c.in_ok-read_frame.ensures.frame in
+    let read = subst (λ (l : List ℕ). IsRead layout c.definition.result.now b l c.in_ok-read_frame.field-0) inv.quiet.same c.in_ok-read_frame.ensures.frame in
     let here = subst (λ (r : Rules). IsRead layout r b image c.in_ok-read_frame.field-0) c.definition.ensures read in
     let filled = subst (IsRead layout c.loop-index.auction.rules b image) c.in-Batch.is here in
     let took = c.if-not-goes_on.ensures in
     record {
-      same = c.read_frame.ensures.seen ∙ inv.same;
-      crash = λ left may. inv.crash left (c.read_frame.ensures.crash left may);
-      few = omega (arith, c.read_frame.ensures.time.next, inv.few);
+      quiet = search rules;
       works = c.in_ok-read_frame.ensures.cause ∙ inv.works;
       leads = leads_on layout c.args.covered c.args.auction.now image b batch.first c.loop-index.auction batch.commands filled.1 c.kept_goes_on.ensures c.goes_on.new.auction inv.leads took.0 took.1;
       gates = search rules;
