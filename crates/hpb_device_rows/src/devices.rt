@@ -2,21 +2,35 @@
 
 use hpb_disk::{Disk, MemoryDisk};
 use hpb_format::{FormatCause, format};
+use hpb_image::Flaw;
 use hpb_recover::{Cause, open};
 use hpb_tree::{BidderDraft, Definition, Draft, NodeDraft, TermsDraft};
 use std::alloc::{AllocError, Global};
 use std::test::Fail;
 
-/// The bytes of a device with 4 frames, and of one with 8.
+/// The bytes of a device with 4 frames, of one with 8, and of the largest one, with 1,024.
 pub(crate) const FOUR_FRAMES: usize = 69_632;
 
 pub(crate) const EIGHT_FRAMES: usize = 86_016;
+
+pub(crate) const MOST_FRAMES: usize = 4_247_552;
 
 /// The bytes of a page.
 pub(crate) const PAGE: usize = 4_096;
 
 /// The byte of an open gate.
 pub(crate) const OPEN: u8 = 0xa5;
+
+/// What is opened: how many commands and clean frames, or why not.
+pub(crate) type Found = Result<(u32, u64), Cause>;
+
+pub(crate) const UNFORMATTED: Found = Err(Cause::Flawed(Flaw::Unformatted));
+
+pub(crate) const LAYOUT: Found = Err(Cause::Flawed(Flaw::Layout));
+
+pub(crate) const CHECKPOINT: Found = Err(Cause::Flawed(Flaw::Checkpoint));
+
+pub(crate) const FRAME: Found = Err(Cause::Flawed(Flaw::Frame));
 
 fn node(
     alloc: Global,
@@ -43,12 +57,16 @@ pub(crate) fn six_nodes(alloc: Global) -> Result<Definition, Fail> {
         nodes: Vec::new(alloc),
         bidders: Vec::new(alloc),
     };
-    draft.nodes.push(node(alloc, "all", None, None)?)?;
-    draft.nodes.push(node(alloc, "east", Some(0), None)?)?;
-    draft.nodes.push(node(alloc, "a", Some(1), Some(10))?)?;
-    draft.nodes.push(node(alloc, "b", Some(1), Some(10))?)?;
-    draft.nodes.push(node(alloc, "c", Some(0), Some(20))?)?;
-    draft.nodes.push(node(alloc, "d", None, Some(5))?)?;
+    for (name, parent, units) in [
+        ("all", None, None),
+        ("east", Some(0), None),
+        ("a", Some(1), Some(10)),
+        ("b", Some(1), Some(10)),
+        ("c", Some(0), Some(20)),
+        ("d", None, Some(5)),
+    ] {
+        draft.nodes.push(node(alloc, name, parent, units)?)?;
+    }
     for (name, units) in [("x", 10), ("y", 10), ("z", 40), ("w", 25)] {
         let name = String::from_str(alloc, name)?;
         draft.bidders.push(BidderDraft { name, units })?;
@@ -84,8 +102,8 @@ pub(crate) fn all_of<D: Disk>(alloc: Global, disk: &mut D) -> Result<Vec<u8>, Fa
     Ok(bytes)
 }
 
-/// Opens a device: how many commands and clean frames it has, or why it isn't opened, and the device.
-pub(crate) fn opened<D: Disk + Drop>(alloc: Global, disk: D) -> (D, Result<(u32, u64), Cause>) {
+/// Opens a device, and hands it back.
+pub(crate) fn opened<D: Disk + Drop>(alloc: Global, disk: D) -> (D, Found) {
     match open(alloc, disk) {
         Ok(opened) => {
             let found = (opened.auction().count(), opened.clean());
@@ -96,24 +114,29 @@ pub(crate) fn opened<D: Disk + Drop>(alloc: Global, disk: D) -> (D, Result<(u32,
 }
 
 /// Opens a device with these bytes.
-pub(crate) fn opened_bytes(
-    alloc: Global,
-    bytes: Vec<u8>,
-) -> Result<Result<(u32, u64), Cause>, Fail> {
+pub(crate) fn opened_bytes(alloc: Global, bytes: Vec<u8>) -> Result<Found, Fail> {
     let (_, found) = opened(alloc, MemoryDisk::of(alloc, bytes)?);
     Ok(found)
 }
 
-/// The bytes with one byte changed, if there is one.
-pub(crate) fn with_byte(
+/// Opens a device with these bytes, some of them changed.
+pub(crate) fn opened_with(
     alloc: Global,
     bytes: &[u8],
-    at: usize,
-    byte: u8,
-) -> Result<Vec<u8>, AllocError> {
+    changes: &[(usize, u8)],
+) -> Result<Found, Fail> {
     let mut changed = bytes.to_vec(alloc)?;
-    if at < changed.len() {
-        changed[at] = byte;
+    for (at, byte) in changes {
+        if *at < changed.len() {
+            changed[*at] = *byte;
+        }
     }
-    Ok(changed)
+    opened_bytes(alloc, changed)
+}
+
+/// Opens a device with so many of these bytes.
+pub(crate) fn opened_front(alloc: Global, bytes: &[u8], count: usize) -> Result<Found, Fail> {
+    let mut front = bytes.to_vec(alloc)?;
+    front.truncate(count);
+    opened_bytes(alloc, front)
 }

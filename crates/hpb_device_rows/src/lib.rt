@@ -4,6 +4,16 @@
 #[cfg(test)]
 mod devices;
 #[cfg(test)]
+mod images;
+#[cfg(test)]
 mod rows_of_formatting;
 #[cfg(test)]
+mod rows_of_frames;
+#[cfg(test)]
+mod rows_of_journals;
+#[cfg(test)]
 mod rows_of_opening;
+#[cfg(test)]
+mod rows_of_slots;
+#[cfg(test)]
+mod words;

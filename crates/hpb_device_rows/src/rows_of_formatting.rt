@@ -1,12 +1,11 @@
 //! What is opened of a new device, and of what a stop leaves of one.
 
 use crate::devices::{
-    EIGHT_FRAMES, FOUR_FRAMES, OPEN, formatted, new_device, opened, opened_bytes, six_nodes,
+    EIGHT_FRAMES, FOUR_FRAMES, MOST_FRAMES, OPEN, UNFORMATTED, formatted, new_device, opened,
+    opened_front, six_nodes,
 };
 use hpb_disk::{Fate, FuseDisk, MemoryDisk};
 use hpb_format::FormatCause;
-use hpb_image::Flaw;
-use hpb_recover::Cause;
 use hpb_tree::Definition;
 use std::alloc::Global;
 use std::test::Fail;
@@ -18,7 +17,7 @@ fn formatted_and_opened(rt: HostRuntime) -> Result<(), Fail> {
     for (len, frames, clean) in [
         (FOUR_FRAMES, 4, 4),
         (EIGHT_FRAMES, 8, 8),
-        (4_247_552, 1_024, 1_024),
+        (MOST_FRAMES, 1_024, 1_024),
     ] {
         let disk = MemoryDisk::zeros(alloc, len)?;
         let (disk, cause) = formatted(alloc, disk, &definition, frames);
@@ -34,14 +33,12 @@ fn formatted_and_opened(rt: HostRuntime) -> Result<(), Fail> {
 #[test]
 fn unformatted_devices(rt: HostRuntime) -> Result<(), Fail> {
     let alloc = rt.alloc();
-    let unformatted = Err(Cause::Flawed(Flaw::Unformatted));
+    let zeros = vec![in alloc; 0; FOUR_FRAMES]?;
     for len in [0, 1, FOUR_FRAMES - 1, FOUR_FRAMES] {
-        let bytes = vec![in alloc; 0; len]?;
-        assert_eq!(rt; opened_bytes(alloc, bytes)?, unformatted);
+        assert_eq!(rt; opened_front(alloc, &zeros, len)?, UNFORMATTED, "{len}");
     }
-    let mut short = new_device(alloc, FOUR_FRAMES, 4)?;
-    short.truncate(FOUR_FRAMES - 1);
-    assert_eq!(rt; opened_bytes(alloc, short)?, unformatted);
+    let new = new_device(alloc, FOUR_FRAMES, 4)?;
+    assert_eq!(rt; opened_front(alloc, &new, FOUR_FRAMES - 1)?, UNFORMATTED);
     Ok(())
 }
 
@@ -60,25 +57,31 @@ fn stopped_at(
     let (_, found) = opened(alloc, stopped);
     let is_well = match found {
         Ok((count, _)) => count == 0,
-        Err(cause) => cause == Cause::Flawed(Flaw::Unformatted),
+        Err(_) => found == UNFORMATTED,
     };
     Ok((cause == Some(FormatCause::Device), is_well))
+}
+
+/// How many calls of the device there are when it is formatted.
+fn calls_of_formatting(alloc: Global, definition: &Definition) -> Result<u64, Fail> {
+    let disk = MemoryDisk::zeros(alloc, FOUR_FRAMES)?;
+    let (disk, _) = formatted(alloc, disk, definition, 4);
+    Ok(disk.calls() as u64)
 }
 
 #[test]
 fn format_stopped_anywhere(rt: HostRuntime) -> Result<(), Fail> {
     let alloc = rt.alloc();
     let definition = six_nodes(alloc)?;
+    let calls = calls_of_formatting(alloc, &definition)?;
+    // Five syncs, two gates, the head and the slot.
+    assert!(rt; calls >= 9);
     for fate in [Fate::Kept, Fate::Lost, Fate::Filled(OPEN)] {
-        let mut last = 0;
-        for call in 1..100 {
+        for call in 1..calls.saturating_add(2) {
             let (is_stopped, is_well) = stopped_at(alloc, &definition, call, fate)?;
-            assert!(rt; is_well);
-            if is_stopped {
-                last = call;
-            }
+            assert_eq!(rt; is_stopped, call <= calls, "{call}");
+            assert!(rt; is_well, "{call}");
         }
-        assert!(rt; 10 < last && last < 99);
     }
     Ok(())
 }

@@ -1,0 +1,66 @@
+//! Opens devices that nobody wrote, or the largest device so many times. `bench/open` says what for.
+#![tactic(auto)]
+
+mod auctions;
+mod bytes;
+mod dice;
+mod full;
+mod good;
+mod hostile;
+mod opening;
+mod tally;
+mod trial;
+
+use crate::full::{open_rounds, read_rounds};
+use crate::trial::try_devices;
+use anyhow::{Result, bail};
+use std::process::ExitCode;
+
+fn main(rt: HostRuntime) -> ExitCode {
+    match run(&rt) {
+        Ok(()) => ExitCode::SUCCESS,
+        Err(error) => {
+            let _ = eprintln!(rt; "{error}");
+            ExitCode::FAILURE
+        }
+    }
+}
+
+/// Does what the words say.
+fn run(rt: &HostRuntime) -> Result<()> {
+    let alloc = rt.alloc();
+    let words: Vec<String> = std::env::args(rt)?.collect(alloc)?;
+    let (Some(what), Some(count)) = (words.get(1), words.get(2)) else {
+        bail!("what, and how often");
+    };
+    let count = count.parse::<u64>()?;
+    let seed = match words.get(3) {
+        Some(seed) => seed.parse::<u64>()?,
+        None => 1,
+    };
+    match what.as_str() {
+        "devices" => print_trial(rt, count, seed),
+        "check" => check_trial(rt, count, seed),
+        "open" => Ok(println!(rt; "{}", open_rounds(alloc, count)?)?),
+        "read" => Ok(println!(rt; "{}", read_rounds(alloc, count)?)?),
+        _ => bail!("no such work"),
+    }
+}
+
+/// Opens so many hostile devices, and prints how many had each answer.
+fn print_trial(rt: &HostRuntime, count: u64, seed: u64) -> Result<()> {
+    let trial = try_devices(rt.alloc(), count, seed)?;
+    println!(rt; "random: {}", trial.random)?;
+    println!(rt; "flipped: {}", trial.flipped)?;
+    println!(rt; "spliced: {}", trial.spliced)?;
+    Ok(())
+}
+
+/// Opens so many hostile devices. Each answer has to be given to some of each making.
+fn check_trial(rt: &HostRuntime, count: u64, seed: u64) -> Result<()> {
+    if !try_devices(rt.alloc(), count, seed)?.has_all() {
+        bail!("an answer was never given");
+    }
+    println!(rt; "{count} devices")?;
+    Ok(())
+}
