@@ -1,0 +1,72 @@
+-- What is so of the numbers and values of a progress, whatever is on the device.
+use Rattle.std.specs.Prelude.{◌≡◌, ℕ, suc, ◌+◌, ◌-◌, ◌<◌, ◌≤◌, nat_le, Bool, true, false, ◌||◌, length, slice_index_or}
+use Rattle.hpb_rules.specs.declared.limits.TheConstants.{MOST_COMMANDS}
+use Rattle.hpb_rules.specs.AuctionValue.{AuctionValue}
+use Rattle.hpb_codec.specs.declared.state.TheConstants.{STATE_SIZE}
+use Rattle.hpb_journal.specs.declared.limits.TheConstants.{LEAST_FRAMES, MOST_FRAMES}
+use Rattle.hpb_journal.specs.Layouts.{Layout}
+use Rattle.hpb_journal.specs.Pages.{page_layout}
+use Rattle.hpb_progress.specs.declared.progress.Checkpoint.{Checkpoint}
+use Rattle.hpb_progress.specs.declared.progress.Commit.{Commit}
+use Rattle.hpb_progress.specs.declared.progress.Progress.{Progress}
+use Rattle.hpb_progress.specs.declared.progress.Retirement.{Retirement}
+use Rattle.hpb_progress.specs.declared.progress.Ring.{Ring}
+
+-- How many frames there are.
+abbrev pub count_of : Ring → ℕ
+count_of ring = ring.frames.count
+
+-- Where they stand.
+abbrev pub layout_of : Ring → Layout
+layout_of ring = page_layout ring.frames.count
+
+-- The end of the frames that serve the batches from the newest slot's index on.
+abbrev pub end_of : Ring → ℕ
+end_of ring = ring.covered + ring.frames.count
+
+-- Whether the gate of a frame that isn't clean may be open: that of a batch that was there when the device was opened, or
+-- was committed since, is; any other is as it was then.
+abbrev pub may_be_open : Ring → ℕ → Bool
+may_be_open ring b = nat_le (ring.opened_at + ring.frames.count) b || slice_index_or ring.gates.items (b - ring.opened_at) false
+
+-- The indexes follow each other, and all frames up to the end of the clean ones serve them.
+pub record RingFits (ring : Ring) : Type 0 where
+  pub least : LEAST_FRAMES ≤ ring.frames.count
+  pub most : ring.frames.count ≤ MOST_FRAMES
+  pub gates : length ring.gates.items ≡ ring.frames.count
+  pub opened : ring.opened_at ≤ ring.covered
+  pub covered : ring.covered ≤ ring.next
+  pub clean : ring.next ≤ ring.clean_end
+  pub end : ring.clean_end ≤ end_of ring
+
+-- A batch in flight has a clean frame, and the auction after it has a command more at least. Without one the working auction is the committed one.
+pub record CommitFits (ring : Ring) (committed : AuctionValue) (commit : Commit) : Type 0 where
+  pub turns : commit.turns ≤ 3
+  pub idle : commit.busy ≡ false → commit.turns ≡ 0
+  pub rest : commit.busy ≡ false → commit.working ≡ committed
+  pub rules : commit.working.rules ≡ committed.rules
+  pub room : commit.busy ≡ true → ring.next < ring.clean_end
+  pub more : commit.busy ≡ true → suc committed.count ≤ commit.working.count
+
+-- A checkpoint covers more batches than the newest slot, at most all.
+pub record CheckpointFits (ring : Ring) (checkpoint : Checkpoint) : Type 0 where
+  pub steps : checkpoint.steps ≤ 8
+  pub size : length checkpoint.body.items ≡ STATE_SIZE
+  pub new : 1 ≤ checkpoint.steps → ring.covered < checkpoint.covers
+  pub old : 1 ≤ checkpoint.steps → checkpoint.covers ≤ ring.next
+  pub closed : 2 ≤ checkpoint.steps → checkpoint.other_open ≡ false
+
+-- Frames are retired while no checkpoint is written.
+pub record RetirementFits (ring : Ring) (checkpoint : Checkpoint) (retirement : Retirement) : Type 0 where
+  pub alone : retirement.going ≡ true → checkpoint.steps ≡ 0
+  pub idle : retirement.going ≡ false → retirement.upto ≡ ring.clean_end
+  pub from : ring.clean_end ≤ retirement.upto
+  pub to : retirement.upto ≤ end_of ring
+
+-- The numbers fit each other. As each batch has a command, no index is beyond all bounds.
+pub record IsSafe (s : Progress) : Type 0 where
+  pub ring : RingFits s.ring
+  pub commit : CommitFits s.ring s.committed s.commit
+  pub checkpoint : CheckpointFits s.ring s.checkpoint
+  pub retirement : RetirementFits s.ring s.checkpoint s.retirement
+  pub few : s.ring.next ≤ MOST_COMMANDS + MOST_FRAMES + s.committed.count
