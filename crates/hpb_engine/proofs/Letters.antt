@@ -1,0 +1,117 @@
+-- Letters whose new commands are put in flight.
+use Rattle.std.proofs.Common.{◌≡◌, ℕ, suc, ◌<◌, Bool, false, None, Option, Some, List, [], ◌∷◌, length, refl, sym, ◌∙◌, ap, subst, arith}
+use Rattle.std.specs.Prelude.{if◌then◌else◌}
+use Rattle.std.specs.List.{AllByRecursion}
+use Rattle.std.proofs.lemmas.List.{length-reverse}
+use Rattle.hpb_rules.specs.declared.command.Command.{Command}
+use Rattle.hpb_rules.specs.declared.letter.Answer.{Answer}
+use Rattle.hpb_rules.specs.declared.letter.Letter.{Letter}
+use Rattle.hpb_rules.specs.AcceptedRuns.{AllAccepted}
+use Rattle.hpb_rules.specs.Answer.{unknown}
+use Rattle.hpb_rules.specs.AuctionValue.{AuctionValue}
+use Rattle.hpb_rules.specs.Letters.{judged, new_commands}
+use Rattle.hpb_rules.specs.Machine.{Flight, Machine, in_flight, offered, take_letters}
+use Rattle.hpb_rules.specs.Tree.{Rules}
+use Rattle.hpb_rules.specs.Values.{value_after}
+use Rattle.hpb_codec.specs.Records.{HasTicket}
+use Rattle.hpb_letters.specs.Judging.{judged_in}
+use Rattle.hpb_letters.specs.Laws.{JudgedIsShown}
+use Rattle.hpb_progress.specs.declared.progress.Progress.{Progress}
+use Rattle.hpb_progress.specs.Cuts.{Cut, all}
+use Rattle.hpb_progress.specs.Facts.{Fits, IsFlight}
+use Rattle.hpb_progress.specs.Keeping.{Inside, Keeps}
+use Rattle.hpb_progress.specs.Laws.{Laws}
+use Rattle.hpb_progress.specs.Steps.{begun}
+use Rattle.hpb_progress.proofs.Committing.{begun_facts, begun_fits, begun_reads}
+use Rattle.hpb_engine.specs.Offers.{AreOld}
+
+some_of : (commands : List Command) → (commands ≡ [] → ⊥) → 0 < length commands
+some_of [] not = absurd (not refl)
+some_of (command ∷ commands) not = omega arith
+
+-- What judging letters says of the commands that are new among them.
+pub record IsJudged (working after : AuctionValue) (letters : List Letter) (answers : List Answer) (commands : List Command) : Type 0 where
+  pub value : answers ≡ judged_in working letters
+  pub commands_are : commands ≡ new_commands answers
+  pub accepted : AllAccepted working commands
+  pub leads : after ≡ value_after working commands
+  pub rules : after.rules ≡ working.rules
+  pub tickets : AllByRecursion HasTicket commands
+  pub known : AllByRecursion (λ command. unknown working.rules command ≡ None) commands
+
+module _ (laws : Laws) {D : Type 0} (seen : D → List ℕ) (may_leave : D → List ℕ → Type 0) (disk : D) (s : Progress) (failed : Bool) (free : s.commit.busy ≡ false)
+    (rest : s.commit.working ≡ s.committed) (letters : List Letter) (new : AreOld s letters → ⊥) (room : s.ring.next < s.ring.clean_end)
+    (answers : List Answer) (commands : List Command) (after : AuctionValue) (is : IsJudged s.commit.working after letters answers commands) (first : ℕ) (numbered : first ≡ suc s.committed.count) where
+  abbrev pub flying : Progress
+  flying = begun s (record { index = s.ring.next; first = first; commands = commands }) answers after
+
+  same : answers ≡ judged_in s.committed letters
+  same = is.value ∙ ap (λ (value : AuctionValue). judged_in value letters) rest
+
+  pub are_new : commands ≡ [] → ⊥
+  are_new none = new (ap new_commands (sym same) ∙ sym is.commands_are ∙ none)
+
+  flight : (k : Cut) → Fits s k → IsFlight k.rules s.ring.next s.committed (all k) flying.commit
+  flight k fits =
+      let ruled : s.commit.working.rules ≡ k.rules = ap (λ (value : AuctionValue). value.rules) rest ∙ fits.rules in
+      let count : s.committed.count ≡ length (all k) = ap (λ (value : AuctionValue). value.count) fits.shows.1 ∙ length-reverse (all k) in
+      record {
+        kept = record {
+          some = some_of commands are_new;
+          tickets = is.tickets;
+          known = subst (λ (rules : Rules). AllByRecursion (λ command. unknown rules command ≡ None) commands) ruled is.known;
+        };
+        index = refl;
+        first = numbered ∙ ap suc count;
+        accepted = subst (λ (value : AuctionValue). AllAccepted value commands) rest is.accepted;
+        after = is.leads ∙ ap (λ (value : AuctionValue). value_after value commands) rest;
+        new = is.commands_are;
+      }
+
+  pub inside_flying : may_leave disk (seen disk) → (history : List Command) → Inside seen may_leave disk s failed history → Inside seen may_leave disk flying failed history
+  inside_flying stays history inside =
+      let k = inside.cut in
+      let batch = flying.commit.batch in
+      let ruled : after.rules ≡ s.committed.rules = is.rules ∙ ap (λ (value : AuctionValue). value.rules) rest in
+      record {
+        cut = k;
+        whole = inside.whole;
+        fits = begun_fits laws s k inside.fits free room batch answers after ruled (flight k inside.fits);
+        images = λ image left. begun_facts laws s k inside.fits free batch answers after image (inside.images image left);
+        reads = λ works. begun_reads laws s k inside.fits free batch answers after (seen disk) (inside.images (seen disk) stays) (inside.reads works);
+      }
+
+-- The machine takes letters.
+offered_new : (acknowledged : List Command) (answers : List Answer) (commands : List Command) → (commands ≡ [] → ⊥) → (offered acknowledged answers commands).machine ≡ in_flight acknowledged answers 0
+offered_new acknowledged answers [] not = absurd (not refl)
+offered_new acknowledged answers (command ∷ commands) not = refl
+
+abbrev at_flight : List Command → Option Flight → Machine
+at_flight acknowledged flight = record { acknowledged = acknowledged; flight = flight }
+
+-- With nothing in flight the machine takes letters by the answers that they are given.
+module _ (shown : JudgedIsShown) {D : Type 0} (seen : D → List ℕ) (may_leave : D → List ℕ → Type 0) (disk : D) (s : Progress) (failed : Bool) (machine : Machine)
+    (keeps : Keeps seen may_leave disk s failed machine) (letters : List Letter) (free : s.commit.busy ≡ false) where
+  rests : machine.flight ≡ None
+  rests = keeps.flight ∙ ap (λ (busy : Bool). if busy then Some (record { answers = s.commit.answers; turns = s.commit.turns }) else None) free
+
+  answers_of : judged_in s.committed letters ≡ judged s.committed.rules machine.acknowledged letters
+  answers_of = shown s.committed machine.acknowledged letters keeps.shows
+
+  taken : (answers : List Answer) → answers ≡ judged_in s.committed letters
+      → (take_letters s.committed.rules machine letters).machine ≡ (offered machine.acknowledged answers (new_commands answers)).machine
+  taken answers is =
+      ap (λ (flight : Option Flight). (take_letters s.committed.rules (at_flight machine.acknowledged flight) letters).machine) rests
+      ∙ ap (λ (given : List Answer). (offered machine.acknowledged given (new_commands given)).machine) (sym (is ∙ answers_of))
+
+  -- Where none is new it stays.
+  pub taken_old : AreOld s letters → (take_letters s.committed.rules machine letters).machine ≡ machine
+  taken_old old =
+      taken (judged_in s.committed letters) refl ∙ ap (λ (commands : List Command). (offered machine.acknowledged (judged_in s.committed letters) commands).machine) old
+      ∙ ap (at_flight machine.acknowledged) (sym rests)
+
+  -- Else they are in flight.
+  pub taken_new : (answers : List Answer) → answers ≡ judged_in s.committed letters → (AreOld s letters → ⊥)
+      → (take_letters s.committed.rules machine letters).machine ≡ in_flight machine.acknowledged answers 0
+  taken_new answers is new =
+      taken answers is ∙ offered_new machine.acknowledged answers (new_commands answers) (λ none. new (ap new_commands (sym is) ∙ none))

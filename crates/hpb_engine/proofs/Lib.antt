@@ -1,0 +1,5 @@
+pub mod Snapshots
+pub mod Machines
+pub mod Letters
+pub mod Running
+pub mod Losing

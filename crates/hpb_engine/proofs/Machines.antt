@@ -1,0 +1,151 @@
+-- What is kept after a step is the machine's.
+use Rattle.std.proofs.Common.{◌≡◌, ◌⊎◌, inl, inr, ⊎_elim, ℕ, ◌+◌, ◌<◌, ◌≤◌, Bool, true, false, List, ◌++◌, Option, Some, None, Result, Ok, Err, refl, sym, ◌∙◌, ap, subst, arith}
+use Rattle.hpb_rules.specs.declared.command.Command.{Command}
+use Rattle.hpb_disk.specs.Images.{LeavesOnly}
+use Rattle.std.proofs.lemmas.Bool.{cases_lt, cases_eq}
+use Rattle.std.specs.Prelude.{if◌then◌else◌}
+use Rattle.hpb_rules.specs.declared.letter.Answer.{Answer}
+use Rattle.hpb_rules.specs.Letters.{new_commands}
+use Rattle.hpb_rules.specs.Machine.{Machine, Flight, at_rest, in_flight, turn}
+use Rattle.hpb_progress.specs.declared.progress.Commit.{Commit}
+use Rattle.hpb_progress.specs.declared.progress.Progress.{Progress}
+use Rattle.hpb_progress.specs.Keeping.{Inside, Keeps, StandsBetween, StandsEither, StandsFor, flight_of, machine_of}
+use Rattle.hpb_progress.specs.Laws.{Laws}
+use Rattle.hpb_progress.proofs.Standing.{kept_inside, kept_machine}
+use Rattle.hpb_progress.specs.Steps.{turned}
+use Rattle.hpb_engine.specs.declared.step.Fault.{Fault}
+use Rattle.hpb_engine.specs.declared.step.Fault.TheVariants as faults
+use Rattle.hpb_engine.specs.declared.step.Step.{Step}
+use Rattle.hpb_engine.specs.declared.step.Step.TheVariants as steps
+use Rattle.hpb_engine.specs.Checkpoints.{SameCore}
+use Rattle.hpb_engine.specs.Steps.{TurnLeads, acknowledged_by, turn_by}
+
+-- What an image of one set is, one of another is too.
+pub since_map : {before now : ℕ} {past since : ℕ → List ℕ → Type 0} {left : List ℕ → Type 0} (images others : List ℕ → Type 0)
+    → ((image : List ℕ) → images image → others image) → LeavesOnly before now past since left images → LeavesOnly before now past since left others
+since_map images others each leaves = record {
+  later = leaves.later;
+  nothing_else = λ moment image le was. ⊎_elim (λ old. inl old) (λ new. inr (each image new)) (leaves.nothing_else moment image le was);
+  keeps = leaves.keeps;
+  after = λ image left. each image (leaves.after image left);
+}
+
+abbrev with_flight : List Command → Option Flight → Machine
+with_flight history flight = record { acknowledged = history; flight = flight }
+
+abbrev with_commit : List Command → Commit → Machine
+with_commit history commit = record { acknowledged = history; flight = flight_of commit }
+
+module _ (laws : Laws) {D : Type 0} (seen : D → List ℕ) (may_leave : D → List ℕ → Type 0) (old new : D) (s t : Progress) (failed after : Bool) (machine : Machine)
+    (keeps : Keeps seen may_leave old s failed machine) where
+  is : machine_of s machine.acknowledged ≡ machine
+  is = sym (kept_machine seen may_leave old s failed machine keeps)
+
+  -- A step that leaves what is acknowledged and what is in flight.
+  module _ (same : SameCore s t) where
+    still : machine_of t machine.acknowledged ≡ machine
+    still = ap (with_commit machine.acknowledged) same.commit ∙ is
+
+    pub kept_still : Inside seen may_leave new t after machine.acknowledged → Keeps seen may_leave new t after machine
+    kept_still inside = subst (Keeps seen may_leave new t after) still (kept_inside laws seen may_leave new t after machine.acknowledged inside)
+
+    pub since_still : {before now : ℕ} {past since : ℕ → List ℕ → Type 0} {left : List ℕ → Type 0}
+        → LeavesOnly before now past since left (StandsBetween s t machine.acknowledged) → LeavesOnly before now past since left (StandsFor machine)
+    since_still leaves = since_map (StandsBetween s t machine.acknowledged) (StandsFor machine)
+        (λ image stands. ⊎_elim (λ one. subst (λ (m : Machine). StandsFor m image) is one) (λ other. subst (λ (m : Machine). StandsFor m image) still other) stands) leaves
+
+-- The machine by whether a batch is in flight.
+free_machine : (s : Progress) (history : List Command) → s.commit.busy ≡ false → machine_of s history ≡ at_rest history
+free_machine s history free =
+    ap (λ (busy : Bool). with_flight history (if busy then Some (record { answers = s.commit.answers; turns = s.commit.turns }) else None)) free
+
+busy_machine : (s : Progress) (history : List Command) → s.commit.busy ≡ true → machine_of s history ≡ in_flight history s.commit.answers s.commit.turns
+busy_machine s history busy =
+    ap (λ (busy : Bool). with_flight history (if busy then Some (record { answers = s.commit.answers; turns = s.commit.turns }) else None)) busy
+
+-- The numbers of turns before the third.
+early : (turns : ℕ) → turns < 3 → (turns ≡ 0) ⊎ ((turns ≡ 1) ⊎ (turns ≡ 2))
+early turns less = elim (cases_lt turns 1) [
+  | inl none ↦ inl (omega (arith, none))
+  | inr some ↦ elim (cases_lt turns 2) [ inl one ↦ inr (inl (omega (arith, one, some))) | inr two ↦ inr (inr (omega (arith, two, less))) ]
+]
+
+-- A turn of a flight that hasn't landed.
+turns_on : (history : List Command) (answers : List Answer) (turns : ℕ) → turns < 3 → (turn true (in_flight history answers turns)).machine ≡ in_flight history answers (turns + 1)
+turns_on history answers turns less =
+    let go : (n m : ℕ) → (turn true (in_flight history answers n)).machine ≡ in_flight history answers m → turns ≡ n → turns + 1 ≡ m
+    → (turn true (in_flight history answers turns)).machine ≡ in_flight history answers (turns + 1) =
+    λ n m step is next. ap (λ (i : ℕ). (turn true (in_flight history answers i)).machine) is ∙ step ∙ sym (ap (in_flight history answers) next) in
+    elim (early turns less) [
+      | inl zeroth ↦ go 0 1 refl zeroth (omega (arith, zeroth))
+      | inr (inl first) ↦ go 1 2 refl first (omega (arith, first))
+      | inr (inr second) ↦ go 2 3 refl second (omega (arith, second))
+    ]
+
+-- One whose call fails: it stays, unless it lands.
+fails_back : (history : List Command) (answers : List Answer) (turns : ℕ) → turns ≤ 3 → (turns ≡ 2 → ⊥) → (turn false (in_flight history answers turns)).machine ≡ in_flight history answers turns
+fails_back history answers turns most not =
+    let go : (n : ℕ) → (turn false (in_flight history answers n)).machine ≡ in_flight history answers n → turns ≡ n
+    → (turn false (in_flight history answers turns)).machine ≡ in_flight history answers turns =
+    λ n step is. ap (λ (i : ℕ). (turn false (in_flight history answers i)).machine) is ∙ step ∙ sym (ap (in_flight history answers) is) in
+    elim (cases_lt turns 3) [
+      | inr late ↦ go 3 refl (omega (arith, late, most))
+      | inl less ↦ elim (early turns less) [
+        | inl zeroth ↦ go 0 refl zeroth
+        | inr (inl first) ↦ go 1 refl first
+        | inr (inr second) ↦ absurd (not second)
+      ]
+    ]
+
+-- A turn does to the machine what it does to the progress.
+turn_machine : (failed : Bool) (result : Result Step Fault) (s t : Progress) (history : List Command) → s.commit.turns ≤ 3
+    → (s.commit.busy ≡ true → s.commit.batch.commands ≡ new_commands s.commit.answers) → TurnLeads failed result s t
+    → (turn_by result (machine_of s history)).machine ≡ machine_of t (acknowledged_by result s history)
+turn_machine failed (Ok steps.Idle) s t history most new leads =
+    ap (λ (m : Machine). (turn true m).machine) (free_machine s history leads.1) ∙ sym (free_machine s history leads.1) ∙ ap (λ (p : Progress). machine_of p history) (sym leads.2)
+turn_machine failed (Ok steps.Went) s t history most new leads =
+    ap (λ (m : Machine). (turn true m).machine) (busy_machine s history leads.1) ∙ turns_on history s.commit.answers s.commit.turns leads.2
+    ∙ sym (busy_machine (turned s (s.commit.turns + 1)) history leads.1) ∙ ap (λ (p : Progress). machine_of p history) (sym leads.3)
+turn_machine failed (Ok (steps.Done answers)) s t history most new leads =
+    ap (λ (m : Machine). (turn true m).machine) (busy_machine s history leads.1) ∙ ap (λ (n : ℕ). (turn true (in_flight history s.commit.answers n)).machine) leads.2
+    ∙ ap (λ (commands : List Command). at_rest (history ++ commands)) (sym (new leads.1)) ∙ ap (λ (p : Progress). machine_of p (history ++ s.commit.batch.commands)) (sym leads.4)
+turn_machine failed (Err faults.Device) s t history most new leads = elim (cases_eq s.commit.turns 2) [
+  | inl second ↦
+      ap (λ (m : Machine). (turn false m).machine) (busy_machine s history leads.1) ∙ ap (λ (n : ℕ). (turn false (in_flight history s.commit.answers n)).machine) second
+      ∙ sym (busy_machine (turned s 3) history leads.1) ∙ ap (λ (p : Progress). machine_of p history) (sym (leads.2 second))
+  | inr not ↦
+      ap (λ (m : Machine). (turn false m).machine) (busy_machine s history leads.1) ∙ fails_back history s.commit.answers s.commit.turns most not
+      ∙ sym (busy_machine s history leads.1) ∙ ap (λ (p : Progress). machine_of p history) (sym (leads.3 not))
+]
+turn_machine failed (Err faults.Failed) s t history most new leads = ap (λ (p : Progress). machine_of p history) (sym leads.1)
+
+module _ (laws : Laws) {D : Type 0} (seen : D → List ℕ) (may_leave : D → List ℕ → Type 0) (old new : D) (s t : Progress) (failed after : Bool) (machine : Machine)
+    (keeps : Keeps seen may_leave old s failed machine) (result : Result Step Fault) (leads : TurnLeads failed result s t) where
+  was : machine_of s machine.acknowledged ≡ machine
+  was = sym (kept_machine seen may_leave old s failed machine keeps)
+
+  becomes : machine_of t (acknowledged_by result s machine.acknowledged) ≡ (turn_by result machine).machine
+  becomes =
+      sym (turn_machine failed result s t machine.acknowledged keeps.inside.fits.safe.commit.turns (λ busy. (keeps.inside.fits.flight busy).new) leads)
+      ∙ ap (λ (m : Machine). (turn_by result m).machine) was
+
+  pub kept_turn : Inside seen may_leave new t after (acknowledged_by result s machine.acknowledged) → Keeps seen may_leave new t after (turn_by result machine).machine
+  kept_turn inside = subst (Keeps seen may_leave new t after) becomes (kept_inside laws seen may_leave new t after (acknowledged_by result s machine.acknowledged) inside)
+
+  -- Until it is acknowledged a flight may be lost.
+  before_done : (answers : List Answer) (image : List ℕ) → result ≡ Ok (steps.Done answers) → StandsFor (machine_of t machine.acknowledged) image → StandsFor machine image
+  before_done answers image is stands =
+      let done : TurnLeads failed (Ok (steps.Done answers)) s t = subst (λ (r : Result Step Fault). TurnLeads failed r s t) is leads in
+      let rest : StandsFor (at_rest machine.acknowledged) image = subst (λ (p : Progress). StandsFor (machine_of p machine.acknowledged) image) done.4 stands in
+      subst (λ (m : Machine). StandsFor m image) (sym (busy_machine s machine.acknowledged done.1) ∙ was) (rest.0, inl rest.1, rest.2)
+
+  either : (image : List ℕ) → (r : Result Step Fault) → result ≡ r → StandsFor (machine_of t machine.acknowledged) image → StandsEither machine (turn_by result machine).machine image
+  either image (Ok (steps.Done answers)) is stands = inl (before_done answers image is stands)
+  either image (Ok steps.Idle) is stands = inr (subst (λ (m : Machine). StandsFor m image) (ap (λ (r : Result Step Fault). machine_of t (acknowledged_by r s machine.acknowledged)) (sym is) ∙ becomes) stands)
+  either image (Ok steps.Went) is stands = inr (subst (λ (m : Machine). StandsFor m image) (ap (λ (r : Result Step Fault). machine_of t (acknowledged_by r s machine.acknowledged)) (sym is) ∙ becomes) stands)
+  either image (Err fault) is stands = inr (subst (λ (m : Machine). StandsFor m image) (ap (λ (r : Result Step Fault). machine_of t (acknowledged_by r s machine.acknowledged)) (sym is) ∙ becomes) stands)
+
+  pub since_turn : {before now : ℕ} {past since : ℕ → List ℕ → Type 0} {left : List ℕ → Type 0}
+      → LeavesOnly before now past since left (StandsBetween s t machine.acknowledged) → LeavesOnly before now past since left (StandsEither machine (turn_by result machine).machine)
+  since_turn leaves = since_map (StandsBetween s t machine.acknowledged) (StandsEither machine (turn_by result machine).machine)
+      (λ image stands. ⊎_elim (λ one. inl (subst (λ (m : Machine). StandsFor m image) was one)) (λ other. either image result refl other) stands) leaves

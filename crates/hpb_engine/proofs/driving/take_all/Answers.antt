@@ -1,0 +1,83 @@
+use Rattle.std.proofs.Common.{◌≡◌, ◌+◌, ◌++◌, [], List, ℕ, Bool, Option, Some, None, take, drop, length, refl, sym, ◌∙◌, ap, subst, arith}
+use Rattle.std.specs.Prelude.{if◌then◌else◌, vec_len}
+use Rattle.std.proofs.lemmas.List.{take_all}
+use Rattle.hpb_rules.specs.declared.letter.Answer.{Answer}
+use Rattle.hpb_engine.specs.declared.event.Event.{Event}
+use Rattle.hpb_engine.specs.declared.step.Fault.{Fault}
+use Rattle.hpb_engine.specs.Runs.{HasFailed, Ran, last_of}
+use Rattle.hpb_engine.proofs.Running.{mark_of, ran_none, ran_on, ran_off, none_of, some_in, front_more, front_rest}
+use Rattle.hpb_engine.proofs.driving.take_all.Goals as goal
+
+pub loop-event-init : goal.loop-event-init
+loop-event-init g c =
+    let d = g.D.Disk in
+    let engine = c.args.engine.now in (
+      omega (arith, c.requires.room),
+      refl,
+      λ machine keeps. subst
+          (λ (answers : List Answer). Ran d.seen d.may_leave d.moment d.left_since (mark_of d.seen d.may_leave d.moment d.left_since engine.disk engine.progress engine.failed machine) [] engine.disk engine.progress engine.failed answers None)
+          (sym c.requires.none) (ran_none d.seen d.may_leave d.moment d.left_since (λ disk image left. g.met.D.Disk.only_now disk image left) engine.disk engine.progress engine.failed machine keeps),
+    )
+
+pub returns-then-is_some-clause-ran : goal.returns-then-is_some-clause-ran
+returns-then-is_some-clause-ran g c machine keeps =
+    let d = g.D.Disk in
+    let engine = c.args.engine.now in
+    let start = mark_of d.seen d.may_leave d.moment d.left_since engine.disk engine.progress engine.failed machine in
+    let events : List Event = c.args.events.now in
+    let i = c.loop-event.event-index in
+    let event : Event = c.event-item.result in
+    let old = c.loop-event.engine in
+    let new = c.take-taken.new.engine in
+    let ran = c.loop-event.invariant.2 machine keeps in
+    let why = some_in c.take-taken.result.fault (sym c.is_some.ensures ∙ c.if-is_some.true) in
+    let worked = sym c.is_ok.ensures.value ∙ c.if-prove.false in
+    let items = c.extend_from_slice-added.ensures.items ∙ ap (λ (ok : Bool). if ok then c.loop-event.answers.items ++ c.as_slice.result.now else c.loop-event.answers.items) worked
+    ∙ ap (λ (more : List Answer). c.loop-event.answers.items ++ more) c.as_slice.ensures.value in
+    subst (λ (given : List Answer). Ran d.seen d.may_leave d.moment d.left_since start events new.disk new.progress new.failed given c.take-taken.result.fault) (sym items)
+    (subst (λ (fault : Option Fault). Ran d.seen d.may_leave d.moment d.left_since start events new.disk new.progress new.failed (c.loop-event.answers.items ++ c.take-taken.result.leaving) fault) (sym why.1)
+    (subst (λ (taken : List Event). Ran d.seen d.may_leave d.moment d.left_since start taken new.disk new.progress new.failed (c.loop-event.answers.items ++ c.take-taken.result.leaving) (Some why.0))
+    (sym (front_rest events i event c.loop-event-test.true c.event-item.is))
+    (ran_off d.seen d.may_leave d.moment d.left_since (λ disk image left. g.met.D.Disk.only_now disk image left) start (take i events) event old.disk new.disk old.progress new.progress old.failed new.failed
+    c.loop-event.answers.items c.take-taken.result.leaving ran c.take-taken.result.fault (c.take-taken.ensures.took (last_of start ran.marks).machine ran.keeps) (drop (i + 1) events) why.0 why.1)))
+
+pub returns-then-is_some-clause-cause : goal.returns-then-is_some-clause-cause
+returns-then-is_some-clause-cause g c =
+    subst (λ (before : ℕ). HasFailed c.take-taken.result.fault before (g.D.Disk.failures c.take-taken.new.engine.disk)) c.loop-event.invariant.1 c.take-taken.ensures.cause
+
+pub loop-event-preserved : goal.loop-event-preserved
+loop-event-preserved g c =
+    let d = g.D.Disk in
+    let engine = c.args.engine.now in
+    let events : List Event = c.args.events.now in
+    let i = c.loop-event.event-index in
+    let event : Event = c.event-item.result in
+    let old = c.loop-event.engine in
+    let new = c.take-taken.new.engine in
+    let none = none_of c.take-taken.result.fault (sym c.is_some.ensures ∙ c.if-is_some.false) in
+    let worked = sym c.is_ok.ensures.value ∙ c.if-prove.false in
+    let unfailed = λ (no : c.take-taken.result.fault ≡ None). subst (λ (fault : Option Fault). HasFailed fault (d.failures old.disk) (d.failures new.disk)) no c.take-taken.ensures.cause in
+    let items = c.extend_from_slice-added.ensures.items ∙ ap (λ (ok : Bool). if ok then c.loop-event.answers.items ++ c.as_slice.result.now else c.loop-event.answers.items) worked
+    ∙ ap (λ (more : List Answer). c.loop-event.answers.items ++ more) c.as_slice.ensures.value in
+    let len : vec_len c.extend_from_slice-added.new.self ≡ vec_len c.loop-event.answers + length c.as_slice.result.now =
+    c.extend_from_slice-added.ensures.len ∙ ap (λ (ok : Bool). if ok then vec_len c.loop-event.answers + length c.as_slice.result.now else vec_len c.loop-event.answers) worked in (
+      omega (arith, len, c.as_slice.ensures.most, c.extend_from_slice-added.ensures.capacity, c.loop-event.invariant.0, c.loop-event-test.true),
+      unfailed none ∙ c.loop-event.invariant.1,
+      λ machine keeps.
+          let start = mark_of d.seen d.may_leave d.moment d.left_since engine.disk engine.progress engine.failed machine in
+          let ran = c.loop-event.invariant.2 machine keeps in
+          subst (λ (given : List Answer). Ran d.seen d.may_leave d.moment d.left_since start (take (i + 1) events) new.disk new.progress new.failed given None) (sym items)
+          (subst (λ (taken : List Event). Ran d.seen d.may_leave d.moment d.left_since start taken new.disk new.progress new.failed (c.loop-event.answers.items ++ c.take-taken.result.leaving) None)
+          (sym (front_more events i event c.loop-event-test.true c.event-item.is))
+          (ran_on d.seen d.may_leave d.moment d.left_since (λ disk image left. g.met.D.Disk.only_now disk image left) start (take i events) event old.disk new.disk old.progress new.progress old.failed new.failed
+          c.loop-event.answers.items c.take-taken.result.leaving ran c.take-taken.result.fault (c.take-taken.ensures.took (last_of start ran.marks).machine ran.keeps) none)),
+    )
+
+pub returns-clause-ran : goal.returns-clause-ran
+returns-clause-ran g c machine keeps =
+    let d = g.D.Disk in
+    let engine = c.args.engine.now in
+    let start = mark_of d.seen d.may_leave d.moment d.left_since engine.disk engine.progress engine.failed machine in
+    let at = c.loop-event.engine in
+    subst (λ (taken : List Event). Ran d.seen d.may_leave d.moment d.left_since start taken at.disk at.progress at.failed c.loop-event.answers.items None)
+    (take_all c.loop-event.event-index c.args.events.now (omega (arith, c.loop-event-test.false))) (c.loop-event.invariant.2 machine keeps)

@@ -1,0 +1,74 @@
+-- Where a step of a checkpoint leads, in numbers of batches and of steps.
+use Rattle.std.specs.Prelude.{◌≡◌, ℕ, suc, ◌+◌, ◌-◌, ◌≤◌, ◌==◌, nat_le, Bool, true, false, not, ◌&&◌, ◌||◌, Result, Ok, Err, if◌then◌else◌}
+use Rattle.hpb_progress.specs.declared.progress.Progress.{Progress}
+use Rattle.hpb_progress.specs.Numbers.{count_of, end_of, may_be_open}
+use Rattle.hpb_engine.specs.declared.step.Fault.{Fault}
+use Rattle.hpb_engine.specs.declared.step.Fault.TheVariants as faults
+use Rattle.hpb_engine.specs.declared.step.Part.{Part}
+use Rattle.hpb_engine.specs.declared.step.Part.TheVariants as parts
+use Rattle.hpb_engine.specs.declared.step.Rest.{Rest}
+use Rattle.hpb_engine.specs.declared.step.Rest.TheVariants as rests
+
+-- What is acknowledged and what is in flight are the same.
+pub record SameCore (s t : Progress) : Type 0 where
+  pub committed : t.committed ≡ s.committed
+  pub commit : t.commit ≡ s.commit
+  pub next : t.ring.next ≡ s.ring.next
+  pub frames : t.ring.frames ≡ s.ring.frames
+
+-- At rest: no checkpoint is begun, the newest one covers all, and all other frames are clean.
+pub record IsSettled (s : Progress) : Type 0 where
+  pub begun : s.checkpoint.steps ≡ 0
+  pub retiring : s.retirement.going ≡ false
+  pub covered : s.ring.covered ≡ s.ring.next
+  pub clean : s.ring.clean_end ≡ end_of s.ring
+
+-- How many batches the checkpoint that is on its way covers; without one, how many the next would.
+abbrev pub aim : Progress → ℕ
+aim s = if s.retirement.going then s.ring.covered else (if s.checkpoint.steps == 0 then s.ring.next else s.checkpoint.covers)
+
+-- How many frames it has yet to retire.
+abbrev pub to_retire : Progress → ℕ
+to_retire s = aim s + count_of s.ring - s.retirement.upto
+
+-- So many steps are these: one for each, and a sync. None where there is none.
+abbrev pub retiring_steps : ℕ → ℕ
+retiring_steps count = if count == 0 then 0 else suc count
+
+-- How many steps it takes to the last one: nine for the state, and those that retire.
+abbrev pub steps_left : Progress → ℕ
+steps_left s =
+    if s.retirement.going then suc (to_retire s) else
+    (if (s.checkpoint.steps == 0) && (s.ring.covered == s.ring.next) then retiring_steps (to_retire s) else 9 - s.checkpoint.steps + retiring_steps (to_retire s))
+
+-- The part that is next.
+abbrev pub part_of : Progress → Part
+part_of s =
+    if nat_le 2 s.checkpoint.steps && nat_le s.checkpoint.steps 5 then parts.Chunk (s.checkpoint.steps - 2) else
+    (if (s.checkpoint.steps == 0) && (s.retirement.going || (s.ring.covered == s.ring.next)) then parts.Retired else parts.Other)
+
+-- Where a step leads.
+abbrev pub StepLeads : Result Rest Fault → Progress → Progress → Type 0
+StepLeads (Ok rests.Idle) s t = IsSettled s × (t ≡ s)
+-- one of the steps that are left, which isn't the last one
+StepLeads (Ok (rests.Went part)) s t = (part ≡ part_of s) × (steps_left s ≡ suc (steps_left t)) × (1 ≤ steps_left t) × (aim t ≡ aim s)
+-- the last one: the newest checkpoint covers what it was to cover, and all other frames are clean
+StepLeads (Ok rests.Whole) s t = (steps_left s ≡ 1) × (t.ring.covered ≡ aim s) × (t.ring.clean_end ≡ end_of t.ring) × (t.checkpoint.steps ≡ 0) × (t.retirement.going ≡ false)
+StepLeads (Err fault) s t = IsSettled s → ⊥
+
+-- The same after a fault too: then there is no step.
+abbrev pub CheckpointLeads : (failed : Bool) → Result Rest Fault → Progress → Progress → Type 0
+CheckpointLeads true result s t = (result ≡ Err faults.Failed) × (t ≡ s)
+CheckpointLeads false result s t = StepLeads result s t × (result ≡ Err faults.Failed → ⊥)
+
+-- How many calls of the device a step makes: none at rest, none to close a gate that is closed already, and else one.
+abbrev pub step_calls : Progress → ℕ
+step_calls s =
+    if not (s.checkpoint.steps == 0) then 1 else
+    (if not s.retirement.going && not (s.ring.covered == s.ring.next) then (if s.checkpoint.other_open then 1 else 0) else
+    (if s.retirement.upto == end_of s.ring then (if s.retirement.going then 1 else 0) else
+    (if may_be_open s.ring s.retirement.upto then 1 else 0)))
+
+-- The same after a fault too: then there is none.
+abbrev pub checkpoint_calls : (failed : Bool) → Progress → ℕ
+checkpoint_calls failed s = if failed then 0 else step_calls s

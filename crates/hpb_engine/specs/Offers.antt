@@ -1,0 +1,66 @@
+-- What becomes of letters that are offered.
+use Rattle.std.specs.Prelude.{◌≡◌, ◌<◌, Bool, true, false, List, []}
+use Rattle.hpb_rules.specs.declared.letter.Answer.{Answer}
+use Rattle.hpb_rules.specs.declared.letter.Letter.{Letter}
+use Rattle.hpb_rules.specs.Letters.{new_commands}
+use Rattle.hpb_rules.specs.Machine.{Machine, Effect, take_letters}
+use Rattle.hpb_rules.specs.Tree.{Rules}
+use Rattle.hpb_letters.specs.Judging.{judged_in}
+use Rattle.hpb_progress.specs.declared.progress.Progress.{Progress}
+use Rattle.hpb_progress.specs.Steps.{begun}
+use Rattle.hpb_engine.specs.declared.begun.Begun.{Begun}
+use Rattle.hpb_engine.specs.declared.begun.Begun.TheVariants as outcomes
+use Rattle.hpb_engine.specs.declared.begun.Weight.{Weight}
+use Rattle.hpb_engine.specs.declared.begun.Weight.TheVariants as weights
+
+-- None of the letters is newly accepted.
+abbrev pub AreOld : Progress → List Letter → Type 0
+AreOld s letters = new_commands (judged_in s.committed letters) ≡ []
+
+-- What letters weigh: the first of these that applies. Full only where no clean frame is left.
+abbrev pub Weighs : (failed : Bool) → Progress → List Letter → Weight → Type 0
+Weighs failed s letters weights.Failed = failed ≡ true
+Weighs failed s letters weights.Busy = (failed ≡ false) × (s.commit.busy ≡ true)
+Weighs failed s letters weights.Old = (failed ≡ false) × (s.commit.busy ≡ false) × AreOld s letters
+Weighs failed s letters weights.Full = (failed ≡ false) × (s.commit.busy ≡ false) × (AreOld s letters → ⊥) × (s.ring.next ≡ s.ring.clean_end)
+Weighs failed s letters weights.New = (failed ≡ false) × (s.commit.busy ≡ false) × (AreOld s letters → ⊥) × (s.ring.next < s.ring.clean_end)
+
+-- What was begun by a weight.
+abbrev pub weight_of : Begun → Weight
+weight_of (outcomes.Failed letters) = weights.Failed
+weight_of (outcomes.Busy letters) = weights.Busy
+weight_of (outcomes.Answered answers) = weights.Old
+weight_of (outcomes.Full letters) = weights.Full
+weight_of outcomes.InFlight = weights.New
+
+-- Letters that aren't taken are handed back.
+abbrev pub HandsBack : List Letter → Begun → Type 0
+HandsBack letters (outcomes.Failed back) = back ≡ letters
+HandsBack letters (outcomes.Busy back) = back ≡ letters
+HandsBack letters (outcomes.Answered answers) = Unit {0}
+HandsBack letters (outcomes.Full back) = back ≡ letters
+HandsBack letters outcomes.InFlight = Unit {0}
+
+-- Where nothing is put in flight, nothing changes. Else what is in flight does alone, and it has had no turn.
+abbrev pub StaysUnlessInFlight : Begun → Progress → Progress → Type 0
+StaysUnlessInFlight outcomes.InFlight s t = t ≡ begun s t.commit.batch t.commit.answers t.commit.working
+StaysUnlessInFlight (outcomes.Failed back) s t = t ≡ s
+StaysUnlessInFlight (outcomes.Busy back) s t = t ≡ s
+StaysUnlessInFlight (outcomes.Answered answers) s t = t ≡ s
+StaysUnlessInFlight (outcomes.Full back) s t = t ≡ s
+
+-- What an offer does to the machine without a disk: it takes the letters, or, where they are handed back, there is none.
+abbrev pub offer_by : Begun → Rules → Machine → List Letter → Effect
+offer_by (outcomes.Failed back) rules machine letters = record { leaving = []; machine = machine }
+offer_by (outcomes.Busy back) rules machine letters = record { leaving = []; machine = machine }
+offer_by (outcomes.Answered answers) rules machine letters = take_letters rules machine letters
+offer_by (outcomes.Full back) rules machine letters = record { leaving = []; machine = machine }
+offer_by outcomes.InFlight rules machine letters = take_letters rules machine letters
+
+-- The answers that leave with an offer.
+abbrev pub leaving_at : Begun → List Answer
+leaving_at (outcomes.Failed back) = []
+leaving_at (outcomes.Busy back) = []
+leaving_at (outcomes.Answered answers) = answers
+leaving_at (outcomes.Full back) = []
+leaving_at outcomes.InFlight = []

@@ -1,0 +1,131 @@
+-- Runs of an engine: events one after another, with what holds since each of them.
+use Rattle.std.specs.Prelude.{◌≡◌, ◌⊎◌, ℕ, ◌+◌, ◌<◌, ◌≤◌, Bool, true, false, List, [], ◌∷◌, ◌++◌, Option, Some, None, Result, Ok, Err}
+use Rattle.hpb_rules.specs.declared.letter.Answer.{Answer}
+use Rattle.hpb_rules.specs.declared.letter.Letter.{Letter}
+use Rattle.hpb_rules.specs.AuctionValue.{Shows}
+use Rattle.hpb_rules.specs.Machine.{Machine}
+use Rattle.hpb_disk.specs.Images.{LeavesOnly}
+use Rattle.hpb_progress.specs.declared.progress.Progress.{Progress}
+use Rattle.hpb_progress.specs.Keeping.{Keeps, StandsEither, StandsFor, flight_of}
+use Rattle.hpb_engine.specs.declared.begun.Begun.{Begun}
+use Rattle.hpb_engine.specs.declared.event.Event.{Event}
+use Rattle.hpb_engine.specs.declared.event.Event.TheVariants as events
+use Rattle.hpb_engine.specs.declared.step.Fault.{Fault}
+use Rattle.hpb_engine.specs.declared.step.Fault.TheVariants as faults
+use Rattle.hpb_engine.specs.declared.step.Rest.{Rest}
+use Rattle.hpb_engine.specs.declared.step.Step.{Step}
+use Rattle.hpb_engine.specs.Checkpoints.{CheckpointLeads, SameCore, checkpoint_calls}
+use Rattle.hpb_engine.specs.Offers.{StaysUnlessInFlight, Weighs, offer_by, weight_of}
+use Rattle.hpb_engine.specs.Steps.{TurnLeads, turn_by, turn_calls}
+
+-- Where an engine is between two events: the moment, its progress, whether the device has failed, and the state of the machine without a disk that it keeps.
+pub record Mark : Type 0 where
+  pub moment : ℕ
+  pub progress : Progress
+  pub failed : Bool
+  pub machine : Machine
+
+-- A run ends with the fault of a device alone: 93 ends none.
+abbrev pub fault_in : {T : Type 0} → Result T Fault → Option Fault
+fault_in (Ok told) = None
+fault_in (Err faults.Device) = Some faults.Device
+fault_in (Err faults.Failed) = None
+
+-- After a step the engine counts as failed exactly where the step was refused.
+abbrev pub failed_by : {T : Type 0} → Result T Fault → Bool
+failed_by (Ok told) = false
+failed_by (Err fault) = true
+
+-- A fault is told exactly where the number of failures has risen, and it is that of a device.
+abbrev pub HasFailed : Option Fault → (before after : ℕ) → Type 0
+HasFailed None before after = after ≡ before
+HasFailed (Some fault) before after = (fault ≡ faults.Device) × (before < after)
+
+-- At a mark the committed auction shows the acknowledged commands, and the batch in flight is the machine's.
+pub record IsTold (mark : Mark) : Type 0 where
+  pub shows : Shows mark.progress.committed mark.machine.acknowledged
+  pub flight : mark.machine.flight ≡ flight_of mark.progress.commit
+
+-- Letters are offered: the machine takes them, or they are dropped, by their weight.
+pub record IsOffered (letters : List Letter) (begun : Begun) (before after : Mark) (leaving : List Answer) : Type 0 where
+  pub weight : Weighs before.failed before.progress letters (weight_of begun)
+  pub stays : StaysUnlessInFlight begun before.progress after.progress
+  pub machine : after.machine ≡ (offer_by begun before.progress.committed.rules before.machine letters).machine
+  pub answers : leaving ≡ (offer_by begun before.progress.committed.rules before.machine letters).leaving
+  pub told : IsTold after
+  pub moment : after.moment ≡ before.moment
+  pub failed : after.failed ≡ before.failed
+
+-- A turn is made: the machine makes it, unless the device failed before.
+pub record IsTurned (result : Result Step Fault) (before after : Mark) (leaving : List Answer) : Type 0 where
+  pub leads : TurnLeads before.failed result before.progress after.progress
+  pub machine : after.machine ≡ (turn_by result before.machine).machine
+  pub answers : leaving ≡ (turn_by result before.machine).leaving
+  pub rules : after.progress.committed.rules ≡ before.progress.committed.rules
+  pub told : IsTold after
+  pub failed : after.failed ≡ failed_by result
+  pub later : before.moment ≤ after.moment
+  pub call : after.moment ≡ before.moment + turn_calls before.failed before.progress
+
+-- A step of a checkpoint is made: the machine stays, and no answer leaves.
+pub record IsStepped (result : Result Rest Fault) (before after : Mark) (leaving : List Answer) : Type 0 where
+  pub leads : CheckpointLeads before.failed result before.progress after.progress
+  pub same : SameCore before.progress after.progress
+  pub machine : after.machine ≡ before.machine
+  pub answers : leaving ≡ []
+  pub told : IsTold after
+  pub failed : after.failed ≡ failed_by result
+  pub later : before.moment ≤ after.moment
+  pub call : after.moment ≡ before.moment + checkpoint_calls before.failed before.progress
+
+-- One event: what leaves with it, and whether the device fails in it.
+abbrev pub Follows : Event → Mark → Mark → List Answer → Option Fault → Type 0
+Follows (events.Offer letters) before after leaving fault = (begun : Begun) × IsOffered letters begun before after leaving × (fault ≡ None)
+Follows events.Commit before after leaving fault = (result : Result Step Fault) × IsTurned result before after leaving × (fault ≡ fault_in result)
+Follows events.Checkpoint before after leaving fault = (result : Result Rest Fault) × IsStepped result before after leaving × (fault ≡ fault_in result)
+
+-- Events one after another, with a mark after each. The first at which the device fails is the last that is taken.
+abbrev pub Drove : List Event → Mark → List Mark → List Answer → Option Fault → Type 0
+Drove [] before [] answers fault = (answers ≡ []) × (fault ≡ None)
+Drove [] before (after ∷ marks) answers fault = ⊥
+Drove (event ∷ events) before [] answers fault = ⊥
+Drove (event ∷ events) before (after ∷ marks) answers fault =
+    ((leaving more : List Answer) × Follows event before after leaving None × Drove events after marks more fault × (answers ≡ leaving ++ more))
+    ⊎ ((told : Fault) × Follows event before after answers (Some told) × (marks ≡ []) × (fault ≡ Some told))
+
+-- The last of the marks.
+abbrev pub last_of : Mark → List Mark → Mark
+last_of mark [] = mark
+last_of mark (next ∷ marks) = last_of next marks
+
+-- An image stands for what a stop may leave at one of the marks.
+abbrev pub StandsAtOne : List Mark → List ℕ → Type 0
+StandsAtOne [] image = ⊥
+StandsAtOne (mark ∷ marks) image = StandsFor mark.machine image ⊎ StandsAtOne marks image
+
+-- Since each mark every image that a crash may have left stands for what a stop may leave at that mark or at a later one.
+abbrev pub Holds : (now : ℕ) (since : ℕ → List ℕ → Type 0) → Mark → List Mark → Type 0
+Holds now since mark [] = (mark.moment ≤ now) × ((image : List ℕ) → since mark.moment image → StandsAtOne (mark ∷ []) image)
+Holds now since mark (next ∷ marks) = (mark.moment ≤ now) × ((image : List ℕ) → since mark.moment image → StandsAtOne (mark ∷ next ∷ marks) image) × Holds now since next marks
+
+-- What is so after a run from a mark.
+pub record Ran {D : Type 0} (seen : D → List ℕ) (may_leave : D → List ℕ → Type 0) (moment : D → ℕ) (left_since : D → ℕ → List ℕ → Type 0)
+    (start : Mark) (events : List Event) (disk : D) (progress : Progress) (failed : Bool) (answers : List Answer) (fault : Option Fault) : Type 0 where
+  pub marks : List Mark
+  -- Each event does what it does to the machine without a disk, and these are the answers that leave, in order.
+  pub drove : Drove events start marks answers fault
+  -- Since each mark nothing that was acknowledged at it is lost.
+  pub holds : Holds (moment disk) (left_since disk) start marks
+  -- The last mark is that of the end, and what it says is kept.
+  pub at_end : (last_of start marks).moment ≡ moment disk
+  pub progress_is : (last_of start marks).progress ≡ progress
+  pub failed_is : (last_of start marks).failed ≡ failed
+  pub keeps : Keeps seen may_leave disk progress failed (last_of start marks).machine
+
+-- One event of an engine: the machine afterwards, which it keeps, and what a crash may have left since.
+pub record Took {D : Type 0} (seen : D → List ℕ) (may_leave : D → List ℕ → Type 0) (moment : D → ℕ) (left_since : D → ℕ → List ℕ → Type 0)
+    (event : Event) (old new : D) (s t : Progress) (failed after_failed : Bool) (machine : Machine) (leaving : List Answer) (fault : Option Fault) : Type 0 where
+  pub after : Machine
+  pub keeps : Keeps seen may_leave new t after_failed after
+  pub follows : Follows event (record { moment = moment old; progress = s; failed = failed; machine = machine }) (record { moment = moment new; progress = t; failed = after_failed; machine = after }) leaving fault
+  pub since : LeavesOnly (moment old) (moment new) (left_since old) (left_since new) (may_leave new) (StandsEither machine after)

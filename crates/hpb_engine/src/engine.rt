@@ -1,0 +1,41 @@
+//! The engine.
+ghost use Rattle.std.specs.Prelude.{◌≡◌, List, ℕ, length};
+ghost use Rattle.hpb_rules.specs.declared.command.Command.{Command};
+ghost use Rattle.hpb_rules.specs.Machine.{at_rest};
+ghost use Rattle.hpb_image.specs.Standing.{Stands};
+ghost use Rattle.hpb_progress.specs.Keeping.{Keeps};
+ghost use Rattle.hpb_progress.specs.Numbers.{IsSafe, layout_of};
+
+use hpb_auction::Auction;
+use hpb_disk::Disk;
+use hpb_progress::Progress;
+
+/// An auction on a device: what is acknowledged, a batch in flight or none, and a checkpoint on its way or none.
+#[derive(Drop)]
+pub struct Engine<D: Disk + Drop> {
+    pub disk: D,
+    pub progress: Progress,
+    /// Whether a call of the device has failed.
+    pub failed: bool,
+    pub ghost safe: { IsSafe progress },
+    pub ghost sized: { length (D.seen disk) ≡ (layout_of progress.ring).size },
+}
+
+impl<D: Disk + Drop> Engine<D> {
+    /// The auction after the acknowledged commands. It answers after a fault too.
+    pub fn committed(&self) -> &Auction
+        ensures { result.now ≡ self.now.progress.committed }
+    {
+        &self.progress.committed
+    }
+
+    /// The device, with what is committed on it: opened again, it shows the same commands.
+    pub fn finish(self) -> D
+        ensures disk { result ≡ self.disk }
+        // With nothing in flight what a read gives stands for the acknowledged commands, so that `open` shows them.
+        ensures stands { (history : List Command) → Keeps D.seen D.may_leave self.disk self.progress self.failed (at_rest history) → Stands history (D.seen result) }
+    {
+        let Engine { disk, .. } = self;
+        disk
+    }
+}

@@ -1,0 +1,26 @@
+//! The engine: an auction on a device. Commands are acknowledged once they are on the device, and never lost.
+//!
+//! A batch is committed in four turns and a checkpoint is written in steps, in any order among each other; each makes at
+//! most one call of the device, and takes no memory.
+#![tactic(auto)]
+
+mod begun;
+mod checkpointing;
+mod committing;
+mod driving;
+mod engine;
+mod event;
+mod offering;
+mod opening;
+mod retiring;
+mod snapshot;
+mod starting;
+mod step;
+mod stepping;
+
+pub use begun::{Begun, Weight};
+pub use driving::{Driven, drive};
+pub use engine::Engine;
+pub use event::Event;
+pub use opening::open_after;
+pub use step::{Fault, Part, Rest, Step};
