@@ -1,0 +1,94 @@
+//! The calls of an engine, and what they answer.
+
+use hpb_disk::Disk;
+use hpb_engine::{Begun, Engine, Fault, Rest, Step, Weight};
+use hpb_rules::{Answers, Letters};
+
+/// What became of an offer.
+#[derive(Drop)]
+pub struct Offered {
+    /// How the letters were weighed before it.
+    pub weighed: Weight,
+    /// What `begin` answered.
+    pub begun: Weight,
+    /// The answers that left with it.
+    pub answers: Answers,
+    /// The letters that came back.
+    pub back: Letters,
+}
+
+/// Weighs letters and offers them.
+pub fn offer<D: Disk + Drop>(engine: &mut Engine<D>, letters: Letters) -> Offered {
+    let weighed = engine.weigh(&letters);
+    told(weighed, engine.begin(letters))
+}
+
+/// An offer by how it was weighed and what `begin` answered.
+fn told(weighed: Weight, begun: Begun) -> Offered {
+    let none = Answers::new();
+    let (begun, answers, back) = match begun {
+        Begun::Failed(back) => (Weight::Failed, none, back),
+        Begun::Busy(back) => (Weight::Busy, none, back),
+        Begun::Answered(answers) => (Weight::Old, answers, Letters::new()),
+        Begun::Full(back) => (Weight::Full, none, back),
+        Begun::InFlight => (Weight::New, none, Letters::new()),
+    };
+    Offered {
+        weighed,
+        begun,
+        answers,
+        back,
+    }
+}
+
+/// What a turn of a commit answered.
+#[derive(Clone, Copy, Debug, PartialEq, Eq)]
+pub enum Turn {
+    Idle,
+    Went,
+    Done,
+}
+
+/// A turn of a commit, and the answers that left with it.
+pub fn take_turn<D: Disk + Drop>(engine: &mut Engine<D>) -> (Result<Turn, Fault>, Answers) {
+    match engine.commit_step() {
+        Ok(Step::Idle) => (Ok(Turn::Idle), Answers::new()),
+        Ok(Step::Went) => (Ok(Turn::Went), Answers::new()),
+        Ok(Step::Done(answers)) => (Ok(Turn::Done), answers),
+        Err(fault) => (Err(fault), Answers::new()),
+    }
+}
+
+/// A step of a checkpoint.
+pub fn take_step<D: Disk + Drop>(engine: &mut Engine<D>) -> Result<Rest, Fault> {
+    match engine.checkpoint_step() {
+        Ok(rest) => Ok(rest),
+        Err(fault) => Err(fault),
+    }
+}
+
+/// How many commands are committed.
+pub fn count<D: Disk + Drop>(engine: &Engine<D>) -> u32 {
+    engine.committed().count()
+}
+
+/// Offers letters and takes four turns: the answers that leave with the last of them.
+pub fn commit<D: Disk + Drop>(engine: &mut Engine<D>, letters: Letters) -> Answers {
+    let _ = offer(engine, letters);
+    for _ in 0..3 {
+        let _ = take_turn(engine);
+    }
+    let (_, answers) = take_turn(engine);
+    answers
+}
+
+/// How many steps of a checkpoint are made until one answers `Whole`, this one with them. At most `most` are made; 0 where
+/// none of them answers so.
+pub fn steps_to_whole<D: Disk + Drop>(engine: &mut Engine<D>, most: usize) -> usize {
+    for step in 1..=most {
+        if take_step(engine) == Ok(Rest::Whole) {
+            return step;
+        }
+    }
+    0
+}

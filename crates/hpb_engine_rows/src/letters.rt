@@ -1,0 +1,154 @@
+//! Letters to offer, and answers to them, in the auction of six nodes and four bidders.
+ghost use Rattle.std.specs.Prelude.{◌≡◌, ◌<◌};
+ghost use Rattle.hpb_rules.specs.declared.command.Command.TheVariants as commands;
+ghost use Rattle.hpb_rules.specs.declared.reply.Reply.TheVariants as replies;
+ghost use Rattle.hpb_engine_rows.specs.Places.{bidder_place, node_place, auctioneer_seat};
+
+use hpb_rules::{Answer, BidderId, Command, Letter, Letters, MOST_LETTERS, NodeId, Refusal, Reply};
+
+/// A bidder.
+#[derive(Clone, Copy, Debug, PartialEq, Eq)]
+pub enum Bidder {
+    X,
+    Y,
+    Z,
+    W,
+}
+
+impl Bidder {
+    ghost use Rattle.std.specs.Prelude.{◌≡◌, ◌<◌};
+    ghost use Rattle.hpb_engine_rows.specs.Places.{bidder_place};
+
+    /// Its place in the definition.
+    pub fn place(self) -> usize
+        ensures value { result ≡ bidder_place self }
+        ensures bound { result < 4 }
+    {
+        match self {
+            Bidder::X => 0,
+            Bidder::Y => 1,
+            Bidder::Z => 2,
+            Bidder::W => 3,
+        }
+    }
+}
+
+/// A node.
+#[derive(Clone, Copy, Debug, PartialEq, Eq)]
+pub enum Node {
+    All,
+    East,
+    A,
+    B,
+    C,
+    D,
+}
+
+impl Node {
+    ghost use Rattle.std.specs.Prelude.{◌≡◌, ◌<◌};
+    ghost use Rattle.hpb_engine_rows.specs.Places.{node_place};
+
+    /// Its place in the definition.
+    pub fn place(self) -> usize
+        ensures value { result ≡ node_place self }
+        ensures bound { result < 6 }
+    {
+        match self {
+            Node::All => 0,
+            Node::East => 1,
+            Node::A => 2,
+            Node::B => 3,
+            Node::C => 4,
+            Node::D => 5,
+        }
+    }
+}
+
+/// The auctioneer's seat.
+const AUCTIONEER: u8 = 33;
+
+/// A bid. Its seat is its bidder's place.
+pub fn bid(bidder: Bidder, ticket: u32, node: Node, amount: u64) -> Letter
+    ensures seat { result.seat ≡ bidder_place bidder }
+    ensures command { result.command ≡ commands.Bid (bidder_place bidder) ticket (node_place node) amount }
+{
+    let (bidder, node) = (bidder.place(), node.place());
+    Letter {
+        seat: bidder as u8,
+        command: Command::Bid {
+            bidder: BidderId::new(bidder),
+            ticket,
+            node: NodeId::new(node),
+            amount,
+        },
+    }
+}
+
+/// The end of a round.
+pub fn close(ticket: u32) -> Letter
+    ensures seat { result.seat ≡ auctioneer_seat }
+    ensures command { result.command ≡ commands.Close ticket }
+{
+    Letter {
+        seat: AUCTIONEER,
+        command: Command::Close { ticket },
+    }
+}
+
+/// The next stage.
+pub fn stage(ticket: u32) -> Letter
+    ensures seat { result.seat ≡ auctioneer_seat }
+    ensures command { result.command ≡ commands.Stage ticket }
+{
+    Letter {
+        seat: AUCTIONEER,
+        command: Command::Stage { ticket },
+    }
+}
+
+/// Letters in this order, as many as there is room for.
+pub fn list_of(items: &[Letter]) -> Letters {
+    let mut letters = Letters::new();
+    for item in items {
+        let _ = letters.push(*item);
+    }
+    letters
+}
+
+/// One letter.
+pub fn one(letter: Letter) -> Letters {
+    list_of(&[letter])
+}
+
+/// Two letters.
+pub fn two(first: Letter, second: Letter) -> Letters {
+    list_of(&[first, second])
+}
+
+/// As many letters as a list has room for, all the same.
+pub fn full_of(letter: Letter) -> Letters {
+    list_of(&[letter; MOST_LETTERS])
+}
+
+/// The answer to a letter that is accepted as the next after so many.
+pub fn accepted(letter: Letter, at: u32) -> Answer
+    ensures letter { result.letter ≡ letter }
+    ensures at { result.at ≡ at }
+{
+    Answer {
+        letter,
+        at,
+        reply: Reply::Ok(at.saturating_add(1)),
+    }
+}
+
+/// The answer to a letter that is refused after so many.
+pub fn refused(letter: Letter, at: u32, refusal: Refusal) -> Answer
+    ensures { result ≡ record { letter = letter; at = at; reply = replies.Refused refusal } }
+{
+    Answer {
+        letter,
+        at,
+        reply: Reply::Refused(refusal),
+    }
+}

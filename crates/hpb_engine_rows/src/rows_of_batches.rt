@@ -1,0 +1,151 @@
+//! What is answered to a batch, and when.
+
+use crate::calls::{Turn, commit, count, steps_to_whole};
+use crate::devices::new_engine;
+use crate::expecting::{
+    answers_at_once, commits, commits_one, hands_back, steps, takes, turns, turns_last,
+};
+use crate::letters::Bidder::{X, Y};
+use crate::letters::Node::{A, B};
+use crate::letters::{accepted, bid, close, full_of, list_of, one, refused, two};
+use hpb_disk::{Disk, MemoryDisk};
+use hpb_engine::{Engine, Rest, Weight};
+use hpb_rules::{Answer, Letter, Refusal, Reply};
+use std::process::Abort;
+use std::test::Fail;
+
+/// The first bid of x.
+fn first() -> Letter {
+    bid(X, 1, A, 100)
+}
+
+/// Its second bid on the same node in the same round.
+fn again() -> Letter {
+    bid(X, 2, A, 120)
+}
+
+/// Whether three turns are made, with no command committed.
+fn goes_three_turns<D: Disk + Drop>(engine: &mut Engine<D>) -> bool {
+    for _ in 0..3 {
+        if !turns(engine, Ok(Turn::Went)) || count(engine) != 0 {
+            return false;
+        }
+    }
+    true
+}
+
+fn answer_together(rt: &impl Abort, engine: &mut Engine<MemoryDisk>) {
+    assert!(rt; takes(engine, two(first(), again())));
+    assert!(rt; goes_three_turns(engine));
+    let wanted = [accepted(first(), 0), refused(again(), 1, Refusal::Again)];
+    assert!(rt; turns_last(engine, &wanted));
+    assert_eq!(rt; count(engine), 1);
+    assert!(rt; turns(engine, Ok(Turn::Idle)));
+}
+
+#[test]
+fn batch_answers_together(rt: HostRuntime) -> Result<(), Fail> {
+    answer_together(&rt, &mut new_engine(rt.alloc())?);
+    Ok(())
+}
+
+/// A bid of y.
+fn second() -> Letter {
+    bid(Y, 1, B, 150)
+}
+
+/// The answer to the first bid once more, after so many commands.
+fn repeated_at(at: u32) -> Answer {
+    Answer {
+        letter: first(),
+        at,
+        reply: Reply::Ok(1),
+    }
+}
+
+fn repeat(rt: &impl Abort, engine: &mut Engine<MemoryDisk>) {
+    let wanted = [accepted(first(), 0), accepted(second(), 1)];
+    assert!(rt; commits(engine, two(first(), second()), &wanted));
+    let calls = engine.disk.calls();
+    assert!(rt; answers_at_once(engine, one(first()), &[repeated_at(2)]));
+    assert!(rt; turns(engine, Ok(Turn::Idle)));
+    assert_eq!(rt; engine.disk.calls(), calls);
+    assert_eq!(rt; count(engine), 2);
+}
+
+#[test]
+fn repeat_makes_no_device_call(rt: HostRuntime) -> Result<(), Fail> {
+    repeat(&rt, &mut new_engine(rt.alloc())?);
+    Ok(())
+}
+
+/// A bid below the minimum.
+fn low() -> Letter {
+    bid(X, 1, A, 90)
+}
+
+fn offer_nothing_new(rt: &impl Abort, engine: &mut Engine<MemoryDisk>) {
+    assert!(rt; answers_at_once(engine, list_of(&[]), &[]));
+    let both = [
+        refused(low(), 0, Refusal::Low),
+        refused(close(2), 0, Refusal::Gap),
+    ];
+    assert!(rt; answers_at_once(engine, two(low(), close(2)), &both));
+    assert!(rt; turns(engine, Ok(Turn::Idle)));
+    assert!(rt; steps(engine, Ok(Rest::Idle)));
+}
+
+#[test]
+fn letters_without_a_new_command(rt: HostRuntime) -> Result<(), Fail> {
+    offer_nothing_new(&rt, &mut new_engine(rt.alloc())?);
+    Ok(())
+}
+
+fn fill_batch(rt: &impl Abort, engine: &mut Engine<MemoryDisk>) {
+    let answers = commit(engine, full_of(first()));
+    assert_eq!(rt; answers.len(), 64);
+    assert_eq!(rt; answers.get(0), Some(accepted(first(), 0)));
+    for answer in answers.as_slice().iter().skip(1) {
+        assert_eq!(rt; *answer, repeated_at(1));
+    }
+    assert_eq!(rt; count(engine), 1);
+}
+
+#[test]
+fn greatest_batch(rt: HostRuntime) -> Result<(), Fail> {
+    fill_batch(&rt, &mut new_engine(rt.alloc())?);
+    Ok(())
+}
+
+/// Bids of x on the licence a, one in each round, with the close of each round.
+fn four() -> [Letter; 4] {
+    [bid(X, 1, A, 100), close(1), bid(X, 2, A, 200), close(2)]
+}
+
+/// Whether the four are accepted, a batch each.
+fn commits_four<D: Disk + Drop>(engine: &mut Engine<D>) -> bool {
+    for (letter, at) in four().iter().zip(0..) {
+        if !commits_one(engine, accepted(*letter, at)) {
+            return false;
+        }
+    }
+    true
+}
+
+fn fill_journal(rt: &impl Abort, engine: &mut Engine<MemoryDisk>) {
+    assert!(rt; commits_four(engine));
+    let letters = [bid(X, 3, A, 300), bid(X, 4, B, 0)];
+    assert!(rt; hands_back(engine, &letters, Weight::Full));
+    assert!(rt; turns(engine, Ok(Turn::Idle)));
+    // Four frames are retired.
+    assert_eq!(rt; steps_to_whole(engine, 100), 14);
+    assert!(rt; steps(engine, Ok(Rest::Idle)));
+    assert!(rt; takes(engine, list_of(&letters)));
+    assert!(rt; hands_back(engine, &letters, Weight::Busy));
+}
+
+#[test]
+fn journal_full(rt: HostRuntime) -> Result<(), Fail> {
+    fill_journal(&rt, &mut new_engine(rt.alloc())?);
+    Ok(())
+}

@@ -1,0 +1,307 @@
+//! A call of the device fails.
+
+use crate::calls::{Turn, commit, count, take_step};
+use crate::devices::{count_on, engine_over, new_device, new_engine, opened, started};
+use crate::expecting::{commits_one, hands_back, steps, takes, turns};
+use crate::letters::Bidder::{X, Y};
+use crate::letters::Node::{A, B};
+use crate::letters::{accepted, bid, one, two};
+use crate::mixed_run::{Moment, events, moments};
+use crate::runs::{calls_of_opening, driven};
+use hpb_disk::{Disk, Fate, FuseDisk, MemoryDisk, OnceDisk};
+use hpb_engine::{Driven, Engine, Event, Fault, Weight};
+use hpb_recover::{Cause, OpenFault, Opened};
+use hpb_rules::{Answer, Letter, Reply};
+use std::alloc::Global;
+use std::process::Abort;
+use std::test::Fail;
+
+/// What is tried of all writes that no sync covers.
+const FATES: [Fate; 4] = [Fate::Kept, Fate::Lost, Fate::Filled(0), Fate::Filled(165)];
+
+/// How many commands are opened of what a stop leaves of a device, where all pending writes have one fate.
+fn count_after(alloc: Global, disk: &MemoryDisk, fate: Fate) -> Result<u32, Fail> {
+    let stopped = disk.after_stop(alloc, &[fate; 16])?;
+    Ok(count_on(alloc, stopped)?)
+}
+
+/// The greatest number among answers.
+fn greatest_number(answers: &[Answer]) -> u32 {
+    let mut greatest = 0;
+    for answer in answers {
+        if let Reply::Ok(number) = answer.reply {
+            greatest = number.max(greatest);
+        }
+    }
+    greatest
+}
+
+/// Whether an engine answers each of these events by 93.
+fn refuses_all<D: Disk + Drop>(engine: &mut Engine<D>, events: &[Event]) -> bool {
+    for event in events {
+        let is_refused = match event {
+            Event::Offer(letters) => hands_back(engine, letters.as_slice(), Weight::Failed),
+            Event::Commit => turns(engine, Err(Fault::Failed)),
+            Event::Checkpoint => steps(engine, Err(Fault::Failed)),
+        };
+        if !is_refused {
+            return false;
+        }
+    }
+    true
+}
+
+/// Whether a run was ended by 91 at this moment: so many answers had left, and so many commands are committed.
+fn is_ended_at<D: Disk + Drop>(driven: &Driven<D>, moment: Moment) -> bool {
+    driven.fault == Some(Fault::Device)
+        && driven.answers.len() == moment.answers()
+        && greatest_number(&driven.answers) == moment.committed()
+        && count(&driven.engine) == moment.committed()
+}
+
+/// Whether an engine that failed at this moment answers each of these events by 93, and tells what is committed.
+fn stays_ended<D: Disk + Drop>(engine: &mut Engine<D>, events: &[Event], moment: Moment) -> bool {
+    refuses_all(engine, events) && count(engine) == moment.committed()
+}
+
+/// Whether a run was ended by 91 at this moment, and then all of these events are answered by 93.
+fn is_ended_once<D: Disk + Drop>(driven: &mut Driven<D>, events: &[Event], moment: Moment) -> bool {
+    is_ended_at(driven, moment) && stays_ended(&mut driven.engine, events, moment)
+}
+
+/// The device of a run that has to be ended so.
+fn finished<D: Disk + Drop>(
+    driven: Driven<D>,
+    events: &[Event],
+    moment: Moment,
+) -> Result<D, Fail> {
+    let mut driven = driven;
+    if is_ended_once(&mut driven, events, moment) {
+        Ok(driven.engine.finish())
+    } else {
+        Err(Fail::new("the run did not end as it should"))
+    }
+}
+
+/// A device that isn't opened, as a call of its opening failed.
+fn unopened<D: Disk + Drop>(fault: OpenFault<D>, moment: Moment) -> Result<D, Fail> {
+    if fault.cause == Cause::Device && moment == Moment::START {
+        Ok(fault.disk)
+    } else {
+        Err(Fail::from(fault.cause))
+    }
+}
+
+/// Drives the events over an opened device.
+fn run<D: Disk + Drop>(
+    alloc: Global,
+    opened: Opened<D>,
+    events: &[Event],
+) -> Result<Driven<D>, Fail> {
+    let engine = started(alloc, opened)?;
+    driven(alloc, engine, events)
+}
+
+/// Drives the events over a device of which a call fails at this moment, and hands it back. 91 is told once, and 93 is
+/// answered to all that comes later. Where a call of opening fails there is no engine.
+fn run_into_fault<D: Disk + Drop>(
+    alloc: Global,
+    disk: D,
+    events: &[Event],
+    moment: Moment,
+) -> Result<D, Fail> {
+    match opened(alloc, disk) {
+        Ok(opened) => finished(run(alloc, opened, events)?, events, moment),
+        Err(fault) => unopened(fault, moment),
+    }
+}
+
+/// What is found after stops, each with another fate of all pending writes, has to be what may stand: whether the batch
+/// in flight has landed after one.
+fn has_landed(alloc: Global, disk: &MemoryDisk, moment: Moment) -> Result<bool, Fail> {
+    let mut has_landed = false;
+    for fate in FATES {
+        let found = count_after(alloc, disk, fate)?;
+        if !moment.may_leave(found) {
+            return Err(Fail::new("a stop left what may not stand"));
+        }
+        has_landed = has_landed || found != moment.committed();
+    }
+    Ok(has_landed)
+}
+
+/// The call of this place, from 0, by its number.
+fn number_of(place: usize) -> u64 {
+    (place as u64).saturating_add(1)
+}
+
+/// A device of which all calls fail from this one on, after the run.
+fn left_by_fuse(
+    alloc: Global,
+    place: usize,
+    events: &[Event],
+    moment: Moment,
+) -> Result<MemoryDisk, Fail> {
+    let disk = FuseDisk::new(new_device(alloc)?, number_of(place));
+    let disk = run_into_fault(alloc, disk, events, moment)?;
+    Ok(disk.into_inner())
+}
+
+/// Where each call of the run comes.
+fn moments_of_run(alloc: Global, events: &[Event]) -> Result<Vec<Moment>, Fail> {
+    moments(alloc, &mut new_engine(alloc)?, events)
+}
+
+/// Whether the batch in flight has landed after a stop, where all calls fail from this one on.
+fn lands_after_fuse(
+    alloc: Global,
+    place: usize,
+    events: &[Event],
+    moment: Moment,
+) -> Result<bool, Fail> {
+    has_landed(alloc, &left_by_fuse(alloc, place, events, moment)?, moment)
+}
+
+#[test]
+fn fuse_at_every_call(rt: HostRuntime) -> Result<(), Fail> {
+    let alloc = rt.alloc();
+    let events = events(alloc)?;
+    let moments = moments_of_run(alloc, &events)?;
+    let mut landed = 0_usize;
+    for (place, moment) in moments.iter().enumerate() {
+        if lands_after_fuse(alloc, place, &events, *moment)? {
+            landed = landed.saturating_add(1);
+        }
+    }
+    assert!(rt; moments.len() > 80, "{}", moments.len());
+    // The write of each gate and the sync after it, and steps of checkpoints between these.
+    assert!(rt; landed > 20, "{landed}");
+    Ok(())
+}
+
+/// A device of which this call alone fails, after the run.
+fn left_by_fault(
+    alloc: Global,
+    place: usize,
+    events: &[Event],
+    moment: Moment,
+) -> Result<MemoryDisk, Fail> {
+    let disk = OnceDisk::new(new_device(alloc)?, number_of(place));
+    let disk = run_into_fault(alloc, disk, events, moment)?;
+    Ok(disk.into_inner())
+}
+
+/// How many commands are opened without a stop where this call alone fails, after stops were tried.
+fn count_after_fault(
+    alloc: Global,
+    place: usize,
+    events: &[Event],
+    moment: Moment,
+) -> Result<u32, Fail> {
+    let disk = left_by_fault(alloc, place, events, moment)?;
+    let _ = has_landed(alloc, &disk, moment)?;
+    Ok(count_on(alloc, disk)?)
+}
+
+#[test]
+fn one_fault_at_every_call(rt: HostRuntime) -> Result<(), Fail> {
+    let alloc = rt.alloc();
+    let events = events(alloc)?;
+    let moments = moments_of_run(alloc, &events)?;
+    for (place, moment) in moments.iter().enumerate() {
+        let found = count_after_fault(alloc, place, &events, *moment)?;
+        assert!(rt; moment.may_leave(found), "{place}: {found}");
+    }
+    Ok(())
+}
+
+/// The letters of two batches.
+fn first() -> Letter {
+    bid(X, 1, A, 100)
+}
+
+fn second() -> Letter {
+    bid(Y, 1, B, 150)
+}
+
+/// An engine over a device of which this call of its own fails.
+fn failing(alloc: Global, call: u64) -> Result<Engine<OnceDisk<MemoryDisk>>, Fail> {
+    let fault = calls_of_opening(alloc)?.saturating_add(call);
+    Ok(engine_over(alloc, OnceDisk::new(new_device(alloc)?, fault))?)
+}
+
+/// Whether an engine answers turns, steps and offers by 93.
+fn has_failed<D: Disk + Drop>(engine: &mut Engine<D>) -> bool {
+    turns(engine, Err(Fault::Failed))
+        && steps(engine, Err(Fault::Failed))
+        && turns(engine, Err(Fault::Failed))
+        && hands_back(engine, &[second()], Weight::Failed)
+}
+
+/// A batch is committed, and the last turn of the next one fails.
+fn fail_second_sync(rt: &impl Abort, engine: &mut Engine<OnceDisk<MemoryDisk>>) {
+    assert!(rt; commits_one(engine, accepted(first(), 0)));
+    assert!(rt; takes(engine, one(second())));
+    for _ in 0..3 {
+        assert!(rt; turns(engine, Ok(Turn::Went)));
+    }
+    assert!(rt; turns(engine, Err(Fault::Device)));
+    assert!(rt; has_failed(engine));
+    assert_eq!(rt; count(engine), 1);
+}
+
+/// The device of an engine whose second sync failed.
+fn left_by_second_sync(rt: &impl Abort, alloc: Global) -> Result<MemoryDisk, Fail> {
+    let mut engine = failing(alloc, 8)?;
+    fail_second_sync(rt, &mut engine);
+    Ok(engine.finish().into_inner())
+}
+
+#[test]
+fn second_sync_fails(rt: HostRuntime) -> Result<(), Fail> {
+    let alloc = rt.alloc();
+    let disk = left_by_second_sync(&rt, alloc)?;
+    for (fate, wanted) in FATES.iter().zip([2, 1, 1, 2]) {
+        assert_eq!(rt; count_after(alloc, &disk, *fate)?, wanted);
+    }
+    assert_eq!(rt; count_on(alloc, disk)?, 2);
+    Ok(())
+}
+
+#[test]
+fn faults_have_numbers(rt: HostRuntime) {
+    assert_eq!(rt; Fault::Device.refusal().number(), 91);
+    assert_eq!(rt; Fault::Failed.refusal().number(), 93);
+}
+
+/// A batch is committed, and the step of a checkpoint after so many fails.
+fn fail_step(rt: &impl Abort, engine: &mut Engine<OnceDisk<MemoryDisk>>, before: u64) {
+    let _ = commit(engine, two(first(), second()));
+    for _ in 0..before {
+        assert!(rt; take_step(engine).is_ok());
+    }
+    assert!(rt; steps(engine, Err(Fault::Device)));
+    assert!(rt; has_failed(engine));
+    assert_eq!(rt; count(engine), 2);
+}
+
+/// The device of an engine of which the step of a checkpoint after so many failed. The first step makes no call, as the
+/// second slot is closed from the first on.
+fn left_by_step(rt: &impl Abort, alloc: Global, before: u64) -> Result<MemoryDisk, Fail> {
+    let mut engine = failing(alloc, before.saturating_add(4))?;
+    fail_step(rt, &mut engine, before);
+    Ok(engine.finish().into_inner())
+}
+
+#[test]
+fn fault_at_each_step_of_a_checkpoint(rt: HostRuntime) -> Result<(), Fail> {
+    let alloc = rt.alloc();
+    for before in 1..11 {
+        let disk = left_by_step(&rt, alloc, before)?;
+        for fate in FATES {
+            assert_eq!(rt; count_after(alloc, &disk, fate)?, 2, "{before}");
+        }
+        assert_eq!(rt; count_on(alloc, disk)?, 2);
+    }
+    Ok(())
+}

@@ -1,0 +1,96 @@
+//! Events one after another, and what is found after a stop.
+
+use crate::calls::count;
+use crate::devices::{Found, engine_over, found_in, new_device, new_engine};
+use crate::letters::Bidder::X;
+use crate::letters::Node::A;
+use crate::letters::{accepted, bid, refused, two};
+use crate::runs::{calls_of_opening, driven};
+use hpb_disk::{Fate, FuseDisk, MemoryDisk};
+use hpb_engine::{Driven, Engine, Event, Fault, open_after};
+use hpb_rules::{Letter, Refusal};
+use hpb_slots::Slot;
+use std::alloc::Global;
+use std::process::Abort;
+use std::test::Fail;
+
+/// The first bid of x.
+fn first() -> Letter {
+    bid(X, 1, A, 100)
+}
+
+/// Its second bid on the same node in the same round.
+fn again() -> Letter {
+    bid(X, 2, A, 120)
+}
+
+/// A batch, its four turns, and so many steps of a checkpoint.
+fn events(alloc: Global, steps: usize) -> Result<Vec<Event>, Fail> {
+    let mut events = Vec::new(alloc);
+    events.push(Event::Offer(two(first(), again())))?;
+    for _ in 0..4 {
+        events.push(Event::Commit)?;
+    }
+    for _ in 0..steps {
+        events.push(Event::Checkpoint)?;
+    }
+    Ok(events)
+}
+
+/// What is found after a stop of a run.
+fn found_after(alloc: Global, driven: &Driven<MemoryDisk>, fates: &[Fate]) -> Result<Found, Fail> {
+    let left = driven.engine.disk.after_stop(alloc, fates)?;
+    match open_after(alloc, driven, left) {
+        Ok(opened) => Ok(found_in(&opened)),
+        Err(fault) => Err(Fail::from(fault.cause)),
+    }
+}
+
+/// Whether all events were taken.
+fn ends_well(driven: &Driven<MemoryDisk>) -> bool {
+    let wanted = [accepted(first(), 0), refused(again(), 1, Refusal::Again)];
+    driven.answers.as_slice() == wanted.as_slice()
+        && driven.fault.is_none()
+        && count(&driven.engine) == 1
+}
+
+fn stop(rt: &impl Abort, alloc: Global, driven: &Driven<MemoryDisk>) -> Result<(), Fail> {
+    assert!(rt; ends_well(driven));
+    let wanted = Found {
+        count: 1,
+        clean: 4,
+        covered: 1,
+        slot: Slot::Second,
+    };
+    assert_eq!(rt; found_after(alloc, driven, &[])?, wanted);
+    Ok(())
+}
+
+#[test]
+fn events_are_driven(rt: HostRuntime) -> Result<(), Fail> {
+    let alloc = rt.alloc();
+    // A first checkpoint of one batch takes eleven steps; the twelfth is idle.
+    let events = events(alloc, 12)?;
+    stop(&rt, alloc, &driven(alloc, new_engine(alloc)?, &events)?)
+}
+
+/// An engine over a device that fails from this call of the run on.
+fn failing(alloc: Global, call: u64) -> Result<Engine<FuseDisk<MemoryDisk>>, Fail> {
+    let fault = calls_of_opening(alloc)?.saturating_add(call);
+    Ok(engine_over(alloc, FuseDisk::new(new_device(alloc)?, fault))?)
+}
+
+/// Whether a fault came before any answer.
+fn ends_early(driven: &Driven<FuseDisk<MemoryDisk>>) -> bool {
+    driven.answers.is_empty() && driven.fault == Some(Fault::Device) && count(&driven.engine) == 0
+}
+
+#[test]
+fn no_event_is_taken_after_a_fault(rt: HostRuntime) -> Result<(), Fail> {
+    let alloc = rt.alloc();
+    // The fourth call of a commit is its second sync.
+    let engine = failing(alloc, 4)?;
+    let events = events(alloc, 3)?;
+    assert!(rt; ends_early(&driven(alloc, engine, &events)?));
+    Ok(())
+}

@@ -1,0 +1,211 @@
+//! What is opened after a stop.
+
+use crate::calls::{Turn, steps_to_whole, take_step};
+use crate::devices::{Found, found_in, new_engine, opened_after, six_nodes, started};
+use crate::expecting::{commits_one, hands_back, steps, takes, turns};
+use crate::letters::Bidder::{W, X, Y};
+use crate::letters::Node::{A, B, C};
+use crate::letters::{accepted, bid, close, list_of, one};
+use crate::states::same;
+use hpb_auction::Auction;
+use hpb_disk::{Disk, Fate, MemoryDisk};
+use hpb_engine::{Engine, Part, Rest, Weight};
+use hpb_recover::Opened;
+use hpb_rules::{Letter, Letters};
+use hpb_slots::Slot;
+use std::alloc::Global;
+use std::process::Abort;
+use std::test::Fail;
+
+/// The byte of an open gate.
+const OPEN: u8 = 0xa5;
+
+/// Three commands.
+fn three() -> [Letter; 3] {
+    [bid(X, 1, A, 100), bid(Y, 1, B, 150), close(1)]
+}
+
+/// A new device, and one with three commands in the first frame.
+const NONE: Found = Found {
+    count: 0,
+    clean: 4,
+    covered: 0,
+    slot: Slot::First,
+};
+
+const ALL: Found = Found {
+    count: 3,
+    clean: 3,
+    covered: 0,
+    slot: Slot::First,
+};
+
+/// Whether three turns of a batch are made.
+fn writes_gate<D: Disk + Drop>(engine: &mut Engine<D>, letters: Letters) -> bool {
+    takes(engine, letters)
+        && turns(engine, Ok(Turn::Went))
+        && turns(engine, Ok(Turn::Went))
+        && turns(engine, Ok(Turn::Went))
+}
+
+fn write_gate(rt: &impl Abort, alloc: Global, engine: &mut Engine<MemoryDisk>) -> Result<(), Fail> {
+    assert!(rt; writes_gate(engine, list_of(&three())));
+    for (fate, wanted) in [
+        (Fate::Kept, ALL),
+        (Fate::Lost, NONE),
+        (Fate::Filled(0), NONE),
+        (Fate::Filled(OPEN), ALL),
+        (Fate::Filled(0xa4), NONE),
+    ] {
+        let opened = opened_after(alloc, engine, &[fate])?;
+        assert_eq!(rt; found_in(&opened), wanted);
+    }
+    Ok(())
+}
+
+#[test]
+fn stop_in_the_gate_write(rt: HostRuntime) -> Result<(), Fail> {
+    let alloc = rt.alloc();
+    write_gate(&rt, alloc, &mut new_engine(alloc)?)
+}
+
+/// Whether a checkpoint is begun, and its first two pages are written.
+fn writes_two_pages<D: Disk + Drop>(engine: &mut Engine<D>) -> bool {
+    for part in [Part::Other, Part::Other, Part::Chunk(0), Part::Chunk(1)] {
+        if !steps(engine, Ok(Rest::Went(part))) {
+            return false;
+        }
+    }
+    true
+}
+
+/// Whether a checkpoint is begun after the first of three batches, and its third page is written after them all.
+fn writes_third_page<D: Disk + Drop>(engine: &mut Engine<D>) -> bool {
+    commits_one(engine, accepted(bid(X, 1, A, 100), 0))
+        && writes_two_pages(engine)
+        && commits_one(engine, accepted(bid(Y, 1, B, 150), 1))
+        && commits_one(engine, accepted(close(1), 2))
+        && steps(engine, Ok(Rest::Went(Part::Chunk(2))))
+}
+
+/// The auction after letters that are all accepted.
+fn state_after(alloc: Global, letters: &[Letter]) -> Result<Auction, Fail> {
+    let mut auction = Auction::new(alloc, &six_nodes(alloc)?)?;
+    for letter in letters {
+        auction.apply(&letter.command);
+    }
+    Ok(auction)
+}
+
+fn write_third_page(
+    rt: &impl Abort,
+    alloc: Global,
+    engine: &mut Engine<MemoryDisk>,
+) -> Result<(), Fail> {
+    assert!(rt; writes_third_page(engine));
+    let old = Found { clean: 1, ..ALL };
+    let wanted = state_after(alloc, &three())?;
+    for fate in [Fate::Kept, Fate::Lost, Fate::Filled(0), Fate::Filled(OPEN)] {
+        let opened = opened_after(alloc, engine, &[fate])?;
+        assert_eq!(rt; found_in(&opened), old);
+        assert!(rt; same(opened.auction(), &wanted));
+    }
+    Ok(())
+}
+
+#[test]
+fn stop_in_the_third_page(rt: HostRuntime) -> Result<(), Fail> {
+    let alloc = rt.alloc();
+    write_third_page(&rt, alloc, &mut new_engine(alloc)?)
+}
+
+/// Four commands, for a batch each.
+fn four() -> [Letter; 4] {
+    [
+        bid(X, 1, A, 100),
+        bid(Y, 1, B, 150),
+        bid(W, 1, C, 100),
+        close(1),
+    ]
+}
+
+/// Whether four batches are committed and a checkpoint of them is written, of which two frames are retired, and no sync
+/// covers that.
+fn retires_two<D: Disk + Drop>(engine: &mut Engine<D>) -> bool {
+    for (letter, at) in four().iter().zip(0..) {
+        if !commits_one(engine, accepted(*letter, at)) {
+            return false;
+        }
+    }
+    for _ in 0..9 {
+        let _ = take_step(engine);
+    }
+    steps(engine, Ok(Rest::Went(Part::Retired))) && steps(engine, Ok(Rest::Went(Part::Retired)))
+}
+
+/// What is opened after a stop while frames are retired: the first frame is closed, and the second is open with its old
+/// batch.
+fn stop_retiring(
+    rt: &impl Abort,
+    alloc: Global,
+    engine: &mut Engine<MemoryDisk>,
+) -> Result<Opened<MemoryDisk>, Fail> {
+    assert!(rt; retires_two(engine));
+    let opened = opened_after(alloc, engine, &[Fate::Kept, Fate::Lost])?;
+    let wanted = Found {
+        count: 4,
+        clean: 1,
+        covered: 4,
+        slot: Slot::Second,
+    };
+    assert_eq!(rt; found_in(&opened), wanted);
+    let state = state_after(alloc, &four())?;
+    assert!(rt; same(opened.auction(), &state));
+    Ok(opened)
+}
+
+/// One frame is clean: a batch is taken, and the next one after a checkpoint.
+fn go_on(rt: &impl Abort, engine: &mut Engine<MemoryDisk>) {
+    assert!(rt; commits_one(engine, accepted(bid(X, 2, A, 200), 4)));
+    assert!(rt; hands_back(engine, &[close(2)], Weight::Full));
+    assert_eq!(rt; steps_to_whole(engine, 100), 14);
+    assert!(rt; takes(engine, one(close(2))));
+}
+
+#[test]
+fn stop_while_retiring(rt: HostRuntime) -> Result<(), Fail> {
+    let alloc = rt.alloc();
+    let opened = stop_retiring(&rt, alloc, &mut new_engine(alloc)?)?;
+    go_on(&rt, &mut started(alloc, opened)?);
+    Ok(())
+}
+
+/// The three frames that may be open are retired without a new checkpoint.
+fn retire(rt: &impl Abort, engine: &mut Engine<MemoryDisk>) {
+    for _ in 0..3 {
+        assert!(rt; steps(engine, Ok(Rest::Went(Part::Retired))));
+    }
+    assert!(rt; steps(engine, Ok(Rest::Whole)));
+    assert!(rt; steps(engine, Ok(Rest::Idle)));
+}
+
+/// All frames are clean.
+fn find_clean(rt: &impl Abort, alloc: Global, engine: &mut Engine<MemoryDisk>) -> Result<(), Fail> {
+    retire(rt, engine);
+    let opened = opened_after(alloc, engine, &[])?;
+    let wanted = Found {
+        count: 4,
+        clean: 4,
+        covered: 4,
+        slot: Slot::Second,
+    };
+    assert_eq!(rt; found_in(&opened), wanted);
+    Ok(())
+}
+
+#[test]
+fn retirement_alone(rt: HostRuntime) -> Result<(), Fail> {
+    let alloc = rt.alloc();
+    let opened = stop_retiring(&rt, alloc, &mut new_engine(alloc)?)?;
+    find_clean(&rt, alloc, &mut started(alloc, opened)?)
+}
