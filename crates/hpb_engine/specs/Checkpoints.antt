@@ -31,15 +31,11 @@ aim s = if s.retirement.going then s.ring.covered else (if s.checkpoint.steps ==
 abbrev pub to_retire : Progress → ℕ
 to_retire s = aim s + count_of s.ring - s.retirement.upto
 
--- So many steps are these: one for each, and a sync. None where there is none.
-abbrev pub retiring_steps : ℕ → ℕ
-retiring_steps count = if count == 0 then 0 else suc count
-
--- How many steps it takes to the last one: nine for the state, and those that retire.
+-- How many steps it takes to the last one: nine for the state, one for each frame to retire, and a sync. None where all is covered and clean.
 abbrev pub steps_left : Progress → ℕ
 steps_left s =
     if s.retirement.going then suc (to_retire s) else
-    (if (s.checkpoint.steps == 0) && (s.ring.covered == s.ring.next) then retiring_steps (to_retire s) else 9 - s.checkpoint.steps + retiring_steps (to_retire s))
+    (if (s.checkpoint.steps == 0) && (s.ring.covered == s.ring.next) then (if to_retire s == 0 then 0 else suc (to_retire s)) else 10 - s.checkpoint.steps + to_retire s)
 
 -- The part that is next.
 abbrev pub part_of : Progress → Part

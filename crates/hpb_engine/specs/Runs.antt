@@ -7,6 +7,7 @@ use Rattle.hpb_rules.specs.Machine.{Machine}
 use Rattle.hpb_disk.specs.Images.{LeavesOnly}
 use Rattle.hpb_progress.specs.declared.progress.Progress.{Progress}
 use Rattle.hpb_progress.specs.Keeping.{Keeps, StandsEither, StandsFor, flight_of}
+use Rattle.hpb_progress.specs.Numbers.{IsSafe}
 use Rattle.hpb_engine.specs.declared.begun.Begun.{Begun}
 use Rattle.hpb_engine.specs.declared.event.Event.{Event}
 use Rattle.hpb_engine.specs.declared.event.Event.TheVariants as events
@@ -41,8 +42,9 @@ abbrev pub HasFailed : Option Fault → (before after : ℕ) → Type 0
 HasFailed None before after = after ≡ before
 HasFailed (Some fault) before after = (fault ≡ faults.Device) × (before < after)
 
--- At a mark the committed auction shows the acknowledged commands, and the batch in flight is the machine's.
+-- At a mark the committed auction shows the acknowledged commands, the batch in flight is the machine's, and the numbers of batches and frames fit each other.
 pub record IsTold (mark : Mark) : Type 0 where
+  pub safe : IsSafe mark.progress
   pub shows : Shows mark.progress.committed mark.machine.acknowledged
   pub flight : mark.machine.flight ≡ flight_of mark.progress.commit
 
@@ -73,6 +75,7 @@ pub record IsStepped (result : Result Rest Fault) (before after : Mark) (leaving
   pub same : SameCore before.progress after.progress
   pub machine : after.machine ≡ before.machine
   pub answers : leaving ≡ []
+  pub clean : before.progress.ring.clean_end ≤ after.progress.ring.clean_end
   pub told : IsTold after
   pub failed : after.failed ≡ failed_by result
   pub later : before.moment ≤ after.moment

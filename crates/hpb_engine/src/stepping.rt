@@ -84,32 +84,10 @@ impl<D: Disk + Drop> Engine<D> {
                 Ok(()) => Ok(Rest::Went(Part::Other)),
                 Err(fault) => Err(fault),
             },
-            _ => self.last_write(),
-        }
-    }
-
-    /// The last step of the nine. It is the last of all where no frame is to be retired.
-    fn last_write(&mut self) -> Result<Rest, Fault>
-        requires steps { self.old.progress.checkpoint.steps ≡ 8 }
-        requires works { self.old.failed ≡ false }
-        ensures keeps { KeepsOn D.seen D.may_leave self.old.disk self.new.disk self.old.progress self.new.progress self.old.failed self.new.failed }
-        ensures since { LeavesBetween D.seen D.may_leave D.moment D.left_since self.old.disk self.new.disk self.old.progress self.new.progress self.old.failed }
-        ensures calls { D.moment self.new.disk ≡ D.moment self.old.disk + 1 }
-        ensures leads { StepLeads result self.old.progress self.new.progress }
-        ensures same { SameCore self.old.progress self.new.progress }
-        ensures cause { TellsFault result (D.failures self.old.disk) (D.failures self.new.disk) self.new.failed }
-        ensures idle { result ≡ Ok Rest.Idle → self.new.disk ≡ self.old.disk }
-        ensures clean { self.old.progress.ring.clean_end ≤ self.new.progress.ring.clean_end }
-    {
-        match self.sync_renewed() {
-            Ok(()) => {
-                if self.progress.retirement.going {
-                    Ok(Rest::Went(Part::Other))
-                } else {
-                    Ok(Rest::Whole)
-                }
-            }
-            Err(fault) => Err(fault),
+            _ => match self.sync_renewed() {
+                Ok(()) => Ok(Rest::Went(Part::Other)),
+                Err(fault) => Err(fault),
+            },
         }
     }
 

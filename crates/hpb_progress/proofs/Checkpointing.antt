@@ -122,6 +122,7 @@ module _ (laws : Laws) (s : Progress) (k : Cut) (fits : Fits s k) where
       retirement = record {
         alone = λ on. absurd (cc);
         idle = fits.safe.retirement.idle;
+        some = fits.safe.retirement.some;
         from = fits.safe.retirement.from;
         to = fits.safe.retirement.to;
       };
@@ -207,6 +208,7 @@ module _ (laws : Laws) (s : Progress) (k : Cut) (fits : Fits s k) where
         retirement = record {
           alone = λ on. absurd (omega (arith, steps, fits.safe.retirement.alone on));
           idle = fits.safe.retirement.idle;
+          some = fits.safe.retirement.some;
           from = fits.safe.retirement.from;
           to = fits.safe.retirement.to;
         };
@@ -262,6 +264,7 @@ module _ (laws : Laws) (s : Progress) (k : Cut) (fits : Fits s k) where
       retirement = record {
         alone = λ on. absurd (omega (arith, from, fits.safe.retirement.alone on));
         idle = fits.safe.retirement.idle;
+        some = fits.safe.retirement.some;
         from = fits.safe.retirement.from;
         to = fits.safe.retirement.to;
       };
@@ -413,7 +416,8 @@ module _ (laws : Laws) (s : Progress) (k : Cut) (fits : Fits s k) where
           };
           retirement = record {
             alone = λ _. refl;
-            idle = λ _. still;
+            idle = λ off. absurd (cc);
+            some = λ _. omega (arith, ring.end, new);
             from = omega (arith, still);
             to = omega (arith, still, ring.end, new);
           };

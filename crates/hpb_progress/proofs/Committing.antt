@@ -260,6 +260,7 @@ module _ (laws : Laws) (s : Progress) (k : Cut) (fits : Fits s k) where
     retirement = record {
       alone = safe.retirement.alone;
       idle = safe.retirement.idle;
+      some = safe.retirement.some;
       from = safe.retirement.from;
       to = safe.retirement.to;
     };

@@ -139,6 +139,7 @@ module _ (laws : Laws) (s : Progress) (k : Cut) (fits : Fits s k) where
       retirement = record {
         alone = λ _. steps;
         idle = λ off. absurd (cc);
+        some = λ _. omega (arith, fits.safe.retirement.from, left);
         from = omega (arith, fits.safe.retirement.from);
         to = omega (arith, left);
       };
@@ -212,6 +213,7 @@ module _ (laws : Laws) (s : Progress) (k : Cut) (fits : Fits s k) where
             retirement = record {
               alone = λ on. absurd (cc);
               idle = λ _. refl;
+              some = λ on. absurd (cc);
               from = omega arith;
               to = omega arith;
             };

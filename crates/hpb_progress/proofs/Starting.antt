@@ -64,6 +64,7 @@ module _ (s : Progress) (plan : Plan) (image : List ℕ) (fresh : IsFresh s plan
     retirement = record {
       alone = λ _. fresh.checkpoint.steps;
       idle = λ _. fresh.retirement.upto ∙ sym fresh.ring.clean_end;
+      some = λ on. absurd (cc fresh.retirement.going);
       from = omega (arith, fresh.retirement.upto, fresh.ring.clean_end);
       to = omega (arith, fresh.ring.covered, fresh.ring.frames, fresh.retirement.upto, is.clean.to);
     };

@@ -56,10 +56,11 @@ pub record CheckpointFits (ring : Ring) (checkpoint : Checkpoint) : Type 0 where
   pub old : 1 ≤ checkpoint.steps → checkpoint.covers ≤ ring.next
   pub closed : 2 ≤ checkpoint.steps → checkpoint.other_open ≡ false
 
--- Frames are retired while no checkpoint is written.
+-- Frames are retired while no checkpoint is written, and only where some aren't clean.
 pub record RetirementFits (ring : Ring) (checkpoint : Checkpoint) (retirement : Retirement) : Type 0 where
   pub alone : retirement.going ≡ true → checkpoint.steps ≡ 0
   pub idle : retirement.going ≡ false → retirement.upto ≡ ring.clean_end
+  pub some : retirement.going ≡ true → ring.clean_end < end_of ring
   pub from : ring.clean_end ≤ retirement.upto
   pub to : retirement.upto ≤ end_of ring
 

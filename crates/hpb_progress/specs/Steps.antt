@@ -1,5 +1,5 @@
 -- Where each step leads.
-use Rattle.std.specs.Prelude.{ℕ, ◌+◌, nat_lt, true, false, List, []}
+use Rattle.std.specs.Prelude.{ℕ, ◌+◌, true, false, List, []}
 use Rattle.hpb_rules.specs.declared.letter.Answer.{Answer}
 use Rattle.hpb_rules.specs.AuctionValue.{AuctionValue}
 use Rattle.hpb_codec.specs.declared.batch.Batch.{Batch}
@@ -35,12 +35,12 @@ emptied s = record s { checkpoint = record s.checkpoint { steps = 2; other_open 
 abbrev pub stepped : Progress → ℕ → Progress
 stepped s steps = record s { checkpoint = record s.checkpoint { steps = steps } }
 
--- The checkpoint is the newest state. Where not all other frames are clean, frames are to be retired.
+-- The checkpoint is the newest state. Frames that it covers are to be retired.
 abbrev pub renewed : Progress → Progress
 renewed s = record s {
   ring = record s.ring { covered = s.checkpoint.covers };
   checkpoint = record s.checkpoint { newest = other_of s.checkpoint.newest; other_open = true; steps = 0 };
-  retirement = record s.retirement { going = nat_lt s.ring.clean_end (s.checkpoint.covers + s.ring.frames.count) };
+  retirement = record s.retirement { going = true };
 }
 
 -- One frame more is closed.

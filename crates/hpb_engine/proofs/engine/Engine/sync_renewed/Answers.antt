@@ -15,12 +15,12 @@ returns-in-Ok-clause-keeps g c history inside =
     let laws = c.laws_below.ensures in
     let stand = may_stand laws in
     let stays = g.met.D.Disk.seen_may_stay old.disk in
-    rw c.other-progress.ensures (rw c.end.ensures (synced stand d.seen d.may_leave d.moment d.left_since old.disk c.sync.new.self s old.failed history inside (renewed s) (history) (λ k. shortened k (s.checkpoint.covers - s.ring.covered))
+    rw c.other-progress.ensures (synced stand d.seen d.may_leave d.moment d.left_since old.disk c.sync.new.self s old.failed history inside (renewed s) (history) (λ k. shortened k (s.checkpoint.covers - s.ring.covered))
     (λ k fits is. is ∙ sym (all_shortened k (s.checkpoint.covers - s.ring.covered)))
     (λ k fits. renewed_fits laws s k fits c.requires.steps)
     (λ k image fits facts reads. renewed_synced laws s k fits c.requires.steps image facts reads)
     (λ k image fits facts reads. renewed_reads laws s k fits c.requires.steps image facts reads)
-    stays c.requires.works c.in-Ok.ensures.durable c.in-Ok.ensures.seen))
+    stays c.requires.works c.in-Ok.ensures.durable c.in-Ok.ensures.seen)
 
 pub returns-in-Ok-clause-since : goal.returns-in-Ok-clause-since
 returns-in-Ok-clause-since g c history inside =
