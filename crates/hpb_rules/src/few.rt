@@ -33,8 +33,14 @@ impl Blank for Answer {
         Answer {
             letter: Letter::blank(),
             at: 0,
-            reply: Reply::Ok(0),
+            reply: Reply::blank(),
         }
+    }
+}
+
+impl Blank for Reply {
+    fn blank() -> Self {
+        Reply::Ok(0)
     }
 }
 
@@ -51,8 +57,11 @@ pub type Letters = Few<Letter>;
 /// Answers to letters, in their order.
 pub type Answers = Few<Answer>;
 
-/// Commands of one batch, in the order in which they were accepted.
+/// Commands of one batch, in the order in which they were accepted, or in which they are asked.
 pub type Commands = Few<Command>;
+
+/// Replies to commands that were asked together, in their order.
+pub type Replies = Few<Reply>;
 
 impl<T: Blank> Model for Few<T> {
     ghost use Rattle.std.specs.Prelude.{List, take, ◌≤◌};
@@ -89,6 +98,13 @@ impl<T: Blank> Few<T> {
         self.items[self.count] = item;
         self.count += 1;
         Ok(())
+    }
+
+    /// Takes all items out.
+    pub fn clear(&mut self)
+        ensures { self.new ≡ [] }
+    {
+        self.count = 0;
     }
 
     /// The items, in their order.

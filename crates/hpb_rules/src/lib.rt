@@ -32,6 +32,7 @@ pub use few::Blank;
 pub use few::Commands;
 pub use few::Few;
 pub use few::Letters;
+pub use few::Replies;
 pub use id::BidderId;
 pub use id::NodeId;
 pub use laws::accepted_is_definition;
