@@ -17,7 +17,8 @@ use std::path::Path;
 /// The most bytes that a device in a file may have: they are kept in memory too.
 pub const MOST_BYTES: u64 = 1 << 26;
 
-/// A device whose bytes are those of a file. It holds the file's lock while it lives.
+/// A device whose bytes are those of a file. It holds a lock of the file while it lives: one that no other value shares, or
+/// where it only reads one that others that only read share.
 ///
 /// What a read gives is held against a copy in memory: where they differ, the read fails. After a write or a sync that
 /// failed every later call fails. Of such a write a part may be in the file, so a sync that succeeded after it would keep
@@ -36,6 +37,25 @@ fn are_same(some: &[u8], others: &[u8]) -> bool
     ensures { IsTrue result ↔ (some.now ≡ others.now) }
 {
     some == others
+}
+
+// Who else may have a file at the same time.
+#[derive(Clone, Copy, PartialEq, Eq)]
+enum Share {
+    Nobody,
+    Readers,
+}
+
+fn lock(file: &File, share: Share) -> Result<(), FileFault> {
+    let locked = match share {
+        Share::Nobody => file.try_lock(),
+        Share::Readers => file.try_lock_shared(),
+    };
+    match locked {
+        Ok(()) => Ok(()),
+        Err(TryLockError::WouldBlock) => Err(FileFault::Busy),
+        Err(TryLockError::Error(error)) => Err(FileFault::System(error)),
+    }
 }
 
 // What was written before is on the medium after this, and what is read from then on comes from there: after a sync that
@@ -75,8 +95,8 @@ impl FileDisk {
         }
     }
 
-    // Locks the file, and reads what is on the medium.
-    fn take(alloc: Global, file: File) -> Result<FileDisk, FileFault>
+    // Locks the file, alone or beside others that only read, and reads what is on the medium.
+    fn take(alloc: Global, file: File, share: Share) -> Result<FileDisk, FileFault>
         ensures settled { IfOk result (λ disk. Only (file_seen disk) (file_left disk)) }
         ensures works { IfOk result (λ disk. file_is_broken disk ≡ false) }
         ensures most { IfOk result (λ disk. length (file_seen disk) ≤ 2 ^ 26) }
@@ -84,11 +104,7 @@ impl FileDisk {
         if !file.metadata()?.is_file() {
             return Err(FileFault::NotAFile);
         }
-        match file.try_lock() {
-            Ok(()) => {}
-            Err(TryLockError::WouldBlock) => return Err(FileFault::Busy),
-            Err(TryLockError::Error(error)) => return Err(FileFault::System(error)),
-        }
+        lock(&file, share)?;
         let len = file.metadata()?.len();
         if len > MOST_BYTES {
             return Err(FileFault::TooLong);
@@ -110,7 +126,23 @@ impl FileDisk {
         ensures most { IfOk result (λ disk. length (file_seen disk) ≤ 2 ^ 26) }
     {
         let file = File::options().read(true).write(true).open(rt, path)?;
-        FileDisk::take(alloc, file)
+        FileDisk::take(alloc, file, Share::Nobody)
+    }
+
+    /// Opens a file that is there, to read alone: it asks for no right to write it, and a write is a failure of the
+    /// device. Others may read it so at the same time; while one does, no value that may write has it, and while such a
+    /// value has it, it isn't opened.
+    pub fn open_to_read<R: Files<File = File>>(
+        rt: &R,
+        alloc: Global,
+        path: &str,
+    ) -> Result<FileDisk, FileFault>
+        ensures settled { IfOk result (λ disk. Only (file_seen disk) (file_left disk)) }
+        ensures works { IfOk result (λ disk. file_is_broken disk ≡ false) }
+        ensures most { IfOk result (λ disk. length (file_seen disk) ≤ 2 ^ 26) }
+    {
+        let file = File::options().read(true).open(rt, path)?;
+        FileDisk::take(alloc, file, Share::Readers)
     }
 
     /// Makes a file of so many zero bytes where none is, and opens it. Nothing is pending.
@@ -133,7 +165,7 @@ impl FileDisk {
             .create_new(true)
             .open(rt, path)?;
         file.set_len(len as u64)?;
-        let disk = FileDisk::take(alloc, file)?;
+        let disk = FileDisk::take(alloc, file, Share::Nobody)?;
         sync_name(rt, path)?;
         // Whoever wrote it before it was locked has it still.
         if !are_same(&disk.bytes, &vec![in alloc; 0; len]?) {

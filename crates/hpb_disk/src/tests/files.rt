@@ -112,6 +112,45 @@ fn a_folder_that_cannot_be_synced_is_refused(rt: HostRuntime) -> Result<(), Fail
 }
 
 #[test]
+fn a_file_that_is_read_alone_cannot_be_written(rt: HostRuntime) -> Result<(), Fail> {
+    let alloc = rt.alloc();
+    let path = "hpb_disk_read";
+    let _ = fs::remove_file(&rt, path);
+    fs::write(&rt, path, b"abcd".as_slice())?;
+    fs::set_permissions(&rt, path, fs::Permissions::from_mode(0o400))?;
+    let mut disk = FileDisk::open_to_read(&rt, alloc, path)?;
+    check_bytes(&rt, alloc, &mut disk, b"abcd")?;
+    assert!(rt; disk.sync().is_ok());
+    // It never asked for the right to write, so that a user who may do all can't either.
+    assert!(rt; !write(&mut disk, 0, b"x"));
+    check_broken(&rt, &mut disk);
+    drop(disk);
+    assert_eq!(rt; fs::read(&rt, path)?.as_slice(), b"abcd".as_slice());
+    fs::remove_file(&rt, path)?;
+    assert!(rt; is_refused(FileDisk::open_to_read(&rt, alloc, path)));
+    Ok(())
+}
+
+#[test]
+fn readers_share_a_file_and_keep_writers_out(rt: HostRuntime) -> Result<(), Fail> {
+    let alloc = rt.alloc();
+    let path = "hpb_disk_shared";
+    fs::write(&rt, path, b"abcd".as_slice())?;
+    let one = FileDisk::open_to_read(&rt, alloc, path)?;
+    let other = FileDisk::open_to_read(&rt, alloc, path)?;
+    assert!(rt; is_busy(FileDisk::open(&rt, alloc, path)));
+    drop(one);
+    assert!(rt; is_busy(FileDisk::open(&rt, alloc, path)));
+    drop(other);
+    let writer = FileDisk::open(&rt, alloc, path)?;
+    assert!(rt; is_busy(FileDisk::open_to_read(&rt, alloc, path)));
+    drop(writer);
+    assert!(rt; FileDisk::open_to_read(&rt, alloc, path).is_ok());
+    fs::remove_file(&rt, path)?;
+    Ok(())
+}
+
+#[test]
 fn a_long_file_is_refused(rt: HostRuntime) -> Result<(), Fail> {
     let alloc = rt.alloc();
     let path = "hpb_disk_long";
