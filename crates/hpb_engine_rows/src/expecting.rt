@@ -7,24 +7,24 @@ use hpb_engine::{Engine, Fault, Rest, Weight};
 use hpb_rules::{Answer, Letter, Letters};
 
 /// Whether a turn of a commit answers this, and no answer leaves with it.
-pub(crate) fn turns<D: Disk + Drop>(engine: &mut Engine<D>, wanted: Result<Turn, Fault>) -> bool {
+pub fn turns<D: Disk + Drop>(engine: &mut Engine<D>, wanted: Result<Turn, Fault>) -> bool {
     let (turn, answers) = take_turn(engine);
     turn == wanted && answers.len() == 0
 }
 
 /// Whether a turn of a commit is the last of its batch, and these answers leave with it.
-pub(crate) fn turns_last<D: Disk + Drop>(engine: &mut Engine<D>, wanted: &[Answer]) -> bool {
+pub fn turns_last<D: Disk + Drop>(engine: &mut Engine<D>, wanted: &[Answer]) -> bool {
     let (turn, answers) = take_turn(engine);
     turn == Ok(Turn::Done) && answers.as_slice() == wanted
 }
 
 /// Whether a step of a checkpoint answers this.
-pub(crate) fn steps<D: Disk + Drop>(engine: &mut Engine<D>, wanted: Result<Rest, Fault>) -> bool {
+pub fn steps<D: Disk + Drop>(engine: &mut Engine<D>, wanted: Result<Rest, Fault>) -> bool {
     take_step(engine) == wanted
 }
 
 /// Whether letters are offered, have their turns, and have these answers.
-pub(crate) fn commits<D: Disk + Drop>(
+pub fn commits<D: Disk + Drop>(
     engine: &mut Engine<D>,
     letters: Letters,
     wanted: &[Answer],
@@ -34,12 +34,12 @@ pub(crate) fn commits<D: Disk + Drop>(
 }
 
 /// Whether a letter alone has this answer.
-pub(crate) fn commits_one<D: Disk + Drop>(engine: &mut Engine<D>, wanted: Answer) -> bool {
+pub fn commits_one<D: Disk + Drop>(engine: &mut Engine<D>, wanted: Answer) -> bool {
     commits(engine, one(wanted.letter), &[wanted])
 }
 
 /// Whether letters that are offered are put in flight, so that no answer leaves and none comes back.
-pub(crate) fn takes<D: Disk + Drop>(engine: &mut Engine<D>, letters: Letters) -> bool {
+pub fn takes<D: Disk + Drop>(engine: &mut Engine<D>, letters: Letters) -> bool {
     let offered = offer(engine, letters);
     offered.weighed == Weight::New
         && offered.begun == Weight::New
@@ -48,7 +48,7 @@ pub(crate) fn takes<D: Disk + Drop>(engine: &mut Engine<D>, letters: Letters) ->
 }
 
 /// Whether letters that are offered have these answers at once.
-pub(crate) fn answers_at_once<D: Disk + Drop>(
+pub fn answers_at_once<D: Disk + Drop>(
     engine: &mut Engine<D>,
     letters: Letters,
     wanted: &[Answer],
@@ -61,7 +61,7 @@ pub(crate) fn answers_at_once<D: Disk + Drop>(
 }
 
 /// Whether letters that are offered are handed back for this reason.
-pub(crate) fn hands_back<D: Disk + Drop>(
+pub fn hands_back<D: Disk + Drop>(
     engine: &mut Engine<D>,
     letters: &[Letter],
     reason: Weight,

@@ -3,23 +3,10 @@
 
 pub mod calls;
 pub mod devices;
-#[cfg(test)]
-mod expecting;
+pub mod expecting;
 pub mod letters;
-#[cfg(test)]
-mod mixed_run;
-#[cfg(test)]
-mod order_of_calls;
 #[cfg(test)]
 mod rows_of_batches;
 #[cfg(test)]
-mod rows_of_faults;
-#[cfg(test)]
-mod rows_of_runs;
-#[cfg(test)]
 mod rows_of_stops;
-#[cfg(test)]
-mod runs;
 pub mod states;
-#[cfg(test)]
-mod watching;

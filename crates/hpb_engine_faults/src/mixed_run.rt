@@ -1,11 +1,11 @@
 //! A run of eight batches with checkpoint steps between the commit steps, and what may stand where a call of it fails.
 
-use crate::calls::{count, offer, take_step, take_turn};
-use crate::letters::Bidder::{W, X, Y, Z};
-use crate::letters::Node::{A, All, B, C};
-use crate::letters::{bid, close, list_of, stage};
 use hpb_disk::{Disk, MemoryDisk};
 use hpb_engine::{Engine, Event};
+use hpb_engine_rows::calls::{count, offer, take_step, take_turn};
+use hpb_engine_rows::letters::Bidder::{W, X, Y, Z};
+use hpb_engine_rows::letters::Node::{A, All, B, C};
+use hpb_engine_rows::letters::{bid, close, list_of, stage};
 use hpb_rules::Letters;
 use std::alloc::{AllocError, Global};
 use std::test::Fail;

@@ -1,13 +1,13 @@
 //! Which call of the device each step makes.
 
-use crate::calls::{Turn, commit, count, offer, take_step, take_turn};
-use crate::devices::{new_engine, opened_after, started};
-use crate::letters::Bidder::{W, X, Y};
-use crate::letters::Node::{A, B, C};
-use crate::letters::{bid, close, one};
 use crate::watching::{Call, Watch};
 use hpb_disk::{Disk, Fate, MemoryDisk};
 use hpb_engine::{Engine, Part, Rest};
+use hpb_engine_rows::calls::{Turn, commit, count, offer, take_step, take_turn};
+use hpb_engine_rows::devices::{new_engine, opened_after, started};
+use hpb_engine_rows::letters::Bidder::{W, X, Y};
+use hpb_engine_rows::letters::Node::{A, B, C};
+use hpb_engine_rows::letters::{bid, close, one};
 use hpb_recover::Opened;
 use hpb_rules::Letter;
 use std::alloc::Global;

@@ -1,8 +1,8 @@
 //! Events that are driven one after another, and the calls before them.
 
-use crate::devices::new_engine;
 use hpb_disk::Disk;
 use hpb_engine::{Driven, Engine, Event, drive};
+use hpb_engine_rows::devices::new_engine;
 use std::alloc::Global;
 use std::test::Fail;
 

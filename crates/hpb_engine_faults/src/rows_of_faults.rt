@@ -1,15 +1,15 @@
 //! A call of the device fails.
 
-use crate::calls::{Turn, commit, count, take_step};
-use crate::devices::{count_on, engine_over, new_device, new_engine, opened, started};
-use crate::expecting::{commits_one, hands_back, steps, takes, turns};
-use crate::letters::Bidder::{X, Y};
-use crate::letters::Node::{A, B};
-use crate::letters::{accepted, bid, one, two};
 use crate::mixed_run::{Moment, events, moments};
 use crate::runs::{calls_of_opening, driven};
 use hpb_disk::{Disk, Fate, FuseDisk, MemoryDisk, OnceDisk};
 use hpb_engine::{Driven, Engine, Event, Fault, Weight};
+use hpb_engine_rows::calls::{Turn, commit, count, take_step};
+use hpb_engine_rows::devices::{count_on, engine_over, new_device, new_engine, opened, started};
+use hpb_engine_rows::expecting::{commits_one, hands_back, steps, takes, turns};
+use hpb_engine_rows::letters::Bidder::{X, Y};
+use hpb_engine_rows::letters::Node::{A, B};
+use hpb_engine_rows::letters::{accepted, bid, one, two};
 use hpb_recover::{Cause, OpenFault, Opened};
 use hpb_rules::{Answer, Letter, Reply};
 use std::alloc::Global;

@@ -1,13 +1,13 @@
 //! Events one after another, and what is found after a stop.
 
-use crate::calls::count;
-use crate::devices::{Found, engine_over, found_in, new_device, new_engine};
-use crate::letters::Bidder::X;
-use crate::letters::Node::A;
-use crate::letters::{accepted, bid, refused, two};
 use crate::runs::{calls_of_opening, driven};
 use hpb_disk::{Fate, FuseDisk, MemoryDisk};
 use hpb_engine::{Driven, Engine, Event, Fault, open_after};
+use hpb_engine_rows::calls::count;
+use hpb_engine_rows::devices::{Found, engine_over, found_in, new_device, new_engine};
+use hpb_engine_rows::letters::Bidder::X;
+use hpb_engine_rows::letters::Node::A;
+use hpb_engine_rows::letters::{accepted, bid, refused, two};
 use hpb_rules::{Letter, Refusal};
 use hpb_slots::Slot;
 use std::alloc::Global;

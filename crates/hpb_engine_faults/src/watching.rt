@@ -1,7 +1,7 @@
 //! Which calls a device in memory has.
 
-use crate::devices::bytes_of;
 use hpb_disk::{Fate, MemoryDisk};
+use hpb_engine_rows::devices::bytes_of;
 use std::alloc::Global;
 use std::test::Fail;
 
