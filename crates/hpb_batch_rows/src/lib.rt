@@ -1,0 +1,5 @@
+//! Tests of batches over devices.
+#![tactic(auto)]
+
+#[cfg(test)]
+mod rows;

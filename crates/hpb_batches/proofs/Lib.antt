@@ -1,0 +1,4 @@
+mod Turns
+mod Commits
+mod Rooms
+mod Runs
