@@ -1,7 +1,7 @@
 //! The program: its words, its input, its output, its status.
 #![tactic(auto)]
 
-use hpb_server::{program, refuse_arguments};
+use hpb_program::{program, refuse_words};
 use std::io;
 use std::process::ExitCode;
 
@@ -13,7 +13,7 @@ fn status(rt: &HostRuntime) -> u8 {
     let mut errors = rt.stderr();
     let words = match words(rt) {
         Ok(words) => words,
-        Err(error) => return refuse_arguments(&error, &mut errors),
+        Err(error) => return refuse_words(&error, &mut errors),
     };
     let mut input = rt.stdin();
     let mut output = rt.stdout();

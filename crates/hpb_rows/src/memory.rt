@@ -5,8 +5,9 @@ use hpb_auction::{Auction, run_commands};
 use hpb_bids::Books;
 use hpb_define::read_definition;
 use hpb_prices::{Prices, downward};
+use hpb_program::{Job, program, read_words};
 use hpb_rules::{BidderId, Command, NodeId, Offer, Refusal, Reply};
-use hpb_server::{Job, ScriptDesk, ScriptEnd, program, read_arguments, run_script, serve};
+use hpb_server::{ScriptDesk, ScriptEnd, run_script, serve};
 use hpb_tree::{BidderDraft, Definition, Draft, NodeDraft, TermsDraft, Tree};
 use hpb_winners::{Outcome, upward};
 use hpb_wire::{Response, ResponseText};
@@ -232,14 +233,14 @@ fn a_script_is_run(rt: HostRuntime) -> Result<(), Fail> {
 }
 
 #[test]
-fn arguments_are_read_and_the_program_runs(rt: HostRuntime) -> Result<(), Fail> {
+fn words_are_read_and_the_program_runs(rt: HostRuntime) -> Result<(), Fail> {
     let alloc = rt.alloc();
-    let arguments = ["hpb"];
-    assert_eq!(rt; read_arguments(alloc, &arguments)?, Job::Script);
+    let words = ["hpb"];
+    assert_eq!(rt; read_words(alloc, &words)?, Job::Script);
     let mut input = SIX_NODES.as_bytes();
     let mut output = Vec::new(alloc);
     let mut errors = Vec::new(alloc);
-    let status = program(&rt, alloc, &arguments, &mut input, &mut output, &mut errors);
+    let status = program(&rt, alloc, &words, &mut input, &mut output, &mut errors);
     assert_eq!(rt; status, 0);
     assert!(rt; output.is_empty());
     assert!(rt; errors.is_empty());

@@ -1,5 +1,5 @@
 use crate::script::joined;
-use hpb_server::program;
+use hpb_program::program;
 use std::alloc::Global;
 use std::test::Fail;
 

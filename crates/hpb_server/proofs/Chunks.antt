@@ -1,5 +1,5 @@
 -- How far a session has come, chunk by chunk.
-use Rattle.std.proofs.Common.{◌≡◌, ◌≢◌, ℕ, ◌+◌, ◌≤◌, Bool, true, false, eqb, List, [], ◌∷◌, ◌++◌, length, take, Option, refl, sym, ap, ◌∙◌, subst, arith, append_assoc, append-nil, length-append, ⊎_elim, inl, inr}
+use Rattle.std.proofs.Common.{◌≡◌, ◌≢◌, ℕ, ◌+◌, ◌<◌, ◌≤◌, Bool, true, false, eqb, List, [], ◌∷◌, ◌++◌, length, take, Option, refl, sym, ap, ◌∙◌, subst, arith, append_assoc, append-nil, length-append, ⊎_elim, inl, inr}
 use Rattle.std.specs.Prelude.{Result, Ok, Err, if◌then◌else◌, ⊤}
 use Rattle.std.specs.Result.{IsErrAnd}
 use Rattle.std.specs.Io.KnownBytes.{Appends, Consumes, IsAtEnd}
@@ -17,8 +17,9 @@ use Rattle.hpb_server.specs.declared.line.TheConstants.{KEPT_BYTES}
 use Rattle.hpb_server.specs.Reading.{Pending, HasNoEnd, ReadsInVain, ReadsWithin}
 use Rattle.hpb_server.specs.Streams.{Streams, streams}
 use Rattle.hpb_server.specs.Serving.{AnswersInput, Serves}
-use Rattle.hpb_server.specs.Session.{Ends, Passes, Session, Broken}
+use Rattle.hpb_server.specs.Session.{Ends, PassesLine, Session, Broken}
 use Rattle.hpb_server.proofs.Errors.{err_case}
+use Rattle.hpb_server.proofs.Passing.{left_weaker, memory_read}
 use Rattle.hpb_server.proofs.Sessions.{session_begins, session_more, session_sent, session_read, session_stopped}
 use Rattle.hpb_server.proofs.WholeLines.{lines_answered, last_answered, rest_answered}
 use Rattle.hpb_server.proofs.Definitions.{vain_within}
@@ -30,30 +31,30 @@ same_empty line (x ∷ bytes) e =
     ne_eqb (length line) 0 (λ z. absurd (omega (arith, z, ap length e, length-take KEPT_BYTES (x ∷ bytes))))
     ∙ sym (ne_eqb (length (x ∷ bytes)) 0 (λ z. absurd (omega (arith, z))))
 
-module _ {Desk : Type 0} (rules : Desk → Rules) (over : Desk → Bool) (asks : Desk → Command → Reply → Desk → Type 0) (looks : Desk → Option AuctionValue → Desk → Type 0) where
+module _ {State : Type 0} (rules : State → Rules) (over : State → Bool) (asks : State → Command → Reply → State → Type 0) (looks : State → Option AuctionValue → State → Type 0) (most : ℕ) (takes_memory : Bool) where
   -- so much was taken of the reader within the budget, and the session stands there
-  pub record Comes (first : Pending) (before : Streams) (old : Desk) (now : Streams) (desk : Desk) (input : Pending) (line output : List ℕ) : Type 0 where
+  pub record Comes (first : Pending) (before : Streams) (old : State) (now : Streams) (desk : State) (input : Pending) (line output : List ℕ) : Type 0 where
     pub taken : List ℕ
     pub read : Consumes before.remaining now.remaining taken
     pub within : length taken + input.budget ≡ first.budget
-    pub session : Session rules over asks looks (first.unread ++ taken) old desk before.contents now.contents [] line input.unread output
+    pub session : Session rules over asks looks most takes_memory (first.unread ++ taken) old desk before.contents now.contents [] line input.unread output
 
-module _ {Desk : Type 0} {rules : Desk → Rules} {over : Desk → Bool} {asks : Desk → Command → Reply → Desk → Type 0} {looks : Desk → Option AuctionValue → Desk → Type 0} {first : Pending} {before : Streams} {old : Desk} where
-  pub comes_begins : {line output : List ℕ} → line ≡ [] → output ≡ [] → Comes rules over asks looks first before old before old first line output
+module _ {State : Type 0} {rules : State → Rules} {over : State → Bool} {asks : State → Command → Reply → State → Type 0} {looks : State → Option AuctionValue → State → Type 0} {most : ℕ} {takes_memory : Bool} {first : Pending} {before : Streams} {old : State} where
+  pub comes_begins : {line output : List ℕ} → line ≡ [] → output ≡ [] → Comes rules over asks looks most takes_memory first before old before old first line output
   comes_begins {line = line} {output = output} none empty = record {
     taken = [];
     read = Consumes-nil before.remaining;
     within = omega arith;
-    session = subst (λ (xs : List ℕ). Session rules over asks looks xs old old before.contents before.contents [] line first.unread output) (sym (append-nil first.unread))
-        (subst (λ (out : List ℕ). Session rules over asks looks first.unread old old before.contents before.contents [] line first.unread out) (sym empty)
+    session = subst (λ (xs : List ℕ). Session rules over asks looks most takes_memory xs old old before.contents before.contents [] line first.unread output) (sym (append-nil first.unread))
+        (subst (λ (out : List ℕ). Session rules over asks looks most takes_memory first.unread old old before.contents before.contents [] line first.unread out) (sym empty)
         (session_begins [] (λ k d h. absurd (omega arith)) none));
   }
 
-  module _ {now : Streams} {desk : Desk} {input : Pending} {line output : List ℕ} (c : Comes rules over asks looks first before old now desk input line output) where
+  module _ {now : Streams} {desk : State} {input : Pending} {line output : List ℕ} (c : Comes rules over asks looks most takes_memory first before old now desk input line output) where
     -- it is broken off once more was read in vain
-    pub comes_broken : (after : Streams) (new : Desk) (fault : Fault) (vain : ReadsWithin now.remaining after.remaining input.budget)
-        (b : Broken rules over asks looks (first.unread ++ c.taken) old new before.contents after.contents [] fault)
-        → (fault ≡ Reader → length (c.taken ++ vain.0) ≤ first.budget → HasNoEnd (b.rest ++ vain.0)) → Serves rules over asks looks first.unread first.budget before after old new (Err fault)
+    pub comes_broken : (after : Streams) (new : State) (fault : Fault) (vain : ReadsWithin now.remaining after.remaining input.budget)
+        (b : Broken rules over asks looks most takes_memory (first.unread ++ c.taken) old new before.contents after.contents [] fault)
+        → (fault ≡ Reader → length (c.taken ++ vain.0) ≤ first.budget → HasNoEnd (b.rest ++ vain.0)) → Serves rules over asks looks most takes_memory first.unread first.budget before after old new (Err fault)
     comes_broken after new fault vain b no_line = inr (record {
       taken = c.taken ++ vain.0;
       done = b.done;
@@ -72,17 +73,22 @@ module _ {Desk : Type 0} {rules : Desk → Rules} {over : Desk → Bool} {asks :
     })
 
     -- it is broken off and nothing more was read
-    pub comes_stopped : (writer_new : Option (List ℕ)) (new : Desk) (fault : Fault) (r : Result ⊤ Fault) → IsErrAnd r (λ e. e ≡ fault) → fault ≢ Reader
-        → Broken rules over asks looks (first.unread ++ c.taken) old new before.contents writer_new [] fault → Serves rules over asks looks first.unread first.budget before (streams now.remaining writer_new) old new r
-    comes_stopped writer_new new fault r bad other b = err_case (Serves rules over asks looks first.unread first.budget before (streams now.remaining writer_new) old new) r bad
-        (λ e is. subst (λ (f : Fault). Serves rules over asks looks first.unread first.budget before (streams now.remaining writer_new) old new (Err f)) (sym is)
+    pub comes_stopped : (writer_new : Option (List ℕ)) (new : State) (fault : Fault) (r : Result ⊤ Fault) → IsErrAnd r (λ e. e ≡ fault) → fault ≢ Reader
+        → Broken rules over asks looks most takes_memory (first.unread ++ c.taken) old new before.contents writer_new [] fault → Serves rules over asks looks most takes_memory first.unread first.budget before (streams now.remaining writer_new) old new r
+    comes_stopped writer_new new fault r bad other b = err_case (Serves rules over asks looks most takes_memory first.unread first.budget before (streams now.remaining writer_new) old new) r bad
+        (λ e is. subst (λ (f : Fault). Serves rules over asks looks most takes_memory first.unread first.budget before (streams now.remaining writer_new) old new (Err f)) (sym is)
         (comes_broken (streams now.remaining writer_new) new fault ([], Consumes-nil now.remaining, omega arith) b (λ read. absurd (other read))))
+
+    -- the desk is refused memory once all was answered and written
+    pub comes_refused : (writer_new : Option (List ℕ)) (new : State) {line_next unread_next output_next : List ℕ} (r : Result ⊤ Fault) → IsErrAnd r (λ e. e ≡ Memory) → takes_memory ≡ true → output_next ≡ []
+        → Session rules over asks looks most takes_memory (first.unread ++ c.taken) old new before.contents writer_new [] line_next unread_next output_next → Serves rules over asks looks most takes_memory first.unread first.budget before (streams now.remaining writer_new) old new r
+    comes_refused writer_new new r bad takes empty s = comes_stopped writer_new new Memory r bad memory_read (session_stopped s Memory ([], omega arith, (λ none. takes), empty))
 
     -- the reader failed once all was answered and written, and nothing is unread
     pub comes_unread : (reader_new : Option (List ℕ)) (fault : Fault) (r : Result ⊤ Fault) → IsErrAnd r (λ e. e ≡ fault) → fault ≡ Reader → input.unread ≡ [] → output ≡ [] → ReadsInVain now.remaining reader_new input.budget
-        → Serves rules over asks looks first.unread first.budget before (streams reader_new now.contents) old desk r
-    comes_unread reader_new fault r bad read none empty vain = err_case (Serves rules over asks looks first.unread first.budget before (streams reader_new now.contents) old desk) r bad
-        (λ e is. subst (λ (f : Fault). Serves rules over asks looks first.unread first.budget before (streams reader_new now.contents) old desk (Err f)) (sym (is ∙ read))
+        → Serves rules over asks looks most takes_memory first.unread first.budget before (streams reader_new now.contents) old desk r
+    comes_unread reader_new fault r bad read none empty vain = err_case (Serves rules over asks looks most takes_memory first.unread first.budget before (streams reader_new now.contents) old desk) r bad
+        (λ e is. subst (λ (f : Fault). Serves rules over asks looks most takes_memory first.unread first.budget before (streams reader_new now.contents) old desk (Err f)) (sym (is ∙ read))
         (comes_broken (streams reader_new now.contents) desk Reader (vain_within now.remaining reader_new input.budget vain) (session_stopped c.session Reader empty)
         (λ read within. ⊎_elim
         (λ nothing. subst (λ (xs : List ℕ). HasNoEnd (xs ++ vain.0)) (sym (ap (λ xs. c.session.rest ++ xs) none ∙ append-nil c.session.rest))
@@ -91,40 +97,40 @@ module _ {Desk : Type 0} {rules : Desk → Rules} {over : Desk → Bool} {asks :
         vain.2)))
 
     -- what is unread is answered, and all that was answered is written
-    module _ {next : Desk} {writer_next : Option (List ℕ)} {line_next unread_next output_next output_sent : List ℕ}
-        (t : Session rules over asks looks (c.session.rest ++ input.unread) desk next now.contents writer_next output line_next unread_next output_next)
+    module _ {next : State} {writer_next : Option (List ℕ)} {line_next unread_next output_next output_sent : List ℕ}
+        (t : Session rules over asks looks most takes_memory (c.session.rest ++ input.unread) desk next now.contents writer_next output line_next unread_next output_next)
         (writer_sent : Option (List ℕ)) (w : Appends writer_next writer_sent output_next) (empty : output_sent ≡ []) where
-      pub comes_session : Session rules over asks looks (first.unread ++ c.taken) old next before.contents writer_sent [] line_next unread_next output_sent
+      pub comes_session : Session rules over asks looks most takes_memory (first.unread ++ c.taken) old next before.contents writer_sent [] line_next unread_next output_sent
       comes_session = session_sent (session_more c.session t) w empty
 
       -- another chunk is read
       pub comes_more : {chunk : Pending} {budget : ℕ} (reader_new : Option (List ℕ)) → unread_next ≡ [] → budget ≡ input.budget → Consumes now.remaining reader_new chunk.unread → chunk.budget + length chunk.unread ≡ budget
-          → Comes rules over asks looks first before old (streams reader_new writer_sent) next chunk line_next output_sent
+          → Comes rules over asks looks most takes_memory first before old (streams reader_new writer_sent) next chunk line_next output_sent
       comes_more {chunk = chunk} reader_new none same h less = record {
         taken = c.taken ++ chunk.unread;
         read = Consumes-trans before.remaining now.remaining reader_new c.taken chunk.unread c.read h;
         within = omega (arith, c.within, same, less, length-append c.taken chunk.unread);
-        session = subst (λ (xs : List ℕ). Session rules over asks looks xs old next before.contents writer_sent [] line_next chunk.unread output_sent) (append_assoc first.unread c.taken chunk.unread)
+        session = subst (λ (xs : List ℕ). Session rules over asks looks most takes_memory xs old next before.contents writer_sent [] line_next chunk.unread output_sent) (append_assoc first.unread c.taken chunk.unread)
             (session_read comes_session chunk.unread none);
       }
 
       -- the session stands after that
-      pub comes_sent : (input_next : Pending) → unread_next ≡ input_next.unread → input_next.budget ≡ input.budget → Comes rules over asks looks first before old (streams now.remaining writer_sent) next input_next line_next output_sent
+      pub comes_sent : (input_next : Pending) → unread_next ≡ input_next.unread → input_next.budget ≡ input.budget → Comes rules over asks looks most takes_memory first before old (streams now.remaining writer_sent) next input_next line_next output_sent
       comes_sent input_next same kept = record {
         taken = c.taken;
         read = c.read;
         within = omega (arith, c.within, kept);
-        session = subst (λ (xs : List ℕ). Session rules over asks looks (first.unread ++ c.taken) old next before.contents writer_sent [] line_next xs output_sent) same comes_session;
+        session = subst (λ (xs : List ℕ). Session rules over asks looks most takes_memory (first.unread ++ c.taken) old next before.contents writer_sent [] line_next xs output_sent) same comes_session;
       }
 
-      abbrev last : Session rules over asks looks (first.unread ++ c.taken) old next before.contents writer_sent [] line_next unread_next output_sent
+      abbrev last : Session rules over asks looks most takes_memory (first.unread ++ c.taken) old next before.contents writer_sent [] line_next unread_next output_sent
       last = comes_session
 
       all_sent : last.text ≡ last.sent
       all_sent = last.owed ∙ ap (λ xs. last.sent ++ xs) empty ∙ append-nil last.sent
 
       -- the session is over
-      pub comes_over : over next ≡ true → Serves rules over asks looks first.unread first.budget before (streams now.remaining writer_sent) old next (Ok tt)
+      pub comes_over : over next ≡ true → Serves rules over asks looks most takes_memory first.unread first.budget before (streams now.remaining writer_sent) old next (Ok tt)
       comes_over is = record {
         taken = c.taken;
         text = last.text;
@@ -150,11 +156,11 @@ module _ {Desk : Type 0} {rules : Desk → Rules} {over : Desk → Bool} {asks :
         unfolding refused
         answered_all = last_answered last.leads last.rest last.no_end goes
 
-        pub comes_ended : (r : Result ⊤ Fault) → Ends writer_sent after.contents line_next r → Serves rules over asks looks first.unread first.budget before after old next r
+        pub comes_ended : 0 < most → (r : Result ⊤ Fault) → Ends writer_sent after.contents line_next r → Serves rules over asks looks most takes_memory first.unread first.budget before after old next r
         unfolding refused
-        comes_ended r e = by r (subst (λ (b : Bool). Passes writer_sent after.contents (if b then [] else unfinished_text) [] r) (same_empty line_next last.rest last.kept) e)
+        comes_ended some r e = by r (subst (λ (b : Bool). PassesLine writer_sent after.contents (if b then [] else unfinished_text) [] r) (same_empty line_next last.rest last.kept) e)
           where
-            by : (r : Result ⊤ Fault) → Passes writer_sent after.contents refused [] r → Serves rules over asks looks first.unread first.budget before after old next r
+            by : (r : Result ⊤ Fault) → PassesLine writer_sent after.contents refused [] r → Serves rules over asks looks most takes_memory first.unread first.budget before after old next r
             by (Ok done) s = record {
               taken = c.taken;
               text = last.text ++ refused;
@@ -178,12 +184,12 @@ module _ {Desk : Type 0} {rules : Desk → Rules} {over : Desk → Bool} {asks :
               answers = answered_all;
               written = Appends-trans before.contents writer_sent after.contents last.sent s.1 last.written s.2;
               front = (s.3.0, ap (λ xs. xs ++ refused) all_sent ∙ ap (λ xs. last.sent ++ xs) s.3.1 ∙ sym (append_assoc last.sent s.1 s.3.0));
-              left = s.4;
+              left = left_weaker takes_memory fault s.3.0 (omega (arith, some)) s.4;
               no_line = λ read. absurd (s.0 read);
             })
 
 -- nothing is read and nothing is written
-pub never_served : {Desk : Type 0} (rules : Desk → Rules) (over : Desk → Bool) (asks : Desk → Command → Reply → Desk → Type 0) (looks : Desk → Option AuctionValue → Desk → Type 0)
-    (first : Pending) (before : Streams) (old : Desk) (r : Result ⊤ Fault) → IsErrAnd r (λ e. e ≡ Memory) → Serves rules over asks looks first.unread first.budget before before old old r
-never_served rules over asks looks first before old r bad = err_case (Serves rules over asks looks first.unread first.budget before before old old) r bad
+pub never_served : {State : Type 0} (rules : State → Rules) (over : State → Bool) (asks : State → Command → Reply → State → Type 0) (looks : State → Option AuctionValue → State → Type 0) (most : ℕ) (takes_memory : Bool)
+    (first : Pending) (before : Streams) (old : State) (r : Result ⊤ Fault) → IsErrAnd r (λ e. e ≡ Memory) → Serves rules over asks looks most takes_memory first.unread first.budget before before old old r
+never_served rules over asks looks most takes_memory first before old r bad = err_case (Serves rules over asks looks most takes_memory first.unread first.budget before before old old) r bad
     (λ other is. inl (is, (Keeps-refl before.remaining, Keeps-refl before.contents), refl))

@@ -1,6 +1,11 @@
 -- A result that is an error.
-use Rattle.std.specs.Prelude.{Result, Ok, Err}
+use Rattle.std.specs.Prelude.{Result, Ok, Err, OnOk}
 use Rattle.std.specs.Result.{IsErrAnd}
+
+-- what holds in any case
+pub ok_case : {T E : Type 0} {P : Type 0} (r : Result T E) → P → OnOk r P
+ok_case (Ok done) p = p
+ok_case (Err error) p = tt
 
 -- what holds of each such error holds of a result that is one
 pub err_case : {T E : Type 0} {Q : E → Type 0} (P : Result T E → Type 0) (r : Result T E) → IsErrAnd r Q → ((error : E) → Q error → P (Err error)) → P r

@@ -1,11 +1,12 @@
 mod Errors
-mod Asking
 mod Cut
 mod Kept
 mod Writing
 mod Passing
+mod Standing
 mod Definitions
 mod WholeLines
+mod Queues
 mod Sessions
 mod Chunks
 mod Going

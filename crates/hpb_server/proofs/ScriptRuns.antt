@@ -28,10 +28,10 @@ use Rattle.hpb_server.specs.Reading.{Pending, EndsDefinition, GivesDefinition, R
 use Rattle.hpb_server.specs.Script.{IsTold, IsScriptText, AnswersScript, AnswersScriptFront, RefusesScript, RunsScript, WritesNothing, ServesScript, Refuses}
 use Rattle.hpb_server.specs.Streams.{Streams, streams}
 use Rattle.hpb_server.proofs.Errors.{err_case}
-use Rattle.hpb_server.proofs.Scripts.{never}
+use Rattle.hpb_server.proofs.Scripts.{never, last_left}
 use Rattle.hpb_server.proofs.ScriptTexts.{script_is, text_is, text_grows}
 use Rattle.hpb_server.specs.Serving.{AreLines, Serves}
-use Rattle.hpb_server.specs.Desk.{rules_in, never_over, RepliesIn, ShowsItself}
+use Rattle.hpb_server.specs.Desk.{rules_in, never_over, one_asked, no_memory, RepliesIn, ShowsItself}
 use Rattle.hpb_rules.specs.AuctionValue.{AuctionValue}
 
 -- ---- the kept bytes of the first line tell what it is
@@ -189,7 +189,7 @@ module _ {reader_old reader_now : Option (List ℕ)} {input : Pending} {text : D
       answered_by errors.Reader front = inr front
       answered_by errors.Writer front = inr front
 
-      broken_by : (fault : Fault) (new : AuctionValue) → Serves rules_in never_over RepliesIn ShowsItself input.unread input.budget (streams reader_now writer_old) (streams reader_new writer_new) (first_value rules) new (Err fault)
+      broken_by : (fault : Fault) (new : AuctionValue) → Serves rules_in never_over RepliesIn ShowsItself one_asked no_memory input.unread input.budget (streams reader_now writer_old) (streams reader_new writer_new) (first_value rules) new (Err fault)
           → RunsScript (streams reader_old writer_old) (streams reader_new writer_new) (Err fault)
       broken_by fault new (inl never) = nothing_by (streams reader_old writer_old) (streams reader_new writer_new) fault (λ writer. memory_written (sym never.0 ∙ writer))
           ((after_line input.unread, Consumes-kept reader_old reader_now reader_new (after_line input.unread) ends.0 never.1.0, omega (arith, ends.1)), Appends-kept writer_old writer_old writer_new [] (Appends-nil writer_old) never.1.1)
@@ -210,7 +210,7 @@ module _ {reader_old reader_now : Option (List ℕ)} {input : Pending} {text : D
         accepted = refl;
         written = s.written;
         front_so_far = so_far;
-        left = s.left;
+        left = last_left fault s.front.0 s.left;
         no_line = λ read within. s.no_line read (omega (arith, within, ends.1, length_all s.taken));
         front = front_trans s.sent (lines_text rules [] s.done) (lines_text rules [] (input.unread ++ s.taken)) so_far
             (subst (λ (all : List ℕ). IsFront (lines_text rules [] s.done) (lines_text rules [] all)) (sym s.parts)

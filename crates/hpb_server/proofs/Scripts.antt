@@ -1,17 +1,14 @@
 -- The auction in memory: what it answers is the text by its history.
-use Rattle.std.proofs.Common.{◌≡◌, ℕ, Bool, true, false, List, [], ◌∷◌, ◌++◌, reverse, length, ◌==◌, sym, ap, ◌∙◌, subst, append_assoc, append-nil, ⊎_elim, inl, inr, refl}
-use Rattle.std.specs.Prelude.{Result, Ok, Err, if◌then◌else◌}
+use Rattle.std.proofs.Common.{◌≡◌, ℕ, ◌≤◌, Bool, true, false, List, [], ◌∷◌, ◌++◌, reverse, length, ◌==◌, sym, ap, ◌∙◌, subst, arith, append_assoc, append-nil, ⊎_elim, inl, inr, refl}
+use Rattle.std.specs.Prelude.{Result, Ok, Err, if◌then◌else◌, ⊤}
 use Rattle.std.specs.Io.KnownBytes.{Appends}
 use Rattle.std.specs.List.{slice_split}
 use Rattle.std.proofs.lemmas.List.{reverse-reverse}
 use Rattle.hpb_rules.specs.declared.refusal.Refusal.{Refusal}
 use Rattle.hpb_rules.specs.declared.command.Command.{Command}
-use Rattle.hpb_rules.specs.declared.command.Command.TheVariants.{Bid, Close, Stage}
-use Rattle.hpb_rules.specs.Values.{reply_in, changed}
 use Rattle.hpb_rules.specs.Tree.{Rules}
 use Rattle.hpb_rules.specs.Fronts.{IsFront}
 use Rattle.hpb_rules.specs.AuctionValue.{AuctionValue, Shows, ShowsPast}
-use Rattle.hpb_rules.specs.Answer.{is_reply_new}
 use Rattle.hpb_rules.specs.declared.request.Request.{Request}
 use Rattle.hpb_rules.specs.declared.request.Request.TheVariants as requests
 use Rattle.hpb_rules.specs.Lines.{request_of, is_line_feed}
@@ -22,10 +19,15 @@ use Rattle.hpb_rules.proofs.Lists.{front_trans}
 use Rattle.hpb_rules.proofs.TextLaws.{lines_text_grows}
 use Rattle.hpb_rules.proofs.RunLaws.{next_is_shown, text_is_shown}
 use Rattle.hpb_server.specs.declared.input.TheConstants.{LINE_FEED}
-use Rattle.hpb_server.specs.Desk.{rules_in, never_over, RepliesIn, ShowsItself}
-use Rattle.hpb_server.specs.Serving.{AreLines, shown_by, AnswersRequest, AnswersLines}
+use Rattle.hpb_server.specs.AuctionDesk.{next_rules}
+use Rattle.hpb_server.specs.Desk.{rules_in, never_over, one_asked, no_memory, IsItself, Moves, RepliesIn, ShowsItself}
+use Rattle.hpb_server.specs.declared.fault.Fault.{Fault}
+use Rattle.hpb_server.specs.declared.fault.Fault.TheVariants.{Memory, Reader, Writer}
+use Rattle.hpb_server.specs.Fault.{lines_of, IsLeft, IsLeftOfScript}
+use Rattle.hpb_server.specs.Serving.{AreLines, shown_by, AnswersRequest, AnswersLines, Serves}
+use Rattle.hpb_server.specs.Streams.{Streams}
 use Rattle.hpb_server.proofs.WholeLines.{or_false}
-use Rattle.hpb_server.specs.ScriptLaws.{InputIsText, SessionIsText}
+use Rattle.hpb_server.specs.ScriptLaws.{InputIsText, ServesText, SessionIsText}
 
 -- ---- one request
 abbrev Asked : AuctionValue → Result Request Refusal → List ℕ → AuctionValue → Type 0
@@ -58,21 +60,12 @@ lines_written (line ∷ following ∷ more) old new text (inr goes) =
     ∙ ap (λ xs. line_of (response_in old (request_of old.rules line)) ++ xs) (lines_written (following ∷ more) goes.3 new goes.2 goes.5 ∙ ap (λ (v : AuctionValue). lines_in v (following ∷ more)) a.1)
 
 -- ---- what it then shows
-changed_rules : (value : AuctionValue) (asked : Command) → (changed value asked).rules ≡ value.rules
-changed_rules value (Bid from ticket node amount) = refl
-changed_rules value (Close ticket) = refl
-changed_rules value (Stage ticket) = refl
-
 request_rules : (value : AuctionValue) (request : Result Request Refusal) → (value_after_request value request).rules ≡ value.rules
 request_rules value (Err refusal) = refl
 request_rules value (Ok requests.Show) = refl
 request_rules value (Ok (requests.Node place)) = refl
 request_rules value (Ok (requests.Who from)) = refl
-request_rules value (Ok (requests.Command asked)) = by (is_reply_new value.count (reply_in value asked))
-  where
-    by : (b : Bool) → (if b then changed value asked else value).rules ≡ value.rules
-    by true = changed_rules value asked
-    by false = refl
+request_rules value (Ok (requests.Command asked)) = next_rules value asked
 
 request_shown : (value : AuctionValue) (past : List Command) (request : Result Request Refusal) → ShowsPast value past → ShowsPast (value_after_request value request) (past_after value.rules past request)
 request_shown value past (Err refusal) s = s
@@ -108,6 +101,17 @@ lines_front rules history done rest whole = ⊎_elim
     (subst (λ (xs : List ℕ). IsFront (lines_text rules history (some.0 ++ LINE_FEED ∷ [])) (lines_text rules history xs)) (sym (append_assoc some.0 (LINE_FEED ∷ []) rest)) (lines_text_grows rules history some.0 rest)))
     whole
 
+-- what is left of a session is no more than the last line
+pub last_left : (fault : Fault) (left : List ℕ) → IsLeft one_asked no_memory fault left → IsLeftOfScript fault left
+last_left Reader left h = h
+last_left Writer left h = h
+last_left Memory left h = by h.0 h.1 h.2 h.3
+  where
+    by : (answers : List (List ℕ)) → length answers ≤ one_asked → (answers ≡ [] → no_memory ≡ true) → left ≡ lines_of answers → IsLeftOfScript Memory left
+    by [] within some is = absurd (never (some refl))
+    by (answer ∷ []) within some is = (answer, is ∙ append-nil (line_of answer))
+    by (answer ∷ other ∷ more) within some is = absurd (omega (arith, within))
+
 pub session_is_text : SessionIsText
 session_is_text budget before after old new history (Ok done) shows s =
     let is = input_is_text old new history s.taken s.text shows s.answers in
@@ -139,8 +143,16 @@ session_is_text budget before after old new history (Err fault) shows (inr s) =
       whole = s.whole;
       written = s.written;
       so_far = (s.front.0, sym text ∙ so_far);
-      left = s.left;
+      left = last_left fault s.front.0 s.left;
       no_line = s.no_line;
       front = subst (λ (xs : List ℕ). IsFront s.sent (lines_text old.rules history xs)) (sym s.parts) (front_trans s.sent (lines_text old.rules history s.done) (lines_text old.rules history (s.done ++ s.rest)) (s.front.0, sym text ∙ so_far) all);
       shows = is.1;
     })
+
+-- so does one that is told by the states of its desk
+pub moved_is_text : (budget : ℕ) (before after : Streams) (old new : AuctionValue) (history : List Command) (result : Result ⊤ Fault)
+    → Shows old history → Moves IsItself old new (λ state next. Serves rules_in never_over RepliesIn ShowsItself one_asked no_memory [] budget before after state next result)
+    → ServesText old.rules history budget before after new result
+moved_is_text budget before after old new history result shows moves =
+    let served = moves old refl in
+    subst (λ (v : AuctionValue). ServesText old.rules history budget before after v result) served.2 (session_is_text budget before after old served.0 history result shows served.1)

@@ -1,21 +1,19 @@
 -- Whole lines, and what a desk answers to them and to what comes after them.
-use Rattle.std.proofs.Common.{◌≡◌, ℕ, Bool, true, false, ◌||◌, eqb, List, [], ◌∷◌, ◌++◌, length, take, Option, refl, sym, ap, ◌∙◌, subst, append_assoc, append-nil, ⊎_elim, inl, inr}
-use Rattle.std.specs.Prelude.{Result, if◌then◌else◌}
+use Rattle.std.proofs.Common.{◌≡◌, ℕ, Bool, true, false, ◌||◌, eqb, List, [], ◌∷◌, ◌++◌, length, Option, refl, sym, ap, ◌∙◌, subst, append_assoc, append-nil, ⊎_elim, inl, inr}
+use Rattle.std.specs.Prelude.{if◌then◌else◌}
 use Rattle.std.specs.List.{slice_split}
 use Rattle.std.proofs.lemmas.List.Splits.{slice_split_at, slice_split_none}
-use Rattle.hpb_rules.specs.declared.refusal.Refusal.{Refusal}
 use Rattle.hpb_rules.specs.declared.command.Command.{Command}
 use Rattle.hpb_rules.specs.declared.reply.Reply.{Reply}
 use Rattle.hpb_rules.specs.Tree.{Rules}
 use Rattle.hpb_rules.specs.AuctionValue.{AuctionValue}
 use Rattle.hpb_rules.specs.Text.{line_of, unfinished_text}
-use Rattle.hpb_rules.specs.declared.request.Request.{Request}
-use Rattle.hpb_rules.specs.Lines.{request_of, is_line_feed}
-use Rattle.hpb_rules.proofs.TextLaws.{request_of_front, IsFilled, filled, split_filled}
+use Rattle.hpb_rules.specs.Lines.{is_line_feed}
+use Rattle.hpb_rules.proofs.TextLaws.{IsFilled, filled, split_filled}
 use Rattle.hpb_server.specs.declared.input.TheConstants.{LINE_FEED}
-use Rattle.hpb_server.specs.declared.line.TheConstants.{KEPT_BYTES}
+use Rattle.hpb_server.specs.Fault.{lines_of}
 use Rattle.hpb_server.specs.Reading.{HasNoEnd}
-use Rattle.hpb_server.specs.Serving.{AreLines, AnswersRequest, AnswersLine, AnswersLines, AnswersInput}
+use Rattle.hpb_server.specs.Serving.{AreLines, AnswersLine, AnswersLines, AnswersInput}
 use Rattle.hpb_server.specs.Session.{Leads}
 
 -- ---- pieces
@@ -31,6 +29,10 @@ whole_append a b p q = ⊎_elim
     (λ some. inr (a ++ some.0, ap (λ ys. a ++ ys) some.1 ∙ sym (append_assoc a some.0 (LINE_FEED ∷ []))))
     q
 
+lines_whole : (lines : List (List ℕ)) → AreLines (lines_of lines)
+lines_whole [] = none_whole
+lines_whole (line ∷ lines) = whole_append (line_of line) (lines_of lines) (line_whole line) (lines_whole lines)
+
 or_true : (b : Bool) → (b || true) ≡ true
 or_true true = refl
 or_true false = refl
@@ -40,29 +42,35 @@ or_false true = refl
 or_false false = refl
 
 -- ---- answers
-module _ {Desk : Type 0} (rules : Desk → Rules) (over : Desk → Bool) (asks : Desk → Command → Reply → Desk → Type 0) (looks : Desk → Option AuctionValue → Desk → Type 0) where
-  before_parts : (a b end : Desk) (line answer rest : List ℕ) (parts : List (List ℕ)) → IsFilled parts → AnswersLine rules over asks looks a line answer b
+module _ {State : Type 0} (rules : State → Rules) (over : State → Bool) (asks : State → Command → Reply → State → Type 0) (looks : State → Option AuctionValue → State → Type 0) where
+  before_parts : (a b end : State) (line answer rest : List ℕ) (parts : List (List ℕ)) → IsFilled parts → AnswersLine rules over asks looks a line answer b
       → over a ≡ false → AnswersLines rules over asks looks b parts rest end → AnswersLines rules over asks looks a (line ∷ parts) (line_of answer ++ rest) end
   before_parts a b end line answer rest parts (filled piece pieces) h goes k = inr (goes, answer, rest, b, h, k, refl)
 
   -- nothing is answered once the session is over
-  over_lines : (d : Desk) (lines : List (List ℕ)) → over d ≡ true → AnswersLines rules over asks looks d lines [] d
+  over_lines : (d : State) (lines : List (List ℕ)) → over d ≡ true → AnswersLines rules over asks looks d lines [] d
   over_lines d [] is = (refl, refl)
   over_lines d (last ∷ []) is = (refl, ap (λ b. if b then [] else unfinished_text) (sym (ap (λ b. eqb (length last) 0 || b) is ∙ or_true (eqb (length last) 0))))
   over_lines d (line ∷ following ∷ more) is = inl (is, refl, refl)
 
-  pub over_answered : (d : Desk) (input : List ℕ) → over d ≡ true → AnswersInput rules over asks looks d input [] d
+  pub over_answered : (d : State) (input : List ℕ) → over d ≡ true → AnswersInput rules over asks looks d input [] d
   over_answered d input is = over_lines d (slice_split is_line_feed input) is
 
-  -- a line is answered by its first bytes
-  pub front_answered : (a b : Desk) (bytes answer : List ℕ) → AnswersRequest rules over asks looks a (request_of (rules a) (take KEPT_BYTES bytes)) answer b → AnswersLine rules over asks looks a bytes answer b
-  front_answered a b bytes answer h = subst (λ (request : Result Request Refusal). AnswersRequest rules over asks looks a request answer b) (request_of_front (rules a) bytes) h
+  -- what is answered then is nothing
+  nothing_over : (d e : State) (lines : List (List ℕ)) (text : List ℕ) → over d ≡ true → AnswersLines rules over asks looks d lines text e → (e ≡ d) × (text ≡ [])
+  nothing_over d e [] text is h = h
+  nothing_over d e (last ∷ []) text is h = (h.0, h.1 ∙ ap (λ b. if b then [] else unfinished_text) (ap (λ b. eqb (length last) 0 || b) is ∙ or_true (eqb (length last) 0)))
+  nothing_over d e (line ∷ following ∷ more) text is (inl ended) = (ended.1, ended.2)
+  nothing_over d e (line ∷ following ∷ more) text is (inr goes) = absurd (let no : true ≡ false = sym is ∙ goes.0 in cc)
 
-module _ {Desk : Type 0} {rules : Desk → Rules} {over : Desk → Bool} {asks : Desk → Command → Reply → Desk → Type 0} {looks : Desk → Option AuctionValue → Desk → Type 0} where
-  pub leads_none : (d : Desk) → Leads rules over asks looks d [] [] d
+  pub over_input : (d e : State) (input text : List ℕ) → over d ≡ true → AnswersInput rules over asks looks d input text e → (e ≡ d) × (text ≡ [])
+  over_input d e input text is h = nothing_over d e (slice_split is_line_feed input) text is h
+
+module _ {State : Type 0} {rules : State → Rules} {over : State → Bool} {asks : State → Command → Reply → State → Type 0} {looks : State → Option AuctionValue → State → Type 0} where
+  pub leads_none : (d : State) → Leads rules over asks looks d [] [] d
   leads_none d = record { whole = none_whole; goes_on = λ more rest end h. h }
 
-  pub leads_append : {a b e : Desk} {done text more rest : List ℕ} → Leads rules over asks looks a done text b → Leads rules over asks looks b more rest e → Leads rules over asks looks a (done ++ more) (text ++ rest) e
+  pub leads_append : {a b e : State} {done text more rest : List ℕ} → Leads rules over asks looks a done text b → Leads rules over asks looks b more rest e → Leads rules over asks looks a (done ++ more) (text ++ rest) e
   leads_append {a = a} {b = b} {e = e} {done = done} {text = text} {more = more} {rest = rest} p q = record {
     whole = whole_append done more p.whole q.whole;
     goes_on = λ xs ys end h.
@@ -71,7 +79,7 @@ module _ {Desk : Type 0} {rules : Desk → Rules} {over : Desk → Bool} {asks :
         (p.goes_on (more ++ xs) (rest ++ ys) end (q.goes_on xs ys end h)));
   }
 
-  pub leads_line : (a b : Desk) (line answer : List ℕ) → HasNoEnd line → over a ≡ false → AnswersLine rules over asks looks a line answer b → Leads rules over asks looks a (line ++ LINE_FEED ∷ []) (line_of answer) b
+  pub leads_line : (a b : State) (line answer : List ℕ) → HasNoEnd line → over a ≡ false → AnswersLine rules over asks looks a line answer b → Leads rules over asks looks a (line ++ LINE_FEED ∷ []) (line_of answer) b
   leads_line a b line answer no_end goes h = record {
     whole = line_whole line;
     goes_on = λ more rest end k.
@@ -80,7 +88,17 @@ module _ {Desk : Type 0} {rules : Desk → Rules} {over : Desk → Bool} {asks :
         (before_parts rules over asks looks a b end line answer rest (slice_split is_line_feed more) (split_filled is_line_feed more) h goes k);
   }
 
-  module _ {a b : Desk} {done text : List ℕ} (p : Leads rules over asks looks a done text b) where
+  -- lines after which the session was over already get no answer
+  pub leads_over : (d : State) (lines : List (List ℕ)) → over d ≡ true → Leads rules over asks looks d (lines_of lines) [] d
+  leads_over d lines is = record {
+    whole = lines_whole lines;
+    goes_on = λ more rest end h.
+        let none = over_input rules over asks looks d end more rest is h in
+        subst (λ (e : State). AnswersInput rules over asks looks d (lines_of lines ++ more) rest e) (sym none.0)
+        (subst (λ (out : List ℕ). AnswersInput rules over asks looks d (lines_of lines ++ more) out d) (sym none.1) (over_answered rules over asks looks d (lines_of lines ++ more) is));
+  }
+
+  module _ {a b : State} {done text : List ℕ} (p : Leads rules over asks looks a done text b) where
     -- the text of whole lines
     pub lines_answered : AnswersInput rules over asks looks a done text b
     lines_answered =

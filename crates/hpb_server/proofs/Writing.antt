@@ -1,11 +1,9 @@
 -- What is written, in turn.
-use Rattle.std.proofs.Common.{◌≡◌, ℕ, ◌+◌, List, [], length, take, drop, Option, Result, Ok, Err, sym, subst, arith, take_all, take-append-drop}
+use Rattle.std.proofs.Common.{◌≡◌, ℕ, ◌+◌, List, [], length, take, drop, Option, Result, Ok, Err, sym, subst, arith, take_all}
 use Rattle.std.specs.Bool.{⊤}
 use Rattle.std.specs.Io.KnownBytes.{Appends, Keeps}
 use Rattle.std.proofs.KnownBytes.{Appends-kept, Appends-nil, Appends-trans}
 use Rattle.std.proofs.Math.Seq.{take-add}
-use Rattle.hpb_rules.specs.Fronts.{IsFront}
-use Rattle.hpb_rules.proofs.Lists.{append_nil}
 use Rattle.hpb_server.specs.Writing.{Puts}
 
 pub sent : {E : Type 0} (a b c : Option (List ℕ)) (bytes : List ℕ) (r : Result ⊤ E) → Appends a b bytes → Keeps b c → Puts a c bytes r
@@ -18,8 +16,3 @@ none_sent a bytes none = subst (Appends a a) (sym none) (Appends-nil a)
 
 pub wrote_more : (a b c : Option (List ℕ)) (bytes : List ℕ) (at n : ℕ) → Appends a b (take at bytes) → Appends b c (take n (drop at bytes)) → Appends a c (take (at + n) bytes)
 wrote_more a b c bytes at n p q = subst (Appends a c) (sym (take-add at n bytes)) (Appends-trans a b c _ _ p q)
-
--- what was taken is a front
-pub put_front : {E : Type 0} (a b : Option (List ℕ)) (bytes : List ℕ) (r : Result ⊤ E) → Puts a b bytes r → (sent : List ℕ) × Appends a b sent × IsFront sent bytes
-put_front a b bytes (Ok done) p = (bytes, p, ([], append_nil bytes))
-put_front a b bytes (Err e) p = (take p.0 bytes, p.1, (drop p.0 bytes, sym (take-append-drop p.0 bytes)))

@@ -1,5 +1,5 @@
--- What a look at a desk gives, and the desk of an auction in memory.
-use Rattle.std.specs.Prelude.{◌≡◌, Bool, false, Option, Some, None}
+-- What a desk that is asked for commands together replies, what a look at it gives, and the desk of an auction in memory.
+use Rattle.std.specs.Prelude.{◌≡◌, ◌⊎◌, ℕ, Bool, true, false, List, [], ◌∷◌, length, Option, Some, None}
 use Rattle.std.specs.Borrow.{Bor}
 use Rattle.hpb_rules.specs.declared.command.Command.{Command}
 use Rattle.hpb_rules.specs.declared.reply.Reply.{Reply}
@@ -7,10 +7,29 @@ use Rattle.hpb_rules.specs.Tree.{Rules}
 use Rattle.hpb_rules.specs.AuctionValue.{AuctionValue}
 use Rattle.hpb_rules.specs.Values.{reply_in, next_value}
 
+-- Commands are asked one after another, and none once the session is over: then the rest gets no reply.
+abbrev pub AsksAll : {State : Type 0} (asks : State → Command → Reply → State → Type 0) (over : State → Bool) → State → List Command → List Reply → State → Type 0
+AsksAll {State} asks over old [] replies new = (new ≡ old) × (replies ≡ [])
+AsksAll {State} asks over old (command ∷ more) replies new =
+    ((over old ≡ true) × (new ≡ old) × (replies ≡ []))
+    ⊎ ((over old ≡ false) × (reply : Reply) × (rest : List Reply) × (next : State) × asks old command reply next × AsksAll asks over next more rest new × (replies ≡ reply ∷ rest))
+
 -- What is known of the auction that is shown, if one is.
 abbrev pub seen : Option (Bor AuctionValue) → Option AuctionValue
 seen None = None
 seen (Some auction) = Some auction.now
+
+-- An auction has a place for each node and each bidder of a definition.
+abbrev pub HasPlaces : Rules → Rules → Type 0
+HasPlaces definition shown = (length shown.nodes ≡ length definition.nodes) × (length shown.bidders ≡ length definition.bidders)
+
+-- From each state that a desk stood at it came, in this way, to a state that it stands at now.
+abbrev pub Moves : {Desk State : Type 0} (is_at : Desk → State → Type 0) (old new : Desk) (way : State → State → Type 0) → Type 0
+Moves {Desk} {State} is_at old new way = (state : State) → is_at old state → (next : State) × way state next × is_at new next
+
+-- The state of an auction in memory is its value.
+abbrev pub IsItself : AuctionValue → AuctionValue → Type 0
+IsItself desk state = state ≡ desk
 
 -- The rules of an auction in memory.
 abbrev pub rules_in : AuctionValue → Rules
@@ -19,6 +38,14 @@ rules_in value = value.rules
 -- It never ends a session.
 abbrev pub never_over : AuctionValue → Bool
 never_over value = false
+
+-- It is asked for one command at a time.
+abbrev pub one_asked : ℕ
+one_asked = 1
+
+-- To be asked takes no memory.
+abbrev pub no_memory : Bool
+no_memory = false
 
 -- An auction in memory replies by what it shows, and becomes what follows from that.
 abbrev pub RepliesIn : AuctionValue → Command → Reply → AuctionValue → Type 0

@@ -1,5 +1,5 @@
 -- Faults: what each is told by, and what it leaves unwritten.
-use Rattle.std.specs.Prelude.{◌≡◌, ◌≢◌, ℕ, List, []}
+use Rattle.std.specs.Prelude.{◌≡◌, ◌≢◌, ℕ, ◌≤◌, Bool, true, List, [], ◌∷◌, ◌++◌, length}
 use Rattle.std.specs.IoError.{error_kind}
 use Rattle.std.specs.declared.io.Error.{Error}
 use Rattle.std.specs.declared.io.ErrorKind.TheVariants.{Interrupted}
@@ -15,11 +15,22 @@ refusal_of Memory = refusals.Memory
 refusal_of Reader = refusals.Stream
 refusal_of Writer = refusals.Stream
 
--- What is left unwritten of the answers: the last line where memory was refused for it, nothing where the reader failed, and any end of them where the writer failed.
-abbrev pub IsLeft : Fault → List ℕ → Type 0
-IsLeft Memory left = (answer : List ℕ) × (left ≡ line_of answer)
-IsLeft Reader left = left ≡ []
-IsLeft Writer left = Unit {0}
+-- Texts, each with the end of its line.
+abbrev pub lines_of : List (List ℕ) → List ℕ
+lines_of [] = []
+lines_of (text ∷ more) = line_of text ++ lines_of more
+
+-- What is left unwritten of the answers: at most so many of the last lines where memory was refused, and none of them only where the desk takes memory; nothing where the reader failed, and any end of them where the writer failed.
+abbrev pub IsLeft : (most : ℕ) (takes_memory : Bool) → Fault → List ℕ → Type 0
+IsLeft most takes_memory Memory left = (answers : List (List ℕ)) × (length answers ≤ most) × (answers ≡ [] → takes_memory ≡ true) × (left ≡ lines_of answers)
+IsLeft most takes_memory Reader left = left ≡ []
+IsLeft most takes_memory Writer left = Unit {0}
+
+-- The same where the desk is asked for one command at a time and takes no memory: the last line where memory was refused for it.
+abbrev pub IsLeftOfScript : Fault → List ℕ → Type 0
+IsLeftOfScript Memory left = (answer : List ℕ) × (left ≡ line_of answer)
+IsLeftOfScript Reader left = left ≡ []
+IsLeftOfScript Writer left = Unit {0}
 
 -- An error that is no interruption.
 abbrev pub IsFailure : Error → Type 0

@@ -10,5 +10,3 @@ pub mod Serving
 pub mod Session
 pub mod Script
 pub mod ScriptLaws
-pub mod Arguments
-pub mod Program

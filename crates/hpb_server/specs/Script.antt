@@ -15,11 +15,11 @@ use Rattle.hpb_define.specs.Text.{Answers}
 use Rattle.hpb_server.specs.declared.fault.Fault.{Fault}
 use Rattle.hpb_server.specs.declared.fault.Fault.TheVariants as faults
 use Rattle.hpb_server.specs.declared.fault.Fault.TheVariants.{Reader}
-use Rattle.hpb_server.specs.Fault.{IsLeft}
+use Rattle.hpb_server.specs.Fault.{IsLeftOfScript}
 use Rattle.hpb_server.specs.declared.input.TheConstants.{LINE_FEED}
 use Rattle.hpb_server.specs.declared.script.ScriptEnd.{ScriptEnd}
 use Rattle.hpb_server.specs.declared.script.ScriptEnd.TheVariants.{Answered, Refused}
-use Rattle.hpb_server.specs.Desk.{rules_in, never_over, RepliesIn, ShowsItself}
+use Rattle.hpb_server.specs.Desk.{rules_in, never_over, one_asked, no_memory, RepliesIn, ShowsItself}
 use Rattle.hpb_server.specs.Reading.{HasNoEnd, Pending, most_taken, ReadsWithin}
 use Rattle.hpb_server.specs.Streams.{Streams}
 use Rattle.hpb_server.specs.Serving.{AreLines, Serves}
@@ -86,7 +86,7 @@ module _ (before after : Streams) where
     pub accepted : is_text.reading ≡ Ok rules
     pub written : Appends before.contents after.contents sent
     pub front_so_far : IsFront sent so_far
-    pub left : IsLeft fault front_so_far.0
+    pub left : IsLeftOfScript fault front_so_far.0
     pub no_line : fault ≡ Reader → length taken ≤ MOST_READ_BYTES → HasNoEnd rest
     pub front : IsFront sent text
 
@@ -104,7 +104,7 @@ module _ (before after : Streams) where
 
   -- The lines of a script are answered from this value on.
   abbrev pub ServesScript : Pending → AuctionValue → Result ⊤ Fault → Type 0
-  ServesScript input value result = (new : AuctionValue) × Serves rules_in never_over RepliesIn ShowsItself input.unread input.budget before after value new result
+  ServesScript input value result = (new : AuctionValue) × Serves rules_in never_over RepliesIn ShowsItself one_asked no_memory input.unread input.budget before after value new result
 
 -- The line of a refusal was written; or nothing where memory was refused, or a front of it where the writer failed.
 abbrev pub WritesRefusal : (writer_old writer_new : Option (List ℕ)) (refusal : Refusal) → Result ScriptEnd Fault → Type 0

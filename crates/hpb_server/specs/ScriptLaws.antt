@@ -8,9 +8,9 @@ use Rattle.hpb_rules.specs.AuctionValue.{AuctionValue, Shows}
 use Rattle.hpb_rules.specs.Text.{lines_text, history_after_lines}
 use Rattle.hpb_server.specs.declared.fault.Fault.{Fault}
 use Rattle.hpb_server.specs.declared.fault.Fault.TheVariants.{Memory, Reader}
-use Rattle.hpb_server.specs.Fault.{IsLeft}
+use Rattle.hpb_server.specs.Fault.{IsLeftOfScript}
 use Rattle.hpb_server.specs.Reading.{most_taken, HasNoEnd}
-use Rattle.hpb_server.specs.Desk.{rules_in, never_over, RepliesIn, ShowsItself}
+use Rattle.hpb_server.specs.Desk.{rules_in, never_over, one_asked, no_memory, RepliesIn, ShowsItself}
 use Rattle.hpb_server.specs.Streams.{Streams, AreKept}
 use Rattle.hpb_server.specs.Serving.{AreLines, AnswersInput, Serves}
 
@@ -43,7 +43,7 @@ module _ (rules : Rules) (history : List Command) (budget : ℕ) (before after :
     pub whole : AreLines done ⊎ ((rest ≡ []) × IsAtEnd after.remaining)
     pub written : Appends before.contents after.contents sent
     pub so_far : IsFront sent (lines_text rules history done)
-    pub left : IsLeft fault so_far.0
+    pub left : IsLeftOfScript fault so_far.0
     pub no_line : fault ≡ Reader → length taken ≤ budget → HasNoEnd rest
     pub front : IsFront sent (lines_text rules history taken)
     pub shows : Shows new (history_after_lines rules history done)
@@ -56,5 +56,5 @@ module _ (rules : Rules) (history : List Command) (budget : ℕ) (before after :
 -- A session with an auction in memory writes the text by each history that the auction shows.
 abbrev pub SessionIsText : Type 0
 SessionIsText = (budget : ℕ) (before after : Streams) (old new : AuctionValue) (history : List Command) (result : Result ⊤ Fault)
-    → Shows old history → Serves rules_in never_over RepliesIn ShowsItself [] budget before after old new result
+    → Shows old history → Serves rules_in never_over RepliesIn ShowsItself one_asked no_memory [] budget before after old new result
     → ServesText old.rules history budget before after new result

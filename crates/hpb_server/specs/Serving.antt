@@ -32,13 +32,13 @@ abbrev pub AreLines : List ℕ → Type 0
 AreLines bytes = (bytes ≡ []) ⊎ ((front : List ℕ) × (bytes ≡ front ++ LINE_FEED ∷ []))
 
 -- A question is answered by what the desk shows.
-abbrev pub AnswersLook : {Desk : Type 0} (looks : Desk → Option AuctionValue → Desk → Type 0) → (AuctionValue → List ℕ) → Desk → List ℕ → Desk → Type 0
+abbrev pub AnswersLook : {State : Type 0} (looks : State → Option AuctionValue → State → Type 0) → (AuctionValue → List ℕ) → State → List ℕ → State → Type 0
 AnswersLook looks how old answer new = (shown : Option AuctionValue) × looks old shown new × (answer ≡ shown_by how shown)
 
--- A desk has rules that lines are read by; a command makes it reply and become another; a look shows what it has.
-module _ {Desk : Type 0} (rules : Desk → Rules) (over : Desk → Bool) (asks : Desk → Command → Reply → Desk → Type 0) (looks : Desk → Option AuctionValue → Desk → Type 0) where
+-- A state that a desk stands at has the rules that lines are read by. Asked for a command, the desk replies and comes to another state; a look shows what it has, and may bring it to another, too.
+module _ {State : Type 0} (rules : State → Rules) (over : State → Bool) (asks : State → Command → Reply → State → Type 0) (looks : State → Option AuctionValue → State → Type 0) where
   -- A request, or a line that is refused, gets this answer.
-  abbrev pub AnswersRequest : Desk → Result Request Refusal → List ℕ → Desk → Type 0
+  abbrev pub AnswersRequest : State → Result Request Refusal → List ℕ → State → Type 0
   AnswersRequest old (Err refusal) answer new = (new ≡ old) × (answer ≡ refusal_text refusal)
   AnswersRequest old (Ok (requests.Command asked)) answer new = (reply : Reply) × asks old asked reply new × (answer ≡ reply_text reply)
   AnswersRequest old (Ok requests.Show) answer new = AnswersLook looks shown_in old answer new
@@ -46,22 +46,22 @@ module _ {Desk : Type 0} (rules : Desk → Rules) (over : Desk → Bool) (asks :
   AnswersRequest old (Ok (requests.Who from)) answer new = AnswersLook looks (λ value. bidder_shown_in value from) old answer new
 
   -- A line gets this answer.
-  abbrev pub AnswersLine : Desk → List ℕ → List ℕ → Desk → Type 0
+  abbrev pub AnswersLine : State → List ℕ → List ℕ → State → Type 0
   AnswersLine old line answer new = AnswersRequest old (request_of (rules old) line) answer new
 
   -- Each line gets its one answer, in order, and none once the session is over. What stands behind the last end of a line is refused, where it has a byte.
-  abbrev pub AnswersLines : Desk → List (List ℕ) → List ℕ → Desk → Type 0
+  abbrev pub AnswersLines : State → List (List ℕ) → List ℕ → State → Type 0
   AnswersLines old [] text new = (new ≡ old) × (text ≡ [])
   AnswersLines old (last ∷ []) text new = (new ≡ old) × (text ≡ (if (length last == 0) || over old then [] else unfinished_text))
   AnswersLines old (line ∷ following ∷ more) text new =
       ((over old ≡ true) × (new ≡ old) × (text ≡ []))
-      ⊎ ((over old ≡ false) × (answer rest : List ℕ) × (next : Desk) × AnswersLine old line answer next × AnswersLines next (following ∷ more) rest new × (text ≡ line_of answer ++ rest))
+      ⊎ ((over old ≡ false) × (answer rest : List ℕ) × (next : State) × AnswersLine old line answer next × AnswersLines next (following ∷ more) rest new × (text ≡ line_of answer ++ rest))
 
   -- An input gets this text.
-  abbrev pub AnswersInput : Desk → List ℕ → List ℕ → Desk → Type 0
+  abbrev pub AnswersInput : State → List ℕ → List ℕ → State → Type 0
   AnswersInput old input text new = AnswersLines old (slice_split is_line_feed input) text new
 
-  module _ (unread : List ℕ) (budget : ℕ) (before after : Streams) (old new : Desk) where
+  module _ (most : ℕ) (takes_memory : Bool) (unread : List ℕ) (budget : ℕ) (before after : Streams) (old new : State) where
     -- All was read, to the end of the reader or of the session and within the budget, and answered.
     pub record AnswersAll : Type 0 where
       pub taken : List ℕ
@@ -86,7 +86,7 @@ module _ {Desk : Type 0} (rules : Desk → Rules) (over : Desk → Bool) (asks :
       pub answers : AnswersInput old done text new
       pub written : Appends before.contents after.contents sent
       pub front : IsFront sent text
-      pub left : IsLeft fault front.0
+      pub left : IsLeft most takes_memory fault front.0
       pub no_line : fault ≡ Reader → length taken ≤ budget → HasNoEnd rest
 
     -- Nothing was read, asked or written, since memory was refused at the start.

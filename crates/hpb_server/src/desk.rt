@@ -1,36 +1,60 @@
-ghost use Rattle.std.specs.Prelude.{◌≡◌, IfSome};
+ghost use Rattle.std.specs.Prelude.{◌≡◌, ◌<◌, ◌≤◌, true, length, IfOk, IfSome, OnErr};
 ghost use Rattle.std.specs.Borrow.{sem};
 ghost use Rattle.std.specs.Io.BufRead.{Rests};
 
 use hpb_auction::Auction;
-use hpb_rules::{Command, Reply};
+use hpb_rules::{Commands, Replies};
 use hpb_tree::Definition;
+use std::alloc::{AllocError, Global};
 use std::marker::Model;
 
 /// Whom a session asks. `ScriptDesk` is the auction of a script.
+///
+/// Commands that have come may be asked together; they are judged one after another all the same.
+///
+/// What a desk replies and shows is told by states that it stands at (`is_at`). It may stand at none that is known.
 pub trait Desk {
-    ghost use Rattle.std.specs.Prelude.{Bool, List, Option};
+    ghost use Rattle.std.specs.Prelude.{ℕ, Bool, List, Option};
     ghost use Rattle.hpb_rules.specs.Tree.{Rules};
+    ghost use Rattle.hpb_rules.specs.declared.limits.TheConstants.{MOST_LETTERS};
     ghost use Rattle.hpb_rules.specs.AuctionValue.{AuctionValue};
     ghost use Rattle.hpb_rules.specs.declared.command.Command.{Command as Asked};
     ghost use Rattle.hpb_rules.specs.declared.reply.Reply.{Reply as Answered};
-    ghost use Rattle.hpb_server.specs.Desk.{seen};
+    ghost use Rattle.hpb_server.specs.Desk.{seen, AsksAll, HasPlaces};
     ghost use Rattle.hpb_server.specs.DeskLaws.{RepliesAfter, ShowsAfter};
+
+    /// Where a desk stands, as the contracts of a session tell it.
+    ghost State: { Type 0 };
 
     /// What the definition says.
     ghost rules: { Self → Rules };
 
-    /// A desk may have told of this history.
-    ghost tells: { Self → List Asked → Type 0 };
-
     /// The session is over: its desk is asked nothing more.
     ghost over: { Self → Bool };
 
-    /// A desk that is asked for a command may give this reply and be this desk afterwards.
-    ghost asks: { Self → Asked → Answered → Self → Type 0 };
+    /// The desk stands at this state.
+    ghost is_at: { Self → State → Type 0 };
 
-    /// A desk may show this, or nothing any more, and be this desk afterwards.
-    ghost looks: { Self → Option AuctionValue → Self → Type 0 };
+    /// The definition, by a state.
+    ghost rules_at: { State → Rules };
+
+    /// Whether the session is over, by a state.
+    ghost over_at: { State → Bool };
+
+    /// A desk at this state may have told of this history.
+    ghost tells: { State → List Asked → Type 0 };
+
+    /// A desk at a state that is asked for a command may give this reply and stand at this state afterwards.
+    ghost asks: { State → Asked → Answered → State → Type 0 };
+
+    /// A desk at a state may show this, or nothing any more, and stand at this state afterwards.
+    ghost looks: { State → Option AuctionValue → State → Type 0 };
+
+    /// How many commands are asked together at most.
+    ghost most: { ℕ };
+
+    /// Memory may be refused where commands are asked, and where the desk rests.
+    ghost takes_memory: { Bool };
 
     /// The definition that lines are read by.
     fn definition(&self) -> &Definition
@@ -40,22 +64,52 @@ pub trait Desk {
     fn is_over(&self) -> bool
         ensures { result ≡ over self.now };
 
-    /// Asks for a command, and gives what it is answered.
-    fn ask(&mut self, command: &Command) -> Reply
-        ensures asked { asks self.old command.now result self.new }
+    /// How many commands are to be asked together, where so many have come.
+    fn most_asked(&self) -> usize
+        ensures some { 0 < result }
+        ensures most { result ≤ most };
+
+    /// Asks for commands together, and gives what each is answered, up to the reply that ends the session. Where
+    /// memory is refused, none is asked.
+    fn ask(&mut self, alloc: Global, commands: &Commands) -> Result<Replies, AllocError>
+        requires some { 0 < length commands.now }
+        requires most { length commands.now ≤ most }
+        ensures asked { (state : State) → is_at self.old state → IfOk result (λ replies. (next : State) × AsksAll asks over_at state commands.now replies next × is_at self.new next) }
+        ensures kept { (state : State) → is_at self.old state → OnErr result (is_at self.new state) }
+        ensures refused { OnErr result (takes_memory ≡ true) }
         ensures rules { rules self.new ≡ rules self.old };
 
-    /// The auction as it stands, where the desk can still show one.
+    /// Does what could wait until the answers had left.
+    fn rest(&mut self, alloc: Global) -> Result<(), AllocError>
+        ensures kept { (state : State) → is_at self.old state → is_at self.new state }
+        ensures refused { OnErr result (takes_memory ≡ true) }
+        ensures over { over self.new ≡ over self.old }
+        ensures rules { rules self.new ≡ rules self.old };
+
+    /// The auction as it stands, where the desk can still show one. It has as many nodes and bidders as the
+    /// definition.
     fn look(&mut self) -> Option<&Auction>
-        ensures shown { IfSome result (λ a. a.now.rules ≡ rules self.old) }
-        ensures* after { sem 𝓛 (Rests Self.row self.entry (λ new. looks self.old (seen result) new × (rules new ≡ rules self.old))) };
+        ensures shown { IfSome result (λ a. HasPlaces (rules self.old) a.now.rules) }
+        ensures* after { sem 𝓛 (Rests Self.row self.entry (λ new. ((state : State) → is_at self.old state → (next : State) × looks state (seen result) next × is_at new next) × (rules new ≡ rules self.old))) };
+
+    /// A state that the desk stands at has its definition.
+    ghost rules_are: { (desk : Self) (state : State) → is_at desk state → rules_at state ≡ rules desk };
+
+    /// A state that the desk stands at says whether the session is over.
+    ghost over_is: { (desk : Self) (state : State) → is_at desk state → over_at state ≡ over desk };
+
+    /// A command at least can be asked, and no more together than stand in `Commands`.
+    ghost most_is_some: { (0 < most) × (most ≤ MOST_LETTERS) };
+
+    /// The definition stays.
+    ghost rules_stay: { (old new : State) (command : Asked) (reply : Answered) → asks old command reply new → rules_at new ≡ rules_at old };
 
     /// A reply is that of the rules after a history that goes on from what was told, or one by which the desk
     /// tells of itself.
-    ghost replies_go_on: { (old new : Self) (command : Asked) (reply : Answered) (told : List Asked) → asks old command reply new → tells old told → RepliesAfter (rules old) told command reply (tells new) };
+    ghost replies_go_on: { (old new : State) (command : Asked) (reply : Answered) (told : List Asked) → asks old command reply new → tells old told → RepliesAfter (rules_at old) told command reply (tells new) };
 
     /// What is shown is the auction after a history that goes on from what was told.
-    ghost shows_go_on: { (old new : Self) (shown : Option AuctionValue) (told : List Asked) → looks old shown new → tells old told → ShowsAfter told shown (tells new) };
+    ghost shows_go_on: { (old new : State) (shown : Option AuctionValue) (told : List Asked) → looks old shown new → tells old told → ShowsAfter told shown (tells new) };
 }
 
 /// The desk of an auction in memory.
@@ -89,19 +143,39 @@ impl ScriptDesk {
 }
 
 impl Desk for ScriptDesk {
-    ghost use Rattle.hpb_rules.specs.AuctionValue.{Shows};
-    ghost use Rattle.hpb_server.specs.AuctionDesk.{auction_replies, auction_shows};
-    ghost use Rattle.hpb_server.specs.Desk.{never_over, rules_in, RepliesIn, ShowsItself};
+    ghost use Rattle.hpb_rules.specs.AuctionValue.{AuctionValue, Shows};
+    ghost use Rattle.hpb_server.specs.AuctionDesk.{auction_keeps_rules, auction_over, auction_replies, auction_rules, auction_shows, one_is_some};
+    ghost use Rattle.hpb_server.specs.Desk.{never_over, no_memory, one_asked, rules_in, IsItself, RepliesIn, ShowsItself};
+
+    ghost State = { AuctionValue };
 
     ghost rules = { rules_in };
 
-    ghost tells = { Shows };
-
     ghost over = { never_over };
+
+    ghost is_at = { IsItself };
+
+    ghost rules_at = { rules_in };
+
+    ghost over_at = { never_over };
+
+    ghost tells = { Shows };
 
     ghost asks = { RepliesIn };
 
     ghost looks = { ShowsItself };
+
+    ghost most = { one_asked };
+
+    ghost takes_memory = { no_memory };
+
+    ghost rules_are = { auction_rules };
+
+    ghost over_is = { auction_over };
+
+    ghost most_is_some = { one_is_some };
+
+    ghost rules_stay = { auction_keeps_rules };
 
     ghost replies_go_on = { auction_replies };
 
@@ -115,8 +189,20 @@ impl Desk for ScriptDesk {
         false
     }
 
-    fn ask(&mut self, command: &Command) -> Reply {
-        self.auction.apply(command)
+    fn most_asked(&self) -> usize {
+        1
+    }
+
+    fn ask(&mut self, _alloc: Global, commands: &Commands) -> Result<Replies, AllocError> {
+        let mut replies = Replies::new();
+        for command in commands.as_slice() {
+            let _ = replies.push(self.auction.apply(command));
+        }
+        Ok(replies)
+    }
+
+    fn rest(&mut self, _alloc: Global) -> Result<(), AllocError> {
+        Ok(())
     }
 
     fn look(&mut self) -> Option<&Auction> {

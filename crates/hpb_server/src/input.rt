@@ -172,7 +172,7 @@ fn find_end(bytes: &[u8]) -> Option<usize>
 }
 
 /// One read of at most so many bytes into the front of a buffer, tried again where a signal came first.
-fn read_some<R: Read>(reader: &mut R, buffer: &mut [u8], most: usize) -> io::Result<usize>
+pub fn read_some<R: Read>(reader: &mut R, buffer: &mut [u8], most: usize) -> io::Result<usize>
     requires some { 0 < most }
     requires room { most ≤ length buffer.old }
     ensures bound { IfOk result (λ n. n ≤ most) }

@@ -1,4 +1,3 @@
-ghost use Rattle.hpb_server.specs.Arguments.{WordsAskFor};
 ghost use Rattle.hpb_server.specs.ScriptLaws.{InputIsText, SessionIsText};
 
 /// An auction in memory answers by the history that it shows, and its history only goes on.
@@ -10,9 +9,4 @@ pub fn input_is_text()
 /// a front of the text of what was read.
 pub fn session_is_text()
     ensures { SessionIsText }
-{}
-
-/// Which words ask for a script, and what others ask for, or have wrong.
-pub fn words_ask_for()
-    ensures { WordsAskFor }
 {}

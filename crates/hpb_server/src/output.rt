@@ -80,7 +80,7 @@ impl Output {
 
 /// Writes bytes and has the writer hand them on.
 #[tactic(auto, using(crate::proofs::Writing::sent))]
-pub(crate) fn send_bytes<W: Write>(writer: &mut W, bytes: &[u8]) -> io::Result<()>
+pub fn send_bytes<W: Write>(writer: &mut W, bytes: &[u8]) -> io::Result<()>
     ensures bytes { Puts (W.contents writer.old) (W.contents writer.new) bytes.now result }
     ensures cause { IfErr result IsFailure }
 {

@@ -81,7 +81,7 @@ fn answer_script<R: Read, W: Write>(
         input.old (first_value definition.now) result }
 {
     let mut desk = ScriptDesk::new(Auction::new(alloc, definition)?);
-    answer_lines(reader, writer, &mut desk, input, output)
+    answer_lines(alloc, reader, writer, &mut desk, input, output)
 }
 
 /// Writes the line of a refused definition, and nothing where memory was refused.

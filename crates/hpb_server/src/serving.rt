@@ -1,20 +1,24 @@
-ghost use Rattle.std.specs.Prelude.{◌≡◌, ◌<◌, ℕ, false, List, [], ◌++◌, take, Ok, OnOk, length};
+ghost use Rattle.std.specs.Prelude.{◌≡◌, ◌<◌, ◌≤◌, ℕ, true, false, List, [], ◌∷◌, ◌++◌, take, Ok, IfOk, OnOk, length};
 ghost use Rattle.hpb_rules.specs.declared.command.Command.{Command};
 ghost use Rattle.hpb_rules.specs.Lines.{request_of};
+ghost use Rattle.hpb_rules.specs.Text.{line_of};
 ghost use Rattle.hpb_rules.specs.ValueText.{shown_in, node_shown_in, bidder_shown_in};
+ghost use Rattle.hpb_rules.specs.declared.request.Request.TheVariants as requests;
 ghost use Rattle.hpb_wire.specs.Requests.{IsRequestOf};
+ghost use Rattle.hpb_wire.specs.Responses.{Adds};
+ghost use Rattle.hpb_server.specs.Desk.{Moves};
 ghost use Rattle.hpb_server.specs.DeskLaws.{GoesOn};
 ghost use Rattle.hpb_server.specs.Reading.{HasNoEnd};
 ghost use Rattle.hpb_server.specs.Serving.{Serves};
 ghost use Rattle.hpb_server.specs.Streams.{streams};
-ghost use Rattle.hpb_server.specs.Session.{AddsAnswer, AddsLook, Ends, PassesAnswer, Proceeds};
+ghost use Rattle.hpb_server.specs.Session.{asked_for, replies_text, AddsAnswer, AddsLook, Ends, IsQuestion, Passes, PassesLine, PassesRequests, Proceeds};
 
 use crate::desk::Desk;
 use crate::fault::Fault;
 use crate::input::Input;
 use crate::line::{KEPT_BYTES, Line};
 use crate::output::Output;
-use hpb_rules::{BidderId, MOST_READ_BYTES, NodeId, Refusal, Request};
+use hpb_rules::{BidderId, Command, Commands, MOST_READ_BYTES, NodeId, Refusal, Replies, Request};
 use hpb_wire::{Response, parse_line};
 use std::alloc::{AllocError, Global};
 use std::io::{Read, Write};
@@ -26,28 +30,33 @@ use std::io::{Read, Write};
 /// by `ERR 10 line`. No line tells of a fault: 90 where memory is refused, 92 where the reader or the writer
 /// fails or more than 1,000,000,000 bytes are read: one byte more is taken at most, which shows that there
 /// is more. Where the reader fails, each line that was read is answered and all answers are written first;
-/// where memory is refused, all but the one that it was refused for, or nothing is read at all; where the
-/// writer fails, a front of them. What was accepted stands.
+/// where memory is refused, all but the one that it was refused for and those that came together with it and
+/// stand behind it, or nothing is read at all; where the writer fails, a front of them. What was accepted
+/// stands.
 ///
-/// A desk may end the session with a reply: that is written, and nothing more is read or answered.
+/// Commands that were read wait until the desk is asked for them together: once they are as many as it takes,
+/// before any other line is answered, and before more is read. A desk may end the session with a reply: that is
+/// written, and nothing more is read or answered.
 pub fn serve<R: Read, W: Write, D: Desk>(
     alloc: Global,
     reader: &mut R,
     writer: &mut W,
     desk: &mut D,
 ) -> Result<(), Fault>
-    ensures served { Serves D.rules D.over D.asks D.looks [] MOST_READ_BYTES
-        (streams (R.remaining reader.old) (W.contents writer.old)) (streams (R.remaining reader.new) (W.contents writer.new)) desk.old desk.new result }
+    ensures served { Moves D.is_at desk.old desk.new (λ state next. Serves D.rules_at D.over_at D.asks D.looks D.most D.takes_memory [] MOST_READ_BYTES
+        (streams (R.remaining reader.old) (W.contents writer.old)) (streams (R.remaining reader.new) (W.contents writer.new)) state next result) }
     ensures rules { D.rules desk.new ≡ D.rules desk.old }
-    ensures told { (told : List Command) → D.tells desk.old told → GoesOn told (D.tells desk.new) }
+    ensures told { (state : D.State) → D.is_at desk.old state → (told : List Command) → D.tells state told
+        → (next : D.State) × D.is_at desk.new next × GoesOn told (D.tells next) }
 {
     let mut input = Input::new(alloc, MOST_READ_BYTES)?;
     let mut output = Output::new(alloc)?;
-    answer_lines(reader, writer, desk, &mut input, &mut output)
+    answer_lines(alloc, reader, writer, desk, &mut input, &mut output)
 }
 
 /// Answers what is unread of the input, and all that comes after it.
 pub(crate) fn answer_lines<R: Read, W: Write, D: Desk>(
+    alloc: Global,
     reader: &mut R,
     writer: &mut W,
     desk: &mut D,
@@ -55,14 +64,15 @@ pub(crate) fn answer_lines<R: Read, W: Write, D: Desk>(
     output: &mut Output,
 ) -> Result<(), Fault>
     requires { output.old ≡ [] }
-    ensures served { Serves D.rules D.over D.asks D.looks input.old.unread input.old.budget
-        (streams (R.remaining reader.old) (W.contents writer.old)) (streams (R.remaining reader.new) (W.contents writer.new)) desk.old desk.new result }
+    ensures served { Moves D.is_at desk.old desk.new (λ state next. Serves D.rules_at D.over_at D.asks D.looks D.most D.takes_memory input.old.unread input.old.budget
+        (streams (R.remaining reader.old) (W.contents writer.old)) (streams (R.remaining reader.new) (W.contents writer.new)) state next result) }
     ensures rules { D.rules desk.new ≡ D.rules desk.old }
 {
     let mut line = Line::new();
     'chunks: loop {
-        answer_unread(writer, desk, input, &mut line, output)?;
+        answer_unread(alloc, writer, desk, input, &mut line, output)?;
         output.send(writer)?;
+        desk.rest(alloc)?;
         if desk.is_over() {
             return Ok(());
         }
@@ -87,43 +97,164 @@ fn end_lines<W: Write>(writer: &mut W, line: &Line, output: &mut Output) -> Resu
 
 /// Answers the lines that end in what is unread. The start of one more stands in `line` afterwards.
 fn answer_unread<W: Write, D: Desk>(
+    alloc: Global,
     writer: &mut W,
     desk: &mut D,
     input: &mut Input,
     line: &mut Line,
     output: &mut Output,
 ) -> Result<(), Fault>
-    ensures lines { (partial : List ℕ) → HasNoEnd partial → line.old ≡ take KEPT_BYTES partial
-        → Proceeds D.rules D.over D.asks D.looks (partial ++ input.old.unread) desk.old desk.new
+    ensures lines { Moves D.is_at desk.old desk.new (λ state next. (partial : List ℕ) → HasNoEnd partial → line.old ≡ take KEPT_BYTES partial
+        → Proceeds D.rules_at D.over_at D.asks D.looks D.most D.takes_memory (partial ++ input.old.unread) state next
         (W.contents writer.old) (W.contents writer.new) output.old
-        line.new input.new.unread output.new result }
+        line.new input.new.unread output.new result) }
     ensures rules { D.rules desk.new ≡ D.rules desk.old }
     ensures taken { OnOk result (D.over desk.new ≡ false → input.new.unread ≡ []) }
     ensures read { OnOk result (input.new.budget ≡ input.old.budget) }
 {
+    let mut queue = Commands::new();
     'lines: while !desk.is_over() {
         if !input.take_line(line) {
-            return Ok(());
+            return ask_queue(alloc, writer, desk, &mut queue, output);
         }
-        pass_answer(writer, desk, line.as_slice(), output)?;
+        pass_line(alloc, writer, desk, line.as_slice(), &mut queue, output)?;
         line.clear();
     }
     Ok(())
 }
 
-/// Answers a line. All that is answered is written where room for one answer more may be missing, and
-/// where memory is refused.
-fn pass_answer<W: Write, D: Desk>(
+/// Passes a line: its command to the queue, and any other to its answer, once all that waits is asked.
+fn pass_line<W: Write, D: Desk>(
+    alloc: Global,
     writer: &mut W,
     desk: &mut D,
     line: &[u8],
+    queue: &mut Commands,
     output: &mut Output,
 ) -> Result<(), Fault>
-    ensures answer { PassesAnswer D.rules D.over D.asks D.looks desk.old (request_of (D.rules desk.old) line.now) desk.new
-        (W.contents writer.old) (W.contents writer.new) output.old output.new result }
+    requires goes_on { D.over desk.old ≡ false }
+    requires room { length queue.old < D.most }
+    ensures passed { Moves D.is_at desk.old desk.new (λ state next. PassesRequests D.rules_at D.over_at D.asks D.looks D.most D.takes_memory state
+        (asked_for queue.old ++ request_of (D.rules desk.old) line.now ∷ []) next
+        (W.contents writer.old) (W.contents writer.new) output.old output.new queue.new result) }
     ensures rules { D.rules desk.new ≡ D.rules desk.old }
+    ensures room { OnOk result (length queue.new < D.most) }
+    ensures over { OnOk result (D.over desk.new ≡ true → queue.new ≡ []) }
 {
-    match answer_line(desk, line, output) {
+    match parse_line(line, desk.definition()) {
+        Ok(Request::Command(command)) => enqueue(alloc, writer, desk, command, queue, output),
+        question => pass_question(alloc, writer, desk, question, queue, output),
+    }
+}
+
+/// Puts a command into the queue, and asks for all that waits once it is as much as is asked together.
+fn enqueue<W: Write, D: Desk>(
+    alloc: Global,
+    writer: &mut W,
+    desk: &mut D,
+    command: Command,
+    queue: &mut Commands,
+    output: &mut Output,
+) -> Result<(), Fault>
+    requires goes_on { D.over desk.old ≡ false }
+    requires room { length queue.old < D.most }
+    ensures passed { Moves D.is_at desk.old desk.new (λ state next. PassesRequests D.rules_at D.over_at D.asks D.looks D.most D.takes_memory state
+        (asked_for queue.old ++ Ok (requests.Command command) ∷ []) next
+        (W.contents writer.old) (W.contents writer.new) output.old output.new queue.new result) }
+    ensures rules { D.rules desk.new ≡ D.rules desk.old }
+    ensures room { OnOk result (length queue.new < D.most) }
+    ensures over { OnOk result (D.over desk.new ≡ true → queue.new ≡ []) }
+{
+    let _ = queue.push(command);
+    if queue.len() < desk.most_asked() {
+        return Ok(());
+    }
+    ask_queue(alloc, writer, desk, queue, output)
+}
+
+/// Asks for all that waits, and answers what is no command, unless the session is over.
+fn pass_question<W: Write, D: Desk>(
+    alloc: Global,
+    writer: &mut W,
+    desk: &mut D,
+    question: Result<Request, Refusal>,
+    queue: &mut Commands,
+    output: &mut Output,
+) -> Result<(), Fault>
+    requires question { IsQuestion question }
+    requires known { IfOk question (IsRequestOf (D.rules desk.old)) }
+    requires room { length queue.old ≤ D.most }
+    ensures passed { Moves D.is_at desk.old desk.new (λ state next. PassesRequests D.rules_at D.over_at D.asks D.looks D.most D.takes_memory state
+        (asked_for queue.old ++ question ∷ []) next
+        (W.contents writer.old) (W.contents writer.new) output.old output.new queue.new result) }
+    ensures rules { D.rules desk.new ≡ D.rules desk.old }
+    ensures asked { OnOk result (queue.new ≡ []) }
+{
+    ask_queue(alloc, writer, desk, queue, output)?;
+    if desk.is_over() {
+        return Ok(());
+    }
+    let added = answer_question(desk, question, output);
+    pass_added(writer, added, output)
+}
+
+/// Asks for all that waits, and passes the replies.
+fn ask_queue<W: Write, D: Desk>(
+    alloc: Global,
+    writer: &mut W,
+    desk: &mut D,
+    queue: &mut Commands,
+    output: &mut Output,
+) -> Result<(), Fault>
+    requires { length queue.old ≤ D.most }
+    ensures passed { Moves D.is_at desk.old desk.new (λ state next. PassesRequests D.rules_at D.over_at D.asks D.looks D.most D.takes_memory state
+        (asked_for queue.old) next
+        (W.contents writer.old) (W.contents writer.new) output.old output.new queue.new result) }
+    ensures rules { D.rules desk.new ≡ D.rules desk.old }
+    ensures asked { OnOk result (queue.new ≡ []) }
+{
+    if queue.len() == 0 {
+        return Ok(());
+    }
+    match desk.ask(alloc, queue) {
+        Ok(replies) => {
+            queue.clear();
+            pass_replies(writer, &replies, output)
+        }
+        Err(error) => {
+            output.send(writer)?;
+            Err(error.into())
+        }
+    }
+}
+
+/// Adds the answers that came together.
+fn pass_replies<W: Write>(
+    writer: &mut W,
+    replies: &Replies,
+    output: &mut Output,
+) -> Result<(), Fault>
+    ensures { Passes (length replies.now) false (W.contents writer.old) (W.contents writer.new)
+        (output.old ++ replies_text replies.now) output.new result }
+{
+    for reply in replies.as_slice() {
+        let added = output.add(&Response::Reply(*reply));
+        pass_added(writer, added, output)?;
+    }
+    Ok(())
+}
+
+/// Goes on from an answer that was added, or was not. All that is answered is written where room for one answer
+/// more may be missing, and where memory is refused.
+fn pass_added<W: Write>(
+    writer: &mut W,
+    added: Result<(), AllocError>,
+    output: &mut Output,
+) -> Result<(), Fault>
+    ensures { (waiting answer : List ℕ) → Adds waiting output.old answer added
+        → PassesLine (W.contents writer.old) (W.contents writer.new) (waiting ++ line_of answer) output.new result }
+{
+    match added {
         Ok(()) => {
             if output.is_nearly_full() {
                 output.send(writer)
@@ -138,31 +269,38 @@ fn pass_answer<W: Write, D: Desk>(
     }
 }
 
-/// Adds the answer to a line.
-fn answer_line<D: Desk>(desk: &mut D, line: &[u8], output: &mut Output) -> Result<(), AllocError>
-    ensures answer { AddsAnswer D.rules D.over D.asks D.looks desk.old (request_of (D.rules desk.old) line.now) desk.new
-        output.old output.new result }
+/// Adds the answer to a question, or to a line that is refused.
+fn answer_question<D: Desk>(
+    desk: &mut D,
+    question: Result<Request, Refusal>,
+    output: &mut Output,
+) -> Result<(), AllocError>
+    requires question { IsQuestion question }
+    requires known { IfOk question (IsRequestOf (D.rules desk.old)) }
+    ensures answer { Moves D.is_at desk.old desk.new (λ state next. AddsAnswer D.rules_at D.over_at D.asks D.looks state question next
+        output.old output.new result) }
     ensures rules { D.rules desk.new ≡ D.rules desk.old }
 {
-    match parse_line(line, desk.definition()) {
+    match question {
         Ok(request) => answer_request(desk, request, output),
         Err(refusal) => output.refuse(refusal),
     }
 }
 
-/// Adds the answer to a request.
+/// Adds the answer to a question.
 fn answer_request<D: Desk>(
     desk: &mut D,
     request: Request,
     output: &mut Output,
 ) -> Result<(), AllocError>
-    requires { IsRequestOf (D.rules desk.old) request }
-    ensures answer { AddsAnswer D.rules D.over D.asks D.looks desk.old (Ok request) desk.new
-        output.old output.new result }
+    requires question { IsQuestion (Ok request) }
+    requires known { IsRequestOf (D.rules desk.old) request }
+    ensures answer { Moves D.is_at desk.old desk.new (λ state next. AddsAnswer D.rules_at D.over_at D.asks D.looks state (Ok request) next
+        output.old output.new result) }
     ensures rules { D.rules desk.new ≡ D.rules desk.old }
 {
     match request {
-        Request::Command(command) => output.add(&Response::Reply(desk.ask(&command))),
+        Request::Command(_) => unreachable!(),
         Request::Show => answer_show(desk, output),
         Request::Node(node) => answer_node(desk, node, output),
         Request::Who(bidder) => answer_who(desk, bidder, output),
@@ -171,8 +309,8 @@ fn answer_request<D: Desk>(
 
 /// Adds the answer to `SHOW`.
 fn answer_show<D: Desk>(desk: &mut D, output: &mut Output) -> Result<(), AllocError>
-    ensures answer { AddsLook D.looks shown_in desk.old desk.new
-        output.old output.new result }
+    ensures answer { Moves D.is_at desk.old desk.new (λ state next. AddsLook D.looks shown_in state next
+        output.old output.new result) }
     ensures rules { D.rules desk.new ≡ D.rules desk.old }
 {
     match desk.look() {
@@ -184,8 +322,8 @@ fn answer_show<D: Desk>(desk: &mut D, output: &mut Output) -> Result<(), AllocEr
 /// Adds the answer to `NODE`.
 fn answer_node<D: Desk>(desk: &mut D, node: NodeId, output: &mut Output) -> Result<(), AllocError>
     requires { node < length (D.rules desk.old).nodes }
-    ensures answer { AddsLook D.looks (λ value. node_shown_in value node) desk.old desk.new
-        output.old output.new result }
+    ensures answer { Moves D.is_at desk.old desk.new (λ state next. AddsLook D.looks (λ value. node_shown_in value node) state next
+        output.old output.new result) }
     ensures rules { D.rules desk.new ≡ D.rules desk.old }
 {
     match desk.look() {
@@ -201,8 +339,8 @@ fn answer_who<D: Desk>(
     output: &mut Output,
 ) -> Result<(), AllocError>
     requires { bidder < length (D.rules desk.old).bidders }
-    ensures answer { AddsLook D.looks (λ value. bidder_shown_in value bidder) desk.old desk.new
-        output.old output.new result }
+    ensures answer { Moves D.is_at desk.old desk.new (λ state next. AddsLook D.looks (λ value. bidder_shown_in value bidder) state next
+        output.old output.new result) }
     ensures rules { D.rules desk.new ≡ D.rules desk.old }
 {
     match desk.look() {

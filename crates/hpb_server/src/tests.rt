@@ -13,23 +13,23 @@ use std::io;
 use std::io::{ErrorKind, Read, Write};
 use std::test::Fail;
 
-const DEFINITION: &[u8] =
+pub(crate) const DEFINITION: &[u8] =
     b"{\"step\":10,\"percent\":10,\"stages\":[80,95],\"nodes\":[{\"name\":\"all\",\"parent\":null},{\"name\":\"east\",\"parent\":\"all\"},{\"name\":\"a\",\"parent\":\"east\",\"units\":10,\"opening\":100},{\"name\":\"b\",\"parent\":\"east\",\"units\":10,\"opening\":100},{\"name\":\"c\",\"parent\":\"all\",\"units\":20,\"opening\":100},{\"name\":\"d\",\"parent\":null,\"units\":5,\"opening\":100}],\"bidders\":[{\"name\":\"x\",\"units\":10},{\"name\":\"y\",\"units\":10},{\"name\":\"z\",\"units\":40},{\"name\":\"w\",\"units\":25}]}\n";
 
 /// What a session does, as both of its ends see it.
 #[derive(Drop)]
-struct Talk {
+pub(crate) struct Talk {
     reads: Cell<usize>,
     writes: Cell<usize>,
     /// How many lines were written, and how many of them were flushed.
     written: Cell<usize>,
-    flushed: Cell<usize>,
+    pub(crate) flushed: Cell<usize>,
     /// Whether more was asked for before all that had been given was answered and flushed.
-    early: Cell<bool>,
+    pub(crate) early: Cell<bool>,
 }
 
 impl Talk {
-    fn new() -> Self {
+    pub(crate) fn new() -> Self {
         Talk {
             reads: Cell::new(0),
             writes: Cell::new(0),
@@ -42,9 +42,9 @@ impl Talk {
 
 /// Gives one line a read; the first is a definition, which gets no answer.
 #[derive(Drop)]
-struct Lines<'a> {
-    talk: &'a Talk,
-    rest: &'a [u8],
+pub(crate) struct Lines<'a> {
+    pub(crate) talk: &'a Talk,
+    pub(crate) rest: &'a [u8],
 }
 
 impl Read for Lines<'_> {
@@ -80,8 +80,8 @@ fn give(rest: &mut &[u8], buffer: &mut [u8], most: usize) -> io::Result<usize>
 
 /// Counts the lines that are written, and the calls.
 #[derive(Drop)]
-struct Counts<'a> {
-    talk: &'a Talk,
+pub(crate) struct Counts<'a> {
+    pub(crate) talk: &'a Talk,
 }
 
 impl Write for Counts<'_> {
@@ -152,9 +152,9 @@ impl Write for OneByteWriter {
 
 /// Gives one line a read, so often, and fails then.
 #[derive(Drop)]
-struct FailingReader<'a> {
-    rest: &'a [u8],
-    reads: usize,
+pub(crate) struct FailingReader<'a> {
+    pub(crate) rest: &'a [u8],
+    pub(crate) reads: usize,
 }
 
 impl Read for FailingReader<'_> {
@@ -454,6 +454,7 @@ fn no_more_is_read_than_may_be(rt: HostRuntime) -> Result<(), Fail> {
         let mut input = Input::new(alloc, budget)?;
         let mut output = Output::new(alloc)?;
         let result = answer_lines(
+            alloc,
             &mut reader,
             &mut written,
             &mut desk,
@@ -500,78 +501,6 @@ fn inputs_end_early(rt: HostRuntime) -> Result<(), Fail> {
     Ok(())
 }
 
-/// Bytes that are no definition.
-const NO_DEFINITION: &[u8] = b"{";
-
-#[test]
-fn arguments_are_read(rt: HostRuntime) -> Result<(), Fail> {
-    let alloc = rt.alloc();
-    let table: [(&[&str], u8, &str); 7] = [
-        (&["hpb", "--help"], 0, "Usage: hpb"),
-        (&["hpb", "--version"], 0, "hpb 0."),
-        (&["hpb", "bogus"], 2, "error: "),
-        (&["hpb", "--bogus"], 2, "error: "),
-        (&["hpb", "-b"], 2, "error: "),
-        (&["hpb", ""], 2, "error: "),
-        (&["hpb", "bogus", "--help"], 2, "error: "),
-    ];
-    for (arguments, want, said) in table {
-        let mut input = NO_DEFINITION;
-        let mut output = Vec::new(alloc);
-        let mut errors = Vec::new(alloc);
-        let status = program(&rt, alloc, arguments, &mut input, &mut output, &mut errors);
-        assert_eq!(rt; status, want, "{arguments:?}");
-        assert_eq!(rt; input, NO_DEFINITION, "{arguments:?}");
-        assert!(rt; output.is_empty(), "{arguments:?}");
-        let text = String::from_utf8(errors)?;
-        assert!(rt; text.contains(said), "{arguments:?} gives {text}");
-    }
-    Ok(())
-}
-
-/// Runs the program on no definition: its status, how much of the input is left, and what it writes.
-fn run_on_no_definition(
-    rt: &HostRuntime,
-    alloc: Global,
-    arguments: &[&str],
-) -> (u8, usize, Vec<u8>, Vec<u8>) {
-    let mut input = NO_DEFINITION;
-    let mut output = Vec::new(alloc);
-    let mut errors = Vec::new(alloc);
-    let status = program(rt, alloc, arguments, &mut input, &mut output, &mut errors);
-    (status, input.len(), output, errors)
-}
-
-#[test]
-fn a_script_is_run_without_words(rt: HostRuntime) -> Result<(), Fail> {
-    let alloc = rt.alloc();
-    let (status, left, output, errors) = run_on_no_definition(&rt, alloc, &["hpb"]);
-    assert_eq!(rt; status, 1);
-    assert_eq!(rt; left, 0);
-    assert_eq!(rt; output.as_slice(), b"ERR 60 json\n".as_slice());
-    assert!(rt; errors.is_empty());
-    let (status, left, output, errors) = run_on_no_definition(&rt, alloc, &[]);
-    assert_eq!(rt; status, 1);
-    assert_eq!(rt; left, 0);
-    assert_eq!(rt; output.as_slice(), b"ERR 60 json\n".as_slice());
-    assert!(rt; errors.is_empty());
-    Ok(())
-}
-
-#[test]
-fn arguments_that_are_no_text_are_refused(rt: HostRuntime) -> Result<(), Fail> {
-    let alloc = rt.alloc();
-    let mut errors = Vec::new(alloc);
-    let status = refuse_arguments(&ErrorKind::InvalidData.into(), &mut errors);
-    assert_eq!(rt; status, 2);
-    assert!(rt; String::from_utf8(errors)?.starts_with("error: "));
-    let mut errors = Vec::new(alloc);
-    let status = refuse_arguments(&ErrorKind::OutOfMemory.into(), &mut errors);
-    assert_eq!(rt; status, 1);
-    assert!(rt; errors.is_empty());
-    Ok(())
-}
-
 #[test]
 fn faults_have_the_words_of_their_refusals(rt: HostRuntime) -> Result<(), Fail> {
     let alloc = rt.alloc();
@@ -579,12 +508,5 @@ fn faults_have_the_words_of_their_refusals(rt: HostRuntime) -> Result<(), Fail> 
         let text = fault.to_string(alloc)?;
         assert_eq!(rt; text.as_str(), fault.refusal().word());
     }
-    let text = ArgumentsFault::Memory.to_string(alloc)?;
-    assert_eq!(rt; text.as_str(), Refusal::Memory.word());
-    let refused = ArgumentsFault::Refused {
-        text: String::from_str(alloc, "error: no such word")?,
-        status: 2,
-    };
-    assert_eq!(rt; refused.to_string(alloc)?.as_str(), "error: no such word");
     Ok(())
 }

@@ -1,4 +1,5 @@
 use Rattle.std.proofs.Common.{◌≡◌}
+use Rattle.hpb_server.specs.Desk.{Moves}
 use Rattle.hpb_server.specs.Streams.{streams}
 use Rattle.hpb_server.proofs.Chunks.{Comes}
 use Rattle.hpb_server.proofs.serving.answer_lines.Given as goal
@@ -7,8 +8,8 @@ use Rattle.hpb_server.proofs.serving.answer_lines.Given as goal
 abbrev pub invariant-chunks : goal.invariant-chunks
 invariant-chunks g l =
     (g.D.Desk.rules l.desk ≡ g.D.Desk.rules l.initial.desk)
-    × Comes g.D.Desk.rules g.D.Desk.over g.D.Desk.asks g.D.Desk.looks l.initial.input (streams (g.R.Read.remaining l.initial.reader) (g.W.Write.contents l.initial.writer)) l.initial.desk
-    (streams (g.R.Read.remaining l.reader) (g.W.Write.contents l.writer)) l.desk l.input l.line l.output
+    × Moves g.D.Desk.is_at l.initial.desk l.desk (λ state now. Comes g.D.Desk.rules_at g.D.Desk.over_at g.D.Desk.asks g.D.Desk.looks g.D.Desk.most g.D.Desk.takes_memory l.initial.input (streams (g.R.Read.remaining l.initial.reader) (g.W.Write.contents l.initial.writer)) state
+    (streams (g.R.Read.remaining l.reader) (g.W.Write.contents l.writer)) now l.input l.line l.output)
 
 abbrev pub decreases-chunks : goal.decreases-chunks
 decreases-chunks g l = l.input.budget

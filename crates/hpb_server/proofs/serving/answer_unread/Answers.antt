@@ -1,41 +1,67 @@
-use Rattle.std.proofs.Common.{◌≢◌, refl, sym, subst, ◌++◌, ◌∙◌}
+use Rattle.std.proofs.Common.{◌≢◌, refl, sym, ap, subst, ◌++◌, ◌∙◌, length, arith}
 use Rattle.hpb_server.specs.declared.fault.Fault.{Fault}
 use Rattle.hpb_server.specs.declared.fault.Fault.TheVariants.{Reader}
 use Rattle.hpb_server.specs.Session.{Broken, Proceeds}
 use Rattle.hpb_server.proofs.Errors.{err_case}
-use Rattle.hpb_server.proofs.Sessions.{session_begins, lines_ended, line_passed, line_broken}
+use Rattle.hpb_server.proofs.Standing.{same_rules}
+use Rattle.hpb_server.proofs.Queues.{queues_asked, queues_begin, queues_between, queues_ended, queues_line, queues_session, waits_on, waits_broken}
 use Rattle.hpb_server.proofs.serving.answer_unread.Goals as goal
 
 pub lines-init : goal.lines-init
-lines-init g c = (refl, refl, λ partial no_end kept. session_begins partial no_end kept)
+lines-init g c = (
+  refl,
+  refl,
+  omega (arith, ap length c.new-queue.ensures, g.met.D.Desk.most_is_some.0),
+  λ over. c.new-queue.ensures,
+  λ state at. (state, λ partial no_end kept. queues_begin partial no_end kept c.new-queue.ensures, at),
+)
 
 pub lines-preserved : goal.lines-preserved
 lines-preserved g c =
     let inv = c.lines.invariant in
-    let passed = c.in_ok-pass_answer.ensures.answer in
     let part = rw c.if-not-take_line.false at c.take_line.ensures in (
-      c.pass_answer.ensures.rules ∙ inv.0,
+      c.pass_line.ensures.rules ∙ inv.0,
       part.nothing_read ∙ inv.1,
-      λ partial no_end kept. line_passed part (inv.2 partial no_end kept) (sym c.is_over.ensures ∙ c.lines-test.true) c.pass_answer.new.desk c.as_slice.result.now passed.0 c.as_slice.ensures passed.1
-          (g.W.Write.contents c.pass_answer.new.writer) passed.2.0 passed.2.1 passed.2.2 c.clear.ensures,
+      c.in_ok-pass_line.ensures.room,
+      c.in_ok-pass_line.ensures.over,
+      λ state at.
+          let came = inv.4 state at in
+          let passed = c.in_ok-pass_line.ensures.passed came.0 came.2 in
+          let are = g.met.D.Desk.rules_are c.lines.desk came.0 came.2 in
+          let stays = same_rules g.met.D.Desk.rules_are c.lines.desk c.pass_line.new.desk came.0 passed.0 came.2 passed.2 c.pass_line.ensures.rules in (
+            passed.0,
+            λ partial no_end kept. queues_between (waits_on (queues_line (came.1 partial no_end kept) part c.as_slice.result.now c.as_slice.ensures (g.D.Desk.rules c.lines.desk) are) passed.1 stays) c.clear.ensures,
+            passed.2,
+          ),
     )
 
-pub returns-in_err-pass_answer-clause-lines : goal.returns-in_err-pass_answer-clause-lines
-returns-in_err-pass_answer-clause-lines g c =
-    let inv = c.lines.invariant in
-    let stopped = c.in_err-pass_answer.ensures.answer in
-    let part = rw c.if-not-take_line.false at c.take_line.ensures in
-    λ partial no_end kept. err_case
-    (Proceeds g.D.Desk.rules g.D.Desk.over g.D.Desk.asks g.D.Desk.looks (partial ++ c.args.input.now.unread) c.args.desk.now c.pass_answer.new.desk (g.W.Write.contents c.args.writer.now) (g.W.Write.contents c.pass_answer.new.writer) c.args.output.now c.take_line.new.line c.take_line.new.self.unread c.pass_answer.new.output)
-    c.from_residual.result c.from_residual.ensures.1
-    (λ fault is. subst (λ (f : Fault). (f ≢ Reader) × Broken g.D.Desk.rules g.D.Desk.over g.D.Desk.asks g.D.Desk.looks (partial ++ c.args.input.now.unread) c.args.desk.now c.pass_answer.new.desk (g.W.Write.contents c.args.writer.now) (g.W.Write.contents c.pass_answer.new.writer) c.args.output.now f) (sym is) (
-      stopped.2.0,
-      line_broken part (inv.2 partial no_end kept) (sym c.is_over.ensures ∙ c.lines-test.true) c.pass_answer.new.desk c.as_slice.result.now stopped.0 c.as_slice.ensures stopped.1
-          c.in_err-pass_answer.field-0.0 (g.W.Write.contents c.pass_answer.new.writer) stopped.2.1 stopped.2.2 stopped.2.3 stopped.2.4,
-    ))
+pub returns-in_err-pass_line-clause-lines : goal.returns-in_err-pass_line-clause-lines
+returns-in_err-pass_line-clause-lines g c = λ state at.
+    let came = c.lines.invariant.4 state at in
+    let stopped = c.in_err-pass_line.ensures.passed came.0 came.2 in
+    let are = g.met.D.Desk.rules_are c.lines.desk came.0 came.2 in
+    let part = rw c.if-not-take_line.false at c.take_line.ensures in (
+      stopped.0,
+      λ partial no_end kept. err_case
+          (Proceeds g.D.Desk.rules_at g.D.Desk.over_at g.D.Desk.asks g.D.Desk.looks g.D.Desk.most g.D.Desk.takes_memory (partial ++ c.args.input.now.unread) state stopped.0
+          (g.W.Write.contents c.args.writer.now) (g.W.Write.contents c.pass_line.new.writer) c.args.output.now c.take_line.new.line c.take_line.new.self.unread c.pass_line.new.output)
+          c.from_residual.result c.from_residual.ensures.1
+          (λ fault is. subst (λ (f : Fault). (f ≢ Reader) × Broken g.D.Desk.rules_at g.D.Desk.over_at g.D.Desk.asks g.D.Desk.looks g.D.Desk.most g.D.Desk.takes_memory (partial ++ c.args.input.now.unread) state stopped.0
+          (g.W.Write.contents c.args.writer.now) (g.W.Write.contents c.pass_line.new.writer) c.args.output.now f) (sym is)
+          (stopped.1.passes.0, waits_broken (queues_line (came.1 partial no_end kept) part c.as_slice.result.now c.as_slice.ensures (g.D.Desk.rules c.lines.desk) are) c.in_err-pass_line.field-0.0 stopped.1)),
+      stopped.2,
+    )
 
 pub returns-then-not-take_line-clause-lines : goal.returns-then-not-take_line-clause-lines
-returns-then-not-take_line-clause-lines g c =
-    let inv = c.lines.invariant in
+returns-then-not-take_line-clause-lines g c = λ state at.
+    let came = c.lines.invariant.4 state at in
+    let asked = c.ask_queue.ensures.passed came.0 came.2 in
+    let stays = same_rules g.met.D.Desk.rules_are c.lines.desk c.ask_queue.new.desk came.0 asked.0 came.2 asked.2 c.ask_queue.ensures.rules in
     let all = rw c.if-not-take_line.true at c.take_line.ensures in
-    λ partial no_end kept. lines_ended all (inv.2 partial no_end kept)
+    (asked.0, λ partial no_end kept. queues_asked c.ask_queue.result (queues_ended (came.1 partial no_end kept) all) asked.1 stays c.ask_queue.ensures.asked, asked.2)
+
+pub returns-clause-lines : goal.returns-clause-lines
+returns-clause-lines g c = λ state at.
+    let inv = c.lines.invariant in
+    let came = inv.4 state at in
+    (came.0, λ partial no_end kept. queues_session (came.1 partial no_end kept) (inv.3 (sym c.is_over.ensures ∙ c.lines-test.false)), came.2)

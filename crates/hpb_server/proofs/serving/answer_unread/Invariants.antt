@@ -1,17 +1,19 @@
-use Rattle.std.proofs.Common.{◌≡◌, ℕ, List, ◌++◌, take, length}
+use Rattle.std.proofs.Common.{◌≡◌, ◌<◌, ℕ, true, List, [], ◌++◌, take, length}
 use Rattle.hpb_server.specs.declared.line.TheConstants.{KEPT_BYTES}
+use Rattle.hpb_server.specs.Desk.{Moves}
 use Rattle.hpb_server.specs.Reading.{HasNoEnd}
-use Rattle.hpb_server.specs.Session.{Session}
+use Rattle.hpb_server.proofs.Queues.{Queues}
 use Rattle.hpb_server.proofs.serving.answer_unread.Given as goal
 
--- the definition stays, nothing is read, and the session goes on
+-- the definition stays, nothing is read, there is room in the queue, nothing waits once the session is over, and it goes on
 abbrev pub invariant-lines : goal.invariant-lines
 invariant-lines g l =
     (g.D.Desk.rules l.desk ≡ g.D.Desk.rules l.initial.desk) × (l.input.budget ≡ l.initial.input.budget)
-    × ((partial : List ℕ) → HasNoEnd partial → l.initial.line ≡ take KEPT_BYTES partial
-    → Session g.D.Desk.rules g.D.Desk.over g.D.Desk.asks g.D.Desk.looks (partial ++ l.initial.input.unread) l.initial.desk l.desk
+    × (length l.queue < g.D.Desk.most) × (g.D.Desk.over l.desk ≡ true → l.queue ≡ [])
+    × Moves g.D.Desk.is_at l.initial.desk l.desk (λ state now. (partial : List ℕ) → HasNoEnd partial → l.initial.line ≡ take KEPT_BYTES partial
+    → Queues g.D.Desk.rules_at g.D.Desk.over_at g.D.Desk.asks g.D.Desk.looks g.D.Desk.most g.D.Desk.takes_memory (partial ++ l.initial.input.unread) state now
     (g.W.Write.contents l.initial.writer) (g.W.Write.contents l.writer) l.initial.output
-    l.line l.input.unread l.output)
+    l.line l.queue l.input.unread l.output)
 
 abbrev pub decreases-lines : goal.decreases-lines
 decreases-lines g l = length l.input.unread

@@ -12,17 +12,21 @@ nothing = record { unread = []; budget = MOST_READ_BYTES }
 
 pub returns-in_err-input-clause-served : goal.returns-in_err-input-clause-served
 unfolding nothing
-returns-in_err-input-clause-served g c = never_served g.D.Desk.rules g.D.Desk.over g.D.Desk.asks g.D.Desk.looks nothing _ _ c.from_residual.result c.from_residual.ensures.1
+returns-in_err-input-clause-served g c = λ state at.
+    (state, never_served g.D.Desk.rules_at g.D.Desk.over_at g.D.Desk.asks g.D.Desk.looks g.D.Desk.most g.D.Desk.takes_memory nothing _ _ c.from_residual.result c.from_residual.ensures.1, at)
 
 pub returns-in_err-output-clause-served : goal.returns-in_err-output-clause-served
 unfolding nothing
-returns-in_err-output-clause-served g c = never_served g.D.Desk.rules g.D.Desk.over g.D.Desk.asks g.D.Desk.looks nothing _ _ c.from_residual-in_err-output.result c.from_residual-in_err-output.ensures.1
+returns-in_err-output-clause-served g c = λ state at.
+    (state, never_served g.D.Desk.rules_at g.D.Desk.over_at g.D.Desk.asks g.D.Desk.looks g.D.Desk.most g.D.Desk.takes_memory nothing _ _ c.from_residual-in_err-output.result c.from_residual-in_err-output.ensures.1, at)
 
 pub returns-in_err-input-clause-told : goal.returns-in_err-input-clause-told
-returns-in_err-input-clause-told g c = λ told is. (told, front_self told, is)
+returns-in_err-input-clause-told g c = λ state at told is. (state, at, (told, front_self told, is))
 
 pub returns-in_err-output-clause-told : goal.returns-in_err-output-clause-told
-returns-in_err-output-clause-told g c = λ told is. (told, front_self told, is)
+returns-in_err-output-clause-told g c = λ state at told is. (state, at, (told, front_self told, is))
 
 pub returns-clause-told : goal.returns-clause-told
-returns-clause-told g c = λ told is. session_goes g.D.Desk.rules g.D.Desk.over g.D.Desk.asks g.D.Desk.looks g.D.Desk.tells g.met.D.Desk.replies_go_on g.met.D.Desk.shows_go_on _ _ _ _ c.args.desk.now c.answer_lines.new.desk told c.answer_lines.result c.answer_lines.ensures.served is
+returns-clause-told g c = λ state at told is.
+    let served = c.answer_lines.ensures.served state at in
+    (served.0, served.2, session_goes g.D.Desk.rules_at g.D.Desk.over_at g.D.Desk.asks g.D.Desk.looks g.D.Desk.tells g.met.D.Desk.replies_go_on g.met.D.Desk.shows_go_on _ _ _ _ _ _ state served.0 told c.answer_lines.result served.1 is)

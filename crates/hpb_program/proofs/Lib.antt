@@ -1,0 +1,5 @@
+mod Asking
+mod Fronts
+mod Ends
+mod Options
+mod Taking

@@ -1,0 +1,32 @@
+use Rattle.std.proofs.Common.{refl}
+use Rattle.std.specs.Char.{encode_utf8}
+use Rattle.std.specs.Str.{chars}
+use Rattle.clap.specs.Faults.{defaults_fault, flags_fault, walk_fault}
+use Rattle.clap.specs.Walk.{bundle_met, walked}
+use Rattle.hpb_program.proofs.laws.words_ask_for.Goals as goal
+
+pub returns : goal.returns
+unfolding walk_fault defaults_fault walked flags_fault bundle_met chars encode_utf8
+returns c = record {
+  none = refl;
+  name = λ name. refl;
+  script = λ name. refl;
+  end = λ name. refl;
+  help = λ name. refl;
+  version = λ name. refl;
+  word = λ name. refl;
+  empty = λ name. refl;
+  option = λ name. refl;
+  letter = λ name. refl;
+  first = λ name. refl;
+  format = λ name. refl;
+  formats = λ name. refl;
+  format_help = λ name. refl;
+  no_file = λ name. refl;
+  no_journal = λ name. refl;
+  no_number = λ name. refl;
+  check = λ name. refl;
+  checks = λ name. refl;
+  check_help = λ name. refl;
+  check_file = λ name. refl;
+}

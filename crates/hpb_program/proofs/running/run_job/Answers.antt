@@ -1,0 +1,13 @@
+use Rattle.std.proofs.Common.{sym, subst}
+use Rattle.hpb_server.specs.Streams.{streams}
+use Rattle.hpb_program.specs.declared.words.Job.{Job}
+use Rattle.hpb_program.specs.Program.{RunsJob}
+use Rattle.hpb_program.proofs.Ends.{checked_to_end}
+use Rattle.hpb_program.proofs.running.run_job.Goals as goal
+
+pub returns-in-Check-clause-streams : goal.returns-in-Check-clause-streams
+returns-in-Check-clause-streams g c =
+    subst (λ (job : Job). RunsJob job (streams (g.R.Read.remaining c.args.input.now) (g.W.Write.contents c.args.output.now))
+    (streams (g.R.Read.remaining c.args.input.now) (g.W.Write.contents c.tell_end-in-Check.new.output))
+    (g.E.Write.contents c.args.errors.now) (g.E.Write.contents c.tell_end-in-Check.new.errors) c.tell_end-in-Check.result) (sym c.in-Check.is)
+    (checked_to_end _ _ _ _ _ _ c.run_check-end.result c.tell_end-in-Check.result c.run_check-end.ensures c.tell_end-in-Check.ensures.told)

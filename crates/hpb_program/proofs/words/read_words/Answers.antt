@@ -1,0 +1,23 @@
+use Rattle.std.proofs.Common.{◌≡◌, ◌∙◌, List, [], Option, true, ap, map, subst}
+use Rattle.clap.specs.Faults.{fault_of, is_simple_and_free}
+use Rattle.clap.specs.Simple.{App, app_of, is_simple, subcommand_of}
+use Rattle.clap.specs.Values.{kind_of}
+use Rattle.clap.specs.Walk.{Row, Text}
+use Rattle.hpb_program.specs.Words.{IsJobOf, hpb}
+use Rattle.hpb_program.proofs.Asking.{told_asked}
+use Rattle.hpb_program.proofs.words.read_words.Goals as goal
+
+pub returns-in-Ok-clause-asked : goal.returns-in-Ok-clause-asked
+returns-in-Ok-clause-asked g c =
+    let words = map g.S.AsStr.text c.args.words.now in
+    let is : app_of c.in_ok-command.command ≡ hpb = c.in_ok-command.ensures in
+    let simple : is_simple (app_of c.in_ok-command.command) ≡ true = ap is_simple is in
+    let free : is_simple_and_free (app_of c.in_ok-command.command) ≡ true = ap is_simple_and_free is in
+    let found = (c.in-Ok.ensures.matches simple).1 ∙ ap (λ (a : App). subcommand_of a words) is in (
+      subst (λ (a : App). fault_of a words ≡ []) is (c.in-Ok.ensures.kinds free),
+      subst (λ (s : Option (Text × List Row)). IsJobOf s c.job_of.result) found c.job_of.ensures,
+    )
+
+pub returns-in_ok-refused-in-Err-clause-asked : goal.returns-in_ok-refused-in-Err-clause-asked
+returns-in_ok-refused-in-Err-clause-asked g c =
+    told_asked (map g.S.AsStr.text c.args.words.now) (app_of c.in_ok-command.command) (kind_of c.in-Err.error) c.in_ok-refused-in-Err.field-0 c.in_ok-command.ensures c.in-Err.ensures.kinds c.in_ok-refused-in-Err.ensures.told

@@ -1,0 +1,165 @@
+-- What jobs on files read and write.
+use Rattle.std.specs.Prelude.{◌≡◌, ◌⊎◌, ℕ, Bool, true, false, zero, suc, ◌+◌, ◌<◌, ◌≤◌, List, [], ◌++◌, length, codes, decimal, Option, Result, Ok, Err, ⊤}
+use Rattle.std.specs.Io.KnownBytes.{Appends, Consumes, IsAtEnd, Keeps}
+use Rattle.hpb_rules.specs.declared.command.Command.{Command}
+use Rattle.hpb_rules.specs.declared.limits.TheConstants.{MOST_DEFINITION_BYTES}
+use Rattle.hpb_rules.specs.declared.refusal.Refusal.{Refusal}
+use Rattle.hpb_rules.specs.declared.refusal.Refusal.TheVariants as refusals
+use Rattle.hpb_rules.specs.AuctionValue.{AuctionValue, Shows}
+use Rattle.hpb_rules.specs.Fronts.{IsFront}
+use Rattle.hpb_rules.specs.Text.{line_of}
+use Rattle.hpb_rules.specs.Tree.{Rules}
+use Rattle.hpb_rules.specs.ValueText.{shown_in, node_shown_in}
+use Rattle.hpb_define.specs.declared.fault.DefineFault.{DefineFault}
+use Rattle.hpb_define.specs.declared.fault.DefineFault.TheVariants as defining
+use Rattle.hpb_define.specs.Fault as definitions
+use Rattle.hpb_define.specs.Text.{Answers}
+use Rattle.hpb_disk.specs.declared.fault.FileFault.{FileFault}
+use Rattle.hpb_disk.specs.declared.fault.FileFault.TheVariants as files
+use Rattle.hpb_format.specs.declared.fault.FormatCause.{FormatCause}
+use Rattle.hpb_format.specs.declared.fault.FormatCause.TheVariants as formatting
+use Rattle.hpb_format.specs.Outcomes as formats
+use Rattle.hpb_image.specs.Flaws.{HasFlaw}
+use Rattle.hpb_image.specs.Standing.{Stands}
+use Rattle.hpb_journal.specs.declared.limits.TheConstants.{LEAST_FRAMES, MOST_FRAMES}
+use Rattle.hpb_recover.specs.declared.cause.Cause.{Cause}
+use Rattle.hpb_recover.specs.declared.cause.Cause.TheVariants as opening
+use Rattle.hpb_recover.specs.Causes as causes
+use Rattle.hpb_program.specs.declared.formatting.TheConstants.{FIRST_PAGES, KEPT_BYTES}
+use Rattle.hpb_program.specs.declared.job_fault.JobFault.{JobFault}
+use Rattle.hpb_program.specs.declared.job_fault.JobFault.TheVariants as faults
+use Rattle.hpb_server.specs.Streams.{Streams}
+
+-- The refusal that a fault is told by.
+abbrev pub refusal_of : JobFault → Refusal
+refusal_of faults.Memory = refusals.Memory
+refusal_of faults.Reader = refusals.Stream
+refusal_of faults.Writer = refusals.Stream
+refusal_of (faults.Definition refusal) = refusal
+refusal_of faults.Journal = refusals.Length
+refusal_of (faults.File fault) = refusals.Device
+refusal_of (faults.Format cause) = formats.refusal_of cause
+refusal_of (faults.Open cause) = causes.refusal_of cause
+
+-- The fault of a job where its definition was refused.
+abbrev pub made_of_definition : DefineFault → JobFault
+made_of_definition defining.Memory = faults.Memory
+made_of_definition fault = faults.Definition (definitions.refusal_of fault)
+
+-- The same where its file was not opened or made,
+abbrev pub made_of_file : FileFault → JobFault
+made_of_file (files.Memory refused) = faults.Memory
+made_of_file fault = faults.File fault
+
+-- where it was not formatted,
+abbrev pub made_of_formatting : FormatCause → JobFault
+made_of_formatting formatting.Memory = faults.Memory
+made_of_formatting cause = faults.Format cause
+
+-- and where what it holds was not opened.
+abbrev pub made_of_opening : Cause → JobFault
+made_of_opening opening.Memory = faults.Memory
+made_of_opening cause = faults.Open cause
+
+-- A fault of a job's file, or of memory.
+abbrev pub IsOfFile : JobFault → Type 0
+IsOfFile faults.Memory = Unit {0}
+IsOfFile (faults.File fault) = Unit {0}
+IsOfFile (faults.Format cause) = Unit {0}
+IsOfFile fault = ⊥
+
+-- The lines of an auction's first nodes, so many of them.
+abbrev pub nodes_text : AuctionValue → ℕ → List ℕ
+nodes_text value zero = []
+nodes_text value (suc place) = nodes_text value place ++ line_of (node_shown_in value place)
+
+-- The lines of an auction: how it stands, and how each node does.
+abbrev pub check_text : AuctionValue → List ℕ
+check_text value = line_of (shown_in value) ++ nodes_text value (length value.rules.nodes)
+
+-- The line of a formatted file with so many pages.
+abbrev pub formatted_line : ℕ → List ℕ
+formatted_line pages = codes "FORMATTED " ++ decimal pages ++ codes "\n"
+
+-- A front of a text was written, since the writer failed.
+abbrev pub StopsWriting : (old new : Option (List ℕ)) → List ℕ → Type 0
+StopsWriting old new text = (sent : List ℕ) × Appends old new sent × IsFront sent text
+
+-- An auction shows what an image stands for, where it stands for a history.
+abbrev pub IsKept : List ℕ → AuctionValue → Type 0
+IsKept image value = (history : List Command) → Stands history image → Shows value history
+
+-- What a device holds was shown; or its flaw is there, or the machine failed, and nothing was written; or the writer failed.
+abbrev pub ShowsKept : List ℕ → (old new : Option (List ℕ)) → Result ⊤ JobFault → Type 0
+ShowsKept image old new (Ok done) = (value : AuctionValue) × IsKept image value × Appends old new (check_text value)
+ShowsKept image old new (Err faults.Writer) = (value : AuctionValue) × IsKept image value × StopsWriting old new (check_text value)
+ShowsKept image old new (Err (faults.Open (opening.Flawed flaw))) = Keeps old new × HasFlaw flaw image
+ShowsKept image old new (Err fault) = Keeps old new × ((fault ≡ faults.Memory) ⊎ (fault ≡ faults.Open opening.Device))
+
+-- The same of a file, of whose bytes nothing is known.
+abbrev pub Checks : (old new : Option (List ℕ)) → Result ⊤ JobFault → Type 0
+Checks old new (Ok done) = (value : AuctionValue) × Appends old new (check_text value)
+Checks old new (Err faults.Writer) = (value : AuctionValue) × StopsWriting old new (check_text value)
+Checks old new (Err fault) = Keeps old new
+
+-- Some bytes were read, one more at most than a definition may have.
+abbrev pub ReadsSome : (old new : Option (List ℕ)) → Type 0
+ReadsSome old new = (bytes : List ℕ) × Consumes old new bytes × (length bytes ≤ KEPT_BYTES)
+
+-- Reading stopped before the end.
+abbrev pub StopsReading : (old new : Option (List ℕ)) → JobFault → Type 0
+StopsReading old new fault = ReadsSome old new × ((fault ≡ faults.Memory) ⊎ (fault ≡ faults.Reader))
+
+-- Some bytes were read and added to a text, which doesn't grow too long; or the input has ended.
+abbrev pub ReadsPart : (old new : Option (List ℕ)) → List ℕ → List ℕ → Bool → Type 0
+ReadsPart old new text longer true = (bytes : List ℕ) × Consumes old new bytes × (longer ≡ text ++ bytes) × (0 < length bytes) × (length longer ≤ KEPT_BYTES)
+ReadsPart old new text longer false = Consumes old new [] × (longer ≡ text) × IsAtEnd new
+
+-- Some bytes were read that the text isn't too long for.
+abbrev pub StopsPart : (old new : Option (List ℕ)) → List ℕ → JobFault → Type 0
+StopsPart old new text fault = ((bytes : List ℕ) × Consumes old new bytes × (length text + length bytes ≤ KEPT_BYTES)) × ((fault ≡ faults.Memory) ⊎ (fault ≡ faults.Reader))
+
+-- All was read, or more than a definition may have.
+pub record GivesText (old new : Option (List ℕ)) (text : List ℕ) : Type 0 where
+  pub read : Consumes old new text
+  pub within : length text ≤ KEPT_BYTES
+  pub ended : IsAtEnd new ⊎ (MOST_DEFINITION_BYTES < length text)
+
+-- All of the input is a definition.
+pub record IsDefined (old new : Option (List ℕ)) : Type 0 where
+  pub text : List ℕ
+  pub rules : Rules
+  pub read : Consumes old new text
+  pub ended : IsAtEnd new
+  pub defines : Answers text (Ok rules)
+
+-- The input, as far as it was read, is refused as a definition.
+pub record IsRefused (old new : Option (List ℕ)) (refusal : Refusal) : Type 0 where
+  pub text : List ℕ
+  pub fault : DefineFault
+  pub gives : GivesText old new text
+  pub answers : Answers text (Err fault)
+  pub told : made_of_definition fault ≡ faults.Definition refusal
+
+-- A journal may have so many pages.
+abbrev pub IsJournal : ℕ → Type 0
+IsJournal journal = (LEAST_FRAMES ≤ journal) × (journal ≤ MOST_FRAMES)
+
+-- The line of a formatted file with a journal of so many pages.
+abbrev pub line_of_journal : ℕ → List ℕ
+line_of_journal journal = formatted_line (FIRST_PAGES + journal)
+
+module _ (journal : ℕ) (before after : Streams) where
+  -- A file is opened, made or formatted only by a definition, and with a journal that may be.
+  abbrev pub MayFormat : Type 0
+  MayFormat = IsDefined before.remaining after.remaining × IsJournal journal
+
+  -- A file was formatted and its line was written; or the writer failed; or nothing was written, and of the faults the first was found.
+  abbrev pub Formats : Result ⊤ JobFault → Type 0
+  Formats (Ok done) = MayFormat × Appends before.contents after.contents (line_of_journal journal)
+  Formats (Err faults.Writer) = MayFormat × StopsWriting before.contents after.contents (line_of_journal journal)
+  Formats (Err (faults.Definition refusal)) = IsRefused before.remaining after.remaining refusal × Keeps before.contents after.contents
+  Formats (Err faults.Journal) = IsDefined before.remaining after.remaining × (IsJournal journal → ⊥) × Keeps before.contents after.contents
+  Formats (Err (faults.File fault)) = MayFormat × Keeps before.contents after.contents
+  Formats (Err (faults.Format cause)) = MayFormat × Keeps before.contents after.contents
+  Formats (Err fault) = ReadsSome before.remaining after.remaining × Keeps before.contents after.contents

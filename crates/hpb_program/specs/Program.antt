@@ -1,0 +1,82 @@
+-- What the program does with its streams, and its status.
+use Rattle.std.specs.Prelude.{◌≡◌, ℕ, List, [], Option, Result, Ok, Err, ⊤, ◌⊎◌, string_bytes}
+use Rattle.std.specs.Io.KnownBytes.{Appends, Keeps}
+use Rattle.hpb_rules.specs.declared.refusal.Refusal.{Refusal}
+use Rattle.hpb_rules.specs.declared.refusal.Refusal.TheVariants as refusals
+use Rattle.hpb_rules.specs.Fronts.{IsFront}
+use Rattle.hpb_rules.specs.Rendering.{refusal_text}
+use Rattle.hpb_rules.specs.Text.{line_of}
+use Rattle.hpb_server.specs.declared.fault.Fault.{Fault}
+use Rattle.hpb_server.specs.declared.script.ScriptEnd.{ScriptEnd}
+use Rattle.hpb_server.specs.declared.script.ScriptEnd.TheVariants as ends
+use Rattle.hpb_program.specs.declared.status.TheConstants.{WELL, ILL, WRONG_WORDS}
+use Rattle.hpb_program.specs.declared.words.Job.{Job}
+use Rattle.hpb_program.specs.declared.words.Job.TheVariants.{Script, Format, Check}
+use Rattle.hpb_program.specs.declared.words.WordsFault.{WordsFault}
+use Rattle.hpb_program.specs.declared.words.WordsFault.TheVariants.{Memory, Refused}
+use Rattle.hpb_program.specs.declared.job_fault.JobFault.{JobFault}
+use Rattle.hpb_program.specs.Words.{AsksFor}
+use Rattle.hpb_program.specs.Jobs.{refusal_of, Checks, Formats}
+use Rattle.hpb_server.specs.Script.{RunsScript}
+use Rattle.hpb_server.specs.Streams.{Streams, AreKept}
+
+-- The status by the end of a script.
+abbrev pub status_of_script : Result ScriptEnd Fault → ℕ
+status_of_script (Ok ends.Answered) = WELL
+status_of_script (Ok (ends.Refused refusal)) = ILL
+status_of_script (Err fault) = ILL
+
+-- The status where words ask for no job.
+abbrev pub status_of_fault : WordsFault → ℕ
+status_of_fault Memory = ILL
+status_of_fault (Refused text status) = status
+
+-- Words are wrong, or they ask for help.
+abbrev pub HasStatus : WordsFault → Type 0
+HasStatus Memory = Unit {0}
+HasStatus (Refused text status) = (status ≡ WELL) ⊎ (status ≡ WRONG_WORDS)
+
+-- A text was written, or a front of it.
+abbrev pub Says : (errors_old errors_new : Option (List ℕ)) → List ℕ → Type 0
+Says errors_old errors_new text = (sent : List ℕ) × Appends errors_old errors_new sent × IsFront sent text
+
+-- What is said of words that ask for no job.
+abbrev pub SaysFault : (errors_old errors_new : Option (List ℕ)) → WordsFault → Type 0
+SaysFault errors_old errors_new Memory = Keeps errors_old errors_new
+SaysFault errors_old errors_new (Refused text status) = Says errors_old errors_new (string_bytes text)
+
+-- What is told of a refusal on the output: its line, and nothing of memory or of a stream.
+abbrev pub told_text : Refusal → List ℕ
+told_text refusals.Memory = []
+told_text refusals.Stream = []
+told_text refusal = line_of (refusal_text refusal)
+
+-- What both outputs are told of how a job on a file ended, and its status.
+abbrev pub TellsEnd : (old new errors_old errors_new : Option (List ℕ)) → Result ⊤ JobFault → ℕ → Type 0
+TellsEnd old new errors_old errors_new (Ok done) status = Keeps old new × Keeps errors_old errors_new × (status ≡ WELL)
+TellsEnd old new errors_old errors_new (Err fault) status = Says old new (told_text (refusal_of fault)) × ((text : List ℕ) × Says errors_old errors_new text) × (status ≡ ILL)
+
+-- A job on a file does this, and then its end is told.
+abbrev pub RunsToEnd : (Streams → Streams → Result ⊤ JobFault → Type 0) → (before after : Streams) (errors_old errors_new : Option (List ℕ)) → ℕ → Type 0
+RunsToEnd does before after errors_old errors_new status =
+    (done : Streams) × (end : Result ⊤ JobFault) × does before done end × Keeps done.remaining after.remaining × TellsEnd done.contents after.contents errors_old errors_new end status
+
+-- What is shown of a file, from which nothing is read but the file.
+abbrev pub ChecksFile : (before after : Streams) → Result ⊤ JobFault → Type 0
+ChecksFile before after end = Keeps before.remaining after.remaining × Checks before.contents after.contents end
+
+-- What a job does with the streams and the errors, and the status that it gives.
+abbrev pub RunsJob : Job → (before after : Streams) (errors_old errors_new : Option (List ℕ)) → ℕ → Type 0
+RunsJob Script before after errors_old errors_new status =
+    (end : Result ScriptEnd Fault) × RunsScript before after end × (status ≡ status_of_script end) × Keeps errors_old errors_new
+RunsJob (Format file journal) before after errors_old errors_new status = RunsToEnd (Formats journal) before after errors_old errors_new status
+RunsJob (Check file) before after errors_old errors_new status = RunsToEnd ChecksFile before after errors_old errors_new status
+
+-- What is done by what words ask for: their job; or nothing, and the errors are told why.
+abbrev pub RunsAsked : Result Job WordsFault → (before after : Streams) (errors_old errors_new : Option (List ℕ)) → ℕ → Type 0
+RunsAsked (Ok job) before after errors_old errors_new status = RunsJob job before after errors_old errors_new status
+RunsAsked (Err fault) before after errors_old errors_new status = AreKept before after × SaysFault errors_old errors_new fault × HasStatus fault × (status ≡ status_of_fault fault)
+
+-- What the words ask for is done.
+abbrev pub RunsProgram : (words : List (List ℕ)) (before after : Streams) (errors_old errors_new : Option (List ℕ)) → ℕ → Type 0
+RunsProgram words before after errors_old errors_new status = (asked : Result Job WordsFault) × AsksFor words asked × RunsAsked asked before after errors_old errors_new status

@@ -1,0 +1,114 @@
+-- What words ask the program for, by what `clap` states of its commands and options.
+use Rattle.std.specs.Prelude.{◌≡◌, ◌≢◌, ◌⊎◌, ℕ, ◌<◌, ◌^◌, List, [], ◌∷◌, true, pos, codes, unwrap_or, option_map, Option, Some, None, Result, Ok, Err}
+use Rattle.std.specs.Str.Parse.{IsNumeral, digits_value, without_leading_plus}
+use Rattle.clap.specs.Simple.{App, Shape, new_app, new_rule, on_top, subcommand_of, with_rule, with_subcommand}
+use Rattle.clap.specs.Walk.{Row, Rule, first_of, one_of}
+use Rattle.clap.specs.Kinds.{IsAmong}
+use Rattle.clap.specs.Faults.{fault_of}
+use Rattle.clap.specs.declared.builder.value_parser.ValueParser.TheVariants as parsers
+use Rattle.clap.specs.declared.error.kind.ErrorKind.{ErrorKind}
+use Rattle.clap.specs.declared.error.kind.ErrorKind.TheVariants.{DisplayHelp, DisplayVersion, InvalidSubcommand, MissingRequiredArgument, OutOfMemory, UnknownArgument, ValueValidation}
+use Rattle.hpb_program.specs.declared.status.TheConstants.{WELL, WRONG_WORDS}
+use Rattle.hpb_program.specs.declared.words.Job.{Job}
+use Rattle.hpb_program.specs.declared.words.Job.TheVariants.{Script, Format, Check}
+use Rattle.hpb_program.specs.declared.words.WordsFault.{WordsFault}
+use Rattle.hpb_program.specs.declared.words.WordsFault.TheVariants.{Memory, Refused}
+
+-- The option that names a file, as `clap` sees it.
+abbrev pub file_rule : Rule
+file_rule = record (new_rule (codes "file")) { long = Some (codes "file"); value_names = 1; required = true }
+
+-- The option that gives a number of pages, of 32 bits.
+abbrev pub journal_rule : Rule
+journal_rule = record (new_rule (codes "journal")) { long = Some (codes "journal"); value_names = 1; required = true; parser = Some (parsers.Signed (pos 0) (pos 4294967295)) }
+
+-- The command that makes a file.
+abbrev pub format_shape : Shape
+format_shape = (with_rule (with_rule (new_app (codes "format")) file_rule) journal_rule).top
+
+-- The command that shows what a file keeps.
+abbrev pub check_shape : Shape
+check_shape = (with_rule (new_app (codes "check")) file_rule).top
+
+-- The program with its commands.
+abbrev pub hpb : App
+hpb = with_subcommand (with_subcommand (on_top (λ s. record s { has_version = true; disable_help_subcommand = true }) (new_app (codes "hpb"))) format_shape) check_shape
+
+-- Help or the version is asked for.
+abbrev pub IsShown : ErrorKind → Type 0
+IsShown kind = (kind ≡ DisplayHelp) ⊎ (kind ≡ DisplayVersion)
+
+-- What is asked for ends well, and what is wrong doesn't.
+abbrev pub EndsBy : ErrorKind → ℕ → Type 0
+EndsBy kind status = (IsShown kind × (status ≡ WELL)) ⊎ ((IsShown kind → ⊥) × (status ≡ WRONG_WORDS))
+
+-- The text of an option among what was found of a command.
+abbrev pub text_in : List Row → List ℕ → List ℕ
+text_in rows name = unwrap_or (first_of name rows) []
+
+-- Digits spell a number of 32 bits.
+abbrev pub IsNumber : List ℕ → Type 0
+IsNumber digits = IsNumeral 10 digits × (digits_value 10 digits < 2 ^ 32)
+
+-- The number of 32 bits that a text spells, or 0 where it spells none.
+abbrev pub IsNumberOf : Option (List ℕ) → ℕ → Type 0
+IsNumberOf None number = number ≡ 0
+IsNumberOf (Some text) number =
+    let digits = without_leading_plus text in
+    (IsNumber digits → number ≡ digits_value 10 digits) × ((IsNumber digits → ⊥) → number ≡ 0)
+
+-- A job is what a command and its options say.
+abbrev pub IsJobOf : Option (List ℕ × List Row) → Job → Type 0
+IsJobOf None job = job ≡ Script
+IsJobOf (Some found) Script = ⊥
+IsJobOf (Some found) (Format file journal) = (found.0 ≡ codes "format") × (file.now ≡ text_in found.1 (codes "file")) × IsNumberOf (one_of (codes "journal") found.1) journal
+IsJobOf (Some found) (Check file) = (found.0 ≡ codes "check") × (file.now ≡ text_in found.1 (codes "file"))
+
+-- The name is that of a command.
+abbrev pub IsKnownName : List ℕ → Type 0
+IsKnownName name = (name ≡ codes "format") ⊎ (name ≡ codes "check")
+
+-- The command is one of the program's, or there is none.
+abbrev pub HasKnownCommand : Option (List ℕ × List Row) → Type 0
+HasKnownCommand None = Unit {0}
+HasKnownCommand (Some found) = IsKnownName found.0
+
+-- These words ask for a job where nothing is wrong with them, and else a status is given by one of the kinds of what is.
+abbrev pub AsksFor : List (List ℕ) → Result Job WordsFault → Type 0
+AsksFor words (Ok job) = (fault_of hpb words ≡ []) × IsJobOf (subcommand_of hpb words) job
+AsksFor words (Err Memory) = Unit {0}
+AsksFor words (Err (Refused text status)) = (kind : ErrorKind) × IsAmong kind (fault_of hpb words) × EndsBy kind status
+
+-- What is told of an error of this kind.
+abbrev pub IsTold : ErrorKind → WordsFault → Type 0
+IsTold kind Memory = Unit {0}
+IsTold kind (Refused text status) = (kind ≢ OutOfMemory) × EndsBy kind status
+
+-- A command with the texts of its file and its number.
+abbrev pub options_in : Option (List ℕ × List Row) → Option (List ℕ × Option (List ℕ) × Option (List ℕ))
+options_in = option_map (λ found. (found.0, first_of (codes "file") found.1, one_of (codes "journal") found.1))
+
+-- What is wrong with some words behind the program's name, or asked for by them, and which command they ask for.
+pub record WordsAskFor : Type 0 where
+  pub none : fault_of hpb [] ≡ []
+  pub name : (name : List ℕ) → fault_of hpb (name ∷ []) ≡ []
+  pub script : (name : List ℕ) → subcommand_of hpb (name ∷ []) ≡ None
+  pub end : (name : List ℕ) → fault_of hpb (name ∷ codes "--" ∷ []) ≡ []
+  pub help : (name : List ℕ) → fault_of hpb (name ∷ codes "--help" ∷ []) ≡ DisplayHelp ∷ []
+  pub version : (name : List ℕ) → fault_of hpb (name ∷ codes "--version" ∷ []) ≡ DisplayVersion ∷ []
+  pub word : (name : List ℕ) → fault_of hpb (name ∷ codes "bogus" ∷ []) ≡ UnknownArgument ∷ InvalidSubcommand ∷ []
+  pub empty : (name : List ℕ) → fault_of hpb (name ∷ [] ∷ []) ≡ UnknownArgument ∷ InvalidSubcommand ∷ []
+  pub option : (name : List ℕ) → fault_of hpb (name ∷ codes "--bogus" ∷ []) ≡ UnknownArgument ∷ []
+  pub letter : (name : List ℕ) → fault_of hpb (name ∷ codes "-b" ∷ []) ≡ UnknownArgument ∷ []
+  pub first : (name : List ℕ) → fault_of hpb (name ∷ codes "bogus" ∷ codes "--help" ∷ []) ≡ UnknownArgument ∷ InvalidSubcommand ∷ []
+  pub format : (name : List ℕ) → fault_of hpb (name ∷ codes "format" ∷ codes "--file" ∷ codes "a.hpb" ∷ codes "--journal" ∷ codes "4" ∷ []) ≡ []
+  pub formats : (name : List ℕ) → options_in (subcommand_of hpb (name ∷ codes "format" ∷ codes "--file" ∷ codes "a.hpb" ∷ codes "--journal" ∷ codes "4" ∷ []))
+      ≡ Some (codes "format", Some (codes "a.hpb"), Some (codes "4"))
+  pub format_help : (name : List ℕ) → fault_of hpb (name ∷ codes "format" ∷ codes "--help" ∷ []) ≡ DisplayHelp ∷ []
+  pub no_file : (name : List ℕ) → fault_of hpb (name ∷ codes "format" ∷ codes "--journal=4" ∷ []) ≡ MissingRequiredArgument ∷ []
+  pub no_journal : (name : List ℕ) → fault_of hpb (name ∷ codes "format" ∷ codes "--file=a.hpb" ∷ []) ≡ MissingRequiredArgument ∷ []
+  pub no_number : (name : List ℕ) → fault_of hpb (name ∷ codes "format" ∷ codes "--journal=four" ∷ []) ≡ ValueValidation ∷ []
+  pub check : (name : List ℕ) → fault_of hpb (name ∷ codes "check" ∷ codes "--file=a.hpb" ∷ []) ≡ []
+  pub checks : (name : List ℕ) → options_in (subcommand_of hpb (name ∷ codes "check" ∷ codes "--file=a.hpb" ∷ [])) ≡ Some (codes "check", Some (codes "a.hpb"), None)
+  pub check_help : (name : List ℕ) → fault_of hpb (name ∷ codes "check" ∷ codes "--help" ∷ []) ≡ DisplayHelp ∷ []
+  pub check_file : (name : List ℕ) → fault_of hpb (name ∷ codes "check" ∷ []) ≡ MissingRequiredArgument ∷ []

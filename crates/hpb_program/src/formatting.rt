@@ -1,0 +1,154 @@
+//! Making a file that keeps an auction.
+ghost use Rattle.std.specs.Prelude.{◌≡◌, ◌<◌, ◌↔◌, length, IfErr, IfOk, IsTrue, string_bytes};
+ghost use Rattle.hpb_disk.specs.FileDisks.{file_left};
+ghost use Rattle.hpb_disk.specs.Images.{Within};
+ghost use Rattle.hpb_format.specs.Outcomes.{IsNew};
+ghost use Rattle.hpb_program.specs.Jobs.{Formats, GivesText, IsJournal, IsOfFile, ReadsPart, StopsPart, StopsReading, formatted_line};
+ghost use Rattle.hpb_server.specs.Streams.{streams};
+
+use crate::job_fault::JobFault;
+use hpb_define::read_definition;
+use hpb_disk::{FileDisk, FileFault};
+use hpb_format::format;
+use hpb_image::PAGE_BYTES;
+use hpb_journal::{Frames, JOURNAL_AT, LEAST_FRAMES, MOST_FRAMES, PageFrames};
+use hpb_rules::MOST_DEFINITION_BYTES;
+use hpb_server::{read_some, send_bytes};
+use hpb_tree::Definition;
+use std::alloc::{AllocError, Global};
+use std::fs::{File, Files};
+use std::io::{ErrorKind, Read, Write};
+
+/// The pages before a journal.
+const FIRST_PAGES: u32 = (JOURNAL_AT / PAGE_BYTES) as u32;
+
+/// One byte more than a definition may have, which shows that it is too long.
+const KEPT_BYTES: usize = MOST_DEFINITION_BYTES + 1;
+
+/// How many bytes are asked of an input at a time.
+const PART_BYTES: usize = 4_096;
+
+/// Makes the file of a path keep an auction, by the definition that is the whole of the input, and writes how many
+/// pages it has. A file that isn't there is made.
+pub(crate) fn run_format<H: Files<File = File>, R: Read, W: Write>(
+    rt: &H,
+    alloc: Global,
+    file: &str,
+    journal: u32,
+    input: &mut R,
+    output: &mut W,
+) -> Result<(), JobFault>
+    ensures { Formats journal (streams (R.remaining input.old) (W.contents output.old)) (streams (R.remaining input.new) (W.contents output.new)) result }
+{
+    let text = match read_text(alloc, input) {
+        Ok(text) => text,
+        Err(fault) => return Err(fault),
+    };
+    let definition = match read_definition(alloc, text.as_slice()) {
+        Ok(definition) => definition,
+        Err(fault) => return Err(JobFault::from(fault)),
+    };
+    let is_journal = may_be_journal(journal);
+    if !is_journal {
+        return Err(JobFault::Journal);
+    }
+    let line = match line_of_pages(alloc, FIRST_PAGES + journal) {
+        Ok(line) => line,
+        Err(_) => return Err(JobFault::Memory),
+    };
+    match format_file(rt, alloc, file, &definition, journal) {
+        Ok(_) => {}
+        Err(fault) => return Err(fault),
+    }
+    match send_bytes(output, line.as_bytes()) {
+        Ok(()) => Ok(()),
+        Err(_) => Err(JobFault::Writer),
+    }
+}
+
+/// Reads the whole of an input, as far as it may be a definition: of a longer one only as many bytes are taken as show
+/// that it is one.
+#[tactic(auto, using(crate::proofs::Taking::taken_none, crate::proofs::Taking::taken_more, crate::proofs::Taking::taken_to_end, crate::proofs::Taking::taken_in_vain, crate::proofs::Taking::taken_too_much))]
+fn read_text<R: Read>(alloc: Global, input: &mut R) -> Result<Vec<u8>, JobFault>
+    ensures ok { IfOk result (λ text. GivesText (R.remaining input.old) (R.remaining input.new) text.items) }
+    ensures err { IfErr result (StopsReading (R.remaining input.old) (R.remaining input.new)) }
+{
+    let mut text = Vec::new(alloc);
+    'parts: while text.len() < KEPT_BYTES {
+        match read_part(input, &mut text) {
+            Ok(true) => {}
+            Ok(false) => return Ok(text),
+            Err(fault) => return Err(fault),
+        }
+    }
+    Ok(text)
+}
+
+/// Reads some more of an input, and adds it to what may be a definition. `false` says that the input has ended.
+fn read_part<R: Read>(input: &mut R, text: &mut Vec<u8>) -> Result<bool, JobFault>
+    requires { length text.old.items < KEPT_BYTES }
+    ensures ok { IfOk result (ReadsPart (R.remaining input.old) (R.remaining input.new) text.old.items text.new.items) }
+    ensures err { IfErr result (StopsPart (R.remaining input.old) (R.remaining input.new) text.old.items) }
+{
+    let mut part = [0; PART_BYTES];
+    let most = PART_BYTES.min(KEPT_BYTES - text.len());
+    match read_some(input, &mut part, most) {
+        Err(_) => Err(JobFault::Reader),
+        Ok(0) => Ok(false),
+        Ok(count) => match text.extend_from_slice(&part[..count]) {
+            Ok(()) => Ok(true),
+            Err(_) => Err(JobFault::Memory),
+        },
+    }
+}
+
+/// Whether a journal may have so many pages.
+fn may_be_journal(pages: u32) -> bool
+    ensures { IsTrue result ↔ IsJournal pages }
+{
+    LEAST_FRAMES <= pages && pages <= MOST_FRAMES
+}
+
+fn line_of_pages(alloc: Global, pages: u32) -> Result<String, AllocError>
+    ensures { IfOk result (λ line. string_bytes line ≡ formatted_line pages) }
+{
+    format!(in alloc; "FORMATTED {pages}\n")
+}
+
+/// Formats the file of a path. One that isn't there is made.
+#[tactic(auto, using(crate::proofs::Ends::of_file, crate::proofs::Ends::of_formatting))]
+fn format_file<H: Files<File = File>>(
+    rt: &H,
+    alloc: Global,
+    file: &str,
+    definition: &Definition,
+    journal: u32,
+) -> Result<FileDisk, JobFault>
+    requires { IsJournal journal }
+    ensures fault { IfErr result IsOfFile }
+    ensures new { IfOk result (λ disk. Within (file_left disk) (IsNew definition.now journal)) }
+{
+    let disk = match open_or_make(rt, alloc, file, PageFrames::new(journal).device_len()) {
+        Ok(disk) => disk,
+        Err(fault) => return Err(JobFault::from(fault)),
+    };
+    match format(alloc, disk, definition, journal) {
+        Ok(disk) => Ok(disk),
+        Err(fault) => Err(JobFault::from(fault.cause)),
+    }
+}
+
+/// Opens the file of a path, or makes one of so many bytes where none is.
+fn open_or_make<H: Files<File = File>>(
+    rt: &H,
+    alloc: Global,
+    file: &str,
+    len: usize,
+) -> Result<FileDisk, FileFault> {
+    match FileDisk::open(rt, alloc, file) {
+        Err(FileFault::System(error)) if error.kind() == ErrorKind::NotFound => {
+            FileDisk::make(rt, alloc, file, len)
+        }
+        opened => opened,
+    }
+}

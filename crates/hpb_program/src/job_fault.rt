@@ -1,0 +1,211 @@
+//! Why a job on a file was not done, and what can be done about it.
+ghost use Rattle.std.specs.Prelude.{◌≡◌};
+ghost use Rattle.hpb_program.specs.Jobs.{made_of_definition, made_of_file, made_of_formatting, made_of_opening, refusal_of};
+
+use hpb_define::DefineFault;
+use hpb_disk::FileFault;
+use hpb_format::FormatCause;
+use hpb_image::Flaw;
+use hpb_recover::Cause;
+use hpb_rules::Refusal;
+use std::alloc::AllocError;
+use std::fmt;
+
+/// Why a job on a file was not done.
+#[derive(Debug, Drop)]
+pub enum JobFault {
+    /// 90: memory was refused.
+    Memory,
+    /// 92: the input failed.
+    Reader,
+    /// 92: the output failed.
+    Writer,
+    /// 50 to 57, 60 to 62: the definition is refused.
+    Definition(Refusal),
+    /// 43: there can't be a journal of so many pages.
+    Journal,
+    /// 91: the file was not opened or made.
+    File(FileFault),
+    /// 41, 43 or 91: the file was not formatted.
+    Format(FormatCause),
+    /// 40, 42, 44, 45 or 91: what the file holds was not opened.
+    Open(Cause),
+}
+
+impl JobFault {
+    /// The refusal that it is told by.
+    pub fn refusal(&self) -> Refusal
+        ensures { result ≡ refusal_of self.now }
+    {
+        match self {
+            JobFault::Memory => Refusal::Memory,
+            JobFault::Reader | JobFault::Writer => Refusal::Stream,
+            JobFault::Definition(refusal) => *refusal,
+            JobFault::Journal => Refusal::Length,
+            JobFault::File(_) => Refusal::Device,
+            JobFault::Format(cause) => cause.refusal(),
+            JobFault::Open(cause) => cause.refusal(),
+        }
+    }
+}
+
+impl From<AllocError> for JobFault {
+    ghost use Rattle.hpb_program.specs.declared.job_fault.JobFault.TheVariants.{Memory};
+
+    ghost from_gives = { λ _ fault. fault ≡ Memory };
+
+    fn from(_error: AllocError) -> JobFault {
+        JobFault::Memory
+    }
+}
+
+impl From<DefineFault> for JobFault {
+    ghost from_gives = { λ fault made. made ≡ made_of_definition fault };
+
+    fn from(fault: DefineFault) -> JobFault {
+        match fault {
+            DefineFault::Memory => JobFault::Memory,
+            fault => JobFault::Definition(fault.refusal()),
+        }
+    }
+}
+
+impl From<FileFault> for JobFault {
+    ghost from_gives = { λ fault made. made ≡ made_of_file fault };
+
+    fn from(fault: FileFault) -> JobFault {
+        match fault {
+            FileFault::Memory(_) => JobFault::Memory,
+            fault => JobFault::File(fault),
+        }
+    }
+}
+
+impl From<FormatCause> for JobFault {
+    ghost from_gives = { λ cause made. made ≡ made_of_formatting cause };
+
+    fn from(cause: FormatCause) -> JobFault {
+        match cause {
+            FormatCause::Memory => JobFault::Memory,
+            cause => JobFault::Format(cause),
+        }
+    }
+}
+
+impl From<Cause> for JobFault {
+    ghost from_gives = { λ cause made. made ≡ made_of_opening cause };
+
+    fn from(cause: Cause) -> JobFault {
+        match cause {
+            Cause::Memory => JobFault::Memory,
+            cause => JobFault::Open(cause),
+        }
+    }
+}
+
+/// What is said of a job on a file that was not done: why, and what to do.
+#[derive(Clone, Copy)]
+pub(crate) struct Advice<'a> {
+    pub(crate) file: &'a str,
+    pub(crate) fault: &'a JobFault,
+}
+
+impl fmt::Display for Advice<'_> {
+    fn fmt<W: fmt::Write>(&self, f: &mut fmt::Formatter<W>) -> fmt::Result {
+        let file = self.file;
+        match self.fault {
+            JobFault::Memory => write!(f, "memory was refused: free some, and try again"),
+            JobFault::Reader => write!(f, "standard input could not be read"),
+            JobFault::Writer => write!(f, "standard output could not be written"),
+            JobFault::Definition(refusal) => {
+                let (number, word) = (refusal.number(), refusal.word());
+                write!(
+                    f,
+                    "standard input is no definition of an auction ({number} {word}): docs/PROTOCOL.md says what it must be"
+                )
+            }
+            JobFault::Journal => write!(
+                f,
+                "a journal has 4 to 1024 pages: give one of these numbers to --journal"
+            ),
+            JobFault::File(fault) => advise_of_file(f, file, fault),
+            JobFault::Format(cause) => advise_of_format(f, file, *cause),
+            JobFault::Open(cause) => advise_of_open(f, file, *cause),
+        }
+    }
+}
+
+fn advise_of_file<W: fmt::Write>(
+    f: &mut fmt::Formatter<W>,
+    file: &str,
+    fault: &FileFault,
+) -> fmt::Result {
+    match fault {
+        FileFault::Busy => write!(
+            f,
+            "{file} is in use by another process: wait until that has ended"
+        ),
+        FileFault::NotAFile => write!(f, "{file} is no regular file: name one"),
+        FileFault::TooLong => write!(
+            f,
+            "{file} is longer than any file of an auction: name another"
+        ),
+        FileFault::Memory(_) => write!(f, "memory was refused: free some, and try again"),
+        FileFault::System(error) => write!(
+            f,
+            "{file} could not be opened or made: {error}: see that the path is right and that you may use it"
+        ),
+    }
+}
+
+fn advise_of_format<W: fmt::Write>(
+    f: &mut fmt::Formatter<W>,
+    file: &str,
+    cause: FormatCause,
+) -> fmt::Result {
+    match cause {
+        FormatCause::Length => write!(
+            f,
+            "{file} is there and has another length than this journal wants: name a file that isn't there"
+        ),
+        FormatCause::Formatted => write!(
+            f,
+            "{file} keeps an auction already, and nothing was changed: see it by `hpb check --file {file}`, or name another file"
+        ),
+        FormatCause::Device => write!(
+            f,
+            "{file} could not be read, written or synced: see to its disk, and then format another file"
+        ),
+        FormatCause::Memory => write!(f, "memory was refused: free some, and try again"),
+    }
+}
+
+fn advise_of_open<W: fmt::Write>(
+    f: &mut fmt::Formatter<W>,
+    file: &str,
+    cause: Cause,
+) -> fmt::Result {
+    match cause {
+        Cause::Flawed(Flaw::Unformatted) => write!(
+            f,
+            "{file} was not formatted, so it keeps no auction: to make one that does, name a file that isn't there: hpb format --file F --journal J < definition.json"
+        ),
+        Cause::Flawed(Flaw::Layout) => write!(
+            f,
+            "the head of {file} is damaged, or the file was cut or made longer: take your newest copy of it"
+        ),
+        Cause::Flawed(Flaw::Checkpoint) => write!(
+            f,
+            "{file} has no whole checkpoint, which no power cut does to it: take your newest copy of it"
+        ),
+        Cause::Flawed(Flaw::Frame) => write!(
+            f,
+            "a batch in the journal of {file} is damaged, which no power cut does to it: take your newest copy of it"
+        ),
+        Cause::Device => write!(
+            f,
+            "{file} could not be read or synced: see to its disk, and try again"
+        ),
+        Cause::Memory => write!(f, "memory was refused: free some, and try again"),
+    }
+}

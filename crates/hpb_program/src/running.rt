@@ -1,0 +1,153 @@
+ghost use Rattle.std.specs.Prelude.{◌≡◌, ◌≢◌, ◌≤◌, IfErr, map};
+ghost use Rattle.std.specs.Io.KnownBytes.{Keeps};
+ghost use Rattle.std.specs.IoError.{error_kind};
+ghost use Rattle.hpb_program.specs.Program.{HasStatus, RunsAsked, RunsJob, RunsProgram, Says, SaysFault, TellsEnd, status_of_fault, status_of_script};
+ghost use Rattle.hpb_server.specs.Streams.{streams};
+
+use crate::checking::run_check;
+use crate::formatting::run_format;
+use crate::job_fault::{Advice, JobFault};
+use crate::status::{ILL, WELL, WRONG_WORDS};
+use crate::telling::{advise, say, tell};
+use crate::words::{Job, WordsFault, read_words};
+use hpb_server::{Fault, ScriptEnd, run_script};
+use std::alloc::Global;
+use std::convert::AsStr;
+use std::fs::{File, Files};
+use std::io;
+use std::io::{ErrorKind, Read, Write};
+
+/// What is said where the words can't be read.
+const NO_TEXT: &str = "error: a word is no text in UTF-8\n";
+
+/// The whole of the program, with its status: 0; 1 where a definition or a file is refused, memory is refused or
+/// a stream fails; 2 where the words are wrong. The first word is the program's name. Lines go to the output, and
+/// what is said of the words, help too, and of a file that is refused goes to the errors. Only jobs on files use the
+/// runtime.
+pub fn program<H: Files<File = File>, S: AsStr, R: Read, W: Write, E: Write>(
+    rt: &H,
+    alloc: Global,
+    words: &[S],
+    input: &mut R,
+    output: &mut W,
+    errors: &mut E,
+) -> u8
+    ensures status { result ≤ WRONG_WORDS }
+    ensures streams { RunsProgram (map S.text words.now) (streams (R.remaining input.old) (W.contents output.old)) (streams (R.remaining input.new) (W.contents output.new))
+        (E.contents errors.old) (E.contents errors.new) result }
+{
+    run_asked(rt, alloc, read_words(alloc, words), input, output, errors)
+}
+
+/// The status of the program where its words can't be read: 1 where memory was refused, else 2, which
+/// the errors are told.
+pub fn refuse_words<E: Write>(error: &io::Error, errors: &mut E) -> u8
+    ensures memory { error_kind error.now ≡ ErrorKind.OutOfMemory → (result ≡ ILL) × Keeps (E.contents errors.old) (E.contents errors.new) }
+    ensures wrong { error_kind error.now ≢ ErrorKind.OutOfMemory → (result ≡ WRONG_WORDS) × Says (E.contents errors.old) (E.contents errors.new) NO_TEXT.now }
+{
+    if error.kind() == ErrorKind::OutOfMemory {
+        return ILL;
+    }
+    say(NO_TEXT, errors);
+    WRONG_WORDS
+}
+
+/// Does what words ask for, and gives the program's status.
+fn run_asked<H: Files<File = File>, R: Read, W: Write, E: Write>(
+    rt: &H,
+    alloc: Global,
+    asked: Result<Job<'_>, WordsFault>,
+    input: &mut R,
+    output: &mut W,
+    errors: &mut E,
+) -> u8
+    requires { IfErr asked HasStatus }
+    ensures status { result ≤ WRONG_WORDS }
+    ensures streams { RunsAsked asked.entry (streams (R.remaining input.old) (W.contents output.old)) (streams (R.remaining input.new) (W.contents output.new))
+        (E.contents errors.old) (E.contents errors.new) result }
+{
+    match asked {
+        Ok(job) => run_job(rt, alloc, job, input, output, errors),
+        Err(fault) => say_fault(fault, errors),
+    }
+}
+
+/// Does a job, and gives the program's status.
+fn run_job<H: Files<File = File>, R: Read, W: Write, E: Write>(
+    rt: &H,
+    alloc: Global,
+    job: Job<'_>,
+    input: &mut R,
+    output: &mut W,
+    errors: &mut E,
+) -> u8
+    ensures status { result ≤ WRONG_WORDS }
+    ensures streams { RunsJob job.entry (streams (R.remaining input.old) (W.contents output.old)) (streams (R.remaining input.new) (W.contents output.new))
+        (E.contents errors.old) (E.contents errors.new) result }
+{
+    match job {
+        Job::Script => status_of_script(run_script(alloc, input, output)),
+        Job::Format { file, journal } => {
+            let end = run_format(rt, alloc, file, journal, input, output);
+            tell_end(alloc, file, end, output, errors)
+        }
+        Job::Check { file } => {
+            let end = run_check(rt, alloc, file, output);
+            tell_end(alloc, file, end, output, errors)
+        }
+    }
+}
+
+/// The status of the program by the end of its script.
+fn status_of_script(end: Result<ScriptEnd, Fault>) -> u8
+    ensures { result ≡ status_of_script end }
+{
+    match end {
+        Ok(ScriptEnd::Answered) => WELL,
+        Ok(ScriptEnd::Refused(_)) | Err(_) => ILL,
+    }
+}
+
+/// Tells how a job on a file ended, and gives the program's status.
+fn tell_end<W: Write, E: Write>(
+    alloc: Global,
+    file: &str,
+    end: Result<(), JobFault>,
+    output: &mut W,
+    errors: &mut E,
+) -> u8
+    ensures status { result ≤ WRONG_WORDS }
+    ensures told { TellsEnd (W.contents output.old) (W.contents output.new) (E.contents errors.old) (E.contents errors.new) end result }
+{
+    match end {
+        Ok(()) => WELL,
+        Err(fault) => {
+            tell(alloc, fault.refusal(), output);
+            advise(
+                alloc,
+                Advice {
+                    file,
+                    fault: &fault,
+                },
+                errors,
+            );
+            ILL
+        }
+    }
+}
+
+/// Says what is wrong with words, or what help they ask for, and gives the program's status.
+fn say_fault<E: Write>(fault: WordsFault, errors: &mut E) -> u8
+    requires { HasStatus fault }
+    ensures status { result ≤ WRONG_WORDS }
+    ensures value { result ≡ status_of_fault fault }
+    ensures said { SaysFault (E.contents errors.old) (E.contents errors.new) fault }
+{
+    match fault {
+        WordsFault::Memory => ILL,
+        WordsFault::Refused { text, status } => {
+            say(text.as_str(), errors);
+            status
+        }
+    }
+}

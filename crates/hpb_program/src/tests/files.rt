@@ -1,0 +1,326 @@
+//! Jobs on files, and what is told of them.
+
+use super::using::{
+    FailingReader, FailingWriter, Ran, SIX_NODES, format_words, new_file, run_on, run_words,
+};
+use crate::{JobFault, check_device, program};
+use hpb_disk::{FileDisk, FuseDisk, MemoryDisk};
+use hpb_recover::Cause;
+use std::fs::{self, Permissions};
+use std::os::unix::fs::PermissionsExt;
+use std::test::Fail;
+
+const PAGE: usize = 4_096;
+
+/// The gate of the first slot, and that of the first frame.
+const SLOT: usize = 3 * PAGE;
+
+const FRAME: usize = 13 * PAGE;
+
+/// What is shown of six nodes before the first command.
+const NEW: &str = "ROUND 1 STAGE 1 OPEN REVENUE 0 COUNT 0
+NODE all HIGH 0 - PRICE 0 MIN 300 WIN no
+NODE east HIGH 0 - PRICE 0 MIN 200 WIN no
+NODE a HIGH 0 - PRICE 0 MIN 100 WIN no
+NODE b HIGH 0 - PRICE 0 MIN 100 WIN no
+NODE c HIGH 0 - PRICE 0 MIN 100 WIN no
+NODE d HIGH 0 - PRICE 0 MIN 100 WIN no
+";
+
+#[test]
+fn format_then_check(rt: HostRuntime) -> Result<(), Fail> {
+    let path = "hpb_program_new";
+    let _ = fs::remove_file(&rt, path);
+    let made = run_words(&rt, &format_words(path, "4"), SIX_NODES)?;
+    assert_eq!(rt; made, Ran::well(rt.alloc(), "FORMATTED 17\n")?);
+    let before = fs::read(&rt, path)?;
+    assert_eq!(rt; before.len(), 69_632);
+    fs::set_permissions(&rt, path, Permissions::from_mode(0o400))?;
+    let shown = run_words(&rt, &["hpb", "check", "--file", path], b"")?;
+    assert_eq!(rt; shown, Ran::well(rt.alloc(), NEW)?);
+    assert_eq!(rt; fs::read(&rt, path)?, before);
+    fs::remove_file(&rt, path)?;
+    Ok(())
+}
+
+#[test]
+fn a_file_is_formatted_once(rt: HostRuntime) -> Result<(), Fail> {
+    let path = "hpb_program_twice";
+    let before = new_file(&rt, path, "8")?;
+    let again = run_words(&rt, &format_words(path, "8"), SIX_NODES)?;
+    assert!(rt;
+        again.is_refused("ERR 41 formatted\n", "hpb check --file hpb_program_twice"),
+        "{again:?}"
+    );
+    assert_eq!(rt; fs::read(&rt, path)?, before);
+    fs::remove_file(&rt, path)?;
+    Ok(())
+}
+
+#[test]
+fn zeros_are_formatted_and_other_lengths_are_not(rt: HostRuntime) -> Result<(), Fail> {
+    let path = "hpb_program_zeros";
+    let zeros = vec![in rt.alloc(); 0; 18 * PAGE]?;
+    fs::write(&rt, path, zeros.as_slice())?;
+    let other = run_words(&rt, &format_words(path, "4"), SIX_NODES)?;
+    assert!(rt;
+        other.is_refused("ERR 43 length\n", "another length"),
+        "{other:?}"
+    );
+    assert_eq!(rt; fs::read(&rt, path)?, zeros);
+    let fitting = run_words(&rt, &format_words(path, "5"), SIX_NODES)?;
+    assert_eq!(rt; fitting, Ran::well(rt.alloc(), "FORMATTED 18\n")?);
+    fs::remove_file(&rt, path)?;
+    Ok(())
+}
+
+#[test]
+fn no_file_is_made_for_a_journal_out_of_range(rt: HostRuntime) -> Result<(), Fail> {
+    let path = "hpb_program_none";
+    let _ = fs::remove_file(&rt, path);
+    for journal in ["0", "3", "1025", "4294967295"] {
+        let end = run_words(&rt, &format_words(path, journal), SIX_NODES)?;
+        assert!(rt; end.is_refused("ERR 43 length\n", "4 to 1024"), "{end:?}");
+        assert!(rt; fs::metadata(&rt, path).is_err(), "{journal}");
+    }
+    Ok(())
+}
+
+#[test]
+fn the_longest_journal_is_made(rt: HostRuntime) -> Result<(), Fail> {
+    let path = "hpb_program_longest";
+    let bytes = new_file(&rt, path, "1024")?;
+    assert_eq!(rt; bytes.len(), 4_247_552);
+    fs::remove_file(&rt, path)?;
+    Ok(())
+}
+
+#[test]
+fn faults_are_found_in_order(rt: HostRuntime) -> Result<(), Fail> {
+    let path = "hpb_program_order/none";
+    // A definition that is refused, a journal out of range, a file that can't be made.
+    let end = run_words(&rt, &format_words(path, "3"), b"{}")?;
+    assert!(rt; end.is_refused("ERR 61 field\n", "61 field"), "{end:?}");
+    let end = run_words(&rt, &format_words(path, "3"), SIX_NODES)?;
+    assert!(rt; end.is_refused("ERR 43 length\n", "--journal"), "{end:?}");
+    let end = run_words(&rt, &format_words(path, "4"), SIX_NODES)?;
+    assert!(rt;
+        end.is_refused(
+            "ERR 91 device\n",
+            "hpb_program_order/none could not be opened or made"
+        ),
+        "{end:?}"
+    );
+    Ok(())
+}
+
+#[test]
+fn a_definition_is_the_whole_of_the_input(rt: HostRuntime) -> Result<(), Fail> {
+    let alloc = rt.alloc();
+    let path = "hpb_program_whole";
+    let _ = fs::remove_file(&rt, path);
+    // A definition with a line feed before and behind it, and then as long as it may be, and longer.
+    for (length, answer, left) in [
+        (65_536, "FORMATTED 17\n", 0),
+        (65_537, "ERR 60 json\n", 0),
+        (65_547, "ERR 60 json\n", 10),
+    ] {
+        let mut text = b"\n".to_vec(alloc)?;
+        text.extend_from_slice(SIX_NODES)?;
+        text.resize(length, b'\n')?;
+        let _ = fs::remove_file(&rt, path);
+        let (end, rest) = run_on(&rt, &format_words(path, "4"), text.as_slice())?;
+        assert_eq!(rt; end.output.as_str(), answer, "{length}");
+        assert_eq!(rt; rest, left, "{length}");
+    }
+    let empty = run_words(&rt, &format_words(path, "4"), b"")?;
+    assert!(rt;
+        empty.is_refused("ERR 60 json\n", "definition"),
+        "{empty:?}"
+    );
+    assert!(rt; fs::metadata(&rt, path).is_err());
+    Ok(())
+}
+
+/// What is told of a new file with this byte at this place, and whether the file stayed as it was.
+fn checked_with(rt: &HostRuntime, path: &str, at: usize, byte: u8) -> Result<(Ran, bool), Fail> {
+    let mut bytes = new_file(rt, path, "4")?;
+    if let Some(place) = bytes.get_mut(at) {
+        *place = byte;
+    }
+    fs::write(rt, path, bytes.as_slice())?;
+    let end = run_words(rt, &["hpb", "check", "--file", path], b"")?;
+    let is_same = fs::read(rt, path)? == bytes;
+    fs::remove_file(rt, path)?;
+    Ok((end, is_same))
+}
+
+#[test]
+fn damaged_files_are_refused(rt: HostRuntime) -> Result<(), Fail> {
+    let path = "hpb_program_damaged";
+    // The head's gate, its layout, the slot's gate, and a frame that is open and holds nothing.
+    for (at, byte, line, said) in [
+        (
+            0,
+            0,
+            "ERR 40 unformatted\n",
+            "hpb format --file F --journal J",
+        ),
+        (24, 9, "ERR 42 layout\n", "head"),
+        (SLOT, 0, "ERR 44 checkpoint\n", "checkpoint"),
+        (FRAME, 0xa5, "ERR 45 frame\n", "batch"),
+    ] {
+        let (end, is_same) = checked_with(&rt, path, at, byte)?;
+        assert!(rt; end.is_refused(line, said), "{end:?}");
+        assert!(rt; is_same, "{line}");
+    }
+    Ok(())
+}
+
+#[test]
+fn files_of_other_lengths_are_refused(rt: HostRuntime) -> Result<(), Fail> {
+    let path = "hpb_program_cut";
+    let whole = new_file(&rt, path, "8")?;
+    for (length, line) in [
+        (20 * PAGE, "ERR 42 layout\n"),
+        (17 * PAGE - 1, "ERR 40 unformatted\n"),
+        (0, "ERR 40 unformatted\n"),
+    ] {
+        fs::write(&rt, path, &whole[..whole.len().min(length)])?;
+        let end = run_words(&rt, &["hpb", "check", "--file", path], b"")?;
+        assert!(rt; end.is_refused(line, path), "{end:?}");
+    }
+    fs::remove_file(&rt, path)?;
+    Ok(())
+}
+
+#[test]
+fn what_is_no_file_is_refused(rt: HostRuntime) -> Result<(), Fail> {
+    let path = "hpb_program_missing";
+    let _ = fs::remove_file(&rt, path);
+    let missing = run_words(&rt, &["hpb", "check", "--file", path], b"")?;
+    assert!(rt;
+        missing.is_refused("ERR 91 device\n", "hpb_program_missing could not be opened"),
+        "{missing:?}"
+    );
+    assert!(rt; fs::metadata(&rt, path).is_err());
+    let folder = run_words(&rt, &["hpb", "check", "--file", "."], b"")?;
+    assert!(rt;
+        folder.is_refused("ERR 91 device\n", "no regular file"),
+        "{folder:?}"
+    );
+    let unnamed = run_words(&rt, &["hpb", "check", "--file", ""], b"")?;
+    assert!(rt;
+        unnamed.is_refused("ERR 91 device\n", "error: "),
+        "{unnamed:?}"
+    );
+    Ok(())
+}
+
+#[test]
+fn a_file_in_use_is_refused(rt: HostRuntime) -> Result<(), Fail> {
+    let path = "hpb_program_used";
+    new_file(&rt, path, "4")?;
+    let held = FileDisk::open(&rt, rt.alloc(), path)?;
+    let end = run_words(&rt, &["hpb", "check", "--file", path], b"")?;
+    assert!(rt;
+        end.is_refused("ERR 91 device\n", "in use by another process"),
+        "{end:?}"
+    );
+    let end = run_words(&rt, &format_words(path, "4"), SIX_NODES)?;
+    assert!(rt;
+        end.is_refused("ERR 91 device\n", "in use by another process"),
+        "{end:?}"
+    );
+    drop(held);
+    // Those that only read it do so side by side.
+    let held = FileDisk::open_to_read(&rt, rt.alloc(), path)?;
+    let shown = run_words(&rt, &["hpb", "check", "--file", path], b"")?;
+    assert_eq!(rt; shown, Ran::well(rt.alloc(), NEW)?);
+    drop(held);
+    fs::remove_file(&rt, path)?;
+    Ok(())
+}
+
+#[test]
+fn streams_fail(rt: HostRuntime) -> Result<(), Fail> {
+    let alloc = rt.alloc();
+    let path = "hpb_program_streams";
+    let _ = fs::remove_file(&rt, path);
+    let words = format_words(path, "4");
+    let (mut output, mut errors) = (Vec::new(alloc), Vec::new(alloc));
+    let status = program(
+        &rt,
+        alloc,
+        &words,
+        &mut FailingReader,
+        &mut output,
+        &mut errors,
+    );
+    assert_eq!(rt; status, 1);
+    assert!(rt; output.is_empty());
+    assert!(rt; !errors.is_empty());
+    assert!(rt; fs::metadata(&rt, path).is_err());
+    // Where the output fails the file is formatted all the same.
+    let mut input = SIX_NODES;
+    let status = program(
+        &rt,
+        alloc,
+        &words,
+        &mut input,
+        &mut FailingWriter,
+        &mut errors,
+    );
+    assert_eq!(rt; status, 1);
+    let words = ["hpb", "check", "--file", path];
+    let status = program(
+        &rt,
+        alloc,
+        &words,
+        &mut input,
+        &mut FailingWriter,
+        &mut errors,
+    );
+    assert_eq!(rt; status, 1);
+    let shown = run_words(&rt, &words, b"")?;
+    assert_eq!(rt; shown, Ran::well(alloc, NEW)?);
+    // Where the errors fail the line is written and the status is the same.
+    let status = program(
+        &rt,
+        alloc,
+        &format_words(path, "4"),
+        &mut SIX_NODES,
+        &mut output,
+        &mut FailingWriter,
+    );
+    assert_eq!(rt; status, 1);
+    assert_eq!(rt; output.as_slice(), b"ERR 41 formatted\n".as_slice());
+    fs::remove_file(&rt, path)?;
+    Ok(())
+}
+
+#[test]
+fn each_call_of_a_device_fails_in_turn(rt: HostRuntime) -> Result<(), Fail> {
+    let alloc = rt.alloc();
+    let path = "hpb_program_fuse";
+    let bytes = new_file(&rt, path, "4")?;
+    fs::remove_file(&rt, path)?;
+    let mut calls = 0;
+    for call in 1..100 {
+        let disk = MemoryDisk::of(alloc, bytes.clone()?)?;
+        let mut output = Vec::new(alloc);
+        match check_device(alloc, FuseDisk::new(disk, call), &mut output) {
+            Ok(()) => {
+                assert_eq!(rt; output.as_slice(), NEW.as_bytes());
+                calls = call;
+                break;
+            }
+            Err(fault) => {
+                assert!(rt; matches!(fault, JobFault::Open(Cause::Device)), "{call}");
+                assert!(rt; output.is_empty(), "{call}");
+            }
+        }
+    }
+    assert!(rt; calls > 2);
+    Ok(())
+}

@@ -1,0 +1,96 @@
+//! Running the program in a test.
+
+use crate::program;
+use std::alloc::{AllocError, Global};
+use std::io::{ErrorKind, Read, Write};
+use std::test::Fail;
+use std::{fs, io};
+
+/// A definition of six nodes and four bidders, with two stages.
+pub(crate) const SIX_NODES: &[u8] =
+    b"{\"step\":10,\"percent\":10,\"stages\":[80,95],\"nodes\":[{\"name\":\"all\",\"parent\":null},{\"name\":\"east\",\"parent\":\"all\"},{\"name\":\"a\",\"parent\":\"east\",\"units\":10,\"opening\":100},{\"name\":\"b\",\"parent\":\"east\",\"units\":10,\"opening\":100},{\"name\":\"c\",\"parent\":\"all\",\"units\":20,\"opening\":100},{\"name\":\"d\",\"parent\":null,\"units\":5,\"opening\":100}],\"bidders\":[{\"name\":\"x\",\"units\":10},{\"name\":\"y\",\"units\":10},{\"name\":\"z\",\"units\":40},{\"name\":\"w\",\"units\":25}]}\n";
+
+/// How the program ended, and what it wrote.
+#[derive(Debug, Drop, PartialEq)]
+pub(crate) struct Ran {
+    pub(crate) status: u8,
+    pub(crate) output: String,
+    pub(crate) errors: String,
+}
+
+impl Ran {
+    /// It ended well.
+    pub(crate) fn well(alloc: Global, output: &str) -> Result<Ran, AllocError> {
+        Ok(Ran {
+            status: 0,
+            output: String::from_str(alloc, output)?,
+            errors: String::new(alloc),
+        })
+    }
+
+    /// Whether it ended with 1 after this one line, and said so what to do.
+    pub(crate) fn is_refused(&self, line: &str, said: &str) -> bool {
+        self.status == 1
+            && self.output.as_str() == line
+            && self.errors.starts_with("error: ")
+            && self.errors.contains(said)
+    }
+}
+
+/// The words that ask for a file with such a journal.
+pub(crate) fn format_words<'a>(path: &'a str, journal: &'a str) -> [&'a str; 6] {
+    ["hpb", "format", "--file", path, "--journal", journal]
+}
+
+/// Runs the program, and tells how much of the input is left.
+pub(crate) fn run_on(rt: &HostRuntime, words: &[&str], text: &[u8]) -> Result<(Ran, usize), Fail> {
+    let alloc = rt.alloc();
+    let mut input = text;
+    let mut output = Vec::new(alloc);
+    let mut errors = Vec::new(alloc);
+    let status = program(rt, alloc, words, &mut input, &mut output, &mut errors);
+    let ended = Ran {
+        status,
+        output: String::from_utf8(output)?,
+        errors: String::from_utf8(errors)?,
+    };
+    Ok((ended, input.len()))
+}
+
+pub(crate) fn run_words(rt: &HostRuntime, words: &[&str], text: &[u8]) -> Result<Ran, Fail> {
+    Ok(run_on(rt, words, text)?.0)
+}
+
+/// Makes a file of six nodes, with such a journal, and gives its bytes.
+pub(crate) fn new_file(rt: &HostRuntime, path: &str, journal: &str) -> Result<Vec<u8>, Fail> {
+    let _ = fs::remove_file(rt, path);
+    let made = run_words(rt, &format_words(path, journal), SIX_NODES)?;
+    if made.status != 0 {
+        return Err("no file was made".into());
+    }
+    Ok(fs::read(rt, path)?)
+}
+
+/// A reader that fails.
+#[derive(Drop)]
+pub(crate) struct FailingReader;
+
+impl Read for FailingReader {
+    fn read(&mut self, _buffer: &mut [u8]) -> io::Result<usize> {
+        Err(ErrorKind::ConnectionReset.into())
+    }
+}
+
+/// A writer that fails.
+#[derive(Drop)]
+pub(crate) struct FailingWriter;
+
+impl Write for FailingWriter {
+    fn write(&mut self, _bytes: &[u8]) -> io::Result<usize> {
+        Err(ErrorKind::BrokenPipe.into())
+    }
+
+    fn flush(&mut self) -> io::Result<()> {
+        Err(ErrorKind::BrokenPipe.into())
+    }
+}

@@ -1,0 +1,230 @@
+ghost use Rattle.std.specs.Prelude.{◌≡◌, false, Some, IfErr, IfOk, map};
+ghost use Rattle.clap.specs.Values.{kind_of};
+ghost use Rattle.clap.specs.Words.{app_of, found_of, rows_of, rule_of, shape_of, subcommand_rows_of};
+ghost use Rattle.clap.specs.declared.builder.command.Command.TheViews.{out-Command};
+ghost use Rattle.hpb_program.specs.Words.{check_shape, file_rule, format_shape, hpb, journal_rule, AsksFor, HasKnownCommand, IsJobOf, IsKnownName, IsTold};
+ghost use Rattle.hpb_program.specs.declared.words.WordsFault.TheVariants.{Memory};
+ghost use Rattle.hpb_program.specs.Program.{HasStatus};
+
+use crate::status::{WELL, WRONG_WORDS};
+use clap::error::ErrorKind;
+use clap::{Arg, ArgMatches, Command, value_parser};
+use std::alloc::{AllocError, Global};
+use std::convert::AsStr;
+use thiserror::Error;
+
+const ABOUT: &str = "Runs a simultaneous ascending auction with bids on packages.";
+
+const HELP: &str =
+    r#"Without a command the auction is in memory. Standard input has its definition in JSON, in one line, and
+then commands and questions, one a line. Each of them gets one line on standard output:
+
+  BID bidder ticket node amount   a bid, in whole dollars        OK number
+  CLOSE ticket                    ends the round                 OK number
+  STAGE ticket                    moves on to the next stage     OK number
+  SHOW                            the auction                    ROUND r STAGE s OPEN REVENUE v COUNT n
+  NODE name                       a package or a licence         NODE name HIGH h x PRICE p MIN m WIN yes
+  WHO bidder                      a bidder                       WHO x ELIGIBILITY e ACTIVITY a TICKET t
+
+Each bidder numbers its commands 1, 2, .. by tickets, and so does who closes rounds and moves stages.
+What is refused gets ERR with a number and a word.
+
+Status: 0 each line got its answer; 1 the definition or memory was refused, or reading or writing
+failed; 2 the words were wrong. Each command says by --help what its status means.
+
+Example: the lines
+
+  {"step":10,"percent":10,"stages":[80],"nodes":[{"name":"a","parent":null,"units":1,"opening":100}],"bidders":[{"name":"x","units":1}]}
+  BID x 1 a 100
+  CLOSE 1
+  NODE a
+
+are answered by OK 1, OK 2 and NODE a HIGH 100 x PRICE 100 MIN 110 WIN yes.
+
+docs/RULES.md has the rules of the auction; docs/PROTOCOL.md has the definition, all lines, answers and
+refusals."#;
+
+const FORMAT_ABOUT: &str = "Makes a file that keeps an auction, before its first command";
+
+const FORMAT_HELP: &str =
+    r#"Standard input is the definition in JSON, in as many lines as you like. A file that isn't there is made. One that
+is there must have the same number of bytes as one that is made so, and must not keep an auction yet; what it holds
+is lost. The journal has J pages of 4,096 bytes, and the file 13 pages more. The more it has, the more rarely a
+checkpoint is needed.
+
+What is written is FORMATTED with the number of pages, or ERR with a number and a word.
+
+Status: 0 the file keeps the auction; 1 it doesn't, and why is written; 2 the words were wrong.
+
+Example: a file of 77 pages
+
+  hpb format --file auction.hpb --journal 64 < definition.json
+
+docs/OPERATIONS.md says how to size, copy and move a file, and what each refusal means."#;
+
+const CHECK_ABOUT: &str = "Shows the auction that a file keeps";
+
+const CHECK_HELP: &str =
+    r#"What is written is the line that SHOW is answered, and then for each node, in the order of the definition, the line
+that NODE is answered; or ERR with a number and a word. The file is only read. It can't be read so while another
+program runs it.
+
+Status: 0 the auction is shown; 1 it isn't, and why is written; 2 the words were wrong.
+
+Example:
+
+  hpb check --file auction.hpb
+
+docs/OPERATIONS.md says what each refusal means."#;
+
+/// The command that makes a file.
+const FORMAT: &str = "format";
+
+/// The command that shows what a file keeps.
+const CHECK: &str = "check";
+
+/// The option that names a file.
+const FILE: &str = "file";
+
+/// The option that gives the number of pages of a journal.
+const JOURNAL: &str = "journal";
+
+/// What a command line asks for.
+#[derive(Clone, Copy, Debug, PartialEq, Eq)]
+pub enum Job<'a> {
+    /// An auction in memory: a definition and lines from the input.
+    Script,
+    /// A file that keeps an auction, by the definition from the input: the file's path, and the number of pages of
+    /// its journal, which may be out of range.
+    Format { file: &'a str, journal: u32 },
+    /// The auction that the file of this path keeps, shown.
+    Check { file: &'a str },
+}
+
+/// Why words ask for no job.
+#[derive(Debug, Drop, Error)]
+pub enum WordsFault {
+    /// 90: memory was refused.
+    #[error("memory")]
+    Memory,
+    /// The words are wrong, or ask for help. The text is for whoever wrote them, and the status is the
+    /// program's: 2 for wrong words, else 0.
+    #[error("{text}")]
+    Refused { text: String, status: u8 },
+}
+
+impl From<AllocError> for WordsFault {
+    ghost from_gives = { λ _ e. e ≡ Memory };
+
+    fn from(_error: AllocError) -> WordsFault {
+        WordsFault::Memory
+    }
+}
+
+/// The job that a command line asks for. Its first word is the program's name.
+pub fn read_words<'a, S: AsStr>(alloc: Global, words: &'a [S]) -> Result<Job<'a>, WordsFault>
+    ensures status { IfErr result HasStatus }
+    ensures asked { AsksFor (map S.text words.now) result }
+{
+    let command = command(alloc)?;
+    match command.try_get_matches_from(words) {
+        Ok(matches) => Ok(job_of(&matches)),
+        Err(error) => Err(refused(alloc, &error)?),
+    }
+}
+
+/// What matches ask for.
+fn job_of<'a>(matches: &ArgMatches<'a>) -> Job<'a>
+    requires { HasKnownCommand (subcommand_rows_of matches.now) }
+    ensures { IsJobOf (subcommand_rows_of matches.now) result }
+{
+    match matches.subcommand() {
+        None => Job::Script,
+        Some((name, options)) => job_of_command(name, options),
+    }
+}
+
+/// What a command asks for. It takes words only with all its options, so none of them is missing here.
+fn job_of_command<'a>(name: &str, options: &ArgMatches<'a>) -> Job<'a>
+    requires { IsKnownName name.now }
+    ensures { IsJobOf (Some (name.now, rows_of (found_of options.now))) result }
+{
+    let file = options.get_str(FILE).unwrap_or("");
+    if name == FORMAT {
+        let journal = options.get_one::<u32>(JOURNAL).unwrap_or(0);
+        Job::Format { file, journal }
+    } else {
+        Job::Check { file }
+    }
+}
+
+/// What becomes of words that `clap` gives no matches for.
+fn refused(alloc: Global, error: &clap::Error) -> Result<WordsFault, AllocError>
+    ensures status { IfOk result HasStatus }
+    ensures told { IfOk result (IsTold (kind_of error.now)) }
+{
+    if error.kind() == ErrorKind::OutOfMemory {
+        return Ok(WordsFault::Memory);
+    }
+    let text = error.to_string(alloc)?;
+    let is_shown = error.kind() == ErrorKind::DisplayHelp
+        || error.kind() == ErrorKind::DisplayVersion;
+    let status = if is_shown { WELL } else { WRONG_WORDS };
+    Ok(WordsFault::Refused { text, status })
+}
+
+fn command<'a>(alloc: Global) -> Result<Command<'a>, AllocError>
+    ensures { IfOk result (λ command. app_of command ≡ hpb) }
+{
+    Command::new(alloc, "hpb")
+        .version("0.1.0")
+        .about(ABOUT)
+        .after_help(HELP)
+        .disable_help_subcommand(true)
+        .subcommand(format_command(alloc)?)?
+        .subcommand(check_command(alloc)?)
+}
+
+fn format_command<'a>(alloc: Global) -> Result<Command<'a>, AllocError>
+    ensures shape { IfOk result (λ command. shape_of command ≡ format_shape) }
+    ensures local { IfOk result (λ command. (out-Command command).has_globals ≡ false) }
+{
+    Command::new(alloc, FORMAT)
+        .about(FORMAT_ABOUT)
+        .after_help(FORMAT_HELP)
+        .arg(file_option(alloc))?
+        .arg(journal_option(alloc))
+}
+
+fn check_command<'a>(alloc: Global) -> Result<Command<'a>, AllocError>
+    ensures shape { IfOk result (λ command. shape_of command ≡ check_shape) }
+    ensures local { IfOk result (λ command. (out-Command command).has_globals ≡ false) }
+{
+    Command::new(alloc, CHECK)
+        .about(CHECK_ABOUT)
+        .after_help(CHECK_HELP)
+        .arg(file_option(alloc))
+}
+
+fn file_option<'a>(alloc: Global) -> Arg<'a>
+    ensures rule { rule_of result ≡ file_rule }
+    ensures local { result.global ≡ false }
+{
+    Arg::new(alloc, FILE)
+        .long(FILE)
+        .value_name("F")
+        .required(true)
+        .help("The path of the file")
+}
+
+fn journal_option<'a>(alloc: Global) -> Arg<'a>
+    ensures rule { rule_of result ≡ journal_rule }
+    ensures local { result.global ≡ false }
+{
+    Arg::new(alloc, JOURNAL)
+        .long(JOURNAL)
+        .value_name("J")
+        .required(true)
+        .value_parser(value_parser!(u32))
+        .help("The number of pages of the journal, from 4 to 1024")
+}
