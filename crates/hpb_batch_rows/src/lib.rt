@@ -1,5 +1,7 @@
-//! Tests of batches over devices.
+//! Tests of batches and of sessions over devices.
 #![tactic(auto)]
 
 #[cfg(test)]
 mod rows;
+#[cfg(test)]
+mod sessions;

@@ -1,0 +1,219 @@
+-- Where an engine stands after what a desk has it do.
+use Rattle.std.proofs.Common.{◌≡◌, ◌≢◌, ◌⊎◌, inl, inr, ℕ, ◌<◌, ◌≤◌, Bool, true, false, Option, Some, None, List, ◌++◌, length, map, reverse, refl, sym, ◌∙◌, ap, subst, arith}
+use Rattle.hpb_rules.specs.declared.command.Command.{Command}
+use Rattle.hpb_rules.specs.declared.letter.Answer.{Answer}
+use Rattle.hpb_rules.specs.declared.letter.Letter.{Letter}
+use Rattle.hpb_rules.specs.declared.limits.TheConstants.{MOST_LETTERS}
+use Rattle.hpb_rules.specs.declared.refusal.Refusal.TheVariants as refusals
+use Rattle.hpb_rules.specs.declared.reply.Reply.{Reply}
+use Rattle.hpb_rules.specs.AuctionValue.{AuctionValue, Shows}
+use Rattle.hpb_rules.specs.LetterLaws.{JudgedIsAnswered}
+use Rattle.hpb_rules.specs.Letters.{judged, new_commands}
+use Rattle.hpb_rules.specs.Machine.{Machine, at_rest}
+use Rattle.hpb_rules.specs.Tree.{Rules}
+use Rattle.hpb_progress.specs.declared.progress.Progress.{Progress}
+use Rattle.hpb_progress.specs.Keeping.{Keeps}
+use Rattle.hpb_engine.specs.declared.step.Fault.{Fault}
+use Rattle.hpb_engine.specs.declared.step.Fault.TheVariants as faults
+use Rattle.hpb_engine.specs.Runs.{HasFailed}
+use Rattle.hpb_engine.specs.Steps.{refusal_of}
+use Rattle.hpb_batches.specs.Batches.{KeepsEnded, StaysRefused}
+use Rattle.hpb_server.specs.Desk.{AsksAll}
+use Rattle.hpb_run.specs.Device.{Phase, RepliesAt, ShowsAt, State, at_start, failed, failing, never_over, works}
+use Rattle.hpb_run.specs.Standing.{DeskStands, HasAsked, StandsAt, letter_of, refused, reply_of}
+use Rattle.hpb_run.proofs.Asked.{all_by_rules, answered_state, judged_counted, judged_history, judged_replies, some_failed, some_failing}
+
+-- An engine that has not failed stands where all was answered by the rules.
+works_by : (phase : Phase) (off : Bool) → (phase ≢ works → off ≡ true) → off ≡ false → phase ≡ works
+works_by works off stopped on = refl
+works_by failing off stopped on = absurd (let yes = stopped (λ is. absurd (cc)) in cc)
+works_by failed off stopped on = absurd (let yes = stopped (λ is. absurd (cc)) in cc)
+
+-- Failures don't go back.
+failures_grow : (fault : Option Fault) (before after : ℕ) → HasFailed fault before after → before ≤ after
+failures_grow None before after has = omega (arith, has)
+failures_grow (Some fault) before after has = omega (arith, has.1)
+
+module _ {D : Type 0} (seen : D → List ℕ) (may_leave : D → List ℕ → Type 0) (failures : D → ℕ) where
+  abbrev Stands : D → Progress → Bool → State → Type 0
+  Stands = StandsAt seen may_leave failures
+
+  module _ (old : D) (s : Progress) (off : Bool) (state : State) (stands : StandsAt seen may_leave failures old s off state) where
+    pub phase_is : off ≡ false → state.phase ≡ works
+    phase_is on = works_by state.phase off stands.0.stopped on
+
+    -- It keeps the acknowledged commands, with nothing in flight.
+    pub keeps_rest : off ≡ false → Keeps seen may_leave old s off (at_rest state.history)
+    keeps_rest on = subst (λ (machine : Machine). Keeps seen may_leave old s off machine) (stands.0.rests (phase_is on)) stands.0.keeps
+
+    -- Its committed auction is shown.
+    pub shows_committed : ShowsAt state (Some s.committed) state
+    shows_committed =
+        (s.committed, refl, stands.0.rules, subst (λ (history : List Command). Shows s.committed history) stands.0.acknowledged stands.0.keeps.shows, refl)
+
+    -- One that has failed refuses each command.
+    pub failed_told : off ≡ true → (commands : List Command) (told : List Reply) → 0 < length commands → told ≡ refused (length commands) refusals.Failed
+        → HasAsked seen may_leave failures old s off state commands told
+    failed_told is commands told some are =
+        let next : State = record state { phase = failed } in (
+          next,
+          subst (λ (l : List Reply). AsksAll RepliesAt never_over state commands l next) (sym are) (some_failed state commands some),
+          (
+            record {
+              machine = stands.0.machine;
+              keeps = stands.0.keeps;
+              rules = stands.0.rules;
+              acknowledged = stands.0.acknowledged;
+              rests = λ at_work. absurd (cc);
+              stopped = λ stops. is;
+              cause = stands.0.cause;
+            },
+            stands.1,
+          ),
+          refl,
+        )
+
+    module _ (on : off ≡ false) (new : D) (t : Progress) (after : Bool) where
+      -- After a checkpoint it stands where it stood.
+      pub rested : (fault : Option Fault) → Keeps seen may_leave new t after (at_rest state.history) → t.committed ≡ s.committed → (fault ≡ None → off ≡ false → after ≡ false)
+          → HasFailed fault (failures old) (failures new) → StandsAt seen may_leave failures new t after state
+      rested fault keeps committed work has = (
+        record {
+          machine = at_rest state.history;
+          keeps = keeps;
+          rules = ap (λ (value : AuctionValue). value.rules) committed ∙ stands.0.rules;
+          acknowledged = refl;
+          rests = λ at_work. refl;
+          stopped = λ stops. absurd (stops (phase_is on));
+          cause = λ is. inr (risen fault work has is);
+        },
+        omega (arith, stands.1, failures_grow fault (failures old) (failures new) has),
+      )
+        where
+          risen : (told : Option Fault) → (told ≡ None → off ≡ false → after ≡ false) → HasFailed told (failures old) (failures new) → after ≡ true → state.failures < failures new
+          risen None working counts is = absurd (let no = working refl on in cc)
+          risen (Some fault) working counts is = omega (arith, counts.1, stands.1)
+
+      -- So it does where memory was refused.
+      pub refused_stands : Keeps seen may_leave new t after (at_rest state.history) → StaysRefused (failures old) (failures new) s t off after → StandsAt seen may_leave failures new t after state
+      refused_stands keeps stays = (
+        record {
+          machine = at_rest state.history;
+          keeps = keeps;
+          rules = ap (λ (value : AuctionValue). value.rules) stays.0 ∙ stands.0.rules;
+          acknowledged = refl;
+          rests = λ at_work. refl;
+          stopped = λ stops. absurd (stops (phase_is on));
+          cause = λ is. absurd (let no = stays.2 is in cc);
+        },
+        omega (arith, stands.1, stays.1),
+      )
+
+      module _ (law : JudgedIsAnswered) (commands : List Command) (letters : List Letter) (are : letters ≡ map letter_of commands) (some : 0 < length commands) (most : length commands ≤ MOST_LETTERS)
+          (answers : List Answer) (told : List Reply) where
+        abbrev Ended : Rules → Option Fault → Type 0
+        Ended rules fault = KeepsEnded seen may_leave new t after rules state.history letters answers fault
+
+        all_answered : Ended state.rules None → failures new ≡ failures old → (length answers ≤ MOST_LETTERS → told ≡ map reply_of answers)
+            → HasAsked seen may_leave failures new t after state commands told
+        all_answered ended well told_are =
+            let past : List Command = reverse state.history in
+            let next : State = answered_state state past commands in
+            let came : state.history ++ new_commands (judged state.rules state.history letters) ≡ next.history = judged_history law state.rules state.history commands letters are in
+            let counted : length answers ≡ length commands = ap length ended.2.1 ∙ judged_counted law state.rules state.history commands letters are in
+            let replied = told_are (omega (arith, counted, most)) ∙ ap (map reply_of) ended.2.1 ∙ judged_replies law state.rules state.history commands letters are in (
+              next,
+              subst (λ (l : List Reply). AsksAll RepliesAt never_over state commands l next) (sym replied) (all_by_rules state past commands (phase_is on) refl),
+              (
+                record {
+                  machine = ended.0;
+                  keeps = ended.1;
+                  rules = ended.3;
+                  acknowledged = ap (λ (machine : Machine). machine.acknowledged) ended.2.2 ∙ came;
+                  rests = λ at_work. ended.2.2 ∙ ap at_rest came;
+                  stopped = λ stops. absurd (stops (phase_is on));
+                  cause = λ is. absurd (let no = ended.2.0 in cc);
+                },
+                omega (arith, stands.1, well),
+              ),
+              refl,
+            )
+
+        none_taken : Ended state.rules (Some faults.Failed) → failures old < failures new → told ≡ refused (length commands) refusals.Failed
+            → HasAsked seen may_leave failures new t after state commands told
+        none_taken ended rose told_are =
+            let next : State = record state { phase = failed } in (
+              next,
+              subst (λ (l : List Reply). AsksAll RepliesAt never_over state commands l next) (sym told_are) (some_failed state commands some),
+              (
+                record {
+                  machine = ended.0;
+                  keeps = ended.1;
+                  rules = ended.3;
+                  acknowledged = ap (λ (machine : Machine). machine.acknowledged) ended.2.1;
+                  rests = λ at_work. absurd (cc);
+                  stopped = λ stops. ended.2.0;
+                  cause = λ is. inr (omega (arith, stands.1, rose));
+                },
+                omega (arith, stands.1, rose),
+              ),
+              refl,
+            )
+
+        none_acknowledged : Ended state.rules (Some faults.Device) → failures old < failures new → told ≡ refused (length commands) refusals.Device
+            → HasAsked seen may_leave failures new t after state commands told
+        none_acknowledged ended rose told_are =
+            let next : State = record state { phase = failing } in (
+              next,
+              subst (λ (l : List Reply). AsksAll RepliesAt never_over state commands l next) (sym told_are) (some_failing state commands (phase_is on) some),
+              (
+                record {
+                  machine = ended.0;
+                  keeps = ended.1;
+                  rules = ended.3;
+                  acknowledged = ap (λ (machine : Machine). machine.acknowledged) ended.2.2;
+                  rests = λ at_work. absurd (cc);
+                  stopped = λ stops. ended.2.0;
+                  cause = λ is. inr (omega (arith, stands.1, rose));
+                },
+                omega (arith, stands.1, rose),
+              ),
+              refl,
+            )
+
+        -- Commands that were committed together, or were not, have their replies.
+        pub batch_told : (fault : Option Fault) → Ended s.committed.rules fault → (fault ≡ None → failures new ≡ failures old) → (fault ≡ Some faults.Device → failures old < failures new)
+            → (fault ≡ Some faults.Failed → (off ≡ true) ⊎ (failures old < failures new)) → (fault ≡ None → length answers ≤ MOST_LETTERS → told ≡ map reply_of answers)
+            → ((why : Fault) → fault ≡ Some why → told ≡ refused (length commands) (refusal_of why)) → HasAsked seen may_leave failures new t after state commands told
+        batch_told fault ended well ill earlier answered stopped = by fault (subst (λ (rules : Rules). Ended rules fault) stands.0.rules ended) well ill earlier answered stopped
+          where
+            by : (fault : Option Fault) → Ended state.rules fault → (fault ≡ None → failures new ≡ failures old) → (fault ≡ Some faults.Device → failures old < failures new)
+                → (fault ≡ Some faults.Failed → (off ≡ true) ⊎ (failures old < failures new)) → (fault ≡ None → length answers ≤ MOST_LETTERS → told ≡ map reply_of answers)
+                → ((why : Fault) → fault ≡ Some why → told ≡ refused (length commands) (refusal_of why)) → HasAsked seen may_leave failures new t after state commands told
+            by None ended well ill earlier answered stopped = all_answered ended (well refl) (answered refl)
+            by (Some faults.Device) ended well ill earlier answered stopped = none_acknowledged ended (ill refl) (stopped faults.Device refl)
+            by (Some faults.Failed) ended well ill earlier answered stopped = elim (earlier refl) [ inl is ↦ absurd (cc) | inr rose ↦ none_taken ended rose (stopped faults.Failed refl) ]
+
+  -- An engine with nothing in flight stands at the start.
+  pub starts : (disk : D) (s : Progress) (off : Bool) (history : List Command) → Keeps seen may_leave disk s off (at_rest history)
+      → StandsAt seen may_leave failures disk s off (at_start s.committed.rules history (failures disk) off)
+  starts disk s off history keeps = (
+    record {
+      machine = at_rest history;
+      keeps = keeps;
+      rules = refl;
+      acknowledged = refl;
+      rests = λ at_work. refl;
+      stopped = λ stops. absurd (stops refl);
+      cause = λ is. inl is;
+    },
+    omega arith,
+  )
+
+-- A desk stands by the engine that it has, before it is taken out and after another is put in its place.
+module _ {E : Type 0} (engine : Option E) (stands : E → State → Type 0) (definition : Rules) (state : State) (held : E) (is : engine ≡ Some held) where
+  pub stands_now : DeskStands engine stands definition state → stands held state × (definition ≡ state.rules)
+  stands_now at = subst (λ (o : Option E). DeskStands o stands definition state) is at
+
+  pub stands_again : stands held state → definition ≡ state.rules → DeskStands engine stands definition state
+  stands_again at same = subst (λ (o : Option E). DeskStands o stands definition state) (sym is) (at, same)

@@ -1,0 +1,20 @@
+use Rattle.std.proofs.Common.{inl, refl}
+use Rattle.std.proofs.KnownBytes.{Keeps-refl}
+use Rattle.hpb_run.specs.Device.{at_start}
+use Rattle.hpb_run.proofs.Standings.{stands_now, starts}
+use Rattle.hpb_run.proofs.running.run_session.Goals as goal
+
+pub returns-in-Ok : goal.returns-in-Ok
+returns-in-Ok g c = λ history keeps.
+    let engine = c.args.engine in
+    let start = at_start engine.progress.committed.rules history (g.D.Disk.failures engine.disk) engine.failed in
+    let served = c.serve-end.ensures.served start (c.in-Ok.ensures.stands history keeps) in
+    let at = stands_now _ _ _ served.0 _ c.into_engine.ensures served.2 in
+    (served.0, served.1, at.0.0)
+
+pub returns-in-Err : goal.returns-in-Err
+returns-in-Err g c = λ history keeps.
+    let d = g.D.Disk in
+    let engine = c.args.engine in
+    let start = at_start engine.progress.committed.rules history (d.failures engine.disk) engine.failed in
+    (start, inl (refl, (Keeps-refl _, Keeps-refl _), refl), rw c.in-Err.ensures.back (starts d.seen d.may_leave d.failures engine.disk engine.progress engine.failed history keeps).0)

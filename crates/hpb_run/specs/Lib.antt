@@ -1,0 +1,5 @@
+pub mod Device
+pub mod DeviceLaws
+pub mod Running
+pub mod Standing
+pub mod Telling

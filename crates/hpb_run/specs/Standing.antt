@@ -1,0 +1,49 @@
+-- Where the desk of a device stands, and what its small steps give.
+use Rattle.std.specs.Prelude.{◌≡◌, ℕ, suc, ◌≤◌, ◌==◌, nat_lt, nat_le, Bool, not, ◌&&◌, List, replicate, Option, Some, None, if◌then◌else◌}
+use Rattle.hpb_rules.specs.declared.command.Command.{Command}
+use Rattle.hpb_rules.specs.declared.letter.Answer.{Answer}
+use Rattle.hpb_rules.specs.declared.letter.Letter.{Letter}
+use Rattle.hpb_rules.specs.declared.refusal.Refusal.{Refusal}
+use Rattle.hpb_rules.specs.declared.reply.Reply.{Reply}
+use Rattle.hpb_rules.specs.declared.reply.Reply.TheVariants as replies
+use Rattle.hpb_rules.specs.Tree.{Rules}
+use Rattle.hpb_progress.specs.declared.progress.Progress.{Progress}
+use Rattle.hpb_server.specs.Desk.{AsksAll}
+use Rattle.hpb_run.specs.Device.{IsAt, RepliesAt, State, never_over}
+
+-- A command as a letter of the one seat that a session has.
+abbrev pub letter_of : Command → Letter
+letter_of command = record { seat = 0; command = command }
+
+abbrev pub reply_of : Answer → Reply
+reply_of answered = answered.reply
+
+-- Each of so many commands is refused.
+abbrev pub refused : ℕ → Refusal → List Reply
+refused count refusal = replicate count (replies.Refused refusal)
+
+-- A checkpoint is due after so many commits, where one is wanted.
+abbrev pub is_due : (every commits : ℕ) → Bool
+is_due every commits = not (every == 0) && nat_le every commits
+
+-- The greatest number of commits that is counted.
+abbrev pub most_counted : ℕ
+most_counted = 4294967295
+
+-- A commit counts where more commands are accepted after it than before.
+abbrev pub commits_after : (commits before after : ℕ) → ℕ
+commits_after commits before after = if nat_lt before after && nat_lt commits most_counted then suc commits else commits
+
+-- An engine stands at a state, and its device counts all failures since the start.
+abbrev pub StandsAt : {D : Type 0} (seen : D → List ℕ) (may_leave : D → List ℕ → Type 0) (failures : D → ℕ) (disk : D) (s : Progress) (failed : Bool) → State → Type 0
+StandsAt seen may_leave failures disk s failed state = IsAt seen may_leave failures disk s failed state × (state.failures ≤ failures disk)
+
+-- Commands that were asked together have their replies, and the engine stands where they lead, with the same definition.
+abbrev pub HasAsked : {D : Type 0} (seen : D → List ℕ) (may_leave : D → List ℕ → Type 0) (failures : D → ℕ) (disk : D) (s : Progress) (failed : Bool) → State → List Command → List Reply → Type 0
+HasAsked seen may_leave failures disk s failed state commands told =
+    (next : State) × AsksAll RepliesAt never_over state commands told next × StandsAt seen may_leave failures disk s failed next × (next.rules ≡ state.rules)
+
+-- A desk stands where its engine does, and has the definition of that state.
+abbrev pub DeskStands : {E : Type 0} → Option E → (E → State → Type 0) → Rules → State → Type 0
+DeskStands None stands definition state = ⊥
+DeskStands (Some engine) stands definition state = stands engine state × (definition ≡ state.rules)

@@ -1,0 +1,102 @@
+//! A session on a device.
+ghost use Rattle.std.specs.Prelude.{◌≡◌, List, [], true, false, OnOk};
+ghost use Rattle.hpb_rules.specs.declared.command.Command.{Command};
+ghost use Rattle.hpb_rules.specs.declared.limits.TheConstants.{MOST_LETTERS, MOST_READ_BYTES};
+ghost use Rattle.hpb_rules.specs.Machine.{at_rest};
+ghost use Rattle.hpb_progress.specs.Keeping.{Keeps};
+ghost use Rattle.hpb_server.specs.ScriptLaws.{WritesText};
+ghost use Rattle.hpb_server.specs.Serving.{Serves};
+ghost use Rattle.hpb_server.specs.Streams.{streams};
+ghost use Rattle.hpb_run.specs.Device.{IsAt, RepliesAt, ShowsAt, State, at_start, never_over, rules_at};
+ghost use Rattle.hpb_run.specs.Running.{RanDevice};
+
+use crate::desk::DeviceDesk;
+use hpb_disk::Disk;
+use hpb_engine::Engine;
+use hpb_server::{Fault, serve};
+use std::alloc::Global;
+use std::io::{Read, Write};
+
+/// What a session on a device came to.
+#[derive(Drop)]
+pub struct Ran<D: Disk + Drop> {
+    /// The engine, as it stands.
+    pub engine: Engine<D>,
+    pub end: Result<(), Fault>,
+}
+
+/// Answers each line of the reader by one line on the writer, as `serve` does, from the auction that an engine keeps on
+/// its device. The engine is given back, whatever comes.
+///
+/// Commands that were read wait until they are `batch`, from 1 to 64 (any other number is taken as the nearest of these),
+/// until another line is to be answered, or until more is to be read. They are then committed together. A command is
+/// answered `OK` once it is acknowledged, so that no crash loses it.
+///
+/// A checkpoint is made after each `every` commits: once their answers have left, or before the next commit. Where `every`
+/// is 0, it is only made where the journal is full.
+///
+/// The answer 91 says that a call of the device failed in the commit of this command's batch, of which none is
+/// acknowledged, and 93 that one had failed before. Questions are still answered by what is acknowledged. The session ends
+/// by 90 where memory is refused, and by 92 where the reader or the writer fails or more than 1,000,000,000 bytes are read.
+///
+/// All that is answered is written and flushed before more is read.
+pub fn run_device<R: Read, W: Write, D: Disk + Drop>(
+    alloc: Global,
+    reader: &mut R,
+    writer: &mut W,
+    engine: Engine<D>,
+    batch: usize,
+    every: u32,
+) -> Ran<D>
+    // From an engine with nothing in flight: each line has the answer of a device that works, up to the first call that
+    // fails, and the engine stands where these answers lead.
+    ensures ran { (history : List Command) → Keeps D.seen D.may_leave engine.disk engine.progress engine.failed (at_rest history)
+        → (state : State) × Serves rules_at never_over RepliesAt ShowsAt MOST_LETTERS true [] MOST_READ_BYTES
+        (streams (R.remaining reader.old) (W.contents writer.old)) (streams (R.remaining reader.new) (W.contents writer.new))
+        (at_start engine.progress.committed.rules history (D.failures engine.disk) engine.failed) state result.end
+        × IsAt D.seen D.may_leave D.failures result.engine.disk result.engine.progress result.engine.failed state }
+    // So lines up to some line are answered by the rules, and none from there on, and the engine keeps what was
+    // acknowledged.
+    ensures text { (history : List Command) → Keeps D.seen D.may_leave engine.disk engine.progress engine.failed (at_rest history)
+        → RanDevice D.seen D.may_leave D.failures MOST_READ_BYTES
+        (streams (R.remaining reader.old) (W.contents writer.old)) (streams (R.remaining reader.new) (W.contents writer.new))
+        engine.progress.committed.rules history (D.failures engine.disk) engine.failed result.engine.disk result.engine.progress result.engine.failed result.end }
+    // Where no call of the device failed, all was read, its text is written, and the engine shows what it leads to.
+    ensures well { (history : List Command) → Keeps D.seen D.may_leave engine.disk engine.progress engine.failed (at_rest history)
+        → engine.failed ≡ false → D.failures result.engine.disk ≡ D.failures engine.disk
+        → OnOk result.end (WritesText engine.progress.committed.rules history MOST_READ_BYTES
+        (streams (R.remaining reader.old) (W.contents writer.old)) (streams (R.remaining reader.new) (W.contents writer.new)) result.engine.progress.committed) }
+{
+    run_session(alloc, reader, writer, engine, batch, every)
+}
+
+/// Answers the lines by a desk, and gives the engine back.
+fn run_session<R: Read, W: Write, D: Disk + Drop>(
+    alloc: Global,
+    reader: &mut R,
+    writer: &mut W,
+    engine: Engine<D>,
+    batch: usize,
+    every: u32,
+) -> Ran<D>
+    ensures { (history : List Command) → Keeps D.seen D.may_leave engine.disk engine.progress engine.failed (at_rest history)
+        → (state : State) × Serves rules_at never_over RepliesAt ShowsAt MOST_LETTERS true [] MOST_READ_BYTES
+        (streams (R.remaining reader.old) (W.contents writer.old)) (streams (R.remaining reader.new) (W.contents writer.new))
+        (at_start engine.progress.committed.rules history (D.failures engine.disk) engine.failed) state result.end
+        × IsAt D.seen D.may_leave D.failures result.engine.disk result.engine.progress result.engine.failed state }
+{
+    match DeviceDesk::new(alloc, engine, batch, every) {
+        Ok(desk) => {
+            let mut desk = desk;
+            let end = serve(alloc, reader, writer, &mut desk);
+            Ran {
+                engine: desk.into_engine(),
+                end,
+            }
+        }
+        Err(engine) => Ran {
+            engine,
+            end: Err(Fault::Memory),
+        },
+    }
+}
