@@ -1,5 +1,6 @@
 mod Asking
 mod Fronts
 mod Ends
+mod Kept
 mod Options
 mod Taking

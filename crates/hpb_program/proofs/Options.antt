@@ -11,7 +11,7 @@ use Rattle.clap.specs.declared.parser.matches.Found.{Found}
 use Rattle.clap.specs.declared.parser.matches.SubCommand.{SubCommand}
 use Rattle.clap.proofs.WalkLemmas.{first_value-rows, one_text-rows}
 use Rattle.std.specs.Box.{box_value}
-use Rattle.hpb_program.specs.Words.{IsNumberOf, text_in}
+use Rattle.hpb_program.specs.Words.{IsNumberOr, text_in}
 
 -- its name and its rows are those of what was found
 pub found_sub : (m : ArgMatches) (name : Text) (rows : List Row) → Some name ≡ subcommand_name_of m → Some rows ≡ option_map (λ p. p.1) (subcommand_rows_of m)
@@ -32,17 +32,17 @@ text_read f id o d r empty is read = go o is ∙ ap (λ (t : Option Text). unwra
     go None is = ap (λ (s : Bor Text). s.now) is ∙ empty
     go (Some s) is = ap (λ (s : Bor Text). s.now) is
 
--- the number that it spells
-pub number_read : {E : Type 0} (gives : Text → Result ℕ E → Type 0) (f : Found) (id : Text) (o : Option ℕ) (n : ℕ)
+-- the number that it spells, or another
+pub number_read : {E : Type 0} (gives : Text → Result ℕ E → Type 0) (f : Found) (id : Text) (o : Option ℕ) (d n : ℕ)
     → ((t : Text) (r : Result ℕ E) → gives t r → ParsesUnsigned 32 10 t r)
-    → (one_text f id ≡ None → o ≡ None) → ((t : Text) → one_text f id ≡ Some t → ReadsOne gives t o) → n ≡ unwrap_or o 0
-    → IsNumberOf (one_of id (rows_of f)) n
-number_read {E} gives f id o n parses none some is = subst (λ (t : Option Text). IsNumberOf t n) (one_text-rows f id) (go (one_text f id) none some)
+    → (one_text f id ≡ None → o ≡ None) → ((t : Text) → one_text f id ≡ Some t → ReadsOne gives t o) → n ≡ unwrap_or o d
+    → IsNumberOr d (one_of id (rows_of f)) n
+number_read {E} gives f id o d n parses none some is = subst (λ (t : Option Text). IsNumberOr d t n) (one_text-rows f id) (go (one_text f id) none some)
   where
-    read : (t : Text) (o : Option ℕ) → ReadsOne gives t o → n ≡ unwrap_or o 0 → IsNumberOf (Some t) n
+    read : (t : Text) (o : Option ℕ) → ReadsOne gives t o → n ≡ unwrap_or o d → IsNumberOr d (Some t) n
     read t None h is = (λ spells. absurd (parses t (Err h.0) h.1 spells), λ _. is)
     read t (Some v) h is = let p = parses t (Ok v) h in (λ spells. is ∙ p.1, λ not. absurd (not p.0))
 
-    go : (t : Option Text) → (t ≡ None → o ≡ None) → ((u : Text) → t ≡ Some u → ReadsOne gives u o) → IsNumberOf t n
-    go None none some = is ∙ ap (λ (x : Option ℕ). unwrap_or x 0) (none refl)
+    go : (t : Option Text) → (t ≡ None → o ≡ None) → ((u : Text) → t ≡ Some u → ReadsOne gives u o) → IsNumberOr d t n
+    go None none some = is ∙ ap (λ (x : Option ℕ). unwrap_or x d) (none refl)
     go (Some t) none some = read t o (some t refl) is

@@ -1,8 +1,6 @@
 -- What the program does with its streams, and its status.
-use Rattle.std.specs.Prelude.{◌≡◌, ℕ, List, [], Option, Result, Ok, Err, ⊤, ◌⊎◌, string_bytes}
+use Rattle.std.specs.Prelude.{◌≡◌, ℕ, Bool, true, false, List, [], Option, Result, Ok, Err, ⊤, ◌⊎◌, string_bytes}
 use Rattle.std.specs.Io.KnownBytes.{Appends, Keeps}
-use Rattle.hpb_rules.specs.declared.refusal.Refusal.{Refusal}
-use Rattle.hpb_rules.specs.declared.refusal.Refusal.TheVariants as refusals
 use Rattle.hpb_rules.specs.Fronts.{IsFront}
 use Rattle.hpb_rules.specs.Rendering.{refusal_text}
 use Rattle.hpb_rules.specs.Text.{line_of}
@@ -11,10 +9,13 @@ use Rattle.hpb_server.specs.declared.script.ScriptEnd.{ScriptEnd}
 use Rattle.hpb_server.specs.declared.script.ScriptEnd.TheVariants as ends
 use Rattle.hpb_program.specs.declared.status.TheConstants.{WELL, ILL, WRONG_WORDS}
 use Rattle.hpb_program.specs.declared.words.Job.{Job}
-use Rattle.hpb_program.specs.declared.words.Job.TheVariants.{Script, Format, Check}
+use Rattle.hpb_program.specs.declared.words.Job.TheVariants.{Script, Format, Check, Run}
 use Rattle.hpb_program.specs.declared.words.WordsFault.{WordsFault}
 use Rattle.hpb_program.specs.declared.words.WordsFault.TheVariants.{Memory, Refused}
 use Rattle.hpb_program.specs.declared.job_fault.JobFault.{JobFault}
+use Rattle.hpb_program.specs.declared.job_fault.JobFault.TheVariants as faults
+use Rattle.hpb_program.specs.declared.run_end.RunEnd.{RunEnd}
+use Rattle.hpb_program.specs.Keeping.{RunsFile}
 use Rattle.hpb_program.specs.Words.{AsksFor}
 use Rattle.hpb_program.specs.Jobs.{refusal_of, Checks, Formats}
 use Rattle.hpb_server.specs.Script.{RunsScript}
@@ -45,16 +46,26 @@ abbrev pub SaysFault : (errors_old errors_new : Option (List ℕ)) → WordsFaul
 SaysFault errors_old errors_new Memory = Keeps errors_old errors_new
 SaysFault errors_old errors_new (Refused text status) = Says errors_old errors_new (string_bytes text)
 
--- What is told of a refusal on the output: its line, and nothing of memory or of a stream.
-abbrev pub told_text : Refusal → List ℕ
-told_text refusals.Memory = []
-told_text refusals.Stream = []
-told_text refusal = line_of (refusal_text refusal)
+-- What is told of a fault on the output: the line of its refusal; or nothing where the output failed, since a front of another line may stand there.
+abbrev pub told_text : JobFault → List ℕ
+told_text faults.Writer = []
+told_text fault = line_of (refusal_text (refusal_of fault))
 
 -- What both outputs are told of how a job on a file ended, and its status.
 abbrev pub TellsEnd : (old new errors_old errors_new : Option (List ℕ)) → Result ⊤ JobFault → ℕ → Type 0
 TellsEnd old new errors_old errors_new (Ok done) status = Keeps old new × Keeps errors_old errors_new × (status ≡ WELL)
-TellsEnd old new errors_old errors_new (Err fault) status = Says old new (told_text (refusal_of fault)) × ((text : List ℕ) × Says errors_old errors_new text) × (status ≡ ILL)
+TellsEnd old new errors_old errors_new (Err fault) status = Says old new (told_text fault) × ((text : List ℕ) × Says errors_old errors_new text) × (status ≡ ILL)
+
+-- What the errors are told of a run that had begun, and its status: by what ended it, and whether a call of the disk had failed.
+abbrev pub TellsEnded : (errors_old errors_new : Option (List ℕ)) → Result ⊤ Fault → Bool → ℕ → Type 0
+TellsEnded errors_old errors_new (Ok done) false status = Keeps errors_old errors_new × (status ≡ WELL)
+TellsEnded errors_old errors_new (Ok done) true status = ((text : List ℕ) × Says errors_old errors_new text) × (status ≡ ILL)
+TellsEnded errors_old errors_new (Err fault) failed status = ((text : List ℕ) × Says errors_old errors_new text) × (status ≡ ILL)
+
+-- What both outputs are told of how a run of a file ended, and its status. Once it has begun the output is told nothing more.
+abbrev pub TellsRun : (old new errors_old errors_new : Option (List ℕ)) → Result RunEnd JobFault → ℕ → Type 0
+TellsRun old new errors_old errors_new (Ok end) status = Keeps old new × TellsEnded errors_old errors_new end.end end.failed status
+TellsRun old new errors_old errors_new (Err fault) status = TellsEnd old new errors_old errors_new (Err fault) status
 
 -- A job on a file does this, and then its end is told.
 abbrev pub RunsToEnd : (Streams → Streams → Result ⊤ JobFault → Type 0) → (before after : Streams) (errors_old errors_new : Option (List ℕ)) → ℕ → Type 0
@@ -71,6 +82,9 @@ RunsJob Script before after errors_old errors_new status =
     (end : Result ScriptEnd Fault) × RunsScript before after end × (status ≡ status_of_script end) × Keeps errors_old errors_new
 RunsJob (Format file journal) before after errors_old errors_new status = RunsToEnd (Formats journal) before after errors_old errors_new status
 RunsJob (Check file) before after errors_old errors_new status = RunsToEnd ChecksFile before after errors_old errors_new status
+RunsJob (Run file batch every) before after errors_old errors_new status =
+    (done : Streams) × (end : Result RunEnd JobFault) × RunsFile before done end
+    × Keeps done.remaining after.remaining × TellsRun done.contents after.contents errors_old errors_new end status
 
 -- What is done by what words ask for: their job; or nothing, and the errors are told why.
 abbrev pub RunsAsked : Result Job WordsFault → (before after : Streams) (errors_old errors_new : Option (List ℕ)) → ℕ → Type 0

@@ -1,5 +1,5 @@
 -- What words ask the program for, by what `clap` states of its commands and options.
-use Rattle.std.specs.Prelude.{◌≡◌, ◌≢◌, ◌⊎◌, ℕ, ◌<◌, ◌^◌, List, [], ◌∷◌, true, pos, codes, unwrap_or, option_map, Option, Some, None, Result, Ok, Err}
+use Rattle.std.specs.Prelude.{◌≡◌, ◌≢◌, ◌⊎◌, ℕ, ◌<◌, ◌≤◌, ◌^◌, max, min, List, [], ◌∷◌, true, pos, codes, unwrap_or, option_map, Option, Some, None, Result, Ok, Err}
 use Rattle.std.specs.Str.Parse.{IsNumeral, digits_value, without_leading_plus}
 use Rattle.clap.specs.Simple.{App, Shape, new_app, new_rule, on_top, subcommand_of, with_rule, with_subcommand}
 use Rattle.clap.specs.Walk.{Row, Rule, first_of, one_of}
@@ -8,9 +8,10 @@ use Rattle.clap.specs.Faults.{fault_of}
 use Rattle.clap.specs.declared.builder.value_parser.ValueParser.TheVariants as parsers
 use Rattle.clap.specs.declared.error.kind.ErrorKind.{ErrorKind}
 use Rattle.clap.specs.declared.error.kind.ErrorKind.TheVariants.{DisplayHelp, DisplayVersion, InvalidSubcommand, MissingRequiredArgument, OutOfMemory, UnknownArgument, ValueValidation}
+use Rattle.hpb_rules.specs.declared.limits.TheConstants.{MOST_LETTERS}
 use Rattle.hpb_program.specs.declared.status.TheConstants.{WELL, WRONG_WORDS}
 use Rattle.hpb_program.specs.declared.words.Job.{Job}
-use Rattle.hpb_program.specs.declared.words.Job.TheVariants.{Script, Format, Check}
+use Rattle.hpb_program.specs.declared.words.Job.TheVariants.{Script, Format, Check, Run}
 use Rattle.hpb_program.specs.declared.words.WordsFault.{WordsFault}
 use Rattle.hpb_program.specs.declared.words.WordsFault.TheVariants.{Memory, Refused}
 
@@ -22,6 +23,14 @@ file_rule = record (new_rule (codes "file")) { long = Some (codes "file"); value
 abbrev pub journal_rule : Rule
 journal_rule = record (new_rule (codes "journal")) { long = Some (codes "journal"); value_names = 1; required = true; parser = Some (parsers.Signed (pos 0) (pos 4294967295)) }
 
+-- The option that gives the most commands of a batch.
+abbrev pub batch_rule : Rule
+batch_rule = record (new_rule (codes "batch")) { long = Some (codes "batch"); value_names = 1; defaults = codes "1" ∷ []; parser = Some (parsers.Signed (pos 1) (pos 64)) }
+
+-- The option that gives a number of batches, of 32 bits.
+abbrev pub every_rule : Rule
+every_rule = record (new_rule (codes "every")) { long = Some (codes "every"); value_names = 1; defaults = codes "0" ∷ []; parser = Some (parsers.Signed (pos 0) (pos 4294967295)) }
+
 -- The command that makes a file.
 abbrev pub format_shape : Shape
 format_shape = (with_rule (with_rule (new_app (codes "format")) file_rule) journal_rule).top
@@ -30,9 +39,17 @@ format_shape = (with_rule (with_rule (new_app (codes "format")) file_rule) journ
 abbrev pub check_shape : Shape
 check_shape = (with_rule (new_app (codes "check")) file_rule).top
 
+-- The command that runs what a file keeps.
+abbrev pub run_shape : Shape
+run_shape = (with_rule (with_rule (with_rule (new_app (codes "run")) file_rule) batch_rule) every_rule).top
+
+-- The program without its commands.
+abbrev pub hpb_alone : App
+hpb_alone = on_top (λ s. record s { has_version = true; disable_help_subcommand = true }) (new_app (codes "hpb"))
+
 -- The program with its commands.
 abbrev pub hpb : App
-hpb = with_subcommand (with_subcommand (on_top (λ s. record s { has_version = true; disable_help_subcommand = true }) (new_app (codes "hpb"))) format_shape) check_shape
+hpb = with_subcommand (with_subcommand (with_subcommand hpb_alone format_shape) check_shape) run_shape
 
 -- Help or the version is asked for.
 abbrev pub IsShown : ErrorKind → Type 0
@@ -50,12 +67,20 @@ text_in rows name = unwrap_or (first_of name rows) []
 abbrev pub IsNumber : List ℕ → Type 0
 IsNumber digits = IsNumeral 10 digits × (digits_value 10 digits < 2 ^ 32)
 
--- The number of 32 bits that a text spells, or 0 where it spells none.
-abbrev pub IsNumberOf : Option (List ℕ) → ℕ → Type 0
-IsNumberOf None number = number ≡ 0
-IsNumberOf (Some text) number =
+-- The number of 32 bits that a text spells, or another where it spells none.
+abbrev pub IsNumberOr : ℕ → Option (List ℕ) → ℕ → Type 0
+IsNumberOr other None number = number ≡ other
+IsNumberOr other (Some text) number =
     let digits = without_leading_plus text in
-    (IsNumber digits → number ≡ digits_value 10 digits) × ((IsNumber digits → ⊥) → number ≡ 0)
+    (IsNumber digits → number ≡ digits_value 10 digits) × ((IsNumber digits → ⊥) → number ≡ other)
+
+-- The same, or 0.
+abbrev pub IsNumberOf : Option (List ℕ) → ℕ → Type 0
+IsNumberOf text number = IsNumberOr 0 text number
+
+-- A batch has as many commands as a text spells, or 1 where it spells no number: 1 at least, and as many as any batch may have at most.
+abbrev pub IsBatchOf : Option (List ℕ) → ℕ → Type 0
+IsBatchOf text batch = (number : ℕ) × IsNumberOr 1 text number × (batch ≡ max 1 (min number MOST_LETTERS))
 
 -- A job is what a command and its options say.
 abbrev pub IsJobOf : Option (List ℕ × List Row) → Job → Type 0
@@ -63,10 +88,18 @@ IsJobOf None job = job ≡ Script
 IsJobOf (Some found) Script = ⊥
 IsJobOf (Some found) (Format file journal) = (found.0 ≡ codes "format") × (file.now ≡ text_in found.1 (codes "file")) × IsNumberOf (one_of (codes "journal") found.1) journal
 IsJobOf (Some found) (Check file) = (found.0 ≡ codes "check") × (file.now ≡ text_in found.1 (codes "file"))
+IsJobOf (Some found) (Run file batch every) =
+    (found.0 ≡ codes "run") × (file.now ≡ text_in found.1 (codes "file"))
+    × IsBatchOf (one_of (codes "batch") found.1) batch × IsNumberOf (one_of (codes "every") found.1) every
+
+-- The numbers of a job that are not judged later are within their range.
+abbrev pub HasRanges : Job → Type 0
+HasRanges (Run file batch every) = (1 ≤ batch) × (batch ≤ MOST_LETTERS)
+HasRanges job = Unit {0}
 
 -- The name is that of a command.
 abbrev pub IsKnownName : List ℕ → Type 0
-IsKnownName name = (name ≡ codes "format") ⊎ (name ≡ codes "check")
+IsKnownName name = (name ≡ codes "format") ⊎ (name ≡ codes "check") ⊎ (name ≡ codes "run")
 
 -- The command is one of the program's, or there is none.
 abbrev pub HasKnownCommand : Option (List ℕ × List Row) → Type 0
@@ -87,6 +120,10 @@ IsTold kind (Refused text status) = (kind ≢ OutOfMemory) × EndsBy kind status
 -- A command with the texts of its file and its number.
 abbrev pub options_in : Option (List ℕ × List Row) → Option (List ℕ × Option (List ℕ) × Option (List ℕ))
 options_in = option_map (λ found. (found.0, first_of (codes "file") found.1, one_of (codes "journal") found.1))
+
+-- A command with the texts of its file and its two numbers.
+abbrev pub run_options_in : Option (List ℕ × List Row) → Option (List ℕ × Option (List ℕ) × Option (List ℕ) × Option (List ℕ))
+run_options_in = option_map (λ found. (found.0, first_of (codes "file") found.1, one_of (codes "batch") found.1, one_of (codes "every") found.1))
 
 -- What is wrong with some words behind the program's name, or asked for by them, and which command they ask for.
 pub record WordsAskFor : Type 0 where
@@ -112,3 +149,14 @@ pub record WordsAskFor : Type 0 where
   pub checks : (name : List ℕ) → options_in (subcommand_of hpb (name ∷ codes "check" ∷ codes "--file=a.hpb" ∷ [])) ≡ Some (codes "check", Some (codes "a.hpb"), None)
   pub check_help : (name : List ℕ) → fault_of hpb (name ∷ codes "check" ∷ codes "--help" ∷ []) ≡ DisplayHelp ∷ []
   pub check_file : (name : List ℕ) → fault_of hpb (name ∷ codes "check" ∷ []) ≡ MissingRequiredArgument ∷ []
+  pub run : (name : List ℕ) → fault_of hpb (name ∷ codes "run" ∷ codes "--file" ∷ codes "a.hpb" ∷ codes "--batch" ∷ codes "16" ∷ codes "--every" ∷ codes "50" ∷ []) ≡ []
+  pub runs : (name : List ℕ) → run_options_in (subcommand_of hpb (name ∷ codes "run" ∷ codes "--file" ∷ codes "a.hpb" ∷ codes "--batch" ∷ codes "16" ∷ codes "--every" ∷ codes "50" ∷ []))
+      ≡ Some (codes "run", Some (codes "a.hpb"), Some (codes "16"), Some (codes "50"))
+  pub run_alone : (name : List ℕ) → fault_of hpb (name ∷ codes "run" ∷ codes "--file=a.hpb" ∷ []) ≡ []
+  pub runs_alone : (name : List ℕ) → run_options_in (subcommand_of hpb (name ∷ codes "run" ∷ codes "--file=a.hpb" ∷ [])) ≡ Some (codes "run", Some (codes "a.hpb"), Some (codes "1"), Some (codes "0"))
+  pub run_help : (name : List ℕ) → fault_of hpb (name ∷ codes "run" ∷ codes "--help" ∷ []) ≡ DisplayHelp ∷ []
+  pub run_file : (name : List ℕ) → fault_of hpb (name ∷ codes "run" ∷ []) ≡ MissingRequiredArgument ∷ []
+  pub least_batch : (name : List ℕ) → fault_of hpb (name ∷ codes "run" ∷ codes "--file=a.hpb" ∷ codes "--batch=1" ∷ []) ≡ []
+  pub most_batch : (name : List ℕ) → fault_of hpb (name ∷ codes "run" ∷ codes "--file=a.hpb" ∷ codes "--batch=64" ∷ []) ≡ []
+  pub below_batch : (name : List ℕ) → fault_of hpb (name ∷ codes "run" ∷ codes "--file=a.hpb" ∷ codes "--batch=0" ∷ []) ≡ ValueValidation ∷ []
+  pub above_batch : (name : List ℕ) → fault_of hpb (name ∷ codes "run" ∷ codes "--file=a.hpb" ∷ codes "--batch=65" ∷ []) ≡ ValueValidation ∷ []

@@ -1,12 +1,14 @@
 ghost use Rattle.std.specs.Prelude.{◌≡◌, ◌≢◌, ◌≤◌, IfErr, map};
 ghost use Rattle.std.specs.Io.KnownBytes.{Keeps};
 ghost use Rattle.std.specs.IoError.{error_kind};
-ghost use Rattle.hpb_program.specs.Program.{HasStatus, RunsAsked, RunsJob, RunsProgram, Says, SaysFault, TellsEnd, status_of_fault, status_of_script};
+ghost use Rattle.hpb_program.specs.Program.{HasStatus, RunsAsked, RunsJob, RunsProgram, Says, SaysFault, TellsEnd, TellsEnded, TellsRun, status_of_fault, status_of_script};
 ghost use Rattle.hpb_server.specs.Streams.{streams};
 
 use crate::checking::run_check;
 use crate::formatting::run_format;
 use crate::job_fault::{Advice, JobFault};
+use crate::keeping::run_file;
+use crate::run_end::{RunAdvice, RunEnd};
 use crate::status::{ILL, WELL, WRONG_WORDS};
 use crate::telling::{advise, say, tell};
 use crate::words::{Job, WordsFault, read_words};
@@ -95,6 +97,10 @@ fn run_job<H: Files<File = File>, R: Read, W: Write, E: Write>(
             let end = run_check(rt, alloc, file, output);
             tell_end(alloc, file, end, output, errors)
         }
+        Job::Run { file, batch, every } => {
+            let end = run_file(rt, alloc, file, batch as usize, every, input, output);
+            tell_run(alloc, file, end, output, errors)
+        }
     }
 }
 
@@ -122,7 +128,7 @@ fn tell_end<W: Write, E: Write>(
     match end {
         Ok(()) => WELL,
         Err(fault) => {
-            tell(alloc, fault.refusal(), output);
+            tell(alloc, &fault, output);
             advise(
                 alloc,
                 Advice {
@@ -134,6 +140,36 @@ fn tell_end<W: Write, E: Write>(
             ILL
         }
     }
+}
+
+/// Tells how a run of a file ended, and gives the program's status.
+fn tell_run<W: Write, E: Write>(
+    alloc: Global,
+    file: &str,
+    end: Result<RunEnd, JobFault>,
+    output: &mut W,
+    errors: &mut E,
+) -> u8
+    ensures status { result ≤ WRONG_WORDS }
+    ensures told { TellsRun (W.contents output.old) (W.contents output.new) (E.contents errors.old) (E.contents errors.new) end result }
+{
+    match end {
+        Ok(ended) => tell_ended(alloc, RunAdvice { file, end: ended }, errors),
+        Err(fault) => tell_end(alloc, file, Err(fault), output, errors),
+    }
+}
+
+/// Tells the errors how a run ended that had begun, where it ended ill, and gives the program's status.
+fn tell_ended<E: Write>(alloc: Global, advice: RunAdvice<'_>, errors: &mut E) -> u8
+    ensures status { result ≤ WRONG_WORDS }
+    ensures told { TellsEnded (E.contents errors.old) (E.contents errors.new) advice.entry.end.end advice.entry.end.failed result }
+{
+    match (advice.end.end, advice.end.failed) {
+        (Ok(()), false) => return WELL,
+        (Ok(()), true) => advise(alloc, advice, errors),
+        (Err(_), _) => advise(alloc, advice, errors),
+    }
+    ILL
 }
 
 /// Says what is wrong with words, or what help they ask for, and gives the program's status.

@@ -1,4 +1,5 @@
 mod files;
+mod runs;
 mod using;
 
 use super::*;
@@ -13,7 +14,7 @@ const NO_DEFINITION: &[u8] = b"{";
 #[test]
 fn words_are_read(rt: HostRuntime) -> Result<(), Fail> {
     let alloc = rt.alloc();
-    let table: [(&[&str], u8, &str); 26] = [
+    let table: [(&[&str], u8, &str); 37] = [
         (&["hpb", "--help"], 0, "Usage: hpb"),
         (&["hpb", "--version"], 0, "hpb 0."),
         (&["hpb", "bogus"], 2, "error: "),
@@ -80,7 +81,42 @@ fn words_are_read(rt: HostRuntime) -> Result<(), Fail> {
             "error: ",
         ),
         (&["hpb", "check", "--version"], 2, "error: "),
-        (&["hpb", "run"], 2, "error: "),
+        (
+            &["hpb", "run", "--help"],
+            0,
+            "hpb run --file auction.hpb --batch 16 --every 50 < lines",
+        ),
+        (&["hpb", "run", "--help"], 0, "Status: 0 "),
+        (&["hpb", "run", "--help"], 0, "[default: 1]"),
+        (&["hpb", "--help"], 0, "run "),
+        (&["hpb", "run"], 2, "--file <F>"),
+        (
+            &["hpb", "run", "--file", "a", "--batch", "0"],
+            2,
+            "invalid value '0' for '--batch <N>'",
+        ),
+        (
+            &["hpb", "run", "--file", "a", "--batch", "65"],
+            2,
+            "65 is not in 1..=64",
+        ),
+        (
+            &["hpb", "run", "--file", "a", "--batch", "many"],
+            2,
+            "error: ",
+        ),
+        (&["hpb", "run", "--file", "a", "--every=-1"], 2, "error: "),
+        (
+            &["hpb", "run", "--file", "a", "--every", "4294967296"],
+            2,
+            "error: ",
+        ),
+        (
+            &["hpb", "run", "--file", "a", "--journal", "4"],
+            2,
+            "error: ",
+        ),
+        (&["hpb", "run", "--file", "a", "b"], 2, "error: "),
     ];
     for (words, want, said) in table {
         let mut input = NO_DEFINITION;
@@ -154,7 +190,7 @@ fn faults_are_told(rt: HostRuntime) -> Result<(), Fail> {
 
 #[test]
 fn jobs_are_read(rt: HostRuntime) -> Result<(), Fail> {
-    let table: [(&[&str], Job<'_>); 7] = [
+    let table: [(&[&str], Job<'_>); 11] = [
         (&["hpb"], Job::Script),
         (&["hpb", "--"], Job::Script),
         (
@@ -183,6 +219,40 @@ fn jobs_are_read(rt: HostRuntime) -> Result<(), Fail> {
             Job::Check { file: "format" },
         ),
         (&["hpb", "check", "--file="], Job::Check { file: "" }),
+        (
+            &["hpb", "run", "--file", "a"],
+            Job::Run {
+                file: "a",
+                batch: 1,
+                every: 0,
+            },
+        ),
+        (
+            &["hpb", "run", "--batch=1", "--file=a", "--every=1"],
+            Job::Run {
+                file: "a",
+                batch: 1,
+                every: 1,
+            },
+        ),
+        (
+            &[
+                "hpb", "run", "--file", "a", "--batch", "64", "--every", "50",
+            ],
+            Job::Run {
+                file: "a",
+                batch: 64,
+                every: 50,
+            },
+        ),
+        (
+            &["hpb", "run", "--every=4294967295", "--file=run"],
+            Job::Run {
+                file: "run",
+                batch: 1,
+                every: u32::MAX,
+            },
+        ),
     ];
     for (words, job) in table {
         assert_eq!(rt; read_words(rt.alloc(), words)?, job, "{words:?}");

@@ -2,13 +2,14 @@ ghost use Rattle.std.specs.Prelude.{◌≡◌, false, Some, IfErr, IfOk, map};
 ghost use Rattle.clap.specs.Values.{kind_of};
 ghost use Rattle.clap.specs.Words.{app_of, found_of, rows_of, rule_of, shape_of, subcommand_rows_of};
 ghost use Rattle.clap.specs.declared.builder.command.Command.TheViews.{out-Command};
-ghost use Rattle.hpb_program.specs.Words.{check_shape, file_rule, format_shape, hpb, journal_rule, AsksFor, HasKnownCommand, IsJobOf, IsKnownName, IsTold};
+ghost use Rattle.hpb_program.specs.Words.{batch_rule, check_shape, every_rule, file_rule, format_shape, hpb, journal_rule, run_shape, AsksFor, HasKnownCommand, HasRanges, IsJobOf, IsKnownName, IsTold};
 ghost use Rattle.hpb_program.specs.declared.words.WordsFault.TheVariants.{Memory};
 ghost use Rattle.hpb_program.specs.Program.{HasStatus};
 
 use crate::status::{WELL, WRONG_WORDS};
 use clap::error::ErrorKind;
 use clap::{Arg, ArgMatches, Command, value_parser};
+use hpb_rules::MOST_LETTERS;
 use std::alloc::{AllocError, Global};
 use std::convert::AsStr;
 use thiserror::Error;
@@ -77,17 +78,54 @@ Example:
 
 docs/OPERATIONS.md says what each refusal means."#;
 
+const RUN_ABOUT: &str = "Runs the auction that a file keeps";
+
+const RUN_HELP: &str =
+    r#"Standard input has commands and questions, one a line, as a script has behind its definition, and each line gets its
+answer on standard output (hpb --help). A command is answered by OK once it is on the disk, where no power cut takes
+it back. The auction goes on where the file's last run ended, with all that was answered by OK. While it runs, no
+other program may have the file.
+
+--batch N: as many commands as have come are put on the disk together, N at most, and then answered. Any line that is
+no command ends a batch, and no batch waits for more to come. What a batch costs, mostly two syncs of the disk, its
+commands share.
+
+--every K: a checkpoint is written after each K batches that were put on the disk. With 0 one is written only where
+the journal is full. The more often, the faster the file is opened again.
+
+Status: 0 each line got its answer; 1 the file could not be opened, its disk failed (commands are answered ERR 91
+device or ERR 93 failed from then on), memory was refused, or reading or writing failed; 2 the words were wrong. With
+1 standard error says what happened and what to do.
+
+Example: up to 16 commands at a time, and a checkpoint after each 50 batches
+
+  hpb run --file auction.hpb --batch 16 --every 50 < lines
+
+docs/OPERATIONS.md says what each refusal means."#;
+
 /// The command that makes a file.
 const FORMAT: &str = "format";
 
 /// The command that shows what a file keeps.
 const CHECK: &str = "check";
 
+/// The command that runs what a file keeps.
+const RUN: &str = "run";
+
 /// The option that names a file.
 const FILE: &str = "file";
 
 /// The option that gives the number of pages of a journal.
 const JOURNAL: &str = "journal";
+
+/// The option that gives the most commands of a batch.
+const BATCH: &str = "batch";
+
+/// The option that gives the number of batches after which there is a checkpoint.
+const EVERY: &str = "every";
+
+/// As many commands as a batch may have.
+const MOST_BATCH: u32 = MOST_LETTERS as u32;
 
 /// What a command line asks for.
 #[derive(Clone, Copy, Debug, PartialEq, Eq)]
@@ -96,9 +134,21 @@ pub enum Job<'a> {
     Script,
     /// A file that keeps an auction, by the definition from the input: the file's path, and the number of pages of
     /// its journal, which may be out of range.
-    Format { file: &'a str, journal: u32 },
+    Format {
+        file: &'a str,
+        journal: u32,
+    },
     /// The auction that the file of this path keeps, shown.
-    Check { file: &'a str },
+    Check {
+        file: &'a str,
+    },
+    /// The auction that the file of this path keeps, with lines from the input: the most commands that are made durable
+    /// together, and the number of batches after which there is a checkpoint, or 0.
+    Run {
+        file: &'a str,
+        batch: u32,
+        every: u32,
+    },
 }
 
 /// Why words ask for no job.
@@ -125,6 +175,7 @@ impl From<AllocError> for WordsFault {
 pub fn read_words<'a, S: AsStr>(alloc: Global, words: &'a [S]) -> Result<Job<'a>, WordsFault>
     ensures status { IfErr result HasStatus }
     ensures asked { AsksFor (map S.text words.now) result }
+    ensures ranges { IfOk result HasRanges }
 {
     let command = command(alloc)?;
     match command.try_get_matches_from(words) {
@@ -136,7 +187,8 @@ pub fn read_words<'a, S: AsStr>(alloc: Global, words: &'a [S]) -> Result<Job<'a>
 /// What matches ask for.
 fn job_of<'a>(matches: &ArgMatches<'a>) -> Job<'a>
     requires { HasKnownCommand (subcommand_rows_of matches.now) }
-    ensures { IsJobOf (subcommand_rows_of matches.now) result }
+    ensures job { IsJobOf (subcommand_rows_of matches.now) result }
+    ensures ranges { HasRanges result }
 {
     match matches.subcommand() {
         None => Job::Script,
@@ -147,12 +199,18 @@ fn job_of<'a>(matches: &ArgMatches<'a>) -> Job<'a>
 /// What a command asks for. It takes words only with all its options, so none of them is missing here.
 fn job_of_command<'a>(name: &str, options: &ArgMatches<'a>) -> Job<'a>
     requires { IsKnownName name.now }
-    ensures { IsJobOf (Some (name.now, rows_of (found_of options.now))) result }
+    ensures job { IsJobOf (Some (name.now, rows_of (found_of options.now))) result }
+    ensures ranges { HasRanges result }
 {
     let file = options.get_str(FILE).unwrap_or("");
     if name == FORMAT {
         let journal = options.get_one::<u32>(JOURNAL).unwrap_or(0);
         Job::Format { file, journal }
+    } else if name == RUN {
+        let wanted = options.get_one::<u32>(BATCH).unwrap_or(1);
+        let batch = wanted.clamp(1, MOST_BATCH);
+        let every = options.get_one::<u32>(EVERY).unwrap_or(0);
+        Job::Run { file, batch, every }
     } else {
         Job::Check { file }
     }
@@ -182,7 +240,8 @@ fn command<'a>(alloc: Global) -> Result<Command<'a>, AllocError>
         .after_help(HELP)
         .disable_help_subcommand(true)
         .subcommand(format_command(alloc)?)?
-        .subcommand(check_command(alloc)?)
+        .subcommand(check_command(alloc)?)?
+        .subcommand(run_command(alloc)?)
 }
 
 fn format_command<'a>(alloc: Global) -> Result<Command<'a>, AllocError>
@@ -206,6 +265,18 @@ fn check_command<'a>(alloc: Global) -> Result<Command<'a>, AllocError>
         .arg(file_option(alloc))
 }
 
+fn run_command<'a>(alloc: Global) -> Result<Command<'a>, AllocError>
+    ensures shape { IfOk result (λ command. shape_of command ≡ run_shape) }
+    ensures local { IfOk result (λ command. (out-Command command).has_globals ≡ false) }
+{
+    Command::new(alloc, RUN)
+        .about(RUN_ABOUT)
+        .after_help(RUN_HELP)
+        .arg(file_option(alloc))?
+        .arg(batch_option(alloc))?
+        .arg(every_option(alloc))
+}
+
 fn file_option<'a>(alloc: Global) -> Arg<'a>
     ensures rule { rule_of result ≡ file_rule }
     ensures local { result.global ≡ false }
@@ -227,4 +298,28 @@ fn journal_option<'a>(alloc: Global) -> Arg<'a>
         .required(true)
         .value_parser(value_parser!(u32))
         .help("The number of pages of the journal, from 4 to 1024")
+}
+
+fn batch_option<'a>(alloc: Global) -> Arg<'a>
+    ensures rule { rule_of result ≡ batch_rule }
+    ensures local { result.global ≡ false }
+{
+    Arg::new(alloc, BATCH)
+        .long(BATCH)
+        .value_name("N")
+        .default_value("1")
+        .value_parser(value_parser!(u32).range(1..=MOST_BATCH as i64))
+        .help("The most commands that are put on the disk together, from 1 to 64")
+}
+
+fn every_option<'a>(alloc: Global) -> Arg<'a>
+    ensures rule { rule_of result ≡ every_rule }
+    ensures local { result.global ≡ false }
+{
+    Arg::new(alloc, EVERY)
+        .long(EVERY)
+        .value_name("K")
+        .default_value("0")
+        .value_parser(value_parser!(u32))
+        .help("The number of batches after which a checkpoint is written, or 0")
 }

@@ -258,9 +258,10 @@ fn streams_fail(rt: HostRuntime) -> Result<(), Fail> {
         &mut errors,
     );
     assert_eq!(rt; status, 1);
-    assert!(rt; output.is_empty());
+    assert_eq!(rt; output.as_slice(), b"ERR 92 stream\n".as_slice());
     assert!(rt; !errors.is_empty());
     assert!(rt; fs::metadata(&rt, path).is_err());
+    output.clear();
     // Where the output fails the file is formatted all the same.
     let mut input = SIX_NODES;
     let status = program(

@@ -29,4 +29,14 @@ returns c = record {
   checks = λ name. refl;
   check_help = λ name. refl;
   check_file = λ name. refl;
+  run = λ name. refl;
+  runs = λ name. refl;
+  run_alone = λ name. refl;
+  runs_alone = λ name. refl;
+  run_help = λ name. refl;
+  run_file = λ name. refl;
+  least_batch = λ name. refl;
+  most_batch = λ name. refl;
+  below_batch = λ name. refl;
+  above_batch = λ name. refl;
 }

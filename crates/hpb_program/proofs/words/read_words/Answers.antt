@@ -1,11 +1,19 @@
-use Rattle.std.proofs.Common.{◌≡◌, ◌∙◌, List, [], Option, true, ap, map, subst}
+use Rattle.std.proofs.Common.{◌≡◌, ◌∙◌, List, [], Option, true, ap, map, sym, subst}
 use Rattle.clap.specs.Faults.{fault_of, is_simple_and_free}
 use Rattle.clap.specs.Simple.{App, app_of, is_simple, subcommand_of}
 use Rattle.clap.specs.Values.{kind_of}
 use Rattle.clap.specs.Walk.{Row, Text}
-use Rattle.hpb_program.specs.Words.{IsJobOf, hpb}
-use Rattle.hpb_program.proofs.Asking.{told_asked}
+use Rattle.hpb_program.specs.Words.{HasKnownCommand, IsJobOf, hpb}
+use Rattle.hpb_program.proofs.Asking.{known_command, told_asked}
 use Rattle.hpb_program.proofs.words.read_words.Goals as goal
+
+pub job_of-requires : goal.job_of-requires
+job_of-requires g c =
+    let words = map g.S.AsStr.text c.args.words.now in
+    let is : app_of c.in_ok-command.command ≡ hpb = c.in_ok-command.ensures in
+    let simple : is_simple (app_of c.in_ok-command.command) ≡ true = ap is_simple is in
+    let found = (c.in-Ok.ensures.matches simple).1 ∙ ap (λ (a : App). subcommand_of a words) is in
+    subst HasKnownCommand (sym found) (known_command words)
 
 pub returns-in-Ok-clause-asked : goal.returns-in-Ok-clause-asked
 returns-in-Ok-clause-asked g c =
@@ -15,7 +23,7 @@ returns-in-Ok-clause-asked g c =
     let free : is_simple_and_free (app_of c.in_ok-command.command) ≡ true = ap is_simple_and_free is in
     let found = (c.in-Ok.ensures.matches simple).1 ∙ ap (λ (a : App). subcommand_of a words) is in (
       subst (λ (a : App). fault_of a words ≡ []) is (c.in-Ok.ensures.kinds free),
-      subst (λ (s : Option (Text × List Row)). IsJobOf s c.job_of.result) found c.job_of.ensures,
+      subst (λ (s : Option (Text × List Row)). IsJobOf s c.job_of.result) found c.job_of.ensures.job,
     )
 
 pub returns-in_ok-refused-in-Err-clause-asked : goal.returns-in_ok-refused-in-Err-clause-asked

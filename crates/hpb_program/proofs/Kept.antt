@@ -1,0 +1,76 @@
+-- How the auction that a file keeps is run.
+use Rattle.std.proofs.Common.{◌≡◌, ℕ, Bool, true, false, List, [], Option, Result, Ok, Err, sym, subst, refl, inl, inr, ⊎_elim}
+use Rattle.std.specs.Bool.{⊤}
+use Rattle.std.proofs.KnownBytes.{Keeps-refl}
+use Rattle.hpb_rules.specs.declared.command.Command.{Command}
+use Rattle.hpb_rules.specs.declared.limits.TheConstants.{MOST_LETTERS, MOST_READ_BYTES}
+use Rattle.hpb_rules.specs.Machine.{at_rest}
+use Rattle.hpb_disk.specs.declared.fault.FileFault.{FileFault}
+use Rattle.hpb_disk.specs.declared.fault.FileFault.TheVariants as files
+use Rattle.hpb_image.specs.Standing.{Stands}
+use Rattle.hpb_progress.specs.declared.progress.Progress.{Progress}
+use Rattle.hpb_progress.specs.Keeping.{Keeps}
+use Rattle.hpb_recover.specs.declared.cause.Cause.{Cause}
+use Rattle.hpb_recover.specs.declared.cause.Cause.TheVariants as opening
+use Rattle.hpb_recover.specs.Causes.{IsCauseAt}
+use Rattle.hpb_run.specs.Device.{at_start, never_over, rules_at, IsAt, RepliesAt, ShowsAt, State}
+use Rattle.hpb_server.specs.declared.fault.Fault.{Fault}
+use Rattle.hpb_server.specs.Serving.{Serves}
+use Rattle.hpb_server.specs.Streams.{AreKept, Streams, streams}
+use Rattle.hpb_program.specs.declared.job_fault.JobFault.{JobFault}
+use Rattle.hpb_program.specs.declared.job_fault.JobFault.TheVariants as faults
+use Rattle.hpb_program.specs.Jobs.{made_of_file, made_of_opening}
+use Rattle.hpb_program.specs.Keeping.{IsNotOpened, IsOfOpening, IsRun}
+
+-- nothing was read or written
+pub are_kept : (a b : Option (List ℕ)) → AreKept (streams a b) (streams a b)
+are_kept a b = (Keeps-refl a, Keeps-refl b)
+
+-- an engine that keeps each history that an image stands for was run
+pub is_run : {D : Type 0} (seen : D → List ℕ) (may_leave : D → List ℕ → Type 0) (failures : D → ℕ) (image : List ℕ) (before after : Streams)
+    (first : D) (start : Progress) (broken : Bool) (disk : D) (progress : Progress) (failed : Bool) (end : Result ⊤ Fault)
+    → ((history : List Command) → Stands history image → Keeps seen may_leave first start broken (at_rest history))
+    → broken ≡ false
+    → ((history : List Command) → Keeps seen may_leave first start broken (at_rest history)
+    → (state : State) × Serves rules_at never_over RepliesAt ShowsAt MOST_LETTERS true [] MOST_READ_BYTES before after (at_start start.committed.rules history (failures first) broken) state end
+    × IsAt seen may_leave failures disk progress failed state)
+    → IsRun seen may_leave failures image before after disk progress failed end
+is_run seen may_leave failures image before after first start broken disk progress failed end keeps works ran = record {
+  value = start.committed;
+  failed_before = failures first;
+  shows = λ history stands. (keeps history stands).shows;
+  serves = λ history stands.
+      subst (λ (b : Bool). (state : State) × Serves rules_at never_over RepliesAt ShowsAt MOST_LETTERS true [] MOST_READ_BYTES before after (at_start start.committed.rules history (failures first) b) state end
+      × IsAt seen may_leave failures disk progress failed state) works (ran history (keeps history stands));
+}
+
+-- why a device is not opened
+pub not_opened : (image : List ℕ) (failures later : ℕ) (cause : Cause) (made : JobFault) → made ≡ made_of_opening cause → IsCauseAt image failures later cause → IsNotOpened image made
+not_opened image failures later cause made is at = subst (IsNotOpened image) (sym is) (go cause at)
+  where
+    go : (cause : Cause) → IsCauseAt image failures later cause → IsNotOpened image (made_of_opening cause)
+    go (opening.Flawed flaw) at = at
+    go opening.Memory at = inl refl
+    go opening.Device at = inr refl
+
+-- that is a fault of opening
+pub of_not_opened : (image : List ℕ) (fault : JobFault) → IsNotOpened image fault → IsOfOpening fault
+of_not_opened image (faults.Open cause) not = tt
+of_not_opened image faults.Memory not = tt
+of_not_opened image (faults.File fault) not = tt
+of_not_opened image faults.Reader not = ⊎_elim (λ e. absurd (cc)) (λ e. absurd (cc)) not
+of_not_opened image faults.Writer not = ⊎_elim (λ e. absurd (cc)) (λ e. absurd (cc)) not
+of_not_opened image (faults.Definition refusal) not = ⊎_elim (λ e. absurd (cc)) (λ e. absurd (cc)) not
+of_not_opened image faults.Journal not = ⊎_elim (λ e. absurd (cc)) (λ e. absurd (cc)) not
+of_not_opened image (faults.Format cause) not = ⊎_elim (λ e. absurd (cc)) (λ e. absurd (cc)) not
+
+-- and so is one of a file that is not opened
+pub of_opening : (fault : FileFault) (made : JobFault) → made ≡ made_of_file fault → IsOfOpening made
+of_opening fault made is = subst IsOfOpening (sym is) (go fault)
+  where
+    go : (fault : FileFault) → IsOfOpening (made_of_file fault)
+    go (files.Memory e) = tt
+    go files.Busy = tt
+    go files.NotAFile = tt
+    go files.TooLong = tt
+    go (files.System e) = tt

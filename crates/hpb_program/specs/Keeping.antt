@@ -1,0 +1,50 @@
+-- What a run of the auction that a file keeps reads and writes.
+use Rattle.std.specs.Prelude.{◌≡◌, ◌⊎◌, ℕ, Bool, true, false, List, [], Result, Ok, Err, ⊤}
+use Rattle.hpb_rules.specs.declared.command.Command.{Command}
+use Rattle.hpb_rules.specs.declared.limits.TheConstants.{MOST_LETTERS, MOST_READ_BYTES}
+use Rattle.hpb_rules.specs.AuctionValue.{AuctionValue}
+use Rattle.hpb_disk.specs.declared.file.FileDisk.{FileDisk}
+use Rattle.hpb_disk.specs.FileDisks.{file_failures, file_left, file_seen}
+use Rattle.hpb_image.specs.Flaws.{HasFlaw}
+use Rattle.hpb_image.specs.Standing.{Stands}
+use Rattle.hpb_progress.specs.declared.progress.Progress.{Progress}
+use Rattle.hpb_recover.specs.declared.cause.Cause.TheVariants as opening
+use Rattle.hpb_run.specs.Device.{at_start, never_over, rules_at, IsAt, RepliesAt, ShowsAt, State}
+use Rattle.hpb_server.specs.declared.fault.Fault.{Fault}
+use Rattle.hpb_server.specs.Serving.{Serves}
+use Rattle.hpb_server.specs.Streams.{AreKept, Streams}
+use Rattle.hpb_program.specs.declared.job_fault.JobFault.{JobFault}
+use Rattle.hpb_program.specs.declared.job_fault.JobFault.TheVariants as faults
+use Rattle.hpb_program.specs.declared.run_end.RunEnd.{RunEnd}
+use Rattle.hpb_program.specs.Jobs.{IsKept}
+
+-- Lines were answered from an auction on, and what the device and the progress then keep is where that led. No call of the device had failed when it began.
+abbrev pub ServesFrom : {D : Type 0} (seen : D → List ℕ) (may_leave : D → List ℕ → Type 0) (failures : D → ℕ) (value : AuctionValue) (failed_before : ℕ) (history : List Command)
+    (before after : Streams) (disk : D) (progress : Progress) → (failed : Bool) → Result ⊤ Fault → Type 0
+ServesFrom seen may_leave failures value failed_before history before after disk progress failed end =
+    (state : State) × Serves rules_at never_over RepliesAt ShowsAt MOST_LETTERS true [] MOST_READ_BYTES before after (at_start value.rules history failed_before false) state end
+    × IsAt seen may_leave failures disk progress failed state
+
+-- The auction that an image stands for was run: by each history that it stands for the lines were answered.
+pub record IsRun {D : Type 0} (seen : D → List ℕ) (may_leave : D → List ℕ → Type 0) (failures : D → ℕ) (image : List ℕ) (before after : Streams) (disk : D) (progress : Progress) (failed : Bool) (end : Result ⊤ Fault) : Type 0 where
+  pub value : AuctionValue
+  pub failed_before : ℕ
+  pub shows : IsKept image value
+  pub serves : (history : List Command) → Stands history image → ServesFrom seen may_leave failures value failed_before history before after disk progress failed end
+
+-- A device was not opened: its flaw is there, or the machine failed.
+abbrev pub IsNotOpened : List ℕ → JobFault → Type 0
+IsNotOpened image (faults.Open (opening.Flawed flaw)) = HasFlaw flaw image
+IsNotOpened image fault = (fault ≡ faults.Memory) ⊎ (fault ≡ faults.Open opening.Device)
+
+-- A fault of opening a job's file, or of memory.
+abbrev pub IsOfOpening : JobFault → Type 0
+IsOfOpening faults.Memory = Unit {0}
+IsOfOpening (faults.File fault) = Unit {0}
+IsOfOpening (faults.Open cause) = Unit {0}
+IsOfOpening fault = ⊥
+
+-- An auction was run by what a file held, of which nothing else is known; or the file was not opened, and nothing was read or written.
+abbrev pub RunsFile : (before after : Streams) → Result RunEnd JobFault → Type 0
+RunsFile before after (Ok end) = (image : List ℕ) × (disk : FileDisk) × (progress : Progress) × IsRun file_seen file_left file_failures image before after disk progress end.failed end.end
+RunsFile before after (Err fault) = IsOfOpening fault × AreKept before after

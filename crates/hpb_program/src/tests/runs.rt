@@ -1,0 +1,331 @@
+//! Files that are run, and what is told of how that ended.
+
+use super::using::{FailingReader, FailingWriter, Ran, SIX_NODES, new_file, run_on, run_words};
+use crate::run_end::{RunAdvice, RunEnd};
+use crate::{JobFault, program, run_kept};
+use hpb_disk::{FileDisk, FuseDisk, MemoryDisk};
+use hpb_recover::Cause;
+use hpb_server::Fault;
+use std::alloc::{AllocError, Global};
+use std::fs;
+use std::test::Fail;
+
+const PAGE: usize = 4_096;
+
+/// Two rounds of commands and questions, with a repeat, a refused bid and a line that is none.
+const LINES: &str = "BID x 1 a 100
+BID y 1 b 150
+BID z 1 all 500
+SHOW
+BID z 1 all 500
+BID w 1 c 100
+BID w 1 d 100
+CLOSE 1
+NODE all
+
+BID y 2 b 600
+WHO y
+CLOSE 2
+SHOW
+NODE b
+";
+
+/// What they are answered.
+const ANSWERS: &str = "OK 1
+OK 2
+OK 3
+ROUND 1 STAGE 1 OPEN REVENUE 0 COUNT 3
+OK 3
+OK 4
+ERR 14 ticket
+OK 5
+NODE all HIGH 500 z PRICE 500 MIN 550 WIN yes
+ERR 10 line
+OK 6
+WHO y ELIGIBILITY 10 ACTIVITY 10 TICKET 2
+OK 7
+";
+
+/// The words that ask for a run.
+fn words_of_run<'a>(path: &'a str, batch: &'a str, every: &'a str) -> [&'a str; 8] {
+    [
+        "hpb", "run", "--file", path, "--batch", batch, "--every", every,
+    ]
+}
+
+/// What a script in memory answers to these lines.
+fn answers_in_memory(rt: &HostRuntime, lines: &str) -> Result<String, Fail> {
+    let mut script = SIX_NODES.to_vec(rt.alloc())?;
+    script.extend_from_slice(lines.as_bytes())?;
+    let ended = run_words(rt, &["hpb"], script.as_slice())?;
+    Ok(ended.output)
+}
+
+#[test]
+fn a_file_is_run_as_a_script(rt: HostRuntime) -> Result<(), Fail> {
+    let path = "hpb_program_run";
+    let wanted = answers_in_memory(&rt, LINES)?;
+    assert!(rt; wanted.starts_with(ANSWERS), "{wanted}");
+    let shown = answers_in_memory(
+        &rt,
+        "BID x 1 a 100\nBID y 1 b 150\nBID z 1 all 500\nBID w 1 c 100\nCLOSE 1\nBID y 2 b 600\nCLOSE 2\nSHOW\nNODE all\nNODE east\nNODE a\nNODE b\nNODE c\nNODE d\n",
+    )?;
+    for (batch, every) in [("1", "0"), ("2", "1"), ("64", "3")] {
+        new_file(&rt, path, "4")?;
+        let run = run_words(&rt, &words_of_run(path, batch, every), LINES.as_bytes())?;
+        assert_eq!(rt;
+            run,
+            Ran::well(rt.alloc(), wanted.as_str())?,
+            "{batch} {every}"
+        );
+        let checked = run_words(&rt, &["hpb", "check", "--file", path], b"")?;
+        assert_eq!(rt; checked.status, 0);
+        assert!(rt; shown.ends_with(checked.output.as_str()), "{checked:?}");
+        fs::remove_file(&rt, path)?;
+    }
+    Ok(())
+}
+
+#[test]
+fn a_run_goes_on_where_one_ended(rt: HostRuntime) -> Result<(), Fail> {
+    let alloc = rt.alloc();
+    let path = "hpb_program_on";
+    new_file(&rt, path, "4")?;
+    let words = ["hpb", "run", "--file", path];
+    let first = run_words(&rt, &words, b"BID x 1 a 100\nBID y 1 b 150\n")?;
+    assert_eq!(rt; first, Ran::well(alloc, "OK 1\nOK 2\n")?);
+    let nothing = run_words(&rt, &words, b"")?;
+    assert_eq!(rt; nothing, Ran::well(alloc, "")?);
+    // The last commands again, the next one, and a line that was cut off.
+    let second = run_words(
+        &rt,
+        &words,
+        b"BID y 1 b 150\nBID x 1 a 100\nBID z 1 all 500\nCLOSE 1",
+    )?;
+    assert_eq!(rt;
+        second,
+        Ran::well(alloc, "OK 2\nOK 1\nOK 3\nERR 10 line\n")?
+    );
+    let third = run_words(&rt, &words, b"SHOW\nWHO z\n")?;
+    assert_eq!(rt;
+        third,
+        Ran::well(
+            alloc,
+            "ROUND 1 STAGE 1 OPEN REVENUE 0 COUNT 3\nWHO z ELIGIBILITY 40 ACTIVITY 40 TICKET 1\n"
+        )?
+    );
+    fs::remove_file(&rt, path)?;
+    Ok(())
+}
+
+#[test]
+fn a_journal_of_four_pages_takes_any_number_of_batches(rt: HostRuntime) -> Result<(), Fail> {
+    let path = "hpb_program_many";
+    let mut lines = String::new(rt.alloc());
+    for ticket in 1..11 {
+        let price = 100 * ticket;
+        lines.push_str(format!(in rt.alloc();
+            "BID x {ticket} a {price}\nCLOSE {ticket}\n"
+        )?.as_str())?;
+    }
+    let wanted = answers_in_memory(&rt, lines.as_str())?;
+    for every in ["0", "1", "7"] {
+        new_file(&rt, path, "4")?;
+        let run = run_words(&rt, &words_of_run(path, "1", every), lines.as_bytes())?;
+        assert_eq!(rt; run, Ran::well(rt.alloc(), wanted.as_str())?, "{every}");
+        assert_eq!(rt; fs::read(&rt, path)?.len(), 17 * PAGE);
+        fs::remove_file(&rt, path)?;
+    }
+    Ok(())
+}
+
+#[test]
+fn a_file_in_use_is_not_run(rt: HostRuntime) -> Result<(), Fail> {
+    let path = "hpb_program_running";
+    let before = new_file(&rt, path, "4")?;
+    for is_written in [true, false] {
+        let held = if is_written {
+            FileDisk::open(&rt, rt.alloc(), path)?
+        } else {
+            FileDisk::open_to_read(&rt, rt.alloc(), path)?
+        };
+        let (end, left) = run_on(&rt, &["hpb", "run", "--file", path], b"SHOW\n")?;
+        assert!(rt;
+            end.is_refused("ERR 91 device\n", "in use by another process"),
+            "{end:?}"
+        );
+        assert_eq!(rt; left, 5);
+        drop(held);
+    }
+    assert_eq!(rt; fs::read(&rt, path)?, before);
+    fs::remove_file(&rt, path)?;
+    Ok(())
+}
+
+#[test]
+fn files_that_keep_no_auction_are_not_run(rt: HostRuntime) -> Result<(), Fail> {
+    let path = "hpb_program_flawed";
+    let words = ["hpb", "run", "--file", path];
+    // The head's gate, its layout, the slot's gate, and a frame that is open and holds nothing.
+    for (at, byte, line, said) in [
+        (
+            0,
+            0,
+            "ERR 40 unformatted\n",
+            "hpb format --file F --journal J",
+        ),
+        (24, 9, "ERR 42 layout\n", "head"),
+        (3 * PAGE, 0, "ERR 44 checkpoint\n", "checkpoint"),
+        (13 * PAGE, 0xa5, "ERR 45 frame\n", "batch"),
+    ] {
+        let mut bytes = new_file(&rt, path, "4")?;
+        if let Some(place) = bytes.get_mut(at) {
+            *place = byte;
+        }
+        fs::write(&rt, path, bytes.as_slice())?;
+        let (end, left) = run_on(&rt, &words, b"SHOW\n")?;
+        assert!(rt; end.is_refused(line, said), "{end:?}");
+        assert_eq!(rt; left, 5);
+        assert_eq!(rt; fs::read(&rt, path)?, bytes);
+    }
+    fs::remove_file(&rt, path)?;
+    let end = run_words(&rt, &words, b"")?;
+    assert!(rt;
+        end.is_refused("ERR 91 device\n", "could not be opened"),
+        "{end:?}"
+    );
+    assert!(rt; fs::metadata(&rt, path).is_err());
+    Ok(())
+}
+
+#[test]
+fn streams_of_a_run_fail(rt: HostRuntime) -> Result<(), Fail> {
+    let alloc = rt.alloc();
+    let path = "hpb_program_cut_off";
+    new_file(&rt, path, "4")?;
+    let words = ["hpb", "run", "--file", path];
+    let (mut output, mut errors) = (Vec::new(alloc), Vec::new(alloc));
+    let status = program(
+        &rt,
+        alloc,
+        &words,
+        &mut FailingReader,
+        &mut output,
+        &mut errors,
+    );
+    assert_eq!(rt; status, 1);
+    assert!(rt; output.is_empty());
+    let said = String::from_utf8(errors)?;
+    assert!(rt;
+        said.starts_with("error: standard input could not be read"),
+        "{said}"
+    );
+    // What was accepted stands, though its answer could not be written.
+    let mut errors = Vec::new(alloc);
+    let mut input = b"BID x 1 a 100\n".as_slice();
+    let status = program(
+        &rt,
+        alloc,
+        &words,
+        &mut input,
+        &mut FailingWriter,
+        &mut errors,
+    );
+    assert_eq!(rt; status, 1);
+    let said = String::from_utf8(errors)?;
+    assert!(rt;
+        said.starts_with("error: standard output could not be written"),
+        "{said}"
+    );
+    let again = run_words(&rt, &words, b"BID x 1 a 100\nSHOW\n")?;
+    assert_eq!(rt;
+        again,
+        Ran::well(alloc, "OK 1\nROUND 1 STAGE 1 OPEN REVENUE 0 COUNT 1\n")?
+    );
+    fs::remove_file(&rt, path)?;
+    Ok(())
+}
+
+/// What three commands are answered where so many are by the rules.
+fn answers_of_failing(alloc: Global, kept: usize) -> Result<String, AllocError> {
+    let mut text = String::new(alloc);
+    for place in 0..3 {
+        let line = if place < kept {
+            format!(in alloc; "OK {}\n", place + 1)?
+        } else if place == kept {
+            String::from_str(alloc, "ERR 91 device\n")?
+        } else {
+            String::from_str(alloc, "ERR 93 failed\n")?
+        };
+        text.push_str(line.as_str())?;
+    }
+    Ok(text)
+}
+
+/// How many of the three commands are so answered by the rules.
+fn kept_by(alloc: Global, text: &str) -> Result<Option<usize>, AllocError> {
+    for kept in 0..4 {
+        if text == answers_of_failing(alloc, kept)?.as_str() {
+            return Ok(Some(kept));
+        }
+    }
+    Ok(None)
+}
+
+#[test]
+fn each_call_of_a_run_fails_in_turn(rt: HostRuntime) -> Result<(), Fail> {
+    let alloc = rt.alloc();
+    let path = "hpb_program_fused";
+    let bytes = new_file(&rt, path, "4")?;
+    fs::remove_file(&rt, path)?;
+    let mut last = None;
+    for call in 1..100 {
+        let disk = FuseDisk::new(MemoryDisk::of(alloc, bytes.clone()?)?, call);
+        let mut input = b"BID x 1 a 100\nBID y 1 b 150\nCLOSE 1\n".as_slice();
+        let mut output = Vec::new(alloc);
+        match run_kept(alloc, disk, 1, 0, &mut input, &mut output) {
+            Err(fault) => {
+                assert!(rt; matches!(fault, JobFault::Open(Cause::Device)), "{call}");
+                assert!(rt; output.is_empty(), "{call}");
+                assert_eq!(rt; last, None);
+            }
+            Ok(ran) => {
+                assert_eq!(rt; ran.end, Ok(()));
+                let kept = kept_by(alloc, String::from_utf8(output)?.as_str())?;
+                assert!(rt; kept.is_some(), "{call}");
+                assert!(rt; kept >= last, "{call}");
+                assert_eq!(rt; ran.engine.failed, kept < Some(3), "{call}");
+                last = kept;
+                if kept == Some(3) {
+                    break;
+                }
+            }
+        }
+    }
+    assert_eq!(rt; last, Some(3));
+    Ok(())
+}
+
+#[test]
+fn ends_of_runs_are_told(rt: HostRuntime) -> Result<(), Fail> {
+    let disk = "error: the disk of a.hpb failed. All that was answered by OK is kept.";
+    for (end, failed, begins, said) in [
+        (Ok(()), true, disk, "copy a.hpb"),
+        (
+            Err(Fault::Memory),
+            false,
+            "error: memory was refused.",
+            "Run a.hpb again",
+        ),
+        (Err(Fault::Writer), true, "error: standard output", disk),
+    ] {
+        let advice = RunAdvice {
+            file: "a.hpb",
+            end: RunEnd { end, failed },
+        };
+        let text = format!(in rt.alloc(); "error: {advice}\n")?;
+        assert!(rt; text.starts_with(begins), "{text}");
+        assert!(rt; text.contains(said), "{text}");
+    }
+    Ok(())
+}
