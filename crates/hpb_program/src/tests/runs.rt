@@ -8,6 +8,7 @@ use hpb_recover::Cause;
 use hpb_server::Fault;
 use std::alloc::{AllocError, Global};
 use std::fs;
+use std::process::Abort;
 use std::test::Fail;
 
 const PAGE: usize = 4_096;
@@ -272,6 +273,56 @@ fn kept_by(alloc: Global, text: &str) -> Result<Option<usize>, AllocError> {
     Ok(None)
 }
 
+/// Runs three commands over a device that fails from a call on.
+fn run_failing(
+    alloc: Global,
+    bytes: &[u8],
+    call: u64,
+    output: &mut Vec<u8>,
+) -> Result<Result<RunEnd, JobFault>, Fail> {
+    let disk = FuseDisk::new(MemoryDisk::of(alloc, bytes.to_vec(alloc)?)?, call);
+    let mut input = b"BID x 1 a 100\nBID y 1 b 150\nCLOSE 1\n".as_slice();
+    match run_kept(alloc, disk, 1, 0, &mut input, output) {
+        Ok(ran) => Ok(Ok(RunEnd {
+            end: ran.end,
+            failed: ran.engine.failed,
+        })),
+        Err(fault) => Ok(Err(fault)),
+    }
+}
+
+/// How many of three commands are answered by the rules where the device fails from a call on, or `None` where it isn't
+/// opened.
+fn kept_with(
+    rt: &impl Abort,
+    alloc: Global,
+    bytes: &[u8],
+    call: u64,
+) -> Result<Option<usize>, Fail> {
+    let mut output = Vec::new(alloc);
+    match run_failing(alloc, bytes, call, &mut output)? {
+        Err(fault) => {
+            assert!(rt; matches!(fault, JobFault::Open(Cause::Device)), "{call}");
+            assert!(rt; output.is_empty(), "{call}");
+            Ok(None)
+        }
+        Ok(end) => {
+            let kept = kept_by(alloc, String::from_utf8(output)?.as_str())?;
+            let failed = kept < Some(3);
+            assert!(rt; kept.is_some(), "{call}");
+            assert_eq!(rt;
+                end,
+                RunEnd {
+                    end: Ok(()),
+                    failed
+                },
+                "{call}"
+            );
+            Ok(kept)
+        }
+    }
+}
+
 #[test]
 fn each_call_of_a_run_fails_in_turn(rt: HostRuntime) -> Result<(), Fail> {
     let alloc = rt.alloc();
@@ -280,26 +331,11 @@ fn each_call_of_a_run_fails_in_turn(rt: HostRuntime) -> Result<(), Fail> {
     fs::remove_file(&rt, path)?;
     let mut last = None;
     for call in 1..100 {
-        let disk = FuseDisk::new(MemoryDisk::of(alloc, bytes.clone()?)?, call);
-        let mut input = b"BID x 1 a 100\nBID y 1 b 150\nCLOSE 1\n".as_slice();
-        let mut output = Vec::new(alloc);
-        match run_kept(alloc, disk, 1, 0, &mut input, &mut output) {
-            Err(fault) => {
-                assert!(rt; matches!(fault, JobFault::Open(Cause::Device)), "{call}");
-                assert!(rt; output.is_empty(), "{call}");
-                assert_eq!(rt; last, None);
-            }
-            Ok(ran) => {
-                assert_eq!(rt; ran.end, Ok(()));
-                let kept = kept_by(alloc, String::from_utf8(output)?.as_str())?;
-                assert!(rt; kept.is_some(), "{call}");
-                assert!(rt; kept >= last, "{call}");
-                assert_eq!(rt; ran.engine.failed, kept < Some(3), "{call}");
-                last = kept;
-                if kept == Some(3) {
-                    break;
-                }
-            }
+        let kept = kept_with(&rt, alloc, bytes.as_slice(), call)?;
+        assert!(rt; kept >= last, "{call}");
+        last = kept;
+        if kept == Some(3) {
+            break;
         }
     }
     assert_eq!(rt; last, Some(3));
