@@ -123,8 +123,8 @@ fn a_run_goes_on_where_one_ended(rt: HostRuntime) -> Result<(), Fail> {
 fn a_journal_of_four_pages_takes_any_number_of_batches(rt: HostRuntime) -> Result<(), Fail> {
     let path = "hpb_program_many";
     let mut lines = String::new(rt.alloc());
-    for ticket in 1..11 {
-        let price = 100 * ticket;
+    for ticket in 1..11_u32 {
+        let price = ticket.saturating_mul(100);
         lines.push_str(format!(in rt.alloc();
             "BID x {ticket} a {price}\nCLOSE {ticket}\n"
         )?.as_str())?;
