@@ -4,9 +4,11 @@ use Rattle.std.specs.Bool.{⊤}
 use Rattle.std.proofs.KnownBytes.{Keeps-refl}
 use Rattle.hpb_rules.specs.declared.command.Command.{Command}
 use Rattle.hpb_rules.specs.declared.limits.TheConstants.{MOST_LETTERS, MOST_READ_BYTES}
+use Rattle.hpb_rules.specs.AuctionValue.{AuctionValue, Shows}
 use Rattle.hpb_rules.specs.Machine.{at_rest}
 use Rattle.hpb_disk.specs.declared.fault.FileFault.{FileFault}
 use Rattle.hpb_disk.specs.declared.fault.FileFault.TheVariants as files
+use Rattle.hpb_image.specs.Readings.{last_value, Found, Reads}
 use Rattle.hpb_image.specs.Standing.{Stands}
 use Rattle.hpb_progress.specs.declared.progress.Progress.{Progress}
 use Rattle.hpb_progress.specs.Keeping.{Keeps}
@@ -20,28 +22,32 @@ use Rattle.hpb_server.specs.Streams.{AreKept, Streams, streams}
 use Rattle.hpb_program.specs.declared.job_fault.JobFault.{JobFault}
 use Rattle.hpb_program.specs.declared.job_fault.JobFault.TheVariants as faults
 use Rattle.hpb_program.specs.Jobs.{made_of_file, made_of_opening}
-use Rattle.hpb_program.specs.Keeping.{IsNotOpened, IsOfOpening, IsRun}
+use Rattle.hpb_program.specs.Keeping.{IsNotOpened, IsOfOpening, IsRun, ServesFrom}
 
 -- nothing was read or written
 pub are_kept : (a b : Option (List ℕ)) → AreKept (streams a b) (streams a b)
 are_kept a b = (Keeps-refl a, Keeps-refl b)
 
--- an engine that keeps each history that an image stands for was run
+-- an engine was run that has the auction which is read in an image, and keeps each history that the image stands for
 pub is_run : {D : Type 0} (seen : D → List ℕ) (may_leave : D → List ℕ → Type 0) (failures : D → ℕ) (image : List ℕ) (before after : Streams)
     (first : D) (start : Progress) (broken : Bool) (disk : D) (progress : Progress) (failed : Bool) (end : Result ⊤ Fault)
+    → ((found : Found) × Reads found image × (start.committed ≡ last_value found))
     → ((history : List Command) → Stands history image → Keeps seen may_leave first start broken (at_rest history))
     → broken ≡ false
     → ((history : List Command) → Keeps seen may_leave first start broken (at_rest history)
     → (state : State) × Serves rules_at never_over RepliesAt ShowsAt MOST_LETTERS true [] MOST_READ_BYTES before after (at_start start.committed.rules history (failures first) broken) state end
     × IsAt seen may_leave failures disk progress failed state)
     → IsRun seen may_leave failures image before after disk progress failed end
-is_run seen may_leave failures image before after first start broken disk progress failed end keeps works ran = record {
-  value = start.committed;
+is_run seen may_leave failures image before after first start broken disk progress failed end read keeps works ran = record {
+  found = read.0;
+  reads = read.1;
+  shows = λ history stands. subst (λ (value : AuctionValue). Shows value history) read.2 (keeps history stands).shows;
   failed_before = failures first;
-  shows = λ history stands. (keeps history stands).shows;
   serves = λ history stands.
+      let ran_well : ServesFrom seen may_leave failures start.committed (failures first) history before after disk progress failed end =
       subst (λ (b : Bool). (state : State) × Serves rules_at never_over RepliesAt ShowsAt MOST_LETTERS true [] MOST_READ_BYTES before after (at_start start.committed.rules history (failures first) b) state end
-      × IsAt seen may_leave failures disk progress failed state) works (ran history (keeps history stands));
+      × IsAt seen may_leave failures disk progress failed state) works (ran history (keeps history stands)) in
+      subst (λ (value : AuctionValue). ServesFrom seen may_leave failures value (failures first) history before after disk progress failed end) read.2 ran_well;
 }
 
 -- why a device is not opened

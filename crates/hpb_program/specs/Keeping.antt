@@ -6,6 +6,7 @@ use Rattle.hpb_rules.specs.AuctionValue.{AuctionValue}
 use Rattle.hpb_disk.specs.declared.file.FileDisk.{FileDisk}
 use Rattle.hpb_disk.specs.FileDisks.{file_failures, file_left, file_seen}
 use Rattle.hpb_image.specs.Flaws.{HasFlaw}
+use Rattle.hpb_image.specs.Readings.{last_value, Found, Reads}
 use Rattle.hpb_image.specs.Standing.{Stands}
 use Rattle.hpb_progress.specs.declared.progress.Progress.{Progress}
 use Rattle.hpb_recover.specs.declared.cause.Cause.TheVariants as opening
@@ -25,12 +26,13 @@ ServesFrom seen may_leave failures value failed_before history before after disk
     (state : State) × Serves rules_at never_over RepliesAt ShowsAt MOST_LETTERS true [] MOST_READ_BYTES before after (at_start value.rules history failed_before false) state end
     × IsAt seen may_leave failures disk progress failed state
 
--- The auction that an image stands for was run: by each history that it stands for the lines were answered.
+-- The auction that is read in an image was run: by each history that the image stands for the lines were answered.
 pub record IsRun {D : Type 0} (seen : D → List ℕ) (may_leave : D → List ℕ → Type 0) (failures : D → ℕ) (image : List ℕ) (before after : Streams) (disk : D) (progress : Progress) (failed : Bool) (end : Result ⊤ Fault) : Type 0 where
-  pub value : AuctionValue
+  pub found : Found
+  pub reads : Reads found image
+  pub shows : IsKept image (last_value found)
   pub failed_before : ℕ
-  pub shows : IsKept image value
-  pub serves : (history : List Command) → Stands history image → ServesFrom seen may_leave failures value failed_before history before after disk progress failed end
+  pub serves : (history : List Command) → Stands history image → ServesFrom seen may_leave failures (last_value found) failed_before history before after disk progress failed end
 
 -- A device was not opened: its flaw is there, or the machine failed.
 abbrev pub IsNotOpened : List ℕ → JobFault → Type 0

@@ -2,6 +2,7 @@
 ghost use Rattle.std.specs.Prelude.{◌≡◌, List, false, IfErr, IfOk, OnErr};
 ghost use Rattle.hpb_rules.specs.declared.command.Command.{Command};
 ghost use Rattle.hpb_rules.specs.Machine.{at_rest};
+ghost use Rattle.hpb_image.specs.Readings.{last_value, Found, Reads};
 ghost use Rattle.hpb_image.specs.Standing.{Stands};
 ghost use Rattle.hpb_progress.specs.Keeping.{Keeps};
 ghost use Rattle.hpb_program.specs.Keeping.{IsNotOpened, IsRun, RunsFile};
@@ -73,6 +74,7 @@ pub fn run_kept<D: Disk + Drop, R: Read, W: Write>(
 fn start_engine<D: Disk + Drop>(alloc: Global, disk: D) -> Result<Engine<D>, JobFault>
     ensures keeps { (history : List Command) → Stands history (D.seen disk)
         → IfOk result (λ engine. Keeps D.seen D.may_leave engine.disk engine.progress engine.failed (at_rest history)) }
+    ensures read { IfOk result (λ engine. (found : Found) × Reads found (D.seen disk) × (engine.progress.committed ≡ last_value found)) }
     ensures works { IfOk result (λ engine. engine.failed ≡ false) }
     ensures fault { IfErr result (IsNotOpened (D.seen disk)) }
 {

@@ -1,4 +1,5 @@
 use Rattle.std.proofs.Common.{sym, subst}
+use Rattle.std.proofs.KnownBytes.{Keeps-refl}
 use Rattle.hpb_server.specs.Streams.{streams}
 use Rattle.hpb_program.specs.declared.words.Job.{Job}
 use Rattle.hpb_program.specs.Program.{RunsJob}
@@ -11,3 +12,10 @@ returns-in-Check-clause-streams g c =
     (streams (g.R.Read.remaining c.args.input.now) (g.W.Write.contents c.tell_end-in-Check.new.output))
     (g.E.Write.contents c.args.errors.now) (g.E.Write.contents c.tell_end-in-Check.new.errors) c.tell_end-in-Check.result) (sym c.in-Check.is)
     (checked_to_end _ _ _ _ _ _ c.run_check-end.result c.tell_end-in-Check.result c.run_check-end.ensures c.tell_end-in-Check.ensures.told)
+
+pub returns-in-Run-clause-streams : goal.returns-in-Run-clause-streams
+returns-in-Run-clause-streams g c =
+    subst (λ (job : Job). RunsJob job (streams (g.R.Read.remaining c.args.input.now) (g.W.Write.contents c.args.output.now))
+    (streams (g.R.Read.remaining c.run_file-end.new.input) (g.W.Write.contents c.tell_run.new.output))
+    (g.E.Write.contents c.args.errors.now) (g.E.Write.contents c.tell_run.new.errors) c.tell_run.result) (sym c.in-Run.is)
+    (streams (g.R.Read.remaining c.run_file-end.new.input) (g.W.Write.contents c.run_file-end.new.output), c.run_file-end.result, c.run_file-end.ensures, Keeps-refl _, c.tell_run.ensures.told)
