@@ -2,14 +2,14 @@
 
 use hpb_batches::{Ended, commit_letters, make_checkpoint};
 use hpb_disk::{Disk, MemoryDisk, OnceDisk};
-use hpb_engine::{Driven, Engine, Fault};
+use hpb_engine::{Engine, Fault};
 use hpb_engine_rows::calls::count;
 use hpb_engine_rows::devices::{count_on, engine_over, new_device, new_engine};
 use hpb_engine_rows::letters::Bidder::X;
 use hpb_engine_rows::letters::Node::A;
 use hpb_engine_rows::letters::{accepted, bid, close, one};
 use hpb_rules::Letter;
-use std::alloc::Global;
+use std::alloc::{AllocError, Global};
 use std::process::Abort;
 use std::test::Fail;
 
@@ -25,31 +25,28 @@ fn round(at: u32) -> Letter {
 }
 
 /// Commits one of them.
-fn committed<D: Disk + Drop>(alloc: Global, engine: Engine<D>, at: u32) -> Result<Ended<D>, Fail> {
-    match commit_letters(alloc, engine, one(round(at))) {
-        Ok(ended) => Ok(ended),
-        Err(_) => Err(Fail::new("memory was refused")),
-    }
+fn committed<D: Disk + Drop>(
+    alloc: Global,
+    engine: &mut Engine<D>,
+    at: u32,
+) -> Result<Ended, AllocError> {
+    commit_letters(alloc, engine, one(round(at)))
 }
 
 /// Commits one of them, with so many calls of the device.
 fn commit_with(
     rt: &impl Abort,
     alloc: Global,
-    engine: Engine<MemoryDisk>,
+    engine: &mut Engine<MemoryDisk>,
     at: u32,
     calls: usize,
-) -> Result<Engine<MemoryDisk>, Fail> {
+) -> Result<(), Fail> {
     let before = engine.disk.calls();
-    let Ended {
-        engine,
-        answers,
-        fault,
-    } = committed(alloc, engine, at)?;
+    let Ended { answers, fault } = committed(alloc, engine, at)?;
     assert_eq!(rt; answers.as_slice(), [accepted(round(at), at)].as_slice());
     assert_eq!(rt; fault, None);
     assert_eq!(rt; engine.disk.calls(), before.saturating_add(calls));
-    Ok(engine)
+    Ok(())
 }
 
 #[test]
@@ -57,10 +54,10 @@ fn full_journal_makes_a_checkpoint(rt: HostRuntime) -> Result<(), Fail> {
     let alloc = rt.alloc();
     let mut engine = new_engine(alloc)?;
     for at in 0..4 {
-        engine = commit_with(&rt, alloc, engine, at, 4)?;
+        commit_with(&rt, alloc, &mut engine, at, 4)?;
     }
     // Nine steps of a checkpoint, of which the first has no call, four frames and a sync; then the commit.
-    let engine = commit_with(&rt, alloc, engine, 4, 17)?;
+    commit_with(&rt, alloc, &mut engine, 4, 17)?;
     assert_eq!(rt; count_on(alloc, engine.finish())?, 5);
     Ok(())
 }
@@ -69,27 +66,24 @@ fn full_journal_makes_a_checkpoint(rt: HostRuntime) -> Result<(), Fail> {
 fn checkpoint_with(
     rt: &impl Abort,
     alloc: Global,
-    engine: Engine<MemoryDisk>,
+    engine: &mut Engine<MemoryDisk>,
     calls: usize,
-) -> Result<Engine<MemoryDisk>, Fail> {
+) -> Result<(), Fail> {
     let before = engine.disk.calls();
-    match make_checkpoint(alloc, engine) {
-        Ok(Driven { engine, fault, .. }) => {
-            assert_eq!(rt; fault, None);
-            assert_eq!(rt; engine.disk.calls(), before.saturating_add(calls));
-            Ok(engine)
-        }
-        Err(_) => Err(Fail::new("memory was refused")),
-    }
+    let fault = make_checkpoint(alloc, engine)?;
+    assert_eq!(rt; fault, None);
+    assert_eq!(rt; engine.disk.calls(), before.saturating_add(calls));
+    Ok(())
 }
 
 #[test]
 fn checkpoint_is_whole(rt: HostRuntime) -> Result<(), Fail> {
     let alloc = rt.alloc();
-    let engine = commit_with(&rt, alloc, new_engine(alloc)?, 0, 4)?;
-    let engine = checkpoint_with(&rt, alloc, engine, 10)?;
+    let mut engine = new_engine(alloc)?;
+    commit_with(&rt, alloc, &mut engine, 0, 4)?;
+    checkpoint_with(&rt, alloc, &mut engine, 10)?;
     // All is covered and clean: no step has a call.
-    let engine = checkpoint_with(&rt, alloc, engine, 0)?;
+    checkpoint_with(&rt, alloc, &mut engine, 0)?;
     assert_eq!(rt; count_on(alloc, engine.finish())?, 1);
     Ok(())
 }
@@ -105,26 +99,23 @@ fn faulty(alloc: Global, call: u64) -> Result<Engine<OnceDisk<MemoryDisk>>, Fail
 fn fail_with(
     rt: &impl Abort,
     alloc: Global,
-    engine: Engine<OnceDisk<MemoryDisk>>,
+    engine: &mut Engine<OnceDisk<MemoryDisk>>,
     at: u32,
     wanted: Fault,
-) -> Result<Engine<OnceDisk<MemoryDisk>>, Fail> {
-    let Ended {
-        engine,
-        answers,
-        fault,
-    } = committed(alloc, engine, at)?;
+) -> Result<(), Fail> {
+    let Ended { answers, fault } = committed(alloc, engine, at)?;
     assert_eq!(rt; fault, Some(wanted));
     assert_eq!(rt; answers.len(), 0);
-    assert_eq!(rt; count(&engine), at);
-    Ok(engine)
+    assert_eq!(rt; count(engine), at);
+    Ok(())
 }
 
 #[test]
 fn fault_in_a_commit(rt: HostRuntime) -> Result<(), Fail> {
     let alloc = rt.alloc();
-    let engine = fail_with(&rt, alloc, faulty(alloc, 3)?, 0, Fault::Device)?;
-    let _ = fail_with(&rt, alloc, engine, 0, Fault::Failed)?;
+    let mut engine = faulty(alloc, 3)?;
+    fail_with(&rt, alloc, &mut engine, 0, Fault::Device)?;
+    fail_with(&rt, alloc, &mut engine, 0, Fault::Failed)?;
     Ok(())
 }
 
@@ -134,10 +125,9 @@ fn fault_in_the_checkpoint_before(rt: HostRuntime) -> Result<(), Fail> {
     // Four commits have sixteen calls.
     let mut engine = faulty(alloc, 20)?;
     for at in 0..4 {
-        let ended = committed(alloc, engine, at)?;
+        let ended = committed(alloc, &mut engine, at)?;
         assert_eq!(rt; ended.fault, None);
-        engine = ended.engine;
     }
-    let _ = fail_with(&rt, alloc, engine, 4, Fault::Failed)?;
+    fail_with(&rt, alloc, &mut engine, 4, Fault::Failed)?;
     Ok(())
 }

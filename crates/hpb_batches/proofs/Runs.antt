@@ -1,5 +1,6 @@
 -- What runs of these events come to, by what the engine keeps.
 use Rattle.std.proofs.Common.{◌≡◌, ◌⊎◌, inl, inr, ⊎_elim, ℕ, ◌+◌, ◌<◌, ◌≤◌, Bool, true, false, Option, Some, None, Result, Ok, Err, List, [], ◌∷◌, refl, sym, ◌∙◌, ap, subst, arith}
+use Rattle.std.specs.Prelude.{IfOk, OnErr}
 use Rattle.hpb_rules.specs.declared.command.Command.{Command}
 use Rattle.hpb_rules.specs.declared.letter.Answer.{Answer}
 use Rattle.hpb_rules.specs.declared.letter.Letter.{Letter}
@@ -152,6 +153,10 @@ pub was_failed : (before : Bool) (fault : Option Fault) (failed : Bool) → (fau
 was_failed true fault failed works none off = refl
 was_failed false fault failed works none off = absurd (let on = works none refl in cc)
 
+pub failures_same : (fault : Option Fault) (before after : ℕ) → HasFailed fault before after → fault ≡ None → after ≡ before
+failures_same None before after has none = has
+failures_same (Some fault) before after has none = absurd (cc)
+
 pub failures_rise : (fault : Option Fault) (before after : ℕ) → HasFailed fault before after → (fault ≡ None → ⊥) → before < after
 failures_rise None before after has some = absurd (some refl)
 failures_rise (Some fault) before after has some = has.1
@@ -164,3 +169,13 @@ refused_after failures old made new s r t failed between after fault disk progre
   ap failures disk ∙ subst (λ (told : Option Fault). HasFailed told (failures old) (failures made)) none has,
   λ off. was_failed failed fault between works none (sym flag ∙ off),
 )
+
+-- What follows from what is so of a result that is there, is so of it too.
+pub if_ok : {T E : Type 0} {P Q : T → Type 0} (result : Result T E) → ((value : T) → P value → Q value) → IfOk result P → IfOk result Q
+if_ok (Ok value) follows is = follows value is
+if_ok (Err error) follows is = is
+
+-- What follows for a result that isn't there.
+pub on_err : {T E : Type 0} {A B : Type 0} (result : Result T E) → (A → B) → OnErr result A → OnErr result B
+on_err (Ok value) follows is = is
+on_err (Err error) follows is = follows is

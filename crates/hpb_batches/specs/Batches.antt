@@ -40,6 +40,10 @@ abbrev pub KeepsEnded : {D : Type 0} (seen : D → List ℕ) (may_leave : D → 
 KeepsEnded seen may_leave disk s failed rules history letters answers fault =
     (machine : Machine) × Keeps seen may_leave disk s failed machine × EndsBy rules history letters answers fault machine failed × (s.committed.rules ≡ rules)
 
+-- An engine is as it was, by its device, its progress and whether it counts as failed.
+abbrev pub IsStill : {D : Type 0} (old new : D) (s t : Progress) (failed after : Bool) → Type 0
+IsStill old new s t failed after = (new ≡ old) × (t ≡ s) × (after ≡ failed)
+
 -- Letters that memory is refused for leave what is acknowledged, and whether the device has failed, as they were.
 abbrev pub StaysRefused : (failures_before failures_after : ℕ) (s t : Progress) (failed after : Bool) → Type 0
 StaysRefused failures_before failures_after s t failed after = (t.committed ≡ s.committed) × (failures_after ≡ failures_before) × (after ≡ true → failed ≡ true)

@@ -1,29 +1,24 @@
 //! One batch of letters.
-ghost use Rattle.std.specs.Prelude.{◌≡◌, ◌⊎◌, ◌<◌, List, true, false, Some, None, IfOk, IfErr, OnErr};
+ghost use Rattle.std.specs.Prelude.{◌≡◌, ◌⊎◌, ◌<◌, List, true, false, Some, None, IfOk, OnErr};
 ghost use Rattle.hpb_rules.specs.declared.command.Command.{Command};
 ghost use Rattle.hpb_rules.specs.Machine.{at_rest};
 ghost use Rattle.hpb_progress.specs.Keeping.{Keeps};
 ghost use Rattle.hpb_engine.specs.declared.begun.Weight.TheVariants as weights;
 ghost use Rattle.hpb_engine.specs.Offers.{Weighs};
 ghost use Rattle.hpb_engine.specs.Runs.{HasFailed};
-ghost use Rattle.hpb_engine.specs.declared.step.Fault.{Fault as Told};
 ghost use Rattle.hpb_engine.specs.declared.step.Fault.TheVariants as faults;
-ghost use Rattle.hpb_batches.specs.Batches.{HasRoom, KeepsEnded, StaysRefused, commits, ended_by};
+ghost use Rattle.hpb_batches.specs.Batches.{IsStill, KeepsEnded, StaysRefused, ended_by};
 
 use crate::checkpoint::make_checkpoint;
 use hpb_disk::Disk;
-use hpb_engine::{Driven, Engine, Event, Fault, Weight, drive};
+use hpb_engine::{Engine, Event, Fault, Run, Weight};
 use hpb_letters::judged_is_shown;
 use hpb_rules::{Answer, Letters};
 use std::alloc::{AllocError, Global};
 
-/// How many events commit a batch: its offer, and four turns.
-const EVENTS: usize = 5;
-
 /// What became of letters.
 #[derive(Drop)]
-pub struct Ended<D: Disk + Drop> {
-    pub engine: Engine<D>,
+pub struct Ended {
     /// The answers to all of them, in their order, where there is no fault.
     pub answers: Vec<Answer>,
     /// 91, where a call of the device failed in their commit: whether they stand is open, and none is acknowledged. 93,
@@ -31,42 +26,30 @@ pub struct Ended<D: Disk + Drop> {
     pub fault: Option<Fault>,
 }
 
-/// The events of a commit: the letters are offered, and four turns are made.
-fn commit_events(alloc: Global, letters: Letters) -> Result<Vec<Event>, AllocError>
-    ensures { IfOk result (λ events. events.items ≡ commits letters) }
-{
-    let mut events = Vec::with_capacity(alloc, EVENTS)?;
-    events.push(Event::Offer(letters))?;
-    events.push(Event::Commit)?;
-    events.push(Event::Commit)?;
-    events.push(Event::Commit)?;
-    events.push(Event::Commit)?;
-    Ok(events)
-}
-
-/// Drives them.
-fn drive_commit<D: Disk + Drop>(
+/// Takes the events of a commit: the letters are offered, and four turns are made.
+fn run_commit<D: Disk + Drop>(
     alloc: Global,
-    engine: Engine<D>,
+    engine: &mut Engine<D>,
     letters: Letters,
-) -> Result<Driven<D>, Engine<D>>
-    ensures commits { (history : List Command) → Keeps D.seen D.may_leave engine.disk engine.progress engine.failed (at_rest history)
-        → (Weighs engine.failed engine.progress letters weights.Full → ⊥)
-        → IfOk result (λ driven. KeepsEnded D.seen D.may_leave driven.engine.disk driven.engine.progress driven.engine.failed
-        engine.progress.committed.rules history letters driven.answers.items (ended_by driven.fault driven.engine.failed)) }
-    ensures works { (history : List Command) → Keeps D.seen D.may_leave engine.disk engine.progress engine.failed (at_rest history)
-        → IfOk result (λ driven. driven.fault ≡ None → engine.failed ≡ false → driven.engine.failed ≡ false) }
-    ensures cause { IfOk result (λ driven. HasFailed driven.fault (D.failures engine.disk) (D.failures driven.engine.disk)) }
-    ensures back { IfErr result (λ back. (back.disk ≡ engine.disk) × (back.progress ≡ engine.progress) × (back.failed ≡ engine.failed)) }
+) -> Result<Run, AllocError>
+    ensures commits { (history : List Command) → Keeps D.seen D.may_leave engine.old.disk engine.old.progress engine.old.failed (at_rest history)
+        → (Weighs engine.old.failed engine.old.progress letters weights.Full → ⊥)
+        → IfOk result (λ run. KeepsEnded D.seen D.may_leave engine.new.disk engine.new.progress engine.new.failed
+        engine.old.progress.committed.rules history letters run.answers.items (ended_by run.fault engine.new.failed)) }
+    ensures works { (history : List Command) → Keeps D.seen D.may_leave engine.old.disk engine.old.progress engine.old.failed (at_rest history)
+        → IfOk result (λ run. run.fault ≡ None → engine.old.failed ≡ false → engine.new.failed ≡ false) }
+    ensures cause { IfOk result (λ run. HasFailed run.fault (D.failures engine.old.disk) (D.failures engine.new.disk)) }
+    ensures stays { OnErr result (IsStill engine.old.disk engine.new.disk engine.old.progress engine.new.progress engine.old.failed engine.new.failed) }
 {
     judged_is_shown();
-    match commit_events(alloc, letters) {
-        Ok(events) => match drive(alloc, engine, &events) {
-            Ok(driven) => Ok(driven),
-            Err(engine) => Err(engine),
-        },
-        Err(_) => Err(engine),
-    }
+    let events = [
+        Event::Offer(letters),
+        Event::Commit,
+        Event::Commit,
+        Event::Commit,
+        Event::Commit,
+    ];
+    engine.run(alloc, &events)
 }
 
 /// Why letters were not committed, by the fault of the run and whether a call has failed.
@@ -83,34 +66,25 @@ fn why_ended(fault: Option<Fault>, failed: bool) -> Option<Fault>
 /// Commits letters where there is room for them.
 fn commit_now<D: Disk + Drop>(
     alloc: Global,
-    engine: Engine<D>,
+    engine: &mut Engine<D>,
     letters: Letters,
-) -> Result<Ended<D>, Engine<D>>
-    ensures commits { (history : List Command) → Keeps D.seen D.may_leave engine.disk engine.progress engine.failed (at_rest history)
-        → (Weighs engine.failed engine.progress letters weights.Full → ⊥)
-        → IfOk result (λ ended. KeepsEnded D.seen D.may_leave ended.engine.disk ended.engine.progress ended.engine.failed
-        engine.progress.committed.rules history letters ended.answers.items ended.fault) }
-    ensures well { IfOk result (λ ended. ended.fault ≡ None → D.failures ended.engine.disk ≡ D.failures engine.disk) }
-    ensures ill { IfOk result (λ ended. ended.fault ≡ Some faults.Device → D.failures engine.disk < D.failures ended.engine.disk) }
-    ensures earlier { (history : List Command) → Keeps D.seen D.may_leave engine.disk engine.progress engine.failed (at_rest history)
-        → IfOk result (λ ended. ended.fault ≡ Some faults.Failed → engine.failed ≡ true) }
-    ensures back { IfErr result (λ back. (back.disk ≡ engine.disk) × (back.progress ≡ engine.progress) × (back.failed ≡ engine.failed)) }
+) -> Result<Ended, AllocError>
+    ensures commits { (history : List Command) → Keeps D.seen D.may_leave engine.old.disk engine.old.progress engine.old.failed (at_rest history)
+        → (Weighs engine.old.failed engine.old.progress letters weights.Full → ⊥)
+        → IfOk result (λ ended. KeepsEnded D.seen D.may_leave engine.new.disk engine.new.progress engine.new.failed
+        engine.old.progress.committed.rules history letters ended.answers.items ended.fault) }
+    ensures well { IfOk result (λ ended. ended.fault ≡ None → D.failures engine.new.disk ≡ D.failures engine.old.disk) }
+    ensures ill { IfOk result (λ ended. ended.fault ≡ Some faults.Device → D.failures engine.old.disk < D.failures engine.new.disk) }
+    ensures earlier { (history : List Command) → Keeps D.seen D.may_leave engine.old.disk engine.old.progress engine.old.failed (at_rest history)
+        → IfOk result (λ ended. ended.fault ≡ Some faults.Failed → engine.old.failed ≡ true) }
+    ensures stays { OnErr result (IsStill engine.old.disk engine.new.disk engine.old.progress engine.new.progress engine.old.failed engine.new.failed) }
 {
-    match drive_commit(alloc, engine, letters) {
-        Ok(driven) => {
-            let Driven {
-                engine,
-                answers,
-                fault,
-            } = driven;
-            let fault = why_ended(fault, engine.failed);
-            Ok(Ended {
-                engine,
-                answers,
-                fault,
-            })
-        }
-        Err(engine) => Err(engine),
+    match run_commit(alloc, engine, letters) {
+        Ok(came) => Ok(Ended {
+            answers: came.answers,
+            fault: why_ended(came.fault, engine.failed),
+        }),
+        Err(error) => Err(error),
     }
 }
 
@@ -124,80 +98,42 @@ fn lacks_room<D: Disk + Drop>(engine: &Engine<D>, letters: &Letters) -> bool
     }
 }
 
-/// Commits letters after steps of a checkpoint.
-fn commit_after<D: Disk + Drop>(
-    alloc: Global,
-    driven: Driven<D>,
-    letters: Letters,
-) -> Result<Ended<D>, Engine<D>>
-    ensures commits { (history : List Command) → Keeps D.seen D.may_leave driven.engine.disk driven.engine.progress driven.engine.failed (at_rest history)
-        → ((told : Told) → driven.fault ≡ Some told → driven.engine.failed ≡ true) → (driven.engine.failed ≡ true) ⊎ HasRoom driven.engine.progress
-        → IfOk result (λ ended. KeepsEnded D.seen D.may_leave ended.engine.disk ended.engine.progress ended.engine.failed
-        driven.engine.progress.committed.rules history letters ended.answers.items ended.fault) }
-    ensures well { IfOk result (λ ended. ended.fault ≡ None → (driven.fault ≡ None) × (D.failures ended.engine.disk ≡ D.failures driven.engine.disk)) }
-    ensures ill { IfOk result (λ ended. ended.fault ≡ Some faults.Device → D.failures driven.engine.disk < D.failures ended.engine.disk) }
-    ensures earlier { (history : List Command) → Keeps D.seen D.may_leave driven.engine.disk driven.engine.progress driven.engine.failed (at_rest history)
-        → IfOk result (λ ended. ended.fault ≡ Some faults.Failed
-        → ((driven.fault ≡ None) × (driven.engine.failed ≡ true)) ⊎ ((driven.fault ≡ None → ⊥) × (D.failures ended.engine.disk ≡ D.failures driven.engine.disk))) }
-    ensures back { IfErr result (λ back. (back.disk ≡ driven.engine.disk) × (back.progress ≡ driven.engine.progress) × (back.failed ≡ driven.engine.failed)) }
-    ensures none { OnErr result (driven.fault ≡ None) }
-{
-    let Driven {
-        engine,
-        answers,
-        fault,
-    } = driven;
-    match fault {
-        Some(_) => Ok(Ended {
-            engine,
-            answers,
-            fault: Some(Fault::Failed),
-        }),
-        None => match commit_now(alloc, engine, letters) {
-            Ok(ended) => Ok(ended),
-            Err(engine) => Err(engine),
-        },
-    }
-}
-
 /// Commits letters as one batch: all are answered, and what they accept is acknowledged, or none is. Where no clean frame
 /// is left for them, a whole checkpoint is made first, which leaves one.
 ///
 /// The fault tells why there are no answers: 91 where a call of the device failed in the commit, 93 where one failed
-/// before. Where memory is refused (90), none is taken, and the engine is handed back.
+/// before. Where memory is refused (90), none is taken, and what is acknowledged stays.
 pub fn commit_letters<D: Disk + Drop>(
     alloc: Global,
-    engine: Engine<D>,
+    engine: &mut Engine<D>,
     letters: Letters,
-) -> Result<Ended<D>, Engine<D>>
+) -> Result<Ended, AllocError>
     // After a history with nothing in flight the answers are those of the rules, and the engine keeps the history with what
     // they accept; or, with a fault, it keeps the history itself.
-    ensures commits { (history : List Command) → Keeps D.seen D.may_leave engine.disk engine.progress engine.failed (at_rest history)
-        → IfOk result (λ ended. KeepsEnded D.seen D.may_leave ended.engine.disk ended.engine.progress ended.engine.failed
-        engine.progress.committed.rules history letters ended.answers.items ended.fault) }
+    ensures commits { (history : List Command) → Keeps D.seen D.may_leave engine.old.disk engine.old.progress engine.old.failed (at_rest history)
+        → IfOk result (λ ended. KeepsEnded D.seen D.may_leave engine.new.disk engine.new.progress engine.new.failed
+        engine.old.progress.committed.rules history letters ended.answers.items ended.fault) }
     // Without a fault no call of the device failed; 91 comes only where one did, and 93 where one did or had before.
-    ensures well { IfOk result (λ ended. ended.fault ≡ None → D.failures ended.engine.disk ≡ D.failures engine.disk) }
-    ensures ill { IfOk result (λ ended. ended.fault ≡ Some faults.Device → D.failures engine.disk < D.failures ended.engine.disk) }
-    ensures earlier { (history : List Command) → Keeps D.seen D.may_leave engine.disk engine.progress engine.failed (at_rest history)
-        → IfOk result (λ ended. ended.fault ≡ Some faults.Failed → (engine.failed ≡ true) ⊎ (D.failures engine.disk < D.failures ended.engine.disk)) }
+    ensures well { IfOk result (λ ended. ended.fault ≡ None → D.failures engine.new.disk ≡ D.failures engine.old.disk) }
+    ensures ill { IfOk result (λ ended. ended.fault ≡ Some faults.Device → D.failures engine.old.disk < D.failures engine.new.disk) }
+    ensures earlier { (history : List Command) → Keeps D.seen D.may_leave engine.old.disk engine.old.progress engine.old.failed (at_rest history)
+        → IfOk result (λ ended. ended.fault ≡ Some faults.Failed → (engine.old.failed ≡ true) ⊎ (D.failures engine.old.disk < D.failures engine.new.disk)) }
     // Where memory is refused the history stays.
-    ensures back { (history : List Command) → Keeps D.seen D.may_leave engine.disk engine.progress engine.failed (at_rest history)
-        → IfErr result (λ back. Keeps D.seen D.may_leave back.disk back.progress back.failed (at_rest history)) }
+    ensures back { (history : List Command) → Keeps D.seen D.may_leave engine.old.disk engine.old.progress engine.old.failed (at_rest history)
+        → OnErr result (Keeps D.seen D.may_leave engine.new.disk engine.new.progress engine.new.failed (at_rest history)) }
     // No call has failed then, and what is committed is the same.
-    ensures stays { (history : List Command) → Keeps D.seen D.may_leave engine.disk engine.progress engine.failed (at_rest history)
-        → IfErr result (λ back. StaysRefused (D.failures engine.disk) (D.failures back.disk) engine.progress back.progress engine.failed back.failed) }
+    ensures stays { (history : List Command) → Keeps D.seen D.may_leave engine.old.disk engine.old.progress engine.old.failed (at_rest history)
+        → OnErr result (StaysRefused (D.failures engine.old.disk) (D.failures engine.new.disk) engine.old.progress engine.new.progress engine.old.failed engine.new.failed) }
 {
-    if lacks_room(&engine, &letters) {
-        return match make_checkpoint(alloc, engine) {
-            Ok(driven) => match commit_after(alloc, driven, letters) {
-                Ok(ended) => Ok(ended),
-                Err(engine) => Err(engine),
-            },
-            Err(engine) => Err(engine),
-        };
+    if !lacks_room(engine, &letters) {
+        return commit_now(alloc, engine, letters);
     }
-    match commit_now(alloc, engine, letters) {
-        Ok(ended) => Ok(ended),
-        Err(engine) => Err(engine),
+    match make_checkpoint(alloc, engine) {
+        Ok(None) => commit_now(alloc, engine, letters),
+        Ok(Some(_)) => Ok(Ended {
+            answers: Vec::new(alloc),
+            fault: Some(Fault::Failed),
+        }),
+        Err(error) => Err(error),
     }
 }

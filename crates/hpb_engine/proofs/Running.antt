@@ -3,13 +3,21 @@ use Rattle.std.proofs.Common.{◌≡◌, ◌⊎◌, inl, inr, ⊎_elim, ℕ, ◌
 use Rattle.std.specs.Prelude.{OnErr, OnOk, is_some}
 use Rattle.std.proofs.lemmas.List.{append-nil, take_more, take-append-drop}
 use Rattle.hpb_rules.specs.declared.letter.Answer.{Answer}
+use Rattle.hpb_rules.specs.declared.letter.Letter.{Letter}
 use Rattle.hpb_rules.specs.Machine.{Machine}
 use Rattle.hpb_disk.specs.Images.{LeavesOnly}
 use Rattle.hpb_progress.specs.declared.progress.Progress.{Progress}
 use Rattle.hpb_progress.specs.Keeping.{Keeps, StandsEither, StandsFor}
 use Rattle.hpb_engine.specs.declared.event.Event.{Event}
+use Rattle.hpb_engine.specs.declared.begun.Weight.{Weight}
+use Rattle.hpb_engine.specs.declared.begun.Weight.TheVariants as weights
 use Rattle.hpb_engine.specs.declared.step.Fault.{Fault}
-use Rattle.hpb_engine.specs.Runs.{Drove, failed_by, Follows, Holds, Mark, Ran, StandsAtOne, Took, last_of}
+use Rattle.hpb_engine.specs.declared.step.Fault.TheVariants as faults
+use Rattle.hpb_engine.specs.declared.step.Turned.{Turned}
+use Rattle.hpb_engine.specs.declared.step.Turned.TheVariants as turns
+use Rattle.hpb_engine.specs.Offers.{begun_of, weight_of}
+use Rattle.hpb_engine.specs.Runs.{Drove, failed_by, fault_in, Follows, Holds, Mark, Ran, StandsAtOne, Took, last_of}
+use Rattle.hpb_engine.specs.Steps.{step_of}
 
 module _ {D : Type 0} (seen : D → List ℕ) (may_leave : D → List ℕ → Type 0) (moment : D → ℕ) (left_since : D → ℕ → List ℕ → Type 0) where
   abbrev pub mark_of : D → Progress → Bool → Machine → Mark
@@ -155,3 +163,25 @@ module _ (events : List Event) (at : ℕ) (event : Event) (inside : at < length 
 pub failed_is : {T : Type 0} (result : Result T Fault) (failed : Bool) → OnOk result (failed ≡ false) → OnErr result (failed ≡ true) → failed ≡ failed_by result
 failed_is (Ok told) failed works fails = works
 failed_is (Err fault) failed works fails = fails
+
+-- A turn and the step that tells of it fail alike, and have the same fault.
+pub failed_step : (result : Result Turned Fault) (leaving : List Answer) → failed_by result ≡ failed_by (step_of result leaving)
+failed_step (Ok turns.Idle) leaving = refl
+failed_step (Ok turns.Went) leaving = refl
+failed_step (Ok turns.Done) leaving = refl
+failed_step (Err fault) leaving = refl
+
+pub fault_step : (result : Result Turned Fault) (leaving : List Answer) → fault_in result ≡ fault_in (step_of result leaving)
+fault_step (Ok turns.Idle) leaving = refl
+fault_step (Ok turns.Went) leaving = refl
+fault_step (Ok turns.Done) leaving = refl
+fault_step (Err faults.Device) leaving = refl
+fault_step (Err faults.Failed) leaving = refl
+
+-- What is begun by a weight has that weight.
+pub weight_begun : (weight : Weight) (letters : List Letter) (leaving : List Answer) → weight_of (begun_of weight letters leaving) ≡ weight
+weight_begun weights.Failed letters leaving = refl
+weight_begun weights.Busy letters leaving = refl
+weight_begun weights.Old letters leaving = refl
+weight_begun weights.Full letters leaving = refl
+weight_begun weights.New letters leaving = refl

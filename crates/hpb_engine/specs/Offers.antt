@@ -33,6 +33,14 @@ weight_of (outcomes.Answered answers) = weights.Old
 weight_of (outcomes.Full letters) = weights.Full
 weight_of outcomes.InFlight = weights.New
 
+-- What is begun by a weight: letters that aren't taken are handed back, and of those that are answered at once these answers leave.
+abbrev pub begun_of : Weight → List Letter → List Answer → Begun
+begun_of weights.Failed letters leaving = outcomes.Failed letters
+begun_of weights.Busy letters leaving = outcomes.Busy letters
+begun_of weights.Old letters leaving = outcomes.Answered leaving
+begun_of weights.Full letters leaving = outcomes.Full letters
+begun_of weights.New letters leaving = outcomes.InFlight
+
 -- Letters that aren't taken are handed back.
 abbrev pub HandsBack : List Letter → Begun → Type 0
 HandsBack letters (outcomes.Failed back) = back ≡ letters

@@ -13,11 +13,20 @@ use Rattle.hpb_engine.specs.declared.step.Fault.{Fault}
 use Rattle.hpb_engine.specs.declared.step.Fault.TheVariants as faults
 use Rattle.hpb_engine.specs.declared.step.Step.{Step}
 use Rattle.hpb_engine.specs.declared.step.Step.TheVariants as steps
+use Rattle.hpb_engine.specs.declared.step.Turned.{Turned}
+use Rattle.hpb_engine.specs.declared.step.Turned.TheVariants as turns
 
 -- The refusal that a fault is told by.
 abbrev pub refusal_of : Fault → Refusal
 refusal_of faults.Device = refusals.Device
 refusal_of faults.Failed = refusals.Failed
+
+-- What a step answers, by what its turn did and by the answers that leave.
+abbrev pub step_of : Result Turned Fault → List Answer → Result Step Fault
+step_of (Ok turns.Idle) leaving = Ok steps.Idle
+step_of (Ok turns.Went) leaving = Ok steps.Went
+step_of (Ok turns.Done) leaving = Ok (steps.Done leaving)
+step_of (Err fault) leaving = Err fault
 
 -- The acknowledged commands after a turn.
 abbrev pub acknowledged_by : Result Step Fault → Progress → List Command → List Command

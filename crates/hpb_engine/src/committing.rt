@@ -1,14 +1,14 @@
 //! A commit, by turns of one device call each.
-ghost use Rattle.std.specs.Prelude.{◌≡◌, ◌+◌, ◌<◌, ◌≤◌, ◌++◌, ℕ, List, Ok, Err, true, false, OnErr, OnOk, IfOk, MatchResult};
+ghost use Rattle.std.specs.Prelude.{◌≡◌, ◌+◌, ◌<◌, ◌≤◌, ◌++◌, ℕ, List, [], Ok, Err, true, false, OnErr, OnOk, MatchResult};
 ghost use Rattle.hpb_rules.specs.declared.command.Command.{Command};
 ghost use Rattle.hpb_rules.specs.Machine.{Machine};
 ghost use Rattle.hpb_disk.specs.Images.{LeavesOnly};
 ghost use Rattle.hpb_progress.specs.Keeping.{Inside, Keeps, StandsBetween, StandsEither};
 ghost use Rattle.hpb_progress.specs.Steps.{turned, acknowledged};
-ghost use Rattle.hpb_engine.specs.Steps.{KeepsOn, LeavesBetween, TellsFault, TurnLeads, acknowledged_by, leaving_with, turn_by, turn_calls};
+ghost use Rattle.hpb_engine.specs.Steps.{KeepsOn, LeavesBetween, TellsFault, TurnLeads, acknowledged_by, leaving_with, step_of, turn_by, turn_calls};
 
 use crate::engine::Engine;
-use crate::step::{Fault, Step};
+use crate::step::{Fault, Step, Turned};
 use hpb_disk::Disk;
 use hpb_journal::Frames;
 use hpb_progress::laws_below;
@@ -94,14 +94,16 @@ impl<D: Disk + Drop> Engine<D> {
         }
     }
 
-    /// The gate is on the device: the batch is acknowledged.
-    fn sync_gate(&mut self) -> Result<Answers, Fault>
+    /// The gate is on the device: the batch is acknowledged, and its answers leave.
+    fn sync_gate(&mut self, leaving: &mut Answers) -> Result<(), Fault>
         requires busy { self.old.progress.commit.busy ≡ true }
         requires turns { self.old.progress.commit.turns ≡ 3 }
         requires works { self.old.failed ≡ false }
+        requires none { leaving.old ≡ [] }
         ensures ok { OnOk result (self.new.progress ≡ acknowledged self.old.progress) }
-        ensures answers { IfOk result (λ answers. answers ≡ self.old.progress.commit.answers) }
+        ensures answers { OnOk result (leaving.new ≡ self.old.progress.commit.answers) }
         ensures err { OnErr result (self.new.progress ≡ self.old.progress) }
+        ensures silent { OnErr result (leaving.new ≡ []) }
         ensures keeps { (history : List Command) → Inside D.seen D.may_leave self.old.disk self.old.progress self.old.failed history
             → MatchResult result
             (λ _. Inside D.seen D.may_leave self.new.disk self.new.progress self.new.failed (history ++ self.old.progress.commit.batch.commands))
@@ -121,7 +123,8 @@ impl<D: Disk + Drop> Engine<D> {
                     .copy_from(&self.progress.commit.working);
                 self.progress.commit.busy = false;
                 self.progress.commit.turns = 0;
-                Ok(mem::replace(&mut self.progress.commit.answers, Answers::new()))
+                mem::swap(leaving, &mut self.progress.commit.answers);
+                Ok(())
             }
             Err(_) => {
                 self.failed = true;
@@ -131,17 +134,19 @@ impl<D: Disk + Drop> Engine<D> {
     }
 
     /// One turn, by the parts of the device.
-    fn turn(&mut self) -> Result<Step, Fault>
-        ensures leads { TurnLeads self.old.failed result self.old.progress self.new.progress }
+    fn turn(&mut self, leaving: &mut Answers) -> Result<Turned, Fault>
+        requires none { leaving.old ≡ [] }
+        ensures leads { TurnLeads self.old.failed (step_of result leaving.new) self.old.progress self.new.progress }
+        ensures leaving { leaving.new ≡ leaving_with (step_of result leaving.new) }
         ensures rules { self.new.progress.committed.rules ≡ self.old.progress.committed.rules }
         ensures keeps { (history : List Command) → Inside D.seen D.may_leave self.old.disk self.old.progress self.old.failed history
-            → Inside D.seen D.may_leave self.new.disk self.new.progress self.new.failed (acknowledged_by result self.old.progress history) }
+            → Inside D.seen D.may_leave self.new.disk self.new.progress self.new.failed (acknowledged_by (step_of result leaving.new) self.old.progress history) }
         ensures since { LeavesBetween D.seen D.may_leave D.moment D.left_since self.old.disk self.new.disk self.old.progress self.new.progress self.old.failed }
         ensures calls { D.moment self.new.disk ≡ D.moment self.old.disk + turn_calls self.old.failed self.old.progress }
         ensures cause { result ≡ Err Fault.Device → D.failures self.old.disk < D.failures self.new.disk }
         ensures counted { OnOk result (D.failures self.new.disk ≡ D.failures self.old.disk) }
         // A turn with nothing in flight has no call, nor one after a fault.
-        ensures idle { result ≡ Ok Step.Idle → self.new.disk ≡ self.old.disk }
+        ensures idle { result ≡ Ok Turned.Idle → self.new.disk ≡ self.old.disk }
         ensures stays { result ≡ Err Fault.Failed → self.new.disk ≡ self.old.disk }
         ensures works { OnOk result (self.new.failed ≡ false) }
         ensures fails { OnErr result (self.new.failed ≡ true) }
@@ -151,26 +156,55 @@ impl<D: Disk + Drop> Engine<D> {
             return Err(Fault::Failed);
         }
         if !self.progress.commit.busy {
-            return Ok(Step::Idle);
+            return Ok(Turned::Idle);
         }
         match self.progress.commit.turns {
             0 => match self.write_body() {
-                Ok(()) => Ok(Step::Went),
+                Ok(()) => Ok(Turned::Went),
                 Err(fault) => Err(fault),
             },
             1 => match self.sync_body() {
-                Ok(()) => Ok(Step::Went),
+                Ok(()) => Ok(Turned::Went),
                 Err(fault) => Err(fault),
             },
             2 => match self.write_gate() {
-                Ok(()) => Ok(Step::Went),
+                Ok(()) => Ok(Turned::Went),
                 Err(fault) => Err(fault),
             },
-            _ => match self.sync_gate() {
-                Ok(answers) => Ok(Step::Done(answers)),
+            _ => match self.sync_gate(leaving) {
+                Ok(()) => Ok(Turned::Done),
                 Err(fault) => Err(fault),
             },
         }
+    }
+
+    /// Makes a turn as `commit_step` does, and puts the answers that leave where there is none yet.
+    pub(crate) fn make_turn(&mut self, leaving: &mut Answers) -> Result<Turned, Fault>
+        requires none { leaving.old ≡ [] }
+        // What is kept before a turn is kept after it, by the machine's turn, and its answers leave with it.
+        ensures keeps { (machine : Machine) → Keeps D.seen D.may_leave self.old.disk self.old.progress self.old.failed machine
+            → Keeps D.seen D.may_leave self.new.disk self.new.progress self.new.failed (turn_by (step_of result leaving.new) machine).machine }
+        ensures leaving { (machine : Machine) → Keeps D.seen D.may_leave self.old.disk self.old.progress self.old.failed machine
+            → leaving.new ≡ (turn_by (step_of result leaving.new) machine).leaving }
+        // An image since the call began stands for what a stop of the machine may leave, before the turn or after it.
+        ensures since { (machine : Machine) → Keeps D.seen D.may_leave self.old.disk self.old.progress self.old.failed machine
+            → LeavesOnly (D.moment self.old.disk) (D.moment self.new.disk) (D.left_since self.old.disk) (D.left_since self.new.disk)
+            (D.may_leave self.new.disk) (StandsEither machine (turn_by (step_of result leaving.new) machine).machine) }
+        // It is idle with nothing in flight, and done on the fourth turn, and on no other.
+        ensures leads { TurnLeads self.old.failed (step_of result leaving.new) self.old.progress self.new.progress }
+        ensures rules { self.new.progress.committed.rules ≡ self.old.progress.committed.rules }
+        ensures calls { D.moment self.new.disk ≡ D.moment self.old.disk + turn_calls self.old.failed self.old.progress }
+        // 91 comes only where the device failed in this call, and 93 exactly after a 91.
+        ensures cause { result ≡ Err Fault.Device → D.failures self.old.disk < D.failures self.new.disk }
+        ensures counted { OnOk result (D.failures self.new.disk ≡ D.failures self.old.disk) }
+        // A turn with nothing in flight has no call, nor one after a fault.
+        ensures idle { result ≡ Ok Turned.Idle → self.new.disk ≡ self.old.disk }
+        ensures stays { result ≡ Err Fault.Failed → self.new.disk ≡ self.old.disk }
+        ensures works { OnOk result (self.new.failed ≡ false) }
+        ensures fails { OnErr result (self.new.failed ≡ true) }
+    {
+        laws_below();
+        self.turn(leaving)
     }
 
     /// One turn of the batch in flight: its body is written; a sync; its gate is written; a sync. At the fourth its commands
@@ -203,7 +237,12 @@ impl<D: Disk + Drop> Engine<D> {
         ensures works { OnOk result (self.new.failed ≡ false) }
         ensures fails { OnErr result (self.new.failed ≡ true) }
     {
-        laws_below();
-        self.turn()
+        let mut leaving = Answers::new();
+        match self.make_turn(&mut leaving) {
+            Ok(Turned::Idle) => Ok(Step::Idle),
+            Ok(Turned::Went) => Ok(Step::Went),
+            Ok(Turned::Done) => Ok(Step::Done(leaving)),
+            Err(fault) => Err(fault),
+        }
     }
 }

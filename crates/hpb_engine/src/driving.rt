@@ -1,20 +1,16 @@
 //! Events one after another.
-ghost use Rattle.std.specs.Prelude.{◌≡◌, ◌+◌, ◌*◌, ◌≤◌, ◌++◌, List, [], length, vec_len, vec_capacity, IfOk, IfErr};
+ghost use Rattle.std.specs.Prelude.{◌≡◌, ◌+◌, ◌*◌, ◌≤◌, ◌++◌, List, [], length, vec_len, vec_capacity, IfOk, IfErr, OnErr};
 ghost use Rattle.hpb_rules.specs.declared.limits.TheConstants.{MOST_LETTERS};
 ghost use Rattle.hpb_rules.specs.Machine.{Machine};
 ghost use Rattle.hpb_progress.specs.Keeping.{Keeps};
-ghost use Rattle.hpb_engine.specs.Offers.{leaving_at};
 ghost use Rattle.hpb_engine.specs.Runs.{HasFailed, Ran, Took, fault_in};
-ghost use Rattle.hpb_engine.specs.Steps.{leaving_with};
 
-use crate::begun::Begun;
 use crate::engine::Engine;
 use crate::event::Event;
-use crate::step::{Fault, Rest, Step};
+use crate::step::Fault;
 use hpb_disk::Disk;
-use hpb_letters::copy_letters;
 use hpb_rules::{Answer, Answers, MOST_LETTERS};
-use std::alloc::Global;
+use std::alloc::{AllocError, Global};
 
 /// What events came to.
 #[derive(Drop)]
@@ -26,66 +22,39 @@ pub struct Driven<D: Disk + Drop> {
     pub fault: Option<Fault>,
 }
 
-/// What one event came to.
+/// What events came to, for an engine that stays where it is.
 #[derive(Drop)]
-struct Taken {
-    leaving: Answers,
-    fault: Option<Fault>,
+pub struct Run {
+    /// The answers that left, in their order.
+    pub answers: Vec<Answer>,
+    /// 91, where a call of the device failed: no event was taken after it.
+    pub fault: Option<Fault>,
 }
 
-/// Takes one event.
-fn take<D: Disk + Drop>(engine: &mut Engine<D>, event: &Event) -> Taken
+/// Takes one event, and puts the answers that leave where there is none yet. The fault is 91, where the device fails in it.
+fn take<D: Disk + Drop>(
+    engine: &mut Engine<D>,
+    event: &Event,
+    leaving: &mut Answers,
+) -> Option<Fault>
+    requires none { leaving.old ≡ [] }
     ensures took { (machine : Machine) → Keeps D.seen D.may_leave engine.old.disk engine.old.progress engine.old.failed machine
         → Took D.seen D.may_leave D.moment D.left_since event.now engine.old.disk engine.new.disk engine.old.progress engine.new.progress
-        engine.old.failed engine.new.failed machine result.leaving result.fault }
-    ensures cause { HasFailed result.fault (D.failures engine.old.disk) (D.failures engine.new.disk) }
+        engine.old.failed engine.new.failed machine leaving.new result }
+    ensures cause { HasFailed result (D.failures engine.old.disk) (D.failures engine.new.disk) }
 {
     match event {
-        Event::Offer(letters) => Taken {
-            leaving: offered(engine.begin(copy_letters(letters))),
-            fault: None,
-        },
-        Event::Commit => turned(engine.commit_step()),
-        Event::Checkpoint => Taken {
-            leaving: Answers::new(),
-            fault: stepped(engine.checkpoint_step()),
-        },
-    }
-}
-
-/// The answers that leave with an offer.
-fn offered(begun: Begun) -> Answers
-    ensures { result ≡ leaving_at begun }
-{
-    match begun {
-        Begun::Answered(answers) => answers,
-        Begun::Failed(_) | Begun::Busy(_) | Begun::Full(_) | Begun::InFlight => Answers::new(),
-    }
-}
-
-/// What a turn came to.
-fn turned(turn: Result<Step, Fault>) -> Taken
-    ensures leaving { result.leaving ≡ leaving_with turn }
-    ensures fault { result.fault ≡ fault_in turn }
-{
-    match turn {
-        Ok(Step::Done(leaving)) => Taken {
-            leaving,
-            fault: None,
-        },
-        Ok(Step::Idle | Step::Went) | Err(Fault::Failed) => Taken {
-            leaving: Answers::new(),
-            fault: None,
-        },
-        Err(Fault::Device) => Taken {
-            leaving: Answers::new(),
-            fault: Some(Fault::Device),
-        },
+        Event::Offer(letters) => {
+            let _ = engine.offer(letters, leaving);
+            None
+        }
+        Event::Commit => failure_in(engine.make_turn(leaving)),
+        Event::Checkpoint => failure_in(engine.checkpoint_step()),
     }
 }
 
 /// Whether the device failed in a step.
-fn stepped(step: Result<Rest, Fault>) -> Option<Fault>
+fn failure_in<T: Drop>(step: Result<T, Fault>) -> Option<Fault>
     ensures { result ≡ fault_in step }
 {
     match step {
@@ -108,15 +77,38 @@ fn take_all<D: Disk + Drop>(
         events.now engine.new.disk engine.new.progress engine.new.failed answers.new.items result }
     ensures cause { HasFailed result (D.failures engine.old.disk) (D.failures engine.new.disk) }
 {
+    let mut leaving = Answers::new();
     for event in events {
-        let taken = take(engine, event);
-        let added = answers.extend_from_slice(taken.leaving.as_slice());
+        leaving.clear();
+        let fault = take(engine, event, &mut leaving);
+        let added = answers.extend_from_slice(leaving.as_slice());
         prove!(added.is_ok());
-        if taken.fault.is_some() {
-            return taken.fault;
+        if fault.is_some() {
+            return fault;
         }
     }
     None
+}
+
+impl<D: Disk + Drop> Engine<D> {
+    /// Takes events in order, as [`drive`] does, where it stands.
+    ///
+    /// Room for all answers is made first: where memory is refused (90), no event is taken and nothing changes.
+    pub fn run(&mut self, alloc: Global, events: &[Event]) -> Result<Run, AllocError>
+        ensures ran { (machine : Machine) → Keeps D.seen D.may_leave self.old.disk self.old.progress self.old.failed machine
+            → IfOk result (λ run. Ran D.seen D.may_leave D.moment D.left_since
+            (record { moment = D.moment self.old.disk; progress = self.old.progress; failed = self.old.failed; machine = machine })
+            events.now self.new.disk self.new.progress self.new.failed run.answers.items run.fault) }
+        // 91 comes only where the device failed in this call, and only where it didn't is there none.
+        ensures cause { IfOk result (λ run. HasFailed run.fault (D.failures self.old.disk) (D.failures self.new.disk)) }
+        ensures disk { OnErr result (self.new.disk ≡ self.old.disk) }
+        ensures progress { OnErr result (self.new.progress ≡ self.old.progress) }
+        ensures failed { OnErr result (self.new.failed ≡ self.old.failed) }
+    {
+        let mut answers = Vec::with_capacity(alloc, MOST_LETTERS * events.len())?;
+        let fault = take_all(self, events, &mut answers);
+        Ok(Run { answers, fault })
+    }
 }
 
 /// Takes events in order: letters are offered, and turns of commits and steps of checkpoints are made, in any order among
@@ -140,15 +132,13 @@ pub fn drive<D: Disk + Drop>(
     ensures cause { IfOk result (λ driven. HasFailed driven.fault (D.failures engine.disk) (D.failures driven.engine.disk)) }
     ensures back { IfErr result (λ back. (back.disk ≡ engine.disk) × (back.progress ≡ engine.progress) × (back.failed ≡ engine.failed)) }
 {
-    let mut answers = match Vec::with_capacity(alloc, MOST_LETTERS * events.len()) {
-        Ok(answers) => answers,
-        Err(_) => return Err(engine),
-    };
     let mut engine = engine;
-    let fault = take_all(&mut engine, events, &mut answers);
-    Ok(Driven {
-        engine,
-        answers,
-        fault,
-    })
+    match engine.run(alloc, events) {
+        Ok(Run { answers, fault }) => Ok(Driven {
+            engine,
+            answers,
+            fault,
+        }),
+        Err(_) => Err(engine),
+    }
 }

@@ -19,7 +19,7 @@ mod step;
 mod stepping;
 
 pub use begun::{Begun, Weight};
-pub use driving::{Driven, drive};
+pub use driving::{Driven, Run, drive};
 pub use engine::Engine;
 pub use event::Event;
 pub use opening::open_after;

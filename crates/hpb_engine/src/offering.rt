@@ -6,7 +6,7 @@ ghost use Rattle.hpb_rules.specs.Machine.{Machine};
 ghost use Rattle.hpb_progress.specs.Keeping.{Inside, Keeps};
 ghost use Rattle.hpb_progress.specs.Steps.{begun};
 ghost use Rattle.hpb_letters.specs.Judging.{judged_in};
-ghost use Rattle.hpb_engine.specs.Offers.{AreOld, HandsBack, StaysUnlessInFlight, Weighs, leaving_at, offer_by, weight_of};
+ghost use Rattle.hpb_engine.specs.Offers.{AreOld, HandsBack, StaysUnlessInFlight, Weighs, begun_of, leaving_at, offer_by, weight_of};
 
 use crate::begun::{Begun, Weight};
 use crate::engine::Engine;
@@ -14,7 +14,7 @@ use hpb_codec::Batch;
 use hpb_disk::Disk;
 use hpb_letters::{accepts_any, judge_letters, judged_is_shown};
 use hpb_progress::laws_below;
-use hpb_rules::{Letters, MOST_COMMANDS};
+use hpb_rules::{Answers, Letters, MOST_COMMANDS};
 
 impl<D: Disk + Drop> Engine<D> {
     /// What would become of letters, were they offered now. Nothing changes, and the device has no call.
@@ -54,19 +54,44 @@ impl<D: Disk + Drop> Engine<D> {
         ensures disk { self.new.disk ≡ self.old.disk }
         ensures failed { self.new.failed ≡ self.old.failed }
     {
-        judged_is_shown();
-        laws_below();
-        match self.weigh(&letters) {
+        let mut leaving = Answers::new();
+        match self.offer(&letters, &mut leaving) {
             Weight::Failed => Begun::Failed(letters),
             Weight::Busy => Begun::Busy(letters),
+            Weight::Old => Begun::Answered(leaving),
             Weight::Full => Begun::Full(letters),
+            Weight::New => Begun::InFlight,
+        }
+    }
+
+    /// Offers letters as `begin` does, and puts the answers that leave where there is none yet.
+    pub(crate) fn offer(&mut self, letters: &Letters, leaving: &mut Answers) -> Weight
+        requires none { leaving.old ≡ [] }
+        // What is kept before an offer is kept after it, as the machine takes it, and its answers leave with it.
+        ensures keeps { (machine : Machine) → Keeps D.seen D.may_leave self.old.disk self.old.progress self.old.failed machine
+            → Keeps D.seen D.may_leave self.new.disk self.new.progress self.new.failed (offer_by (begun_of result letters.now leaving.new) self.old.progress.committed.rules machine letters.now).machine }
+        ensures leaving { (machine : Machine) → Keeps D.seen D.may_leave self.old.disk self.old.progress self.old.failed machine
+            → leaving.new ≡ (offer_by (begun_of result letters.now leaving.new) self.old.progress.committed.rules machine letters.now).leaving }
+        ensures weight { Weighs self.old.failed self.old.progress letters.now result }
+        ensures stays { StaysUnlessInFlight (begun_of result letters.now leaving.new) self.old.progress self.new.progress }
+        ensures committed { self.new.progress.committed ≡ self.old.progress.committed }
+        ensures disk { self.new.disk ≡ self.old.disk }
+        ensures failed { self.new.failed ≡ self.old.failed }
+    {
+        judged_is_shown();
+        laws_below();
+        match self.weigh(letters) {
+            Weight::Failed => Weight::Failed,
+            Weight::Busy => Weight::Busy,
             Weight::Old => {
-                let judged = judge_letters(&mut self.progress.commit.working, &letters);
-                Begun::Answered(judged.answers)
+                let judged = judge_letters(&mut self.progress.commit.working, letters);
+                *leaving = judged.answers;
+                Weight::Old
             }
+            Weight::Full => Weight::Full,
             Weight::New => {
-                self.put_in_flight(&letters);
-                Begun::InFlight
+                self.put_in_flight(letters);
+                Weight::New
             }
         }
     }

@@ -13,6 +13,17 @@ pub enum Step {
     Done(Answers),
 }
 
+/// What a turn of a commit did, apart from the answers that leave with it.
+#[derive(Clone, Copy)]
+pub(crate) enum Turned {
+    /// No batch is in flight.
+    Idle,
+    /// The batch in flight had a turn.
+    Went,
+    /// It had its last one.
+    Done,
+}
+
 /// What became of a step of a checkpoint.
 #[derive(Clone, Copy, Debug, PartialEq, Eq)]
 pub enum Rest {

@@ -17,10 +17,10 @@ use Rattle.hpb_engine.specs.declared.step.Fault.{Fault}
 use Rattle.hpb_engine.specs.declared.step.Fault.TheVariants as faults
 use Rattle.hpb_engine.specs.Runs.{HasFailed}
 use Rattle.hpb_engine.specs.Steps.{refusal_of}
-use Rattle.hpb_batches.specs.Batches.{KeepsEnded, StaysRefused}
+use Rattle.hpb_batches.specs.Batches.{IsStill, KeepsEnded, StaysRefused}
 use Rattle.hpb_server.specs.Desk.{AsksAll}
 use Rattle.hpb_run.specs.Device.{Phase, RepliesAt, ShowsAt, State, at_start, failed, failing, never_over, works}
-use Rattle.hpb_run.specs.Standing.{DeskStands, HasAsked, StandsAt, letter_of, refused, reply_of}
+use Rattle.hpb_run.specs.Standing.{HasAsked, StandsAt, letter_of, refused, reply_of}
 use Rattle.hpb_run.proofs.Asked.{all_by_rules, answered_state, judged_counted, judged_history, judged_replies, some_failed, some_failing}
 
 -- An engine that has not failed stands where all was answered by the rules.
@@ -210,10 +210,10 @@ module _ {D : Type 0} (seen : D → List ℕ) (may_leave : D → List ℕ → Ty
     omega arith,
   )
 
--- A desk stands by the engine that it has, before it is taken out and after another is put in its place.
-module _ {E : Type 0} (engine : Option E) (stands : E → State → Type 0) (definition : Rules) (state : State) (held : E) (is : engine ≡ Some held) where
-  pub stands_now : DeskStands engine stands definition state → stands held state × (definition ≡ state.rules)
-  stands_now at = subst (λ (o : Option E). DeskStands o stands definition state) is at
-
-  pub stands_again : stands held state → definition ≡ state.rules → DeskStands engine stands definition state
-  stands_again at same = subst (λ (o : Option E). DeskStands o stands definition state) (sym is) (at, same)
+  -- So one stands that is as it was.
+  pub still_stands : (old new : D) (s t : Progress) (off after : Bool) (state : State) → IsStill old new s t off after
+      → StandsAt seen may_leave failures old s off state → StandsAt seen may_leave failures new t after state
+  still_stands old new s t off after state still stands =
+      subst (λ (b : Bool). StandsAt seen may_leave failures new t b state) (sym still.2)
+      (subst (λ (p : Progress). StandsAt seen may_leave failures new p off state) (sym still.1)
+      (subst (λ (d : D). StandsAt seen may_leave failures d s off state) (sym still.0) stands))

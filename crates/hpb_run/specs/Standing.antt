@@ -1,5 +1,5 @@
 -- Where the desk of a device stands, and what its small steps give.
-use Rattle.std.specs.Prelude.{◌≡◌, ℕ, suc, ◌≤◌, ◌==◌, nat_lt, nat_le, Bool, not, ◌&&◌, List, replicate, Option, Some, None, if◌then◌else◌}
+use Rattle.std.specs.Prelude.{◌≡◌, ℕ, suc, ◌≤◌, ◌==◌, nat_lt, nat_le, Bool, not, ◌&&◌, List, replicate, if◌then◌else◌}
 use Rattle.hpb_rules.specs.declared.command.Command.{Command}
 use Rattle.hpb_rules.specs.declared.letter.Answer.{Answer}
 use Rattle.hpb_rules.specs.declared.letter.Letter.{Letter}
@@ -44,6 +44,5 @@ HasAsked seen may_leave failures disk s failed state commands told =
     (next : State) × AsksAll RepliesAt never_over state commands told next × StandsAt seen may_leave failures disk s failed next × (next.rules ≡ state.rules)
 
 -- A desk stands where its engine does, and has the definition of that state.
-abbrev pub DeskStands : {E : Type 0} → Option E → (E → State → Type 0) → Rules → State → Type 0
-DeskStands None stands definition state = ⊥
-DeskStands (Some engine) stands definition state = stands engine state × (definition ≡ state.rules)
+abbrev pub DeskStands : {D : Type 0} (seen : D → List ℕ) (may_leave : D → List ℕ → Type 0) (failures : D → ℕ) (disk : D) (s : Progress) (failed : Bool) → Rules → State → Type 0
+DeskStands seen may_leave failures disk s failed definition state = StandsAt seen may_leave failures disk s failed state × (definition ≡ state.rules)

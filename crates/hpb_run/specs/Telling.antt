@@ -1,5 +1,5 @@
 -- The desk of a device tells of the acknowledged commands.
-use Rattle.std.specs.Prelude.{◌≡◌, ◌<◌, ◌≤◌, List, Option, Some, None}
+use Rattle.std.specs.Prelude.{◌≡◌, ◌<◌, ◌≤◌, List, Option, Some}
 use Rattle.std.proofs.Common.{sym, ap, subst, ◌∙◌, inl, inr, arith}
 use Rattle.hpb_rules.specs.declared.command.Command.{Command}
 use Rattle.hpb_rules.specs.declared.limits.TheConstants.{MOST_LETTERS}
@@ -10,14 +10,12 @@ use Rattle.hpb_rules.specs.Tree.{Rules}
 use Rattle.hpb_rules.proofs.Lists.{front_self}
 use Rattle.hpb_server.specs.DeskLaws.{RepliesAfter, ShowsAfter}
 use Rattle.hpb_run.specs.Device.{RepliesAt, ShowsAt, State, TellsAt, rules_at}
-use Rattle.hpb_run.specs.Standing.{DeskStands}
 
 pub some_letters : (0 < MOST_LETTERS) × (MOST_LETTERS ≤ MOST_LETTERS)
 some_letters = (omega arith, omega arith)
 
-pub stands_by_rules : {E : Type 0} (engine : Option E) (stands : E → State → Type 0) (definition : Rules) (state : State) → DeskStands engine stands definition state → rules_at state ≡ definition
-stands_by_rules None stands definition state is = absurd is
-stands_by_rules (Some engine) stands definition state is = sym is.1
+pub desk_has_rules : (definition : Rules) (state : State) → definition ≡ state.rules → rules_at state ≡ definition
+desk_has_rules definition state is = sym is
 
 pub device_keeps_rules : (old new : State) (command : Command) (reply : Reply) → RepliesAt old command reply new → rules_at new ≡ rules_at old
 device_keeps_rules old new command reply (inl it) = ap rules_at it.2

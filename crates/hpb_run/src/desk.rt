@@ -1,14 +1,14 @@
 //! The desk of an auction on a device.
-ghost use Rattle.std.specs.Prelude.{◌≡◌, ◌<◌, ◌≤◌, List, Some, true, is_some, length, IfOk, IfErr, IfSome, OnErr};
+ghost use Rattle.std.specs.Prelude.{◌≡◌, ◌<◌, ◌≤◌, List, true, length, IfOk, IfErr, IfSome, OnErr};
 ghost use Rattle.hpb_rules.specs.declared.command.Command.{Command};
 ghost use Rattle.hpb_rules.specs.declared.limits.TheConstants.{MOST_LETTERS};
 ghost use Rattle.hpb_rules.specs.Machine.{at_rest};
 ghost use Rattle.hpb_progress.specs.Keeping.{Keeps};
 ghost use Rattle.hpb_server.specs.Desk.{AsksAll, HasPlaces, seen};
 ghost use Rattle.hpb_run.specs.Device.{RepliesAt, ShowsAt, State, at_start, never_over};
-ghost use Rattle.hpb_run.specs.Standing.{DeskStands, StandsAt};
+ghost use Rattle.hpb_run.specs.Standing.{DeskStands};
 
-use crate::asking::{Told, ask_engine, rest_engine};
+use crate::asking::{ask_engine, rest_engine};
 use crate::counting::{count_commit, is_checkpoint_due};
 use hpb_auction::Auction;
 use hpb_disk::Disk;
@@ -21,14 +21,12 @@ use std::alloc::{AllocError, Global};
 /// The desk of an auction on a device.
 #[derive(Drop)]
 pub(crate) struct DeviceDesk<D: Disk + Drop> {
-    /// It is taken out within a call alone.
-    engine: Option<Engine<D>>,
+    engine: Engine<D>,
     definition: Definition,
     batch: usize,
     every: u32,
     /// How many commits there have been since the last checkpoint that was due.
     commits: u32,
-    ghost held: { is_some engine ≡ true },
     ghost some: { 0 < batch },
     ghost most: { batch ≤ MOST_LETTERS },
 }
@@ -43,13 +41,13 @@ impl<D: Disk + Drop> DeviceDesk<D> {
         every: u32,
     ) -> Result<Self, Engine<D>>
         ensures stands { (history : List Command) → Keeps D.seen D.may_leave engine.disk engine.progress engine.failed (at_rest history)
-            → IfOk result (λ desk. DeskStands desk.engine (λ kept. StandsAt D.seen D.may_leave D.failures kept.disk kept.progress kept.failed) desk.definition
+            → IfOk result (λ desk. DeskStands D.seen D.may_leave D.failures desk.engine.disk desk.engine.progress desk.engine.failed desk.definition
             (at_start engine.progress.committed.rules history (D.failures engine.disk) engine.failed)) }
         ensures back { IfErr result (λ back. back ≡ engine) }
     {
         match engine.progress.committed.definition().copy(alloc) {
             Ok(definition) => Ok(DeviceDesk {
-                engine: Some(engine),
+                engine,
                 definition,
                 batch: batch.clamp(1, MOST_LETTERS),
                 every,
@@ -61,47 +59,34 @@ impl<D: Disk + Drop> DeviceDesk<D> {
 
     /// The engine, as it stands.
     pub(crate) fn into_engine(self) -> Engine<D>
-        ensures { self.engine ≡ Some result }
+        ensures { result ≡ self.engine }
     {
         let DeviceDesk { engine, .. } = self;
-        match engine {
-            Some(engine) => engine,
-            None => unreachable!(),
-        }
+        engine
     }
 
     /// Makes a checkpoint where one is due.
     fn make_due_checkpoint(&mut self, alloc: Global) -> Result<(), AllocError>
-        ensures kept { (state : State) → DeskStands self.old.engine (λ kept. StandsAt D.seen D.may_leave D.failures kept.disk kept.progress kept.failed) self.old.definition state
-            → DeskStands self.new.engine (λ kept. StandsAt D.seen D.may_leave D.failures kept.disk kept.progress kept.failed) self.new.definition state }
+        ensures kept { (state : State) → DeskStands D.seen D.may_leave D.failures self.old.engine.disk self.old.engine.progress self.old.engine.failed self.old.definition state
+            → DeskStands D.seen D.may_leave D.failures self.new.engine.disk self.new.engine.progress self.new.engine.failed self.new.definition state }
         ensures definition { self.new.definition ≡ self.old.definition }
     {
-        if !is_checkpoint_due(self.every, self.commits) {
-            return Ok(());
+        if is_checkpoint_due(self.every, self.commits) {
+            rest_engine(alloc, &mut self.engine)?;
+            self.commits = 0;
         }
-        let engine = take_engine(&mut self.engine);
-        match rest_engine(alloc, engine) {
-            Ok(engine) => {
-                put_engine(&mut self.engine, engine);
-                self.commits = 0;
-                Ok(())
-            }
-            Err(engine) => {
-                put_engine(&mut self.engine, engine);
-                Err(AllocError)
-            }
-        }
+        Ok(())
     }
 
     /// Asks for commands together, after the checkpoint that is due.
     fn ask_together(&mut self, alloc: Global, commands: &Commands) -> Result<Replies, AllocError>
         requires some { 0 < length commands.now }
         requires most { length commands.now ≤ MOST_LETTERS }
-        ensures asked { (state : State) → DeskStands self.old.engine (λ kept. StandsAt D.seen D.may_leave D.failures kept.disk kept.progress kept.failed) self.old.definition state
+        ensures asked { (state : State) → DeskStands D.seen D.may_leave D.failures self.old.engine.disk self.old.engine.progress self.old.engine.failed self.old.definition state
             → IfOk result (λ replies. (next : State) × AsksAll RepliesAt never_over state commands.now replies next
-            × DeskStands self.new.engine (λ kept. StandsAt D.seen D.may_leave D.failures kept.disk kept.progress kept.failed) self.new.definition next) }
-        ensures kept { (state : State) → DeskStands self.old.engine (λ kept. StandsAt D.seen D.may_leave D.failures kept.disk kept.progress kept.failed) self.old.definition state
-            → OnErr result (DeskStands self.new.engine (λ kept. StandsAt D.seen D.may_leave D.failures kept.disk kept.progress kept.failed) self.new.definition state) }
+            × DeskStands D.seen D.may_leave D.failures self.new.engine.disk self.new.engine.progress self.new.engine.failed self.new.definition next) }
+        ensures kept { (state : State) → DeskStands D.seen D.may_leave D.failures self.old.engine.disk self.old.engine.progress self.old.engine.failed self.old.definition state
+            → OnErr result (DeskStands D.seen D.may_leave D.failures self.new.engine.disk self.new.engine.progress self.new.engine.failed self.new.definition state) }
         ensures definition { self.new.definition ≡ self.old.definition }
     {
         match self.make_due_checkpoint(alloc) {
@@ -114,66 +99,37 @@ impl<D: Disk + Drop> DeviceDesk<D> {
     fn ask_now(&mut self, alloc: Global, commands: &Commands) -> Result<Replies, AllocError>
         requires some { 0 < length commands.now }
         requires most { length commands.now ≤ MOST_LETTERS }
-        ensures asked { (state : State) → DeskStands self.old.engine (λ kept. StandsAt D.seen D.may_leave D.failures kept.disk kept.progress kept.failed) self.old.definition state
+        ensures asked { (state : State) → DeskStands D.seen D.may_leave D.failures self.old.engine.disk self.old.engine.progress self.old.engine.failed self.old.definition state
             → IfOk result (λ replies. (next : State) × AsksAll RepliesAt never_over state commands.now replies next
-            × DeskStands self.new.engine (λ kept. StandsAt D.seen D.may_leave D.failures kept.disk kept.progress kept.failed) self.new.definition next) }
-        ensures kept { (state : State) → DeskStands self.old.engine (λ kept. StandsAt D.seen D.may_leave D.failures kept.disk kept.progress kept.failed) self.old.definition state
-            → OnErr result (DeskStands self.new.engine (λ kept. StandsAt D.seen D.may_leave D.failures kept.disk kept.progress kept.failed) self.new.definition state) }
+            × DeskStands D.seen D.may_leave D.failures self.new.engine.disk self.new.engine.progress self.new.engine.failed self.new.definition next) }
+        ensures kept { (state : State) → DeskStands D.seen D.may_leave D.failures self.old.engine.disk self.old.engine.progress self.old.engine.failed self.old.definition state
+            → OnErr result (DeskStands D.seen D.may_leave D.failures self.new.engine.disk self.new.engine.progress self.new.engine.failed self.new.definition state) }
         ensures definition { self.new.definition ≡ self.old.definition }
     {
-        let engine = take_engine(&mut self.engine);
-        let before = engine.committed().count();
-        match ask_engine(alloc, engine, commands) {
-            Ok(told) => {
-                let Told { engine, replies } = told;
-                let after = engine.committed().count();
-                put_engine(&mut self.engine, engine);
+        let before = self.engine.committed().count();
+        match ask_engine(alloc, &mut self.engine, commands) {
+            Ok(replies) => {
+                let after = self.engine.committed().count();
                 self.commits = count_commit(self.commits, before, after);
                 Ok(replies)
             }
-            Err(engine) => {
-                put_engine(&mut self.engine, engine);
-                Err(AllocError)
-            }
+            Err(error) => Err(error),
         }
     }
 
     /// The auction after the acknowledged commands, where it has the places that lines are read by.
     fn shown(&self) -> Option<&Auction>
         ensures places { IfSome result (λ auction. HasPlaces self.now.definition auction.now.rules) }
-        ensures shows { (state : State) → DeskStands self.now.engine (λ kept. StandsAt D.seen D.may_leave D.failures kept.disk kept.progress kept.failed) self.now.definition state
+        ensures shows { (state : State) → DeskStands D.seen D.may_leave D.failures self.now.engine.disk self.now.engine.progress self.now.engine.failed self.now.definition state
             → ShowsAt state (seen result) state }
     {
-        match &self.engine {
-            Some(engine) => {
-                let auction = engine.committed();
-                if has_places_of(auction, &self.definition) {
-                    Some(auction)
-                } else {
-                    None
-                }
-            }
-            None => None,
+        let auction = self.engine.committed();
+        if has_places_of(auction, &self.definition) {
+            Some(auction)
+        } else {
+            None
         }
     }
-}
-
-/// Takes an engine out of its place.
-fn take_engine<D: Disk + Drop>(place: &mut Option<Engine<D>>) -> Engine<D>
-    requires { is_some place.old ≡ true }
-    ensures { place.old ≡ Some result }
-{
-    match place.take() {
-        Some(engine) => engine,
-        None => unreachable!(),
-    }
-}
-
-/// Puts one there.
-fn put_engine<D: Disk + Drop>(place: &mut Option<Engine<D>>, engine: Engine<D>)
-    ensures { place.new ≡ Some engine }
-{
-    *place = Some(engine);
 }
 
 /// Whether an auction has a place for each node and each bidder of a definition.
@@ -190,8 +146,8 @@ impl<D: Disk + Drop> Desk for DeviceDesk<D> {
     ghost use Rattle.std.proofs.Common.{refl};
     ghost use Rattle.hpb_rules.specs.declared.limits.TheConstants.{MOST_LETTERS};
     ghost use Rattle.hpb_run.specs.Device.{RepliesAt, ShowsAt, State as Standing, TellsAt, never_over, rules_at};
-    ghost use Rattle.hpb_run.specs.Telling.{device_keeps_rules, device_replies, device_shows, some_letters, stands_by_rules};
-    ghost use Rattle.hpb_run.specs.Standing.{DeskStands, StandsAt};
+    ghost use Rattle.hpb_run.specs.Telling.{desk_has_rules, device_keeps_rules, device_replies, device_shows, some_letters};
+    ghost use Rattle.hpb_run.specs.Standing.{DeskStands};
 
     ghost State = { Standing };
 
@@ -199,7 +155,7 @@ impl<D: Disk + Drop> Desk for DeviceDesk<D> {
 
     ghost over = { λ desk. false };
 
-    ghost is_at = { λ desk state. DeskStands desk.engine (λ kept. StandsAt D.seen D.may_leave D.failures kept.disk kept.progress kept.failed) desk.definition state };
+    ghost is_at = { λ desk state. DeskStands D.seen D.may_leave D.failures desk.engine.disk desk.engine.progress desk.engine.failed desk.definition state };
 
     ghost rules_at = { rules_at };
 
@@ -215,7 +171,7 @@ impl<D: Disk + Drop> Desk for DeviceDesk<D> {
 
     ghost takes_memory = { true };
 
-    ghost rules_are = { λ desk state is. stands_by_rules desk.engine _ desk.definition state is };
+    ghost rules_are = { λ desk state is. desk_has_rules desk.definition state is.1 };
 
     ghost over_is = { λ desk state is. refl };
 

@@ -1,61 +1,100 @@
-use Rattle.std.proofs.Common.{ap, arith, inl, inr, subst}
+use Rattle.std.proofs.Common.{◌∙◌, ap, arith, inl, inr, refl, subst}
+use Rattle.std.specs.Prelude.{IfOk}
 use Rattle.hpb_rules.specs.AuctionValue.{AuctionValue}
 use Rattle.hpb_rules.specs.Machine.{at_rest}
 use Rattle.hpb_rules.specs.Tree.{Rules}
 use Rattle.hpb_batches.specs.Batches.{KeepsEnded}
-use Rattle.hpb_batches.proofs.Runs.{failures_rise, kept_still, refused_after, refused_at_once, was_failed}
+use Rattle.hpb_batches.proofs.Runs.{failures_rise, failures_same, if_ok, kept_still, on_err, refused_after, refused_at_once, room_not_full, was_failed}
 use Rattle.hpb_batches.proofs.commit.commit_letters.Goals as goal
 
-pub returns-in-Ok-commit_after-clause-commits : goal.returns-in-Ok-commit_after-clause-commits
-returns-in-Ok-commit_after-clause-commits g c history keeps =
+pub returns-then-not-lacks_room-clause-commits : goal.returns-then-not-lacks_room-clause-commits
+returns-then-not-lacks_room-clause-commits g c history keeps = c.commit_now.ensures.commits history keeps (c.lacks_room.ensures c.if-not-lacks_room.true)
+
+pub returns-then-not-lacks_room-clause-earlier : goal.returns-then-not-lacks_room-clause-earlier
+returns-then-not-lacks_room-clause-earlier g c history keeps = if_ok c.commit_now.result (λ ended was is. inl (was is)) (c.commit_now.ensures.earlier history keeps)
+
+pub returns-then-not-lacks_room-clause-back : goal.returns-then-not-lacks_room-clause-back
+returns-then-not-lacks_room-clause-back g c history keeps =
     let d = g.D.Disk in
-    let made = c.in-Ok.ensures in
-    let ended = c.in-Ok-commit_after.ended in
-    subst (λ (rules : Rules). KeepsEnded d.seen d.may_leave ended.engine.disk ended.engine.progress ended.engine.failed rules history c.args.letters ended.answers.items ended.fault)
+    let old = c.args.engine.now in
+    let new = c.commit_now.new.engine in
+    on_err c.commit_now.result (λ same. kept_still d.seen d.may_leave old.disk new.disk old.progress new.progress old.failed new.failed (at_rest history) same.0 same.1 same.2 keeps) c.commit_now.ensures.stays
+
+pub returns-then-not-lacks_room-clause-stays : goal.returns-then-not-lacks_room-clause-stays
+returns-then-not-lacks_room-clause-stays g c history keeps =
+    let old = c.args.engine.now in
+    let new = c.commit_now.new.engine in
+    on_err c.commit_now.result (λ same. refused_at_once g.D.Disk.failures old.disk new.disk old.progress new.progress old.failed new.failed same.0 same.1 same.2) c.commit_now.ensures.stays
+
+pub returns-in-Ok-None-clause-commits : goal.returns-in-Ok-None-clause-commits
+returns-in-Ok-None-clause-commits g c history keeps =
+    let d = g.D.Disk in
+    let rested = c.make_checkpoint.new.engine in
+    let new = c.commit_now-in-Ok-None.new.engine in
+    let made = c.in-Ok-None.ensures in
+    subst (λ (rules : Rules). IfOk c.commit_now-in-Ok-None.result (λ ended. KeepsEnded d.seen d.may_leave new.disk new.progress new.failed rules history c.args.letters ended.answers.items ended.fault))
     (ap (λ (value : AuctionValue). value.rules) (made.committed history keeps))
-    (c.in-Ok-commit_after.ensures.commits history (made.keeps history keeps) (made.failed history keeps) (made.room history keeps))
+    (c.commit_now-in-Ok-None.ensures.commits history (made.keeps history keeps) (room_not_full rested.failed rested.progress c.args.letters (made.room history keeps)))
 
-pub returns-in-Err-commit_after-clause-back : goal.returns-in-Err-commit_after-clause-back
-returns-in-Err-commit_after-clause-back g c history keeps =
+pub returns-in-Ok-None-clause-well : goal.returns-in-Ok-None-clause-well
+returns-in-Ok-None-clause-well g c =
     let d = g.D.Disk in
-    let driven = c.in-Ok.driven in
-    let back = c.in-Err-commit_after.engine in
-    let same = c.in-Err-commit_after.ensures.back in
-    kept_still d.seen d.may_leave driven.engine.disk back.disk driven.engine.progress back.progress driven.engine.failed back.failed (at_rest history) same.0 same.1 same.2 (c.in-Ok.ensures.keeps history keeps)
+    let same = failures_same c.in-Ok-None.field-0 (d.failures c.args.engine.now.disk) (d.failures c.make_checkpoint.new.engine.disk) c.in-Ok-None.ensures.cause c.in-Ok-None.field-0-is in
+    if_ok c.commit_now-in-Ok-None.result (λ ended was is. was is ∙ same) c.commit_now-in-Ok-None.ensures.well
 
-pub returns-in-Err-commit_after-clause-stays : goal.returns-in-Err-commit_after-clause-stays
-returns-in-Err-commit_after-clause-stays g c history keeps =
+pub returns-in-Ok-None-clause-ill : goal.returns-in-Ok-None-clause-ill
+returns-in-Ok-None-clause-ill g c =
     let d = g.D.Disk in
-    let made = c.in-Ok.ensures in
-    let driven = c.in-Ok.driven in
-    let back = c.in-Err-commit_after.engine in
-    let same = c.in-Err-commit_after.ensures.back in
-    refused_after d.failures c.args.engine.disk driven.engine.disk back.disk c.args.engine.progress driven.engine.progress back.progress c.args.engine.failed driven.engine.failed back.failed driven.fault
-    same.0 same.1 same.2 c.in-Err-commit_after.ensures.none (made.committed history keeps) made.cause (made.works history keeps)
+    let same = failures_same c.in-Ok-None.field-0 (d.failures c.args.engine.now.disk) (d.failures c.make_checkpoint.new.engine.disk) c.in-Ok-None.ensures.cause c.in-Ok-None.field-0-is in
+    if_ok c.commit_now-in-Ok-None.result (λ ended was is. omega (arith, was is, same)) c.commit_now-in-Ok-None.ensures.ill
+
+pub returns-in-Ok-None-clause-earlier : goal.returns-in-Ok-None-clause-earlier
+returns-in-Ok-None-clause-earlier g c history keeps =
+    let made = c.in-Ok-None.ensures in
+    if_ok c.commit_now-in-Ok-None.result (λ ended was is. inl (was_failed c.args.engine.now.failed c.in-Ok-None.field-0 c.make_checkpoint.new.engine.failed (made.works history keeps) c.in-Ok-None.field-0-is (was is)))
+    (c.commit_now-in-Ok-None.ensures.earlier history (made.keeps history keeps))
+
+pub returns-in-Ok-None-clause-back : goal.returns-in-Ok-None-clause-back
+returns-in-Ok-None-clause-back g c history keeps =
+    let d = g.D.Disk in
+    let rested = c.make_checkpoint.new.engine in
+    let new = c.commit_now-in-Ok-None.new.engine in
+    on_err c.commit_now-in-Ok-None.result
+    (λ same. kept_still d.seen d.may_leave rested.disk new.disk rested.progress new.progress rested.failed new.failed (at_rest history) same.0 same.1 same.2 (c.in-Ok-None.ensures.keeps history keeps))
+    c.commit_now-in-Ok-None.ensures.stays
+
+pub returns-in-Ok-None-clause-stays : goal.returns-in-Ok-None-clause-stays
+returns-in-Ok-None-clause-stays g c history keeps =
+    let made = c.in-Ok-None.ensures in
+    let old = c.args.engine.now in
+    let rested = c.make_checkpoint.new.engine in
+    let new = c.commit_now-in-Ok-None.new.engine in
+    on_err c.commit_now-in-Ok-None.result
+    (λ same. refused_after g.D.Disk.failures old.disk rested.disk new.disk old.progress rested.progress new.progress old.failed rested.failed new.failed c.in-Ok-None.field-0
+    same.0 same.1 same.2 c.in-Ok-None.field-0-is (made.committed history keeps) made.cause (made.works history keeps))
+    c.commit_now-in-Ok-None.ensures.stays
+
+pub returns-in-Ok-Some-clause-commits : goal.returns-in-Ok-Some-clause-commits
+returns-in-Ok-Some-clause-commits g c history keeps =
+    let made = c.in-Ok-Some.ensures in (
+      at_rest history,
+      made.keeps history keeps,
+      (made.failed history keeps c.in-Ok-Some.field-0-0 c.in-Ok-Some.field-0-is, refl),
+      ap (λ (value : AuctionValue). value.rules) (made.committed history keeps),
+    )
+
+pub returns-in-Ok-Some-clause-earlier : goal.returns-in-Ok-Some-clause-earlier
+returns-in-Ok-Some-clause-earlier g c history keeps is =
+    let d = g.D.Disk in
+    inr (failures_rise c.in-Ok-Some.field-0 (d.failures c.args.engine.now.disk) (d.failures c.make_checkpoint.new.engine.disk) c.in-Ok-Some.ensures.cause
+    (λ none. absurd (let some = c.in-Ok-Some.field-0-is in cc)))
+
+pub returns-in-Err-clause-back : goal.returns-in-Err-clause-back
+returns-in-Err-clause-back g c history keeps = c.in-Err.ensures.keeps history keeps
 
 pub returns-in-Err-clause-stays : goal.returns-in-Err-clause-stays
 returns-in-Err-clause-stays g c history keeps =
-    let d = g.D.Disk in
-    let back = c.in-Err.engine in
-    let same = c.in-Err.ensures.back in
-    refused_at_once d.failures c.args.engine.disk back.disk c.args.engine.progress back.progress c.args.engine.failed back.failed same.0 same.1 same.2
-
-pub returns-in-Err-commit_now-clause-stays : goal.returns-in-Err-commit_now-clause-stays
-returns-in-Err-commit_now-clause-stays g c history keeps =
-    let d = g.D.Disk in
-    let back = c.in-Err-commit_now.engine in
-    let same = c.in-Err-commit_now.ensures.back in
-    refused_at_once d.failures c.args.engine.disk back.disk c.args.engine.progress back.progress c.args.engine.failed back.failed same.0 same.1 same.2
-
-pub returns-in-Ok-commit_after-clause-earlier : goal.returns-in-Ok-commit_after-clause-earlier
-returns-in-Ok-commit_after-clause-earlier g c history keeps is =
-    let d = g.D.Disk in
-    let made = c.in-Ok.ensures in
-    let driven = c.in-Ok.driven in
-    elim (c.in-Ok-commit_after.ensures.earlier history (made.keeps history keeps) is) [
-      | inl here ↦ inl (was_failed c.args.engine.failed driven.fault driven.engine.failed (made.works history keeps) here.0 here.1)
-      | inr there ↦ inr (omega (arith, failures_rise driven.fault (d.failures c.args.engine.disk) (d.failures driven.engine.disk) made.cause there.0, there.1))
-    ]
-
-pub returns-in-Ok-commit_now-clause-earlier : goal.returns-in-Ok-commit_now-clause-earlier
-returns-in-Ok-commit_now-clause-earlier g c history keeps is = inl (c.in-Ok-commit_now.ensures.earlier history keeps is)
+    let old = c.args.engine.now in
+    let new = c.make_checkpoint.new.engine in
+    let same = c.in-Err.ensures.stays in
+    refused_at_once g.D.Disk.failures old.disk new.disk old.progress new.progress old.failed new.failed same.0 same.1 same.2

@@ -1,7 +1,7 @@
 use Rattle.std.proofs.Common.{inl, refl}
 use Rattle.std.proofs.KnownBytes.{Keeps-refl}
 use Rattle.hpb_run.specs.Device.{at_start}
-use Rattle.hpb_run.proofs.Standings.{stands_now, starts}
+use Rattle.hpb_run.proofs.Standings.{starts}
 use Rattle.hpb_run.proofs.running.run_session.Goals as goal
 
 pub returns-in-Ok : goal.returns-in-Ok
@@ -9,8 +9,7 @@ returns-in-Ok g c = λ history keeps.
     let engine = c.args.engine in
     let start = at_start engine.progress.committed.rules history (g.D.Disk.failures engine.disk) engine.failed in
     let served = c.serve-end.ensures.served start (c.in-Ok.ensures.stands history keeps) in
-    let at = stands_now _ _ _ served.0 _ c.into_engine.ensures served.2 in
-    (served.0, served.1, at.0.0)
+    (served.0, served.1, rw c.into_engine.ensures served.2.0.0)
 
 pub returns-in-Err : goal.returns-in-Err
 returns-in-Err g c = λ history keeps.

@@ -16,7 +16,7 @@ returns-in-Ok-clause-keeps g c history inside =
     let laws = c.laws_below.ensures in
     let stand = may_stand laws in
     let stays = g.met.D.Disk.seen_may_stay old.disk in
-    rw c.copy_from.ensures (rw (c.replace.ensures.after ∙ c.new.ensures) (synced stand d.seen d.may_leave d.moment d.left_since old.disk c.sync.new.self s old.failed history inside (acknowledged s) (history ++ s.commit.batch.commands) (λ k. landed k s.commit.batch.commands)
+    rw c.copy_from.ensures (rw (c.swap.ensures.y_after ∙ c.requires.none) (synced stand d.seen d.may_leave d.moment d.left_since old.disk c.sync.new.self s old.failed history inside (acknowledged s) (history ++ s.commit.batch.commands) (λ k. landed k s.commit.batch.commands)
     (λ k fits is. ap (λ (commands : List Command). commands ++ s.commit.batch.commands) is ∙ sym (all_landed k s.commit.batch.commands))
     (λ k fits. acknowledged_fits laws s k fits c.requires.busy c.requires.turns)
     (λ k image fits facts reads. gate_synced laws s k fits c.requires.busy c.requires.turns image facts reads)
