@@ -6,7 +6,6 @@
 #![tactic(auto)]
 
 mod accepting;
-mod copying;
 mod judging;
 mod laws;
 mod reply;
@@ -14,6 +13,5 @@ mod reply;
 mod tests;
 
 pub use accepting::accepts_any;
-pub use copying::copy_letters;
 pub use judging::{Judged, judge_letters};
 pub use laws::judged_is_shown;
