@@ -1,8 +1,9 @@
 //! The program: its words, its input, its output, its status.
 #![tactic(auto)]
 
-use hpb_program::{program, refuse_words};
+use hpb_program::{Noted, program, refuse_words};
 use std::io;
+use std::io::IsTerminal;
 use std::process::ExitCode;
 
 fn main(rt: HostRuntime) -> ExitCode {
@@ -15,8 +16,9 @@ fn status(rt: &HostRuntime) -> u8 {
         Ok(words) => words,
         Err(error) => return refuse_words(&error, &mut errors),
     };
-    let mut input = rt.stdin();
-    let mut output = rt.stdout();
+    let is_terminal = rt.stdin().is_terminal();
+    let mut input = Noted::new(rt.stdin());
+    let mut output = Noted::new(rt.stdout());
     program(
         rt,
         rt.alloc(),
@@ -24,6 +26,7 @@ fn status(rt: &HostRuntime) -> u8 {
         &mut input,
         &mut output,
         &mut errors,
+        is_terminal,
     )
 }
 

@@ -7,8 +7,8 @@ use Rattle.serde_json.specs.View.{view}
 use Rattle.serde_json.specs.declared.value.Value.{Value}
 use Rattle.hpb_define.specs.Spelling.{each}
 use Rattle.hpb_define.specs.Reading.{Fails}
-use Rattle.hpb_define.specs.declared.fault.DefineFault.{DefineFault}
-use Rattle.hpb_define.specs.declared.fault.DefineFault.TheVariants.{Memory, Json, Field, Number, Refused}
+use Rattle.hpb_define.specs.declared.fault.DefineCause.{DefineCause}
+use Rattle.hpb_define.specs.declared.fault.DefineCause.TheVariants.{Memory, Json, Field, Number, Refused}
 
 pub push_first : {A : Type 0} (o : Option A) → option_and_then (λ y. option_map (λ l. y ∷ l) (Some [])) o ≡ option_map (λ y. y ∷ []) o
 push_first None = refl
@@ -48,7 +48,7 @@ each_stops f [] i v small at h = absurd (omega arith)
 each_stops f (x ∷ xs) zero v small at h = let e : f (view x) ≡ None = ap (λ w. f (view w)) (sym at) ∙ h in rw e refl
 each_stops f (x ∷ xs) (suc i) v small at h = then_none (f (view x)) (each f (map view xs)) (each_stops f xs i v (omega arith) at h)
 
-pub each_fails : {A : Type 0} (f : Data → Option A) (vs : List Value) (i : ℕ) (v : Value) (e : DefineFault) → i < length vs → v ≡ get_or vs i v → Fails e (f (view v)) → Fails e (each f (map view vs))
+pub each_fails : {A : Type 0} (f : Data → Option A) (vs : List Value) (i : ℕ) (v : Value) (e : DefineCause) → i < length vs → v ≡ get_or vs i v → Fails e (f (view v)) → Fails e (each f (map view vs))
 each_fails f vs i v Memory small at h = tt
 each_fails f vs i v Json small at h = absurd h
 each_fails f vs i v Field small at h = absurd h

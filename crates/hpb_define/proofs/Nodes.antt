@@ -8,8 +8,8 @@ use Rattle.serde_json.specs.declared.value.Value.{Value}
 use Rattle.hpb_rules.specs.Tree.{Node}
 use Rattle.hpb_define.specs.Spelling.{node_of, nodes_after}
 use Rattle.hpb_define.specs.Reading.{Fails}
-use Rattle.hpb_define.specs.declared.fault.DefineFault.{DefineFault}
-use Rattle.hpb_define.specs.declared.fault.DefineFault.TheVariants.{Memory, Json, Field, Number, Refused}
+use Rattle.hpb_define.specs.declared.fault.DefineCause.{DefineCause}
+use Rattle.hpb_define.specs.declared.fault.DefineCause.TheVariants.{Memory, Json, Field, Number, Refused}
 use Rattle.hpb_define.proofs.Each.{push_first, push_last}
 
 abbrev with_last : List Node → Data → List Node → Option (List Node)
@@ -68,7 +68,7 @@ module _ (vs : List Value) (i : ℕ) (v : Value) (ns : List Node) (small : i < l
       ∙ ap (nodes_after []) (map-append view (take (i + 1) vs) (drop (i + 1) vs))
       ∙ nodes_stop [] (map view (take (i + 1) vs)) (map view (drop (i + 1) vs)) (nodes_next ∙ ap (option_map (λ n. ns ++ n ∷ [])) now)
 
-  pub nodes_fail : (e : DefineFault) → Fails e (node_of ns (view v)) → Fails e (nodes_after [] (map view vs))
+  pub nodes_fail : (e : DefineCause) → Fails e (node_of ns (view v)) → Fails e (nodes_after [] (map view vs))
   nodes_fail Memory h = tt
   nodes_fail Json h = absurd h
   nodes_fail Field h = absurd h

@@ -8,11 +8,11 @@ use Rattle.serde_json.specs.Errors.{category}
 use Rattle.serde_json.specs.declared.error.Category.{Category}
 use Rattle.serde_json.specs.declared.error.Category.TheVariants as categories
 use Rattle.serde_json.specs.declared.error.Error.{Error}
-use Rattle.hpb_define.specs.declared.fault.DefineFault.{DefineFault}
-use Rattle.hpb_define.specs.declared.fault.DefineFault.TheVariants.{Memory, Json, Field, Number, Refused}
+use Rattle.hpb_define.specs.declared.fault.DefineCause.{DefineCause}
+use Rattle.hpb_define.specs.declared.fault.DefineCause.TheVariants.{Memory, Json, Field, Number, Refused}
 
 -- The refusal that a fault is told by.
-abbrev pub refusal_of : DefineFault → Refusal
+abbrev pub refusal_of : DefineCause → Refusal
 refusal_of Memory = refusals.Memory
 refusal_of Json = refusals.Json
 refusal_of Field = refusals.Field
@@ -20,15 +20,15 @@ refusal_of Number = refusals.Number
 refusal_of (Refused fault) = tree.refusal_of fault
 
 -- What becomes of a fault of the tree's: want of memory has one name.
-abbrev pub refused : DefinitionFault → DefineFault
+abbrev pub refused : DefinitionFault → DefineCause
 refused faults.Memory = Memory
 refused fault = Refused fault
 
 -- What becomes of a failed read, by its category.
-abbrev pub unread_by : Category → DefineFault
+abbrev pub unread_by : Category → DefineCause
 unread_by categories.Memory = Memory
 unread_by category = Json
 
 -- A text that was not read is no JSON, unless memory was refused.
-abbrev pub unread : Error → DefineFault
+abbrev pub unread : Error → DefineCause
 unread error = unread_by (category error)

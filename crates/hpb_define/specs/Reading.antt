@@ -3,14 +3,14 @@ use Rattle.std.specs.Prelude.{◌≡◌, ℕ, List, false, IsTrue, Option, Some,
 use Rattle.serde_json.specs.Data.{Data}
 use Rattle.hpb_tree.specs.Draft.{rules_of}
 use Rattle.hpb_tree.specs.declared.draft.Draft.{Draft}
-use Rattle.hpb_define.specs.declared.fault.DefineFault.{DefineFault}
-use Rattle.hpb_define.specs.declared.fault.DefineFault.TheVariants.{Memory, Json, Field, Number, Refused}
+use Rattle.hpb_define.specs.declared.fault.DefineCause.{DefineCause}
+use Rattle.hpb_define.specs.declared.fault.DefineCause.TheVariants.{Memory, Json, Field, Number, Refused}
 use Rattle.hpb_define.specs.Shape.{has_shape}
 use Rattle.hpb_define.specs.Spelling.{rules_in}
 use Rattle.hpb_define.specs.Text.{Spells, IsNoJson, HasOtherFields, HasOtherNumbers}
 
 -- What is read of a part of a value: a fault of number where it spells nothing, and anything where memory was refused.
-abbrev pub Fails : {A : Type 0} → DefineFault → Option A → Type 0
+abbrev pub Fails : {A : Type 0} → DefineCause → Option A → Type 0
 Fails Memory spelled = Unit {0}
 Fails Json spelled = ⊥
 Fails Field spelled = ⊥
@@ -18,12 +18,12 @@ Fails Number spelled = spelled ≡ None
 Fails (Refused fault) spelled = ⊥
 
 -- The part is what its value spells.
-abbrev pub Gives : {X A : Type 0} → (X → A) → Result X DefineFault → Option A → Type 0
+abbrev pub Gives : {X A : Type 0} → (X → A) → Result X DefineCause → Option A → Type 0
 Gives view (Ok part) spelled = spelled ≡ Some (view part)
 Gives view (Err fault) spelled = Fails fault spelled
 
 -- What is read of a value: first its fields and their types, then its numbers.
-abbrev pub ReadsValue : Data → Result Draft DefineFault → Type 0
+abbrev pub ReadsValue : Data → Result Draft DefineCause → Type 0
 ReadsValue value (Ok draft) = IsTrue (has_shape value) × (rules_in value ≡ Some (rules_of draft))
 ReadsValue value (Err Memory) = Unit {0}
 ReadsValue value (Err Json) = ⊥
@@ -32,7 +32,7 @@ ReadsValue value (Err Number) = IsTrue (has_shape value) × (rules_in value ≡ 
 ReadsValue value (Err (Refused fault)) = ⊥
 
 -- What is read of bytes: first whether they are JSON, then as of a value.
-abbrev pub ReadsBytes : List ℕ → Result Draft DefineFault → Type 0
+abbrev pub ReadsBytes : List ℕ → Result Draft DefineCause → Type 0
 ReadsBytes bytes (Ok draft) = Spells bytes (rules_of draft)
 ReadsBytes bytes (Err Memory) = Unit {0}
 ReadsBytes bytes (Err Json) = IsNoJson bytes

@@ -7,8 +7,9 @@ use Rattle.hpb_rules.specs.declared.limits.TheConstants.{MOST_DEFINITION_BYTES}
 use Rattle.hpb_rules.specs.Drafts.{draft_refusal}
 use Rattle.hpb_rules.specs.Tree.{Rules}
 use Rattle.hpb_tree.specs.Fault.{refusal_of}
+use Rattle.hpb_define.specs.declared.fault.DefineCause.{DefineCause}
 use Rattle.hpb_define.specs.declared.fault.DefineFault.{DefineFault}
-use Rattle.hpb_define.specs.declared.fault.DefineFault.TheVariants.{Memory, Json, Field, Number, Refused}
+use Rattle.hpb_define.specs.declared.fault.DefineCause.TheVariants.{Memory, Json, Field, Number, Refused}
 use Rattle.hpb_define.specs.Shape.{has_shape}
 use Rattle.hpb_define.specs.Spelling.{rules_in}
 
@@ -33,10 +34,15 @@ abbrev pub HasOtherNumbers : List ℕ → Type 0
 HasOtherNumbers bytes = (value : Data) × IsJson bytes value × IsTrue (has_shape value) × (rules_in value ≡ None)
 
 -- What is answered to bytes: the first fault of their text, or else that of the rules that they spell.
-abbrev pub Answers : List ℕ → Result Rules DefineFault → Type 0
+abbrev pub Answers : List ℕ → Result Rules DefineCause → Type 0
 Answers bytes (Ok rules) = Spells bytes rules × (draft_refusal rules ≡ None)
 Answers bytes (Err Memory) = Unit {0}
 Answers bytes (Err Json) = IsNoJson bytes
 Answers bytes (Err Field) = HasOtherFields bytes
 Answers bytes (Err Number) = HasOtherNumbers bytes
 Answers bytes (Err (Refused fault)) = (rules : Rules) × Spells bytes rules × (draft_refusal rules ≡ Some (refusal_of fault))
+
+-- What is answered, without what is said of it.
+abbrev pub by_cause : Result Rules DefineFault → Result Rules DefineCause
+by_cause (Ok rules) = Ok rules
+by_cause (Err fault) = Err fault.cause

@@ -1,7 +1,8 @@
-ghost use Rattle.hpb_define.specs.Text.{Answers};
+ghost use Rattle.hpb_define.specs.Text.{Answers, by_cause};
 
-use crate::fault::DefineFault;
+use crate::fault::{DefineCause, DefineFault};
 use crate::reading::read_draft;
+use hpb_reasons::reason;
 use hpb_tree::Definition;
 use std::alloc::Global;
 
@@ -13,8 +14,28 @@ use std::alloc::Global;
 /// - 62 (number): a number isn't whole, doesn't fit 64 bits or is out of range;
 /// - 50 to 57: as `Definition::check` tells them.
 ///
-/// 90 (memory) may come in place of any other, where memory was refused.
+/// 90 (memory) may come in place of any other, where memory was refused. Beside each refusal stands what is said of it.
 pub fn read_definition(alloc: Global, bytes: &[u8]) -> Result<Definition, DefineFault>
+    ensures { Answers bytes.now (by_cause result) }
+{
+    match definition_of(alloc, bytes) {
+        Ok(definition) => Ok(definition),
+        Err(cause) => Err(DefineFault {
+            cause,
+            reason: reason_for(alloc, bytes, cause),
+        }),
+    }
+}
+
+/// What is said of bytes that are refused, as far as memory allows.
+fn reason_for(alloc: Global, bytes: &[u8], cause: DefineCause) -> Option<String> {
+    match cause {
+        DefineCause::Memory => None,
+        _ => reason(alloc, bytes, cause.refusal()).ok(),
+    }
+}
+
+fn definition_of(alloc: Global, bytes: &[u8]) -> Result<Definition, DefineCause>
     ensures { Answers bytes.now result }
 {
     let draft = read_draft(alloc, bytes)?;

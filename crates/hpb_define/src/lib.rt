@@ -8,7 +8,7 @@ mod reading;
 mod shape;
 
 pub use definition::read_definition;
-pub use fault::DefineFault;
+pub use fault::{DefineCause, DefineFault};
 
 #[cfg(test)]
 mod tests;

@@ -138,7 +138,7 @@ static SPELLED: [(&str, &str); 4] = [
 fn refusal(alloc: Global, text: &str) -> Option<Refusal> {
     read_definition(alloc, text.as_bytes())
         .err()
-        .map(DefineFault::refusal)
+        .map(|fault| fault.refusal())
 }
 
 /// How many bytes a definition has at most, by the written rules.
@@ -175,7 +175,7 @@ fn hostile_definitions(rt: HostRuntime) -> Result<(), Fail> {
     let deep = nested(alloc, 128)?;
     assert_eq!(rt; refusal(alloc, deep.as_str()), Some(Json));
     let refused = read_definition(alloc, b"{\"step\":\"\xff\"}").err();
-    assert_eq!(rt; refused, Some(DefineFault::Json));
+    assert_eq!(rt; refused.map(|fault| fault.cause), Some(DefineCause::Json));
     Ok(())
 }
 
@@ -213,20 +213,20 @@ fn accepted_spellings(rt: HostRuntime) -> Result<(), Fail> {
 fn faults_have_the_words_of_their_refusals(rt: HostRuntime) -> Result<(), Fail> {
     let alloc = rt.alloc();
     let faults = [
-        DefineFault::Memory,
-        DefineFault::Json,
-        DefineFault::Field,
-        DefineFault::Number,
-        DefineFault::Refused(DefinitionFault::Memory),
-        DefineFault::Refused(DefinitionFault::Number),
-        DefineFault::Refused(DefinitionFault::Empty),
-        DefineFault::Refused(DefinitionFault::Name),
-        DefineFault::Refused(DefinitionFault::Duplicate),
-        DefineFault::Refused(DefinitionFault::Parent),
-        DefineFault::Refused(DefinitionFault::Children),
-        DefineFault::Refused(DefinitionFault::Leaf),
-        DefineFault::Refused(DefinitionFault::Limits),
-        DefineFault::Refused(DefinitionFault::Terms),
+        DefineCause::Memory,
+        DefineCause::Json,
+        DefineCause::Field,
+        DefineCause::Number,
+        DefineCause::Refused(DefinitionFault::Memory),
+        DefineCause::Refused(DefinitionFault::Number),
+        DefineCause::Refused(DefinitionFault::Empty),
+        DefineCause::Refused(DefinitionFault::Name),
+        DefineCause::Refused(DefinitionFault::Duplicate),
+        DefineCause::Refused(DefinitionFault::Parent),
+        DefineCause::Refused(DefinitionFault::Children),
+        DefineCause::Refused(DefinitionFault::Leaf),
+        DefineCause::Refused(DefinitionFault::Limits),
+        DefineCause::Refused(DefinitionFault::Terms),
     ];
     for fault in faults {
         let text = fault.to_string(alloc)?;

@@ -46,7 +46,13 @@ fn has_word(rt: &HostRuntime) -> Result<bool, Fault> {
 }
 
 fn script_answered(rt: &HostRuntime) -> Result<(), Fault> {
-    run_script(rt.alloc(), &mut rt.stdin(), &mut rt.stdout())?;
+    run_script(
+        rt.alloc(),
+        &mut rt.stdin(),
+        &mut rt.stdout(),
+        &mut rt.stderr(),
+        false,
+    )?;
     Ok(())
 }
 

@@ -9,8 +9,9 @@ use Rattle.hpb_rules.specs.Fronts.{IsFront}
 use Rattle.hpb_rules.specs.Text.{line_of}
 use Rattle.hpb_rules.specs.Tree.{Rules}
 use Rattle.hpb_rules.specs.ValueText.{shown_in, node_shown_in}
+use Rattle.hpb_define.specs.declared.fault.DefineCause.{DefineCause}
+use Rattle.hpb_define.specs.declared.fault.DefineCause.TheVariants as defining
 use Rattle.hpb_define.specs.declared.fault.DefineFault.{DefineFault}
-use Rattle.hpb_define.specs.declared.fault.DefineFault.TheVariants as defining
 use Rattle.hpb_define.specs.Text.{Answers}
 use Rattle.hpb_disk.specs.declared.fault.FileFault.{FileFault}
 use Rattle.hpb_disk.specs.declared.fault.FileFault.TheVariants as files
@@ -20,9 +21,9 @@ use Rattle.hpb_server.specs.Streams.{Streams, streams}
 use Rattle.hpb_server.specs.Writing.{Puts}
 use Rattle.hpb_program.specs.declared.job_fault.JobFault.{JobFault}
 use Rattle.hpb_program.specs.declared.job_fault.JobFault.TheVariants as faults
-use Rattle.hpb_program.specs.Jobs.{check_text, line_of_journal, made_of_definition, made_of_file, made_of_formatting, nodes_text, Checks, Formats, GivesText, IsDefined, IsJournal, IsKept, IsOfFile, MayFormat, ShowsKept}
+use Rattle.hpb_program.specs.Jobs.{check_text, line_of_journal, made_by, made_of_definition, made_of_file, made_of_formatting, nodes_text, Checks, Formats, GivesText, IsDefined, IsJournal, IsKept, IsOfFile, IsRefused, MayFormat, ShowsKept}
 use Rattle.hpb_program.specs.Program.{ChecksFile, RunsToEnd, TellsEnd}
-use Rattle.hpb_program.proofs.Fronts.{put_front}
+use Rattle.hpb_server.proofs.Fronts.{put_front}
 
 -- one node's line more
 pub added_line : (value : AuctionValue) (text new line : List ℕ) (place at following : ℕ) → text ≡ line_of (shown_in value) ++ nodes_text value place → new ≡ text ++ line_of line
@@ -60,15 +61,18 @@ defined a b text rules gives answers = record {
 }
 
 module _ (journal : ℕ) (before after : Streams) (text : List ℕ) (gives : GivesText before.remaining after.remaining text) (kept : Keeps before.contents after.contents) where
-  pub refused_definition : (fault : DefineFault) (made : JobFault) → made ≡ made_of_definition fault → Answers text (Err fault) → Formats journal before after (Err made)
-  refused_definition fault made is answers = subst (λ (m : JobFault). Formats journal before after (Err m)) (sym is) (go fault answers)
+  pub refused_definition : (fault : DefineFault) (made : JobFault) → made ≡ made_of_definition fault → Answers text (Err fault.cause) → Formats journal before after (Err made)
+  refused_definition fault made is answers = subst (λ (m : JobFault). Formats journal before after (Err m)) (sym is) (go fault.cause refl)
     where
-      go : (fault : DefineFault) → Answers text (Err fault) → Formats journal before after (Err (made_of_definition fault))
-      go defining.Memory a = ((text, gives.read, gives.within), kept)
-      go defining.Json a = (record { text = text; fault = defining.Json; gives = gives; answers = a; told = refl }, kept)
-      go defining.Field a = (record { text = text; fault = defining.Field; gives = gives; answers = a; told = refl }, kept)
-      go defining.Number a = (record { text = text; fault = defining.Number; gives = gives; answers = a; told = refl }, kept)
-      go (defining.Refused f) a = (record { text = text; fault = defining.Refused f; gives = gives; answers = a; told = refl }, kept)
+      told : (cause : DefineCause) → fault.cause ≡ cause → made_by cause fault ≡ faults.Definition fault → IsRefused before.remaining after.remaining fault
+      told cause same by = record { text = text; gives = gives; answers = answers; told = ap (λ (c : DefineCause). made_by c fault) same ∙ by }
+
+      go : (cause : DefineCause) → fault.cause ≡ cause → Formats journal before after (Err (made_by cause fault))
+      go defining.Memory same = ((text, gives.read, gives.within), kept)
+      go defining.Json same = (told defining.Json same refl, kept)
+      go defining.Field same = (told defining.Field same refl, kept)
+      go defining.Number same = (told defining.Number same refl, kept)
+      go (defining.Refused f) same = (told (defining.Refused f) same refl, kept)
 
   pub out_of_range : (rules : Rules) → Answers text (Ok rules) → (IsJournal journal → ⊥) → Formats journal before after (Err faults.Journal)
   out_of_range rules answers out = (defined before.remaining after.remaining text rules gives answers, out, kept)

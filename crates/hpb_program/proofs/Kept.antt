@@ -1,5 +1,5 @@
 -- How the auction that a file keeps is run.
-use Rattle.std.proofs.Common.{◌≡◌, ℕ, Bool, true, false, List, [], Option, Result, Ok, Err, sym, subst, refl, inl, inr, ⊎_elim}
+use Rattle.std.proofs.Common.{◌≡◌, ℕ, Bool, true, false, List, [], Option, Result, sym, subst, refl, inl, inr, ⊎_elim}
 use Rattle.std.specs.Bool.{⊤}
 use Rattle.std.proofs.KnownBytes.{Keeps-refl}
 use Rattle.hpb_rules.specs.declared.command.Command.{Command}

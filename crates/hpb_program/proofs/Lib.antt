@@ -1,5 +1,4 @@
 mod Asking
-mod Fronts
 mod Ends
 mod Kept
 mod Options

@@ -10,8 +10,9 @@ use Rattle.hpb_rules.specs.Fronts.{IsFront}
 use Rattle.hpb_rules.specs.Text.{line_of}
 use Rattle.hpb_rules.specs.Tree.{Rules}
 use Rattle.hpb_rules.specs.ValueText.{shown_in, node_shown_in}
+use Rattle.hpb_define.specs.declared.fault.DefineCause.{DefineCause}
+use Rattle.hpb_define.specs.declared.fault.DefineCause.TheVariants as defining
 use Rattle.hpb_define.specs.declared.fault.DefineFault.{DefineFault}
-use Rattle.hpb_define.specs.declared.fault.DefineFault.TheVariants as defining
 use Rattle.hpb_define.specs.Fault as definitions
 use Rattle.hpb_define.specs.Text.{Answers}
 use Rattle.hpb_disk.specs.declared.fault.FileFault.{FileFault}
@@ -35,16 +36,19 @@ abbrev pub refusal_of : JobFault → Refusal
 refusal_of faults.Memory = refusals.Memory
 refusal_of faults.Reader = refusals.Stream
 refusal_of faults.Writer = refusals.Stream
-refusal_of (faults.Definition refusal) = refusal
+refusal_of (faults.Definition fault) = definitions.refusal_of fault.cause
 refusal_of faults.Journal = refusals.Length
 refusal_of (faults.File fault) = refusals.Device
 refusal_of (faults.Format cause) = formats.refusal_of cause
 refusal_of (faults.Open cause) = causes.refusal_of cause
 
 -- The fault of a job where its definition was refused.
+abbrev pub made_by : DefineCause → DefineFault → JobFault
+made_by defining.Memory fault = faults.Memory
+made_by cause fault = faults.Definition fault
+
 abbrev pub made_of_definition : DefineFault → JobFault
-made_of_definition defining.Memory = faults.Memory
-made_of_definition fault = faults.Definition (definitions.refusal_of fault)
+made_of_definition fault = made_by fault.cause fault
 
 -- The same where its file was not opened or made,
 abbrev pub made_of_file : FileFault → JobFault
@@ -134,12 +138,11 @@ pub record IsDefined (old new : Option (List ℕ)) : Type 0 where
   pub defines : Answers text (Ok rules)
 
 -- The input, as far as it was read, is refused as a definition.
-pub record IsRefused (old new : Option (List ℕ)) (refusal : Refusal) : Type 0 where
+pub record IsRefused (old new : Option (List ℕ)) (fault : DefineFault) : Type 0 where
   pub text : List ℕ
-  pub fault : DefineFault
   pub gives : GivesText old new text
-  pub answers : Answers text (Err fault)
-  pub told : made_of_definition fault ≡ faults.Definition refusal
+  pub answers : Answers text (Err fault.cause)
+  pub told : made_of_definition fault ≡ faults.Definition fault
 
 -- A journal may have so many pages.
 abbrev pub IsJournal : ℕ → Type 0
@@ -158,7 +161,7 @@ module _ (journal : ℕ) (before after : Streams) where
   abbrev pub Formats : Result ⊤ JobFault → Type 0
   Formats (Ok done) = MayFormat × Appends before.contents after.contents (line_of_journal journal)
   Formats (Err faults.Writer) = MayFormat × StopsWriting before.contents after.contents (line_of_journal journal)
-  Formats (Err (faults.Definition refusal)) = IsRefused before.remaining after.remaining refusal × Keeps before.contents after.contents
+  Formats (Err (faults.Definition fault)) = IsRefused before.remaining after.remaining fault × Keeps before.contents after.contents
   Formats (Err faults.Journal) = IsDefined before.remaining after.remaining × (IsJournal journal → ⊥) × Keeps before.contents after.contents
   Formats (Err (faults.File fault)) = MayFormat × Keeps before.contents after.contents
   Formats (Err (faults.Format cause)) = MayFormat × Keeps before.contents after.contents

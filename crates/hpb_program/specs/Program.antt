@@ -1,7 +1,6 @@
 -- What the program does with its streams, and its status.
 use Rattle.std.specs.Prelude.{◌≡◌, ℕ, Bool, true, false, List, [], Option, Result, Ok, Err, ⊤, ◌⊎◌, string_bytes}
-use Rattle.std.specs.Io.KnownBytes.{Appends, Keeps}
-use Rattle.hpb_rules.specs.Fronts.{IsFront}
+use Rattle.std.specs.Io.KnownBytes.{Keeps}
 use Rattle.hpb_rules.specs.Rendering.{refusal_text}
 use Rattle.hpb_rules.specs.Text.{line_of}
 use Rattle.hpb_server.specs.declared.fault.Fault.{Fault}
@@ -18,8 +17,12 @@ use Rattle.hpb_program.specs.declared.run_end.RunEnd.{RunEnd}
 use Rattle.hpb_program.specs.Keeping.{RunsFile}
 use Rattle.hpb_program.specs.Words.{AsksFor}
 use Rattle.hpb_program.specs.Jobs.{refusal_of, Checks, Formats}
+use Rattle.hpb_server.specs.Fault as sessions
 use Rattle.hpb_server.specs.Script.{RunsScript}
 use Rattle.hpb_server.specs.Streams.{Streams, AreKept}
+use Rattle.hpb_server.specs.Telling.{Says, SaysOfScript, TellsOf}
+use Rattle.hpb_rules.specs.declared.refusal.Refusal.TheVariants as refusals
+use Rattle.hpb_program.specs.declared.hints.TheConstants.{SCRIPT_HINT, FORMAT_HINT, RUN_HINT}
 
 -- The status by the end of a script.
 abbrev pub status_of_script : Result ScriptEnd Fault → ℕ
@@ -37,10 +40,6 @@ abbrev pub HasStatus : WordsFault → Type 0
 HasStatus Memory = Unit {0}
 HasStatus (Refused text status) = (status ≡ WELL) ⊎ (status ≡ WRONG_WORDS)
 
--- A text was written, or a front of it.
-abbrev pub Says : (errors_old errors_new : Option (List ℕ)) → List ℕ → Type 0
-Says errors_old errors_new text = (sent : List ℕ) × Appends errors_old errors_new sent × IsFront sent text
-
 -- What is said of words that ask for no job.
 abbrev pub SaysFault : (errors_old errors_new : Option (List ℕ)) → WordsFault → Type 0
 SaysFault errors_old errors_new Memory = Keeps errors_old errors_new
@@ -54,13 +53,26 @@ told_text fault = line_of (refusal_text (refusal_of fault))
 -- What both outputs are told of how a job on a file ended, and its status.
 abbrev pub TellsEnd : (old new errors_old errors_new : Option (List ℕ)) → Result ⊤ JobFault → ℕ → Type 0
 TellsEnd old new errors_old errors_new (Ok done) status = Keeps old new × Keeps errors_old errors_new × (status ≡ WELL)
-TellsEnd old new errors_old errors_new (Err fault) status = Says old new (told_text fault) × ((text : List ℕ) × Says errors_old errors_new text) × (status ≡ ILL)
+TellsEnd old new errors_old errors_new (Err fault) status = Says old new (told_text fault) × TellsOf errors_old errors_new (refusal_of fault) × (status ≡ ILL)
+
+-- What people are told at the end of a script: of the fault that ended it.
+abbrev pub TellsScript : (errors_old errors_new : Option (List ℕ)) → Result ScriptEnd Fault → Type 0
+TellsScript errors_old errors_new (Ok end) = Keeps errors_old errors_new
+TellsScript errors_old errors_new (Err fault) = TellsOf errors_old errors_new (sessions.refusal_of fault)
+
+-- What a terminal is told to type for a job.
+abbrev pub hint_text : (is_terminal : Bool) → Job → List ℕ
+hint_text false job = []
+hint_text true Script = SCRIPT_HINT.now
+hint_text true (Format file journal) = FORMAT_HINT.now
+hint_text true (Check file) = []
+hint_text true (Run file batch every) = RUN_HINT.now
 
 -- What the errors are told of a run that had begun, and its status: by what ended it, and whether a call of the disk had failed.
 abbrev pub TellsEnded : (errors_old errors_new : Option (List ℕ)) → Result ⊤ Fault → Bool → ℕ → Type 0
 TellsEnded errors_old errors_new (Ok done) false status = Keeps errors_old errors_new × (status ≡ WELL)
-TellsEnded errors_old errors_new (Ok done) true status = ((text : List ℕ) × Says errors_old errors_new text) × (status ≡ ILL)
-TellsEnded errors_old errors_new (Err fault) failed status = ((text : List ℕ) × Says errors_old errors_new text) × (status ≡ ILL)
+TellsEnded errors_old errors_new (Ok done) true status = TellsOf errors_old errors_new refusals.Device × (status ≡ ILL)
+TellsEnded errors_old errors_new (Err fault) failed status = TellsOf errors_old errors_new (sessions.refusal_of fault) × (status ≡ ILL)
 
 -- What both outputs are told of how a run of a file ended, and its status. Once it has begun the output is told nothing more.
 abbrev pub TellsRun : (old new errors_old errors_new : Option (List ℕ)) → Result RunEnd JobFault → ℕ → Type 0
@@ -77,20 +89,22 @@ abbrev pub ChecksFile : (before after : Streams) → Result ⊤ JobFault → Typ
 ChecksFile before after end = Keeps before.remaining after.remaining × Checks before.contents after.contents end
 
 -- What a job does with the streams and the errors, and the status that it gives.
-abbrev pub RunsJob : Job → (before after : Streams) (errors_old errors_new : Option (List ℕ)) → ℕ → Type 0
-RunsJob Script before after errors_old errors_new status =
-    (end : Result ScriptEnd Fault) × RunsScript before after end × (status ≡ status_of_script end) × Keeps errors_old errors_new
-RunsJob (Format file journal) before after errors_old errors_new status = RunsToEnd (Formats journal) before after errors_old errors_new status
-RunsJob (Check file) before after errors_old errors_new status = RunsToEnd ChecksFile before after errors_old errors_new status
-RunsJob (Run file batch every) before after errors_old errors_new status =
+abbrev pub RunsJob : (is_terminal : Bool) → Job → (before after : Streams) (errors_old errors_new : Option (List ℕ)) → ℕ → Type 0
+RunsJob is_terminal Script before after errors_old errors_new status =
+    (end : Result ScriptEnd Fault) × RunsScript before after end × (status ≡ status_of_script end)
+    × (errors_said : Option (List ℕ)) × SaysOfScript is_terminal errors_old errors_said end × TellsScript errors_said errors_new end
+RunsJob is_terminal (Format file journal) before after errors_old errors_new status = RunsToEnd (Formats journal) before after errors_old errors_new status
+RunsJob is_terminal (Check file) before after errors_old errors_new status = RunsToEnd ChecksFile before after errors_old errors_new status
+RunsJob is_terminal (Run file batch every) before after errors_old errors_new status =
     (done : Streams) × (end : Result RunEnd JobFault) × RunsFile before done end
     × Keeps done.remaining after.remaining × TellsRun done.contents after.contents errors_old errors_new end status
 
--- What is done by what words ask for: their job; or nothing, and the errors are told why.
-abbrev pub RunsAsked : Result Job WordsFault → (before after : Streams) (errors_old errors_new : Option (List ℕ)) → ℕ → Type 0
-RunsAsked (Ok job) before after errors_old errors_new status = RunsJob job before after errors_old errors_new status
-RunsAsked (Err fault) before after errors_old errors_new status = AreKept before after × SaysFault errors_old errors_new fault × HasStatus fault × (status ≡ status_of_fault fault)
+-- What is done by what words ask for: a terminal is told what to type, and their job is done; or nothing, and the errors are told why.
+abbrev pub RunsAsked : (is_terminal : Bool) → Result Job WordsFault → (before after : Streams) (errors_old errors_new : Option (List ℕ)) → ℕ → Type 0
+RunsAsked is_terminal (Ok job) before after errors_old errors_new status =
+    (errors_hinted : Option (List ℕ)) × Says errors_old errors_hinted (hint_text is_terminal job) × RunsJob is_terminal job before after errors_hinted errors_new status
+RunsAsked is_terminal (Err fault) before after errors_old errors_new status = AreKept before after × SaysFault errors_old errors_new fault × HasStatus fault × (status ≡ status_of_fault fault)
 
 -- What the words ask for is done.
-abbrev pub RunsProgram : (words : List (List ℕ)) (before after : Streams) (errors_old errors_new : Option (List ℕ)) → ℕ → Type 0
-RunsProgram words before after errors_old errors_new status = (asked : Result Job WordsFault) × AsksFor words asked × RunsAsked asked before after errors_old errors_new status
+abbrev pub RunsProgram : (is_terminal : Bool) (words : List (List ℕ)) (before after : Streams) (errors_old errors_new : Option (List ℕ)) → ℕ → Type 0
+RunsProgram is_terminal words before after errors_old errors_new status = (asked : Result Job WordsFault) × AsksFor words asked × RunsAsked is_terminal asked before after errors_old errors_new status

@@ -2,7 +2,10 @@
 ghost use Rattle.std.specs.Prelude.{◌≡◌};
 ghost use Rattle.hpb_program.specs.Jobs.{made_of_definition, made_of_file, made_of_formatting, made_of_opening, refusal_of};
 
-use hpb_define::DefineFault;
+use crate::escaped::Escaped;
+use crate::noted::Failures;
+use crate::stream_words::{write_reading, write_writing};
+use hpb_define::{DefineCause, DefineFault};
 use hpb_disk::FileFault;
 use hpb_format::FormatCause;
 use hpb_image::Flaw;
@@ -21,7 +24,7 @@ pub enum JobFault {
     /// 92: the output failed.
     Writer,
     /// 50 to 57, 60 to 62: the definition is refused.
-    Definition(Refusal),
+    Definition(DefineFault),
     /// 43: there can't be a journal of so many pages.
     Journal,
     /// 91: the file was not opened or made.
@@ -40,7 +43,7 @@ impl JobFault {
         match self {
             JobFault::Memory => Refusal::Memory,
             JobFault::Reader | JobFault::Writer => Refusal::Stream,
-            JobFault::Definition(refusal) => *refusal,
+            JobFault::Definition(fault) => fault.refusal(),
             JobFault::Journal => Refusal::Length,
             JobFault::File(_) => Refusal::Device,
             JobFault::Format(cause) => cause.refusal(),
@@ -63,9 +66,9 @@ impl From<DefineFault> for JobFault {
     ghost from_gives = { λ fault made. made ≡ made_of_definition fault };
 
     fn from(fault: DefineFault) -> JobFault {
-        match fault {
-            DefineFault::Memory => JobFault::Memory,
-            fault => JobFault::Definition(fault.refusal()),
+        match fault.cause {
+            DefineCause::Memory => JobFault::Memory,
+            _ => JobFault::Definition(fault),
         }
     }
 }
@@ -108,22 +111,17 @@ impl From<Cause> for JobFault {
 pub(crate) struct Advice<'a> {
     pub(crate) file: &'a str,
     pub(crate) fault: &'a JobFault,
+    pub(crate) failures: Failures,
 }
 
 impl fmt::Display for Advice<'_> {
     fn fmt<W: fmt::Write>(&self, f: &mut fmt::Formatter<W>) -> fmt::Result {
-        let file = self.file;
+        let file = Escaped(self.file);
         match self.fault {
-            JobFault::Memory => write!(f, "memory was refused: free some, and try again"),
-            JobFault::Reader => write!(f, "standard input could not be read"),
-            JobFault::Writer => write!(f, "standard output could not be written"),
-            JobFault::Definition(refusal) => {
-                let (number, word) = (refusal.number(), refusal.word());
-                write!(
-                    f,
-                    "standard input is no definition of an auction ({number} {word}): docs/PROTOCOL.md says what it must be"
-                )
-            }
+            JobFault::Memory => write!(f, "memory was refused"),
+            JobFault::Reader => write_reading(f, self.failures),
+            JobFault::Writer => write_writing(f, self.failures),
+            JobFault::Definition(fault) => f.write_str(fault.said()),
             JobFault::Journal => write!(
                 f,
                 "a journal has 4 to 1024 pages: give one of these numbers to --journal"
@@ -137,7 +135,7 @@ impl fmt::Display for Advice<'_> {
 
 fn advise_of_file<W: fmt::Write>(
     f: &mut fmt::Formatter<W>,
-    file: &str,
+    file: Escaped<'_>,
     fault: &FileFault,
 ) -> fmt::Result {
     match fault {
@@ -150,7 +148,7 @@ fn advise_of_file<W: fmt::Write>(
             f,
             "{file} is longer than any file of an auction: name another"
         ),
-        FileFault::Memory(_) => write!(f, "memory was refused: free some, and try again"),
+        FileFault::Memory(_) => write!(f, "memory was refused"),
         FileFault::System(error) => write!(
             f,
             "{file} could not be opened or made: {error}: see that the path is right and that you may use it"
@@ -160,7 +158,7 @@ fn advise_of_file<W: fmt::Write>(
 
 fn advise_of_format<W: fmt::Write>(
     f: &mut fmt::Formatter<W>,
-    file: &str,
+    file: Escaped<'_>,
     cause: FormatCause,
 ) -> fmt::Result {
     match cause {
@@ -176,13 +174,13 @@ fn advise_of_format<W: fmt::Write>(
             f,
             "{file} could not be read, written or synced: see to its disk, and then format another file"
         ),
-        FormatCause::Memory => write!(f, "memory was refused: free some, and try again"),
+        FormatCause::Memory => write!(f, "memory was refused"),
     }
 }
 
 fn advise_of_open<W: fmt::Write>(
     f: &mut fmt::Formatter<W>,
-    file: &str,
+    file: Escaped<'_>,
     cause: Cause,
 ) -> fmt::Result {
     match cause {
@@ -206,6 +204,6 @@ fn advise_of_open<W: fmt::Write>(
             f,
             "{file} could not be read or synced: see to its disk, and try again"
         ),
-        Cause::Memory => write!(f, "memory was refused: free some, and try again"),
+        Cause::Memory => write!(f, "memory was refused"),
     }
 }

@@ -2,13 +2,18 @@
 #![tactic(auto)]
 
 mod checking;
+mod escaped;
 mod formatting;
+mod hints;
 mod job_fault;
 mod keeping;
 mod laws;
+mod noted;
 mod run_end;
 mod running;
+mod script_end;
 mod status;
+mod stream_words;
 mod telling;
 mod words;
 
@@ -16,6 +21,7 @@ pub use checking::check_device;
 pub use job_fault::JobFault;
 pub use keeping::run_kept;
 pub use laws::words_ask_for;
+pub use noted::Noted;
 pub use run_end::RunEnd;
 pub use running::{program, refuse_words};
 pub use words::{Job, WordsFault, read_words};

@@ -1,5 +1,9 @@
 //! How a run of a file ended that had begun, and what can be done about it.
 
+use crate::escaped::Escaped;
+use crate::noted::Failures;
+use crate::stream_words::{write_reading, write_writing};
+use hpb_rules::Refusal;
 use hpb_server::Fault;
 use std::fmt;
 
@@ -17,23 +21,26 @@ pub struct RunEnd {
 pub(crate) struct RunAdvice<'a> {
     pub(crate) file: &'a str,
     pub(crate) end: RunEnd,
+    pub(crate) failures: Failures,
 }
 
 impl fmt::Display for RunAdvice<'_> {
     fn fmt<W: fmt::Write>(&self, f: &mut fmt::Formatter<W>) -> fmt::Result {
+        let file = Escaped(self.file);
         match (self.end.end, self.end.failed) {
-            (Ok(()), _) => advise_of_disk(f, self.file),
-            (Err(fault), false) => advise_of_fault(f, self.file, fault),
+            (Ok(()), _) => advise_of_disk(f, file),
+            (Err(fault), false) => advise_of_fault(f, file, fault, self.failures),
             (Err(fault), true) => {
-                advise_of_fault(f, self.file, fault)?;
-                write!(f, "\nerror: ")?;
-                advise_of_disk(f, self.file)
+                advise_of_fault(f, file, fault, self.failures)?;
+                let (number, word) = (Refusal::Device.number(), Refusal::Device.word());
+                write!(f, "\nhpb: {number} {word}: ")?;
+                advise_of_disk(f, file)
             }
         }
     }
 }
 
-fn advise_of_disk<W: fmt::Write>(f: &mut fmt::Formatter<W>, file: &str) -> fmt::Result {
+fn advise_of_disk<W: fmt::Write>(f: &mut fmt::Formatter<W>, file: Escaped<'_>) -> fmt::Result {
     write!(
         f,
         "the disk of {file} failed. All that was answered by OK is kept. Use that disk no more: copy {file} to another one, and run the copy by `hpb run`; then send again what was answered by 91 or 93"
@@ -42,16 +49,14 @@ fn advise_of_disk<W: fmt::Write>(f: &mut fmt::Formatter<W>, file: &str) -> fmt::
 
 fn advise_of_fault<W: fmt::Write>(
     f: &mut fmt::Formatter<W>,
-    file: &str,
+    file: Escaped<'_>,
     fault: Fault,
+    failures: Failures,
 ) -> fmt::Result {
     match fault {
         Fault::Memory => write!(f, "memory was refused")?,
-        Fault::Reader => write!(
-            f,
-            "standard input could not be read, or had more than 1000000000 bytes"
-        )?,
-        Fault::Writer => write!(f, "standard output could not be written")?,
+        Fault::Reader => write_reading(f, failures)?,
+        Fault::Writer => write_writing(f, failures)?,
     }
     write!(
         f,

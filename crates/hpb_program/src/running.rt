@@ -1,18 +1,23 @@
 ghost use Rattle.std.specs.Prelude.{◌≡◌, ◌≢◌, ◌≤◌, IfErr, map};
 ghost use Rattle.std.specs.Io.KnownBytes.{Keeps};
 ghost use Rattle.std.specs.IoError.{error_kind};
-ghost use Rattle.hpb_program.specs.Program.{HasStatus, RunsAsked, RunsJob, RunsProgram, Says, SaysFault, TellsEnd, TellsEnded, TellsRun, status_of_fault, status_of_script};
+ghost use Rattle.hpb_program.specs.Program.{HasStatus, RunsAsked, RunsJob, RunsProgram, SaysFault, TellsEnd, TellsEnded, TellsRun, TellsScript, hint_text, status_of_fault, status_of_script};
 ghost use Rattle.hpb_server.specs.Streams.{streams};
+ghost use Rattle.hpb_server.specs.Telling.{Says};
 
 use crate::checking::run_check;
 use crate::formatting::run_format;
+use crate::hints::hint;
 use crate::job_fault::{Advice, JobFault};
 use crate::keeping::run_file;
+use crate::noted::{Failures, Noted};
 use crate::run_end::{RunAdvice, RunEnd};
+use crate::script_end::ScriptAdvice;
 use crate::status::{ILL, WELL, WRONG_WORDS};
-use crate::telling::{advise, say, tell};
+use crate::telling::{advise, tell};
 use crate::words::{Job, WordsFault, read_words};
-use hpb_server::{Fault, ScriptEnd, run_script};
+use hpb_rules::Refusal;
+use hpb_server::{Fault, ScriptEnd, run_script, say};
 use std::alloc::Global;
 use std::convert::AsStr;
 use std::fs::{File, Files};
@@ -20,25 +25,27 @@ use std::io;
 use std::io::{ErrorKind, Read, Write};
 
 /// What is said where the words can't be read.
-const NO_TEXT: &str = "error: a word is no text in UTF-8\n";
+const NO_TEXT: &str = "hpb: an argument is not UTF-8\n";
 
 /// The whole of the program, with its status: 0; 1 where a definition or a file is refused, memory is refused or
-/// a stream fails; 2 where the words are wrong. The first word is the program's name. Lines go to the output, and
-/// what is said of the words, help too, and of a file that is refused goes to the errors. Only jobs on files use the
-/// runtime.
+/// a stream fails; 2 where the words are wrong. The first word is the program's name. Lines go to the output. The errors
+/// are told what is said of the words, help too, and why a definition or a file is refused or a stream failed; and where
+/// the input is a terminal what to type. Only jobs on files use the runtime.
 pub fn program<H: Files<File = File>, S: AsStr, R: Read, W: Write, E: Write>(
     rt: &H,
     alloc: Global,
     words: &[S],
-    input: &mut R,
-    output: &mut W,
+    input: &mut Noted<R>,
+    output: &mut Noted<W>,
     errors: &mut E,
+    is_terminal: bool,
 ) -> u8
     ensures status { result ≤ WRONG_WORDS }
-    ensures streams { RunsProgram (map S.text words.now) (streams (R.remaining input.old) (W.contents output.old)) (streams (R.remaining input.new) (W.contents output.new))
+    ensures streams { RunsProgram is_terminal (map S.text words.now) (streams (R.remaining input.old.stream) (W.contents output.old.stream)) (streams (R.remaining input.new.stream) (W.contents output.new.stream))
         (E.contents errors.old) (E.contents errors.new) result }
 {
-    run_asked(rt, alloc, read_words(alloc, words), input, output, errors)
+    let asked = read_words(alloc, words);
+    run_asked(rt, alloc, asked, input, output, errors, is_terminal)
 }
 
 /// The status of the program where its words can't be read: 1 where memory was refused, else 2, which
@@ -50,7 +57,7 @@ pub fn refuse_words<E: Write>(error: &io::Error, errors: &mut E) -> u8
     if error.kind() == ErrorKind::OutOfMemory {
         return ILL;
     }
-    say(NO_TEXT, errors);
+    say(NO_TEXT.as_bytes(), errors);
     WRONG_WORDS
 }
 
@@ -59,17 +66,21 @@ fn run_asked<H: Files<File = File>, R: Read, W: Write, E: Write>(
     rt: &H,
     alloc: Global,
     asked: Result<Job<'_>, WordsFault>,
-    input: &mut R,
-    output: &mut W,
+    input: &mut Noted<R>,
+    output: &mut Noted<W>,
     errors: &mut E,
+    is_terminal: bool,
 ) -> u8
     requires { IfErr asked HasStatus }
     ensures status { result ≤ WRONG_WORDS }
-    ensures streams { RunsAsked asked.entry (streams (R.remaining input.old) (W.contents output.old)) (streams (R.remaining input.new) (W.contents output.new))
+    ensures streams { RunsAsked is_terminal asked.entry (streams (R.remaining input.old.stream) (W.contents output.old.stream)) (streams (R.remaining input.new.stream) (W.contents output.new.stream))
         (E.contents errors.old) (E.contents errors.new) result }
 {
     match asked {
-        Ok(job) => run_job(rt, alloc, job, input, output, errors),
+        Ok(job) => {
+            hint(job, is_terminal, errors);
+            run_job(rt, alloc, job, input, output, errors, is_terminal)
+        }
         Err(fault) => say_fault(fault, errors),
     }
 }
@@ -79,38 +90,79 @@ fn run_job<H: Files<File = File>, R: Read, W: Write, E: Write>(
     rt: &H,
     alloc: Global,
     job: Job<'_>,
-    input: &mut R,
-    output: &mut W,
+    input: &mut Noted<R>,
+    output: &mut Noted<W>,
     errors: &mut E,
+    is_terminal: bool,
 ) -> u8
     ensures status { result ≤ WRONG_WORDS }
-    ensures streams { RunsJob job.entry (streams (R.remaining input.old) (W.contents output.old)) (streams (R.remaining input.new) (W.contents output.new))
+    ensures streams { RunsJob is_terminal job.entry (streams (R.remaining input.old.stream) (W.contents output.old.stream)) (streams (R.remaining input.new.stream) (W.contents output.new.stream))
         (E.contents errors.old) (E.contents errors.new) result }
 {
     match job {
-        Job::Script => status_of_script(run_script(alloc, input, output)),
+        Job::Script => {
+            let end = run_script(alloc, input, output, errors, is_terminal);
+            tell_script(alloc, end, Failures::of(input, output), errors)
+        }
         Job::Format { file, journal } => {
             let end = run_format(rt, alloc, file, journal, input, output);
-            tell_end(alloc, file, end, output, errors)
+            tell_end(
+                alloc,
+                file,
+                end,
+                Failures::of(input, output),
+                output,
+                errors,
+            )
         }
         Job::Check { file } => {
             let end = run_check(rt, alloc, file, output);
-            tell_end(alloc, file, end, output, errors)
+            tell_end(
+                alloc,
+                file,
+                end,
+                Failures::of(input, output),
+                output,
+                errors,
+            )
         }
         Job::Run { file, batch, every } => {
             let end = run_file(rt, alloc, file, batch as usize, every, input, output);
-            tell_run(alloc, file, end, output, errors)
+            tell_run(
+                alloc,
+                file,
+                end,
+                Failures::of(input, output),
+                output,
+                errors,
+            )
         }
     }
 }
 
-/// The status of the program by the end of its script.
-fn status_of_script(end: Result<ScriptEnd, Fault>) -> u8
-    ensures { result ≡ status_of_script end }
+/// Tells people which fault ended a script, and gives the program's status.
+fn tell_script<E: Write>(
+    alloc: Global,
+    end: Result<ScriptEnd, Fault>,
+    failures: Failures,
+    errors: &mut E,
+) -> u8
+    ensures status { result ≤ WRONG_WORDS }
+    ensures value { result ≡ status_of_script end }
+    ensures told { TellsScript (E.contents errors.old) (E.contents errors.new) end }
 {
     match end {
         Ok(ScriptEnd::Answered) => WELL,
-        Ok(ScriptEnd::Refused(_)) | Err(_) => ILL,
+        Ok(ScriptEnd::Refused(_)) => ILL,
+        Err(fault) => {
+            advise(
+                alloc,
+                fault.refusal(),
+                ScriptAdvice { fault, failures },
+                errors,
+            );
+            ILL
+        }
     }
 }
 
@@ -119,6 +171,7 @@ fn tell_end<W: Write, E: Write>(
     alloc: Global,
     file: &str,
     end: Result<(), JobFault>,
+    failures: Failures,
     output: &mut W,
     errors: &mut E,
 ) -> u8
@@ -129,14 +182,12 @@ fn tell_end<W: Write, E: Write>(
         Ok(()) => WELL,
         Err(fault) => {
             tell(alloc, &fault, output);
-            advise(
-                alloc,
-                Advice {
-                    file,
-                    fault: &fault,
-                },
-                errors,
-            );
+            let advice = Advice {
+                file,
+                fault: &fault,
+                failures,
+            };
+            advise(alloc, fault.refusal(), advice, errors);
             ILL
         }
     }
@@ -147,6 +198,7 @@ fn tell_run<W: Write, E: Write>(
     alloc: Global,
     file: &str,
     end: Result<RunEnd, JobFault>,
+    failures: Failures,
     output: &mut W,
     errors: &mut E,
 ) -> u8
@@ -154,8 +206,15 @@ fn tell_run<W: Write, E: Write>(
     ensures told { TellsRun (W.contents output.old) (W.contents output.new) (E.contents errors.old) (E.contents errors.new) end result }
 {
     match end {
-        Ok(ended) => tell_ended(alloc, RunAdvice { file, end: ended }, errors),
-        Err(fault) => tell_end(alloc, file, Err(fault), output, errors),
+        Ok(end) => {
+            let advice = RunAdvice {
+                file,
+                end,
+                failures,
+            };
+            tell_ended(alloc, advice, errors)
+        }
+        Err(fault) => tell_end(alloc, file, Err(fault), failures, output, errors),
     }
 }
 
@@ -166,8 +225,8 @@ fn tell_ended<E: Write>(alloc: Global, advice: RunAdvice<'_>, errors: &mut E) ->
 {
     match (advice.end.end, advice.end.failed) {
         (Ok(()), false) => return WELL,
-        (Ok(()), true) => advise(alloc, advice, errors),
-        (Err(_), _) => advise(alloc, advice, errors),
+        (Ok(()), true) => advise(alloc, Refusal::Device, advice, errors),
+        (Err(fault), _) => advise(alloc, fault.refusal(), advice, errors),
     }
     ILL
 }
@@ -182,7 +241,7 @@ fn say_fault<E: Write>(fault: WordsFault, errors: &mut E) -> u8
     match fault {
         WordsFault::Memory => ILL,
         WordsFault::Refused { text, status } => {
-            say(text.as_str(), errors);
+            say(text.as_bytes(), errors);
             status
         }
     }

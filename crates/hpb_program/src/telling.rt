@@ -1,25 +1,18 @@
 //! What is told of a fault, on the output and on the errors.
-ghost use Rattle.std.specs.Prelude.{◌≡◌, IfOk, List, ℕ};
-ghost use Rattle.hpb_program.specs.Program.{Says, told_text};
+ghost use Rattle.std.specs.Prelude.{◌≡◌, IfOk, codes};
+ghost use Rattle.hpb_program.specs.Program.{told_text};
 ghost use Rattle.hpb_rules.specs.declared.refusal.Refusal.TheVariants as refusals;
 ghost use Rattle.hpb_rules.specs.Rendering.{refusal_text};
 ghost use Rattle.hpb_rules.specs.Text.{line_of};
+ghost use Rattle.hpb_server.specs.Telling.{Says, TellsOf, told_line};
 
 use crate::job_fault::JobFault;
 use hpb_rules::{Refusal, Reply};
-use hpb_server::send_bytes;
+use hpb_server::{say, tell_people};
 use hpb_wire::{RESPONSE_BYTES, Response, ResponseText};
 use std::alloc::{AllocError, Global};
 use std::fmt;
 use std::io::Write;
-
-/// Writes a text, as far as the writer takes it. Where it fails, there is nowhere left to say so.
-#[tactic(auto, using(crate::proofs::Fronts::put_front))]
-pub(crate) fn say<W: Write>(text: &str, writer: &mut W)
-    ensures { Says (W.contents writer.old) (W.contents writer.new) text.now }
-{
-    let _ = send_bytes(writer, text.as_bytes());
-}
 
 /// The line of 90.
 const MEMORY_LINE: &str = "ERR 90 memory\n";
@@ -31,7 +24,7 @@ pub(crate) fn tell<W: Write>(alloc: Global, fault: &JobFault, output: &mut W)
 {
     match fault {
         JobFault::Writer => {}
-        JobFault::Memory => say(line_of_memory(), output),
+        JobFault::Memory => say(line_of_memory().as_bytes(), output),
         other => tell_refusal(alloc, other.refusal(), output),
     }
 }
@@ -42,12 +35,11 @@ fn line_of_memory() -> &'static str
     MEMORY_LINE
 }
 
-#[tactic(auto, using(crate::proofs::Fronts::put_front))]
 fn tell_refusal<W: Write>(alloc: Global, refusal: Refusal, output: &mut W)
     ensures { Says (W.contents output.old) (W.contents output.new) (line_of (refusal_text refusal)) }
 {
     if let Ok(line) = line_of_refusal(alloc, refusal) {
-        let _ = send_bytes(output, line.as_bytes());
+        say(line.as_bytes(), output);
     }
 }
 
@@ -59,11 +51,37 @@ fn line_of_refusal(alloc: Global, refusal: Refusal) -> Result<ResponseText, Allo
     Ok(line)
 }
 
-/// Says why a job on a file was not done, or not to its end, and what to do, as far as memory and the errors allow.
-pub(crate) fn advise<A: fmt::Display + Copy, E: Write>(alloc: Global, advice: A, errors: &mut E)
-    ensures { (text : List ℕ) × Says (E.contents errors.old) (E.contents errors.new) text }
+/// What people are told of 90, without taking memory.
+const MEMORY_TOLD: &str = "hpb: 90 memory: memory was refused\n";
+
+/// Tells people of a refusal, and what to do, as far as memory and the errors allow. Where memory is refused for more
+/// they are told of 90 all the same.
+pub(crate) fn advise<A: fmt::Display + Copy, E: Write>(
+    alloc: Global,
+    refusal: Refusal,
+    advice: A,
+    errors: &mut E,
+)
+    ensures { TellsOf (E.contents errors.old) (E.contents errors.new) refusal }
 {
-    if let Ok(text) = format!(in alloc; "error: {advice}\n") {
-        say(text.as_str(), errors);
+    match format!(in alloc; "{advice}") {
+        Ok(reason) => tell_people(alloc, refusal, reason.as_str(), errors),
+        Err(_) => tell_of_memory(refusal, errors),
     }
+}
+
+/// Tells people of 90, and of no other refusal.
+fn tell_of_memory<E: Write>(refusal: Refusal, errors: &mut E)
+    ensures { TellsOf (E.contents errors.old) (E.contents errors.new) refusal }
+{
+    match refusal {
+        Refusal::Memory => say(line_of_memory_told().as_bytes(), errors),
+        _ => {}
+    }
+}
+
+fn line_of_memory_told() -> &'static str
+    ensures { result.now ≡ told_line refusals.Memory (codes "memory was refused") }
+{
+    MEMORY_TOLD
 }

@@ -4,9 +4,9 @@ mod using;
 
 use super::*;
 use hpb_rules::Refusal;
-use std::alloc::Global;
 use std::io::ErrorKind;
 use std::test::Fail;
+use using::{SIX_NODES, run_at, run_on};
 
 /// Bytes that are no definition.
 const NO_DEFINITION: &[u8] = b"{";
@@ -119,45 +119,81 @@ fn words_are_read(rt: HostRuntime) -> Result<(), Fail> {
         (&["hpb", "run", "--file", "a", "b"], 2, "error: "),
     ];
     for (words, want, said) in table {
-        let mut input = NO_DEFINITION;
-        let mut output = Vec::new(alloc);
-        let mut errors = Vec::new(alloc);
-        let status = program(&rt, alloc, words, &mut input, &mut output, &mut errors);
-        assert_eq!(rt; status, want, "{words:?}");
-        assert_eq!(rt; input, NO_DEFINITION, "{words:?}");
-        assert!(rt; output.is_empty(), "{words:?}");
-        let text = String::from_utf8(errors)?;
-        assert!(rt; text.contains(said), "{words:?} gives {text}");
+        let (ran, left) = run_on(&rt, words, NO_DEFINITION)?;
+        assert_eq!(rt; ran.status, want, "{words:?}");
+        assert_eq!(rt; left, NO_DEFINITION.len(), "{words:?}");
+        assert!(rt; ran.output.is_empty(), "{words:?}");
+        assert!(rt; ran.errors.contains(said), "{words:?} gives {}", ran.errors);
     }
     Ok(())
 }
 
-/// Runs the program on no definition: its status, how much of the input is left, and what it writes.
-fn run_on_no_definition(
-    rt: &HostRuntime,
-    alloc: Global,
-    words: &[&str],
-) -> (u8, usize, Vec<u8>, Vec<u8>) {
-    let mut input = NO_DEFINITION;
-    let mut output = Vec::new(alloc);
-    let mut errors = Vec::new(alloc);
-    let status = program(rt, alloc, words, &mut input, &mut output, &mut errors);
-    (status, input.len(), output, errors)
+#[test]
+fn a_script_is_run_without_words(rt: HostRuntime) -> Result<(), Fail> {
+    for words in [&["hpb"].as_slice(), &[].as_slice()] {
+        let (ran, left) = run_on(&rt, words, NO_DEFINITION)?;
+        assert_eq!(rt; ran.status, 1);
+        assert_eq!(rt; left, 0);
+        assert_eq!(rt; ran.output.as_str(), "ERR 60 json\n");
+        assert!(rt; ran.errors.starts_with("hpb: 60 json: "), "{}", ran.errors);
+    }
+    Ok(())
 }
 
 #[test]
-fn a_script_is_run_without_words(rt: HostRuntime) -> Result<(), Fail> {
-    let alloc = rt.alloc();
-    let (status, left, output, errors) = run_on_no_definition(&rt, alloc, &["hpb"]);
-    assert_eq!(rt; status, 1);
-    assert_eq!(rt; left, 0);
-    assert_eq!(rt; output.as_slice(), b"ERR 60 json\n".as_slice());
-    assert!(rt; errors.is_empty());
-    let (status, left, output, errors) = run_on_no_definition(&rt, alloc, &[]);
-    assert_eq!(rt; status, 1);
-    assert_eq!(rt; left, 0);
-    assert_eq!(rt; output.as_slice(), b"ERR 60 json\n".as_slice());
-    assert!(rt; errors.is_empty());
+fn a_terminal_is_told_what_to_type(rt: HostRuntime) -> Result<(), Fail> {
+    let (ran, _) = run_at(&rt, &["hpb"], SIX_NODES, true)?;
+    assert_eq!(rt; ran.status, 0);
+    assert!(rt; ran.output.is_empty());
+    assert!(rt;
+        ran.errors
+            .starts_with("hpb: standard input is a terminal: "),
+        "{}",
+        ran.errors
+    );
+    assert!(rt;
+        ran.errors.ends_with("hpb: the definition is accepted: type commands and questions\n"),
+        "{}",
+        ran.errors
+    );
+    let (ran, _) = run_at(&rt, &["hpb"], NO_DEFINITION, true)?;
+    assert_eq!(rt; ran.output.as_str(), "ERR 60 json\n");
+    assert!(rt; !ran.errors.contains("accepted"), "{}", ran.errors);
+    let (ran, _) = run_at(
+        &rt,
+        &["hpb", "check", "--file", "hpb_program_none"],
+        b"",
+        true,
+    )?;
+    assert!(rt;
+        ran.errors.starts_with("hpb: 91 device: "),
+        "{}",
+        ran.errors
+    );
+    Ok(())
+}
+
+#[test]
+fn control_characters_of_words_are_escaped(rt: HostRuntime) -> Result<(), Fail> {
+    let (ran, _) = run_at(&rt, &["hpb", "\u{1b}[31m\n\u{7}"], b"", false)?;
+    assert_eq!(rt; ran.status, 2);
+    assert!(rt;
+        ran.errors.contains("\\u{1b}[31m\\n\\u{7}"),
+        "{}",
+        ran.errors
+    );
+    assert!(rt;
+        !ran.errors.contains("\u{1b}") && !ran.errors.contains("\u{7}"),
+        "{}",
+        ran.errors
+    );
+    let (ran, _) = run_at(&rt, &["hpb", "check", "--file", "no\u{1b}file"], b"", false)?;
+    assert_eq!(rt; ran.output.as_str(), "ERR 91 device\n");
+    assert!(rt;
+        ran.errors.contains("no\\u{1b}file could not be opened"),
+        "{}",
+        ran.errors
+    );
     Ok(())
 }
 
@@ -167,7 +203,7 @@ fn words_that_are_no_text_are_refused(rt: HostRuntime) -> Result<(), Fail> {
     let mut errors = Vec::new(alloc);
     let status = refuse_words(&ErrorKind::InvalidData.into(), &mut errors);
     assert_eq!(rt; status, 2);
-    assert!(rt; String::from_utf8(errors)?.starts_with("error: "));
+    assert!(rt; String::from_utf8(errors)?.starts_with("hpb: "));
     let mut errors = Vec::new(alloc);
     let status = refuse_words(&ErrorKind::OutOfMemory.into(), &mut errors);
     assert_eq!(rt; status, 1);

@@ -6,6 +6,7 @@ ghost use Rattle.hpb_program.specs.Words.{batch_rule, check_shape, every_rule, f
 ghost use Rattle.hpb_program.specs.declared.words.WordsFault.TheVariants.{Memory};
 ghost use Rattle.hpb_program.specs.Program.{HasStatus};
 
+use crate::escaped::Escaped;
 use crate::status::{WELL, WRONG_WORDS};
 use clap::error::ErrorKind;
 use clap::{Arg, ArgMatches, Command, value_parser};
@@ -13,6 +14,14 @@ use hpb_rules::MOST_LETTERS;
 use std::alloc::{AllocError, Global};
 use std::convert::AsStr;
 use thiserror::Error;
+
+/// The version, and the line of the kit that the program is proved with.
+const VERSION: &str = "0.1.0\nrattle-kit-13b logic dac8208d650f15bf";
+
+const USAGE: &str = r#"hpb < SCRIPT
+       hpb format --file F --journal J < DEFINITION
+       hpb run --file F [--batch N] [--every K] < LINES
+       hpb check --file F"#;
 
 const ABOUT: &str = "Runs a simultaneous ascending auction with bids on packages.";
 
@@ -180,7 +189,7 @@ pub fn read_words<'a, S: AsStr>(alloc: Global, words: &'a [S]) -> Result<Job<'a>
     let command = command(alloc)?;
     match command.try_get_matches_from(words) {
         Ok(matches) => Ok(job_of(&matches)),
-        Err(error) => Err(refused(alloc, &error)?),
+        Err(error) => Err(refused(alloc, &error, words)?),
     }
 }
 
@@ -217,25 +226,59 @@ fn job_of_command<'a>(name: &str, options: &ArgMatches<'a>) -> Job<'a>
 }
 
 /// What becomes of words that `clap` gives no matches for.
-fn refused(alloc: Global, error: &clap::Error) -> Result<WordsFault, AllocError>
+fn refused<S: AsStr>(
+    alloc: Global,
+    error: &clap::Error,
+    words: &[S],
+) -> Result<WordsFault, AllocError>
     ensures status { IfOk result HasStatus }
     ensures told { IfOk result (IsTold (kind_of error.now)) }
 {
     if error.kind() == ErrorKind::OutOfMemory {
         return Ok(WordsFault::Memory);
     }
-    let text = error.to_string(alloc)?;
+    let text = said_of(alloc, error, words)?;
     let is_shown = error.kind() == ErrorKind::DisplayHelp
         || error.kind() == ErrorKind::DisplayVersion;
     let status = if is_shown { WELL } else { WRONG_WORDS };
     Ok(WordsFault::Refused { text, status })
 }
 
+/// What is said of words: of those with a control character what is said of them once these are escaped, so that no
+/// terminal obeys them.
+fn said_of<S: AsStr>(
+    alloc: Global,
+    error: &clap::Error,
+    words: &[S],
+) -> Result<String, AllocError> {
+    if !words.iter().any(|word| has_control(word.as_str())) {
+        return error.to_string(alloc);
+    }
+    let escaped = escaped_words(alloc, words)?;
+    match command(alloc)?.try_get_matches_from(escaped.as_slice()) {
+        Ok(_) => Ok(String::new(alloc)),
+        Err(said) => said.to_string(alloc),
+    }
+}
+
+fn has_control(word: &str) -> bool {
+    word.chars().any(char::is_control)
+}
+
+fn escaped_words<S: AsStr>(alloc: Global, words: &[S]) -> Result<Vec<String>, AllocError> {
+    let mut escaped = Vec::new(alloc);
+    for word in words {
+        escaped.push(Escaped(word.as_str()).to_string(alloc)?)?;
+    }
+    Ok(escaped)
+}
+
 fn command<'a>(alloc: Global) -> Result<Command<'a>, AllocError>
     ensures { IfOk result (λ command. app_of command ≡ hpb) }
 {
     Command::new(alloc, "hpb")
-        .version("0.1.0")
+        .version(VERSION)
+        .override_usage(USAGE)
         .about(ABOUT)
         .after_help(HELP)
         .disable_help_subcommand(true)

@@ -30,7 +30,8 @@ pub(crate) fn joined(
 pub(crate) fn written(alloc: Global, script: &[u8]) -> Result<String, Fail> {
     let mut input = script;
     let mut output = Vec::new(alloc);
-    run_script(alloc, &mut input, &mut output)?;
+    let mut errors = Vec::new(alloc);
+    run_script(alloc, &mut input, &mut output, &mut errors, false)?;
     Ok(String::from_utf8(output)?)
 }
 

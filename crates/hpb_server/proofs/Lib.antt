@@ -1,4 +1,5 @@
 mod Errors
+pub mod Fronts
 mod Cut
 mod Kept
 mod Writing

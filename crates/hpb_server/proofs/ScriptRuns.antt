@@ -15,8 +15,8 @@ use Rattle.hpb_rules.specs.Rendering.{refusal_text}
 use Rattle.hpb_rules.specs.Text.{line_of, lines_text}
 use Rattle.hpb_rules.proofs.TextLaws.{one_line}
 use Rattle.hpb_rules.proofs.Lists.{front_trans}
-use Rattle.hpb_define.specs.declared.fault.DefineFault.{DefineFault}
-use Rattle.hpb_define.specs.declared.fault.DefineFault.TheVariants as faults
+use Rattle.hpb_define.specs.declared.fault.DefineCause.{DefineCause}
+use Rattle.hpb_define.specs.declared.fault.DefineCause.TheVariants as faults
 use Rattle.hpb_define.specs.Text.{Answers}
 use Rattle.hpb_server.specs.declared.fault.Fault.{Fault}
 use Rattle.hpb_server.specs.declared.fault.Fault.TheVariants as errors
@@ -38,7 +38,7 @@ use Rattle.hpb_rules.specs.AuctionValue.{AuctionValue}
 json_short : (bytes : List ℕ) → KEPT_DEFINITION_BYTES < length bytes → length (take KEPT_DEFINITION_BYTES bytes) ≤ MOST_DEFINITION_BYTES → ⊥
 json_short bytes long short = absurd (omega (arith, long, short, length-take KEPT_DEFINITION_BYTES bytes))
 
-long_answers : (bytes : List ℕ) (r : Result Rules DefineFault) → KEPT_DEFINITION_BYTES < length bytes → Answers (take KEPT_DEFINITION_BYTES bytes) r → Answers bytes r
+long_answers : (bytes : List ℕ) (r : Result Rules DefineCause) → KEPT_DEFINITION_BYTES < length bytes → Answers (take KEPT_DEFINITION_BYTES bytes) r → Answers bytes r
 long_answers bytes (Ok rules) long h = absurd (json_short bytes long h.0.1.0)
 long_answers bytes (Err faults.Memory) long h = tt
 long_answers bytes (Err faults.Json) long h = λ value json. absurd (omega (arith, long, json.0))
@@ -46,13 +46,13 @@ long_answers bytes (Err faults.Field) long h = absurd (json_short bytes long h.1
 long_answers bytes (Err faults.Number) long h = absurd (json_short bytes long h.1.0)
 long_answers bytes (Err (faults.Refused fault)) long h = absurd (json_short bytes long h.1.1.0)
 
-kept_answers : (kept bytes : List ℕ) (r : Result Rules DefineFault) → kept ≡ take KEPT_DEFINITION_BYTES bytes → Answers kept r → Answers bytes r
+kept_answers : (kept bytes : List ℕ) (r : Result Rules DefineCause) → kept ≡ take KEPT_DEFINITION_BYTES bytes → Answers kept r → Answers bytes r
 kept_answers kept bytes r is h = ⊎_elim
     (λ short. subst (λ (xs : List ℕ). Answers xs r) (is ∙ take_all KEPT_DEFINITION_BYTES bytes (omega arith)) h)
     (λ long. long_answers bytes r (omega arith) (subst (λ (xs : List ℕ). Answers xs r) is h))
     (cases_lt (length bytes) (KEPT_DEFINITION_BYTES + 1))
 
-pub given_answers : {old new : Option (List ℕ)} {budget : ℕ} {after : Pending} {text : DefinitionText} (given : GivesDefinition old new budget after text) {kept : List ℕ} (r : Result Rules DefineFault) → kept ≡ text.bytes.items → Answers kept r → Answers given.bytes r
+pub given_answers : {old new : Option (List ℕ)} {budget : ℕ} {after : Pending} {text : DefinitionText} (given : GivesDefinition old new budget after text) {kept : List ℕ} (r : Result Rules DefineCause) → kept ≡ text.bytes.items → Answers kept r → Answers given.bytes r
 given_answers given {kept = kept} r same h = kept_answers kept given.bytes r (same ∙ given.kept) h
 
 -- ---- the first line is read within what may be read
@@ -85,7 +85,7 @@ module _ {reader_old reader_now : Option (List ℕ)} {input : Pending} {text : D
   ends_as has_end is = subst (EndsDefinition reader_old reader_now MOST_READ_BYTES input given.bytes) is given.ends
 
   -- ---- a definition that is refused
-  module _ (writer_old writer_new : Option (List ℕ)) (fault : DefineFault) (refused : Answers given.bytes (Err fault)) where
+  module _ (writer_old writer_new : Option (List ℕ)) (fault : DefineCause) (refused : Answers given.bytes (Err fault)) where
     -- the line of the refusal is the text of such a script
     abbrev refused_text : (refusal : Refusal) → IsTold fault refusal → (taken rest : List ℕ) → (taken ≡ given.bytes ++ LINE_FEED ∷ rest) ⊎ ((taken ≡ given.bytes) × (rest ≡ [])) → IsScriptText taken (line_of (refusal_text refusal))
     refused_text refusal told taken rest parts = record {

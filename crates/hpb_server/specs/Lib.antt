@@ -10,3 +10,4 @@ pub mod Serving
 pub mod Session
 pub mod Script
 pub mod ScriptLaws
+pub mod Telling

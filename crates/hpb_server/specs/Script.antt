@@ -8,8 +8,8 @@ use Rattle.hpb_rules.specs.Fronts.{IsFront}
 use Rattle.hpb_rules.specs.AuctionValue.{AuctionValue}
 use Rattle.hpb_rules.specs.Rendering.{refusal_text}
 use Rattle.hpb_rules.specs.Text.{line_of, IsText}
-use Rattle.hpb_define.specs.declared.fault.DefineFault.{DefineFault}
-use Rattle.hpb_define.specs.declared.fault.DefineFault.TheVariants.{Memory}
+use Rattle.hpb_define.specs.declared.fault.DefineCause.{DefineCause}
+use Rattle.hpb_define.specs.declared.fault.DefineCause.TheVariants.{Memory}
 use Rattle.hpb_define.specs.Fault.{refusal_of}
 use Rattle.hpb_define.specs.Text.{Answers}
 use Rattle.hpb_server.specs.declared.fault.Fault.{Fault}
@@ -25,14 +25,14 @@ use Rattle.hpb_server.specs.Streams.{Streams}
 use Rattle.hpb_server.specs.Serving.{AreLines, Serves}
 
 -- The refusal that a fault of a definition is told by. Want of memory is told by none.
-abbrev pub IsTold : DefineFault → Refusal → Type 0
+abbrev pub IsTold : DefineCause → Refusal → Type 0
 IsTold Memory refusal = ⊥
 IsTold fault refusal = refusal ≡ refusal_of fault
 
 -- What a first line is read as: the definition that it spells, or refused. Want of memory is no reading.
 abbrev pub ReadsFirst : List ℕ → Result Rules Refusal → Type 0
 ReadsFirst line (Ok rules) = Answers line (Ok rules)
-ReadsFirst line (Err refusal) = (fault : DefineFault) × Answers line (Err fault) × IsTold fault refusal
+ReadsFirst line (Err refusal) = (fault : DefineCause) × Answers line (Err fault) × IsTold fault refusal
 
 -- The text of a script, by this reading of its first line.
 abbrev pub IsScriptText : (input text : List ℕ) → Type 0
@@ -114,7 +114,7 @@ WritesRefusal writer_old writer_new refusal (Err fault) =
     ((fault ≡ faults.Memory) × Appends writer_old writer_new []) ⊎ ((fault ≡ faults.Writer) × (sent : List ℕ) × Appends writer_old writer_new sent × IsFront sent (line_of (refusal_text refusal)))
 
 -- The same by the fault of a definition, which is told by no line where memory was refused.
-abbrev pub Refuses : (writer_old writer_new : Option (List ℕ)) → DefineFault → Result ScriptEnd Fault → Type 0
+abbrev pub Refuses : (writer_old writer_new : Option (List ℕ)) → DefineCause → Result ScriptEnd Fault → Type 0
 Refuses writer_old writer_new fault (Ok Answered) = ⊥
 Refuses writer_old writer_new fault (Ok (Refused refusal)) = IsTold fault refusal × Appends writer_old writer_new (line_of (refusal_text refusal))
 Refuses writer_old writer_new fault (Err broken) =

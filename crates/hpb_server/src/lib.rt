@@ -10,6 +10,7 @@ mod output;
 mod script;
 mod serving;
 mod signal;
+mod telling;
 
 pub use desk::{Desk, ScriptDesk};
 pub use fault::Fault;
@@ -18,6 +19,7 @@ pub use laws::{input_is_text, session_is_text};
 pub use output::send_bytes;
 pub use script::{ScriptEnd, run_script, serve_auction};
 pub use serving::serve;
+pub use telling::{say, tell_people};
 
 #[cfg(test)]
 mod tests;

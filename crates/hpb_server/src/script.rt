@@ -5,14 +5,16 @@ ghost use Rattle.hpb_rules.specs.Values.{first_value};
 ghost use Rattle.hpb_server.specs.Script.{Refuses, RunsScript, ServesScript, WritesRefusal};
 ghost use Rattle.hpb_server.specs.ScriptLaws.{ServesText};
 ghost use Rattle.hpb_server.specs.Streams.{streams};
+ghost use Rattle.hpb_server.specs.Telling.{SaysOfScript};
 
 use crate::desk::ScriptDesk;
 use crate::fault::Fault;
 use crate::input::Input;
 use crate::output::Output;
 use crate::serving::{answer_lines, serve};
+use crate::telling::{greet, tell_reason};
 use hpb_auction::Auction;
-use hpb_define::{DefineFault, read_definition};
+use hpb_define::{DefineCause, read_definition};
 use hpb_rules::{MOST_READ_BYTES, Refusal};
 use hpb_tree::Definition;
 use std::alloc::Global;
@@ -30,25 +32,35 @@ pub enum ScriptEnd {
 /// Runs an auction in memory by a script. Its first line is the definition in JSON; each line after it
 /// gets its answer, as `serve` says, of whose faults these are. Both together are within the bytes that
 /// may be read.
-pub fn run_script<R: Read, W: Write>(
+///
+/// The errors are told why a definition is refused, and on a terminal that it is accepted.
+pub fn run_script<R: Read, W: Write, E: Write>(
     alloc: Global,
     reader: &mut R,
     writer: &mut W,
+    errors: &mut E,
+    is_terminal: bool,
 ) -> Result<ScriptEnd, Fault>
-    ensures { RunsScript (streams (R.remaining reader.old) (W.contents writer.old)) (streams (R.remaining reader.new) (W.contents writer.new)) result }
+    ensures said { SaysOfScript is_terminal (E.contents errors.old) (E.contents errors.new) result }
+    ensures runs { RunsScript (streams (R.remaining reader.old) (W.contents writer.old)) (streams (R.remaining reader.new) (W.contents writer.new)) result }
 {
     let mut input = Input::new(alloc, MOST_READ_BYTES)?;
     let mut output = Output::new(alloc)?;
     let text = input.take_definition(alloc, reader)?;
     match read_definition(alloc, text.bytes.as_slice()) {
         Ok(definition) => {
+            greet(is_terminal, errors);
             if !text.has_end {
                 return Ok(ScriptEnd::Answered);
             }
             answer_script(alloc, reader, writer, &definition, &mut input, &mut output)?;
             Ok(ScriptEnd::Answered)
         }
-        Err(fault) => refuse_script(writer, fault, &mut output),
+        Err(fault) => {
+            let end = refuse_script(writer, fault.cause, &mut output);
+            tell_reason(alloc, &fault, errors);
+            end
+        }
     }
 }
 
@@ -87,15 +99,15 @@ fn answer_script<R: Read, W: Write>(
 /// Writes the line of a refused definition, and nothing where memory was refused.
 fn refuse_script<W: Write>(
     writer: &mut W,
-    fault: DefineFault,
+    cause: DefineCause,
     output: &mut Output,
 ) -> Result<ScriptEnd, Fault>
     requires { output.old ≡ [] }
-    ensures { Refuses (W.contents writer.old) (W.contents writer.new) fault result }
+    ensures { Refuses (W.contents writer.old) (W.contents writer.new) cause result }
 {
-    match fault {
-        DefineFault::Memory => Err(Fault::Memory),
-        fault => write_refusal(writer, fault.refusal(), output),
+    match cause {
+        DefineCause::Memory => Err(Fault::Memory),
+        cause => write_refusal(writer, cause.refusal(), output),
     }
 }
 

@@ -4,6 +4,7 @@ use super::*;
 use crate::input::Input;
 use crate::output::Output;
 use crate::serving::answer_lines;
+use crate::telling::ACCEPTED;
 use hpb_auction::Auction;
 use hpb_define::read_definition;
 use hpb_rules::Refusal;
@@ -260,7 +261,7 @@ fn an_answer_leaves_before_the_next_line_is_asked_for(rt: HostRuntime) -> Result
     };
     let mut writer = Counts { talk: &talk };
     assert_eq!(rt;
-        run_script(alloc, &mut reader, &mut writer),
+        run(alloc, &mut reader, &mut writer),
         Ok(ScriptEnd::Answered)
     );
     assert!(rt; !talk.early.get());
@@ -277,7 +278,7 @@ fn a_script_that_is_piped_in_costs_few_writes(rt: HostRuntime) -> Result<(), Fai
     let mut reader = text.as_slice();
     let mut writer = Counts { talk: &talk };
     assert_eq!(rt;
-        run_script(alloc, &mut reader, &mut writer),
+        run(alloc, &mut reader, &mut writer),
         Ok(ScriptEnd::Answered)
     );
     assert_eq!(rt; talk.flushed.get(), 10_000);
@@ -298,7 +299,7 @@ fn bytes_come_and_go_one_by_one(rt: HostRuntime) -> Result<(), Fail> {
         signal: false,
     };
     assert_eq!(rt;
-        run_script(alloc, &mut reader, &mut writer),
+        run(alloc, &mut reader, &mut writer),
         Ok(ScriptEnd::Answered)
     );
     let want =
@@ -318,6 +319,36 @@ const FRONTS: [&[u8]; 5] = [
     b"OK 1\nOK 2\nOK 3\nROUND 2 STAGE 1 OPEN REVENUE 250 COUNT 3\n",
 ];
 
+/// Runs a script with no terminal.
+fn run<R: Read, W: Write>(
+    alloc: Global,
+    reader: &mut R,
+    writer: &mut W,
+) -> Result<ScriptEnd, Fault> {
+    let mut errors = Vec::new(alloc);
+    run_script(alloc, reader, writer, &mut errors, false)
+}
+
+#[test]
+fn people_are_told_of_a_definition(rt: HostRuntime) -> Result<(), Fail> {
+    let alloc = rt.alloc();
+    let told = "hpb: 60 json: the first line is empty\n";
+    let table = [
+        (b"\nSHOW\n".as_slice(), false, told),
+        (b"\nSHOW\n".as_slice(), true, told),
+        (DEFINITION, false, ""),
+        (DEFINITION, true, ACCEPTED),
+    ];
+    for (text, is_terminal, want) in table {
+        let mut input = text;
+        let mut output = Vec::new(alloc);
+        let mut errors = Vec::new(alloc);
+        let _ = run_script(alloc, &mut input, &mut output, &mut errors, is_terminal)?;
+        assert_eq!(rt; errors.as_slice(), want.as_bytes(), "{want}");
+    }
+    Ok(())
+}
+
 #[test]
 fn each_read_fails_in_turn(rt: HostRuntime) -> Result<(), Fail> {
     let alloc = rt.alloc();
@@ -329,7 +360,7 @@ fn each_read_fails_in_turn(rt: HostRuntime) -> Result<(), Fail> {
             reads,
         };
         let mut output = Vec::new(alloc);
-        let result = run_script(alloc, &mut reader, &mut output);
+        let result = run(alloc, &mut reader, &mut output);
         assert_eq!(rt; result, Err(Fault::Reader), "{reads}");
         assert_eq!(rt; output.as_slice(), FRONTS[lines], "{reads}");
     }
@@ -353,7 +384,7 @@ fn nothing_is_read_after_the_end(rt: HostRuntime) -> Result<(), Fail> {
             has_ended: false,
         };
         let mut output = Vec::new(alloc);
-        let result = run_script(alloc, &mut reader, &mut output);
+        let result = run(alloc, &mut reader, &mut output);
         assert_eq!(rt; result, Ok(end), "{}", text.len());
         assert_eq!(rt; output.as_slice(), want, "{}", text.len());
     }
@@ -426,7 +457,7 @@ fn many_bytes_go_one_by_one(rt: HostRuntime) -> Result<(), Fail> {
         bytes: Vec::new(alloc),
         signal: false,
     };
-    let result = run_script(alloc, &mut input, &mut writer);
+    let result = run(alloc, &mut input, &mut writer);
     assert_eq!(rt; result, Ok(ScriptEnd::Answered));
     let mut want = Vec::new(alloc);
     for _ in 0..100 {
@@ -491,11 +522,7 @@ fn inputs_end_early(rt: HostRuntime) -> Result<(), Fail> {
     for (text, end, want) in table {
         let mut input = text;
         let mut output = Vec::new(alloc);
-        assert_eq!(rt;
-            run_script(alloc, &mut input, &mut output),
-            Ok(end),
-            "{want}"
-        );
+        assert_eq!(rt; run(alloc, &mut input, &mut output), Ok(end), "{want}");
         assert_eq!(rt; output.as_slice(), want.as_bytes(), "{want}");
     }
     Ok(())

@@ -1,9 +1,10 @@
 //! Jobs on files, and what is told of them.
 
 use super::using::{
-    FailingReader, FailingWriter, Ran, SIX_NODES, format_words, new_file, run_on, run_words,
+    FailingReader, FailingWriter, Ran, SIX_NODES, format_words, new_file, run_on, run_over,
+    run_words,
 };
-use crate::{JobFault, check_device, program};
+use crate::{JobFault, Noted, check_device, program};
 use hpb_disk::{FileDisk, FuseDisk, MemoryDisk};
 use hpb_recover::Cause;
 use std::fs::{self, Permissions};
@@ -135,7 +136,7 @@ fn a_definition_is_the_whole_of_the_input(rt: HostRuntime) -> Result<(), Fail> {
     }
     let empty = run_words(&rt, &format_words(path, "4"), b"")?;
     assert!(rt;
-        empty.is_refused("ERR 60 json\n", "definition"),
+        empty.is_refused("ERR 60 json\n", "hpb: 60 json: the first line is empty"),
         "{empty:?}"
     );
     assert!(rt; fs::metadata(&rt, path).is_err());
@@ -211,7 +212,7 @@ fn what_is_no_file_is_refused(rt: HostRuntime) -> Result<(), Fail> {
     );
     let unnamed = run_words(&rt, &["hpb", "check", "--file", ""], b"")?;
     assert!(rt;
-        unnamed.is_refused("ERR 91 device\n", "error: "),
+        unnamed.is_refused("ERR 91 device\n", "hpb: 91 device: "),
         "{unnamed:?}"
     );
     Ok(())
@@ -248,54 +249,35 @@ fn streams_fail(rt: HostRuntime) -> Result<(), Fail> {
     let path = "hpb_program_streams";
     let _ = fs::remove_file(&rt, path);
     let words = format_words(path, "4");
-    let (mut output, mut errors) = (Vec::new(alloc), Vec::new(alloc));
-    let status = program(
-        &rt,
-        alloc,
-        &words,
-        &mut FailingReader,
-        &mut output,
-        &mut errors,
-    );
+    let mut output = Vec::new(alloc);
+    let (status, said) = run_over(&rt, &words, FailingReader, &mut output)?;
     assert_eq!(rt; status, 1);
     assert_eq!(rt; output.as_slice(), b"ERR 92 stream\n".as_slice());
-    assert!(rt; !errors.is_empty());
+    assert!(rt; said.starts_with("hpb: 92 stream: reading: "), "{said}");
     assert!(rt; fs::metadata(&rt, path).is_err());
-    output.clear();
     // Where the output fails the file is formatted all the same.
-    let mut input = SIX_NODES;
-    let status = program(
-        &rt,
-        alloc,
-        &words,
-        &mut input,
-        &mut FailingWriter,
-        &mut errors,
-    );
+    let (status, said) = run_over(&rt, &words, SIX_NODES, FailingWriter)?;
     assert_eq!(rt; status, 1);
+    assert!(rt; said.starts_with("hpb: 92 stream: writing: "), "{said}");
     let words = ["hpb", "check", "--file", path];
-    let status = program(
-        &rt,
-        alloc,
-        &words,
-        &mut input,
-        &mut FailingWriter,
-        &mut errors,
-    );
+    let (status, said) = run_over(&rt, &words, b"".as_slice(), FailingWriter)?;
     assert_eq!(rt; status, 1);
+    assert!(rt; said.starts_with("hpb: 92 stream: writing: "), "{said}");
     let shown = run_words(&rt, &words, b"")?;
     assert_eq!(rt; shown, Ran::well(alloc, NEW)?);
     // Where the errors fail the line is written and the status is the same.
+    let mut output = Noted::new(Vec::new(alloc));
     let status = program(
         &rt,
         alloc,
         &format_words(path, "4"),
-        &mut SIX_NODES,
+        &mut Noted::new(SIX_NODES),
         &mut output,
         &mut FailingWriter,
+        false,
     );
     assert_eq!(rt; status, 1);
-    assert_eq!(rt; output.as_slice(), b"ERR 41 formatted\n".as_slice());
+    assert_eq!(rt; output.stream.as_slice(), b"ERR 41 formatted\n".as_slice());
     fs::remove_file(&rt, path)?;
     Ok(())
 }

@@ -1,8 +1,11 @@
 //! Files that are run, and what is told of how that ended.
 
-use super::using::{FailingReader, FailingWriter, Ran, SIX_NODES, new_file, run_on, run_words};
+use super::using::{
+    FailingReader, FailingWriter, Ran, SIX_NODES, new_file, run_on, run_over, run_words,
+};
+use crate::noted::Failures;
 use crate::run_end::{RunAdvice, RunEnd};
-use crate::{JobFault, program, run_kept};
+use crate::{JobFault, run_kept};
 use hpb_disk::{FileDisk, FuseDisk, MemoryDisk};
 use hpb_recover::Cause;
 use hpb_server::Fault;
@@ -205,39 +208,16 @@ fn streams_of_a_run_fail(rt: HostRuntime) -> Result<(), Fail> {
     let path = "hpb_program_cut_off";
     new_file(&rt, path, "4")?;
     let words = ["hpb", "run", "--file", path];
-    let (mut output, mut errors) = (Vec::new(alloc), Vec::new(alloc));
-    let status = program(
-        &rt,
-        alloc,
-        &words,
-        &mut FailingReader,
-        &mut output,
-        &mut errors,
-    );
+    let mut output = Vec::new(alloc);
+    let (status, said) = run_over(&rt, &words, FailingReader, &mut output)?;
     assert_eq!(rt; status, 1);
     assert!(rt; output.is_empty());
-    let said = String::from_utf8(errors)?;
-    assert!(rt;
-        said.starts_with("error: standard input could not be read"),
-        "{said}"
-    );
+    assert!(rt; said.starts_with("hpb: 92 stream: reading: "), "{said}");
+    assert!(rt; said.contains("Run hpb_program_cut_off again"), "{said}");
     // What was accepted stands, though its answer could not be written.
-    let mut errors = Vec::new(alloc);
-    let mut input = b"BID x 1 a 100\n".as_slice();
-    let status = program(
-        &rt,
-        alloc,
-        &words,
-        &mut input,
-        &mut FailingWriter,
-        &mut errors,
-    );
+    let (status, said) = run_over(&rt, &words, b"BID x 1 a 100\n".as_slice(), FailingWriter)?;
     assert_eq!(rt; status, 1);
-    let said = String::from_utf8(errors)?;
-    assert!(rt;
-        said.starts_with("error: standard output could not be written"),
-        "{said}"
-    );
+    assert!(rt; said.starts_with("hpb: 92 stream: writing: "), "{said}");
     let again = run_words(&rt, &words, b"BID x 1 a 100\nSHOW\n")?;
     assert_eq!(rt;
         again,
@@ -344,22 +324,31 @@ fn each_call_of_a_run_fails_in_turn(rt: HostRuntime) -> Result<(), Fail> {
 
 #[test]
 fn ends_of_runs_are_told(rt: HostRuntime) -> Result<(), Fail> {
-    let disk = "error: the disk of a.hpb failed. All that was answered by OK is kept.";
+    let disk = "hpb: 91 device: the disk of a.hpb failed. All that was answered by OK is kept.";
     for (end, failed, begins, said) in [
-        (Ok(()), true, disk, "copy a.hpb"),
+        (Ok(()), true, "the disk of a.hpb failed", "copy a.hpb"),
         (
             Err(Fault::Memory),
             false,
-            "error: memory was refused.",
+            "memory was refused.",
             "Run a.hpb again",
         ),
-        (Err(Fault::Writer), true, "error: standard output", disk),
+        (
+            Err(Fault::Writer),
+            true,
+            "writing: nothing more was taken",
+            disk,
+        ),
     ] {
         let advice = RunAdvice {
             file: "a.hpb",
             end: RunEnd { end, failed },
+            failures: Failures {
+                reading: None,
+                writing: None,
+            },
         };
-        let text = format!(in rt.alloc(); "error: {advice}\n")?;
+        let text = format!(in rt.alloc(); "{advice}\n")?;
         assert!(rt; text.starts_with(begins), "{text}");
         assert!(rt; text.contains(said), "{text}");
     }

@@ -1,6 +1,6 @@
 //! Running the program in a test.
 
-use crate::program;
+use crate::{Noted, program};
 use std::alloc::{AllocError, Global};
 use std::io::{ErrorKind, Read, Write};
 use std::test::Fail;
@@ -32,7 +32,7 @@ impl Ran {
     pub(crate) fn is_refused(&self, line: &str, said: &str) -> bool {
         self.status == 1
             && self.output.as_str() == line
-            && self.errors.starts_with("error: ")
+            && self.errors.starts_with("hpb: ")
             && self.errors.contains(said)
     }
 }
@@ -45,16 +45,56 @@ pub(crate) fn format_words<'a>(path: &'a str, journal: &'a str) -> [&'a str; 6] 
 /// Runs the program, and tells how much of the input is left.
 pub(crate) fn run_on(rt: &HostRuntime, words: &[&str], text: &[u8]) -> Result<(Ran, usize), Fail> {
     let alloc = rt.alloc();
-    let mut input = text;
-    let mut output = Vec::new(alloc);
+    run_at(rt, words, text, false)
+}
+
+/// The same where the input may be a terminal.
+pub(crate) fn run_at(
+    rt: &HostRuntime,
+    words: &[&str],
+    text: &[u8],
+    is_terminal: bool,
+) -> Result<(Ran, usize), Fail> {
+    let alloc = rt.alloc();
+    let mut input = Noted::new(text);
+    let mut output = Noted::new(Vec::new(alloc));
     let mut errors = Vec::new(alloc);
-    let status = program(rt, alloc, words, &mut input, &mut output, &mut errors);
+    let status = program(
+        rt,
+        alloc,
+        words,
+        &mut input,
+        &mut output,
+        &mut errors,
+        is_terminal,
+    );
     let ended = Ran {
         status,
-        output: String::from_utf8(output)?,
+        output: String::from_utf8(output.stream)?,
         errors: String::from_utf8(errors)?,
     };
-    Ok((ended, input.len()))
+    Ok((ended, input.stream.len()))
+}
+
+/// How the program ends over streams of which some fail: its status, and what its errors are told.
+pub(crate) fn run_over<R: Read + Drop, W: Write + Drop>(
+    rt: &HostRuntime,
+    words: &[&str],
+    input: R,
+    output: W,
+) -> Result<(u8, String), Fail> {
+    let alloc = rt.alloc();
+    let mut errors = Vec::new(alloc);
+    let status = program(
+        rt,
+        alloc,
+        words,
+        &mut Noted::new(input),
+        &mut Noted::new(output),
+        &mut errors,
+        false,
+    );
+    Ok((status, String::from_utf8(errors)?))
 }
 
 pub(crate) fn run_words(rt: &HostRuntime, words: &[&str], text: &[u8]) -> Result<Ran, Fail> {

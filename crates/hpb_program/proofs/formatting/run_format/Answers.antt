@@ -8,7 +8,7 @@ use Rattle.hpb_program.proofs.formatting.run_format.Goals as goal
 pub returns-in-Err-read_definition : goal.returns-in-Err-read_definition
 returns-in-Err-read_definition g c =
     let fault = c.in-Err-read_definition.fault in
-    let answers = subst (λ (t : List ℕ). Answers t (Err fault)) c.as_slice.ensures.value c.in-Err-read_definition.ensures in
+    let answers = subst (λ (t : List ℕ). Answers t (Err fault.cause)) c.as_slice.ensures.value c.in-Err-read_definition.ensures in
     refused_definition c.args.journal (streams _ _) (streams _ _) c.in-Ok.text.items c.in-Ok.ensures.ok (Keeps-refl _) fault c.from.result c.from.ensures answers
 
 pub returns-then-not-is_journal : goal.returns-then-not-is_journal

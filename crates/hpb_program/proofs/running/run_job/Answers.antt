@@ -8,14 +8,14 @@ use Rattle.hpb_program.proofs.running.run_job.Goals as goal
 
 pub returns-in-Check-clause-streams : goal.returns-in-Check-clause-streams
 returns-in-Check-clause-streams g c =
-    subst (λ (job : Job). RunsJob job (streams (g.R.Read.remaining c.args.input.now) (g.W.Write.contents c.args.output.now))
-    (streams (g.R.Read.remaining c.args.input.now) (g.W.Write.contents c.tell_end-in-Check.new.output))
+    subst (λ (job : Job). RunsJob c.args.is_terminal job (streams (g.R.Read.remaining c.args.input.now.stream) (g.W.Write.contents c.args.output.now.stream))
+    (streams (g.R.Read.remaining c.args.input.now.stream) (g.W.Write.contents c.tell_end-in-Check.new.output.stream))
     (g.E.Write.contents c.args.errors.now) (g.E.Write.contents c.tell_end-in-Check.new.errors) c.tell_end-in-Check.result) (sym c.in-Check.is)
     (checked_to_end _ _ _ _ _ _ c.run_check-end.result c.tell_end-in-Check.result c.run_check-end.ensures c.tell_end-in-Check.ensures.told)
 
 pub returns-in-Run-clause-streams : goal.returns-in-Run-clause-streams
 returns-in-Run-clause-streams g c =
-    subst (λ (job : Job). RunsJob job (streams (g.R.Read.remaining c.args.input.now) (g.W.Write.contents c.args.output.now))
-    (streams (g.R.Read.remaining c.run_file-end.new.input) (g.W.Write.contents c.tell_run.new.output))
+    subst (λ (job : Job). RunsJob c.args.is_terminal job (streams (g.R.Read.remaining c.args.input.now.stream) (g.W.Write.contents c.args.output.now.stream))
+    (streams (g.R.Read.remaining c.run_file-end.new.input.stream) (g.W.Write.contents c.tell_run.new.output.stream))
     (g.E.Write.contents c.args.errors.now) (g.E.Write.contents c.tell_run.new.errors) c.tell_run.result) (sym c.in-Run.is)
-    (streams (g.R.Read.remaining c.run_file-end.new.input) (g.W.Write.contents c.run_file-end.new.output), c.run_file-end.result, c.run_file-end.ensures, Keeps-refl _, c.tell_run.ensures.told)
+    (streams (g.R.Read.remaining c.run_file-end.new.input.stream) (g.W.Write.contents c.run_file-end.new.output.stream), c.run_file-end.result, c.run_file-end.ensures, Keeps-refl _, c.tell_run.ensures.told)

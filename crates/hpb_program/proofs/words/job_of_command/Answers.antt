@@ -1,4 +1,4 @@
-use Rattle.std.proofs.Common.{ℕ, List, Result, rules, refl, codes}
+use Rattle.std.proofs.Common.{rules, refl, codes}
 use Rattle.std.specs.Str.Parse.{ParsesUnsigned, ExplainsUnsignedError, HasUnsignedDigitsIfOk}
 use Rattle.clap.specs.Matches.{found_of}
 use Rattle.hpb_program.proofs.Options.{text_read, number_read}

@@ -1,7 +1,7 @@
 use Rattle.std.proofs.lemmas.Result.{err_from_is_err_and}
 use Rattle.hpb_tree.specs.Draft.{rules_of}
 use Rattle.hpb_define.proofs.Refusals.{answers_refused}
-use Rattle.hpb_define.proofs.definition.read_definition.Goals as goal
+use Rattle.hpb_define.proofs.definition.definition_of.Goals as goal
 
 pub returns-in_err-definition : goal.returns-in_err-definition
 returns-in_err-definition c =

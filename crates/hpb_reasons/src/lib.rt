@@ -1,0 +1,20 @@
+//! Why a definition is refused: what is wrong there, and where, in words for people. Nothing is decided here.
+#![tactic(auto)]
+
+mod entries;
+mod fault;
+mod fields;
+mod json;
+mod limits;
+mod names;
+mod numbers;
+mod place;
+mod shown;
+mod telling;
+mod terms;
+mod tree;
+
+pub use telling::{NOTHING_FOUND, reason};
+
+#[cfg(test)]
+mod tests;

@@ -1,0 +1,66 @@
+use crate::entries::items;
+use crate::fault::{Fault, Misfit};
+use crate::fields::check_fields;
+use crate::json::text_fault;
+use crate::limits::check_limits;
+use crate::names::{check_duplicates, check_names};
+use crate::numbers::check_numbers;
+use crate::place::{List, Place};
+use crate::terms::check_terms;
+use crate::tree::{check_licences, check_packages, check_parents};
+use hpb_rules::Refusal;
+use serde_json::Value;
+use std::alloc::{AllocError, Global};
+
+/// What is said where no reason is found, or memory is refused for it.
+pub const NOTHING_FOUND: &str = "docs/PROTOCOL.md says what a definition must be";
+
+/// Why the text of a definition is refused by this refusal: the place, and what is wrong there. It is text for people,
+/// beside the refusal's own number and word, and nothing is decided by it. Where this refusal isn't found in the text,
+/// it names the document that says what a definition must be. Memory may be refused.
+pub fn reason(alloc: Global, text: &[u8], refusal: Refusal) -> Result<String, AllocError> {
+    if refusal == Refusal::Json {
+        return reason_of_text(alloc, text);
+    }
+    match Value::from_slice(alloc, text) {
+        Ok(definition) => match check(&definition, refusal) {
+            Ok(()) => String::from_str(alloc, NOTHING_FOUND),
+            Err(fault) => format!(in alloc; "{fault}"),
+        },
+        Err(error) if error.is_memory() => Err(AllocError),
+        Err(_) => String::from_str(alloc, NOTHING_FOUND),
+    }
+}
+
+fn reason_of_text(alloc: Global, text: &[u8]) -> Result<String, AllocError> {
+    match text_fault(alloc, text)? {
+        Some(fault) => format!(in alloc; "{fault}"),
+        None => String::from_str(alloc, NOTHING_FOUND),
+    }
+}
+
+/// Whether a definition keeps the rule of a refusal, and else what is wrong at the first place where it doesn't.
+fn check(definition: &Value, refusal: Refusal) -> Result<(), Fault<'_>> {
+    match refusal {
+        Refusal::Empty => check_lists(definition),
+        Refusal::Name => check_names(definition),
+        Refusal::Duplicate => check_duplicates(definition),
+        Refusal::Parent => check_parents(definition),
+        Refusal::Children => check_packages(definition),
+        Refusal::Leaf => check_licences(definition),
+        Refusal::Limits => check_limits(definition),
+        Refusal::Terms => check_terms(definition),
+        Refusal::Field => check_fields(definition),
+        Refusal::Number => check_numbers(definition),
+        _ => Ok(()),
+    }
+}
+
+fn check_lists(definition: &Value) -> Result<(), Fault<'_>> {
+    for list in [List::Nodes, List::Bidders, List::Stages] {
+        if items(definition, list).is_empty() {
+            return Err(Misfit::Empty(list).at(Place::Field(list.field())));
+        }
+    }
+    Ok(())
+}

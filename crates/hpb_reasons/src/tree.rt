@@ -1,0 +1,136 @@
+//! Nodes, their parents and their children.
+use crate::entries::{has_text, is_licence, items, place_named, text};
+use crate::fault::{Fault, Misfit};
+use crate::place::{Item, List, Place};
+use crate::shown::Quoted;
+use serde_json::Value;
+use std::fmt;
+
+/// The fewest children of a package.
+const LEAST_CHILDREN: usize = 2;
+
+/// What is wrong with a node's parent or its children.
+#[derive(Clone, Copy)]
+pub(crate) enum TreeMisfit<'v> {
+    /// No node has the parent's name.
+    NoNode(&'v str),
+    /// No node has the parent's name, and a node without parent seems to be meant.
+    NoNull(&'v str),
+    /// The parent is the node itself.
+    Itself(&'v str),
+    /// The parent stands behind the node.
+    Behind {
+        parent: &'v str,
+        at: Item,
+    },
+    /// A package has fewer than two children.
+    Thin {
+        package: &'v str,
+        children: usize,
+    },
+    /// A licence has a child.
+    Child {
+        licence: &'v str,
+        child: &'v str,
+        at: Item,
+    },
+}
+
+impl fmt::Display for TreeMisfit<'_> {
+    fn fmt<W: fmt::Write>(&self, f: &mut fmt::Formatter<W>) -> fmt::Result {
+        match *self {
+            TreeMisfit::NoNode(parent) => write!(f, "{} is no node", Quoted(parent)),
+            TreeMisfit::NoNull(parent) => {
+                let parent = Quoted(parent);
+                write!(f, "{parent} is no node; a top node has null without quotes")
+            }
+            TreeMisfit::Itself(parent) => write!(f, "{} is the node itself", Quoted(parent)),
+            TreeMisfit::Behind { parent, at } => {
+                write!(f, "{} stands at {at}, not before it", Quoted(parent))
+            }
+            TreeMisfit::Thin { package, children } => {
+                let package = Quoted(package);
+                let count = if children == 0 { "no" } else { "one" };
+                write!(
+                    f,
+                    "the package {package} has {count} child; a package has 2 or more"
+                )
+            }
+            TreeMisfit::Child { licence, child, at } => {
+                let (licence, child) = (Quoted(licence), Quoted(child));
+                write!(
+                    f,
+                    "the licence {licence} has the child {child} at {at}; a licence has none"
+                )
+            }
+        }
+    }
+}
+
+/// Whether each parent stands before its node, and else what is wrong with the first that doesn't.
+pub(crate) fn check_parents(definition: &Value) -> Result<(), Fault<'_>> {
+    let nodes = items(definition, List::Nodes);
+    for (index, node) in nodes.iter().enumerate() {
+        let Some(parent) = text(node, "parent") else {
+            continue;
+        };
+        if let Some(misfit) = misfit_of_parent(nodes, index, parent) {
+            let place = List::Nodes.item(index).field("parent");
+            return Err(Misfit::Tree(misfit).at(place));
+        }
+    }
+    Ok(())
+}
+
+fn misfit_of_parent<'v>(nodes: &[Value], index: usize, parent: &'v str) -> Option<TreeMisfit<'v>> {
+    match place_named(nodes, parent) {
+        Some(place) if place < index => None,
+        Some(place) if place == index => Some(TreeMisfit::Itself(parent)),
+        Some(place) => {
+            let at = List::Nodes.item(place);
+            Some(TreeMisfit::Behind { parent, at })
+        }
+        None if parent.is_empty() || parent == "null" => Some(TreeMisfit::NoNull(parent)),
+        None => Some(TreeMisfit::NoNode(parent)),
+    }
+}
+
+/// Whether each package has two children, and else what is wrong with the first that hasn't.
+pub(crate) fn check_packages(definition: &Value) -> Result<(), Fault<'_>> {
+    let nodes = items(definition, List::Nodes);
+    for (index, node) in nodes.iter().enumerate() {
+        if is_licence(node) {
+            continue;
+        }
+        let package = text(node, "name").unwrap_or("");
+        let children = nodes
+            .iter()
+            .filter(|child| has_text(child, "parent", package))
+            .count();
+        if children < LEAST_CHILDREN {
+            let misfit = TreeMisfit::Thin { package, children };
+            return Err(Misfit::Tree(misfit).at(Place::Item(List::Nodes.item(index))));
+        }
+    }
+    Ok(())
+}
+
+/// Whether no licence has a child, and else which is the first that has, and its first child.
+pub(crate) fn check_licences(definition: &Value) -> Result<(), Fault<'_>> {
+    let nodes = items(definition, List::Nodes);
+    for (index, node) in nodes.iter().enumerate() {
+        if !is_licence(node) {
+            continue;
+        }
+        let licence = text(node, "name").unwrap_or("");
+        for (place, child) in nodes.iter().enumerate() {
+            if has_text(child, "parent", licence) {
+                let at = List::Nodes.item(place);
+                let child = text(child, "name").unwrap_or("");
+                let misfit = TreeMisfit::Child { licence, child, at };
+                return Err(Misfit::Tree(misfit).at(Place::Item(List::Nodes.item(index))));
+            }
+        }
+    }
+    Ok(())
+}

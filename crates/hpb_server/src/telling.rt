@@ -1,0 +1,69 @@
+//! What is said to people, beside the answers.
+ghost use Rattle.hpb_define.specs.Fault.{refusal_of};
+ghost use Rattle.hpb_server.specs.Telling.{Says, TellsOf, accepted_text, told_line};
+
+use crate::output::send_bytes;
+use hpb_define::{DefineCause, DefineFault};
+use hpb_rules::Refusal;
+use std::alloc::Global;
+use std::fmt;
+use std::io::Write;
+
+/// What a terminal is told of a definition that is accepted.
+pub(crate) const ACCEPTED: &str = "hpb: the definition is accepted: type commands and questions\n";
+
+/// Writes a text, as far as the writer takes it. Where it fails, there is nowhere left to say so.
+#[tactic(auto, using(crate::proofs::Fronts::put_front))]
+pub fn say<W: Write>(text: &[u8], writer: &mut W)
+    ensures { Says (W.contents writer.old) (W.contents writer.new) text.now }
+{
+    let _ = send_bytes(writer, text);
+}
+
+/// Tells people of a refusal, by a line that has its number, its word and a reason, as far as memory and the errors
+/// allow.
+pub fn tell_people<E: Write>(alloc: Global, refusal: Refusal, reason: &str, errors: &mut E)
+    ensures { Says (E.contents errors.old) (E.contents errors.new) (told_line refusal reason.now) }
+{
+    if let Ok(line) = (LineForPeople { refusal, reason }).to_string(alloc) {
+        say(line.as_bytes(), errors);
+    }
+}
+
+/// A refusal's line for people.
+#[derive(Clone, Copy)]
+struct LineForPeople<'a> {
+    refusal: Refusal,
+    reason: &'a str,
+}
+
+impl fmt::Display for LineForPeople<'_> {
+    ghost use Rattle.std.specs.Prelude.{Some};
+
+    ghost output = { λ line. Some (told_line line.refusal line.reason.now) };
+
+    fn fmt<W: fmt::Write>(&self, f: &mut fmt::Formatter<W>) -> fmt::Result {
+        let (number, word) = (self.refusal.number(), self.refusal.word());
+        let reason = self.reason;
+        write!(f, "hpb: {number} {word}: {reason}\n")
+    }
+}
+
+/// Tells a terminal that a definition was accepted.
+pub(crate) fn greet<E: Write>(is_terminal: bool, errors: &mut E)
+    ensures { Says (E.contents errors.old) (E.contents errors.new) (accepted_text is_terminal) }
+{
+    if is_terminal {
+        say(ACCEPTED.as_bytes(), errors);
+    }
+}
+
+/// Tells people why a definition is refused, and of want of memory nothing.
+pub(crate) fn tell_reason<E: Write>(alloc: Global, fault: &DefineFault, errors: &mut E)
+    ensures { TellsOf (E.contents errors.old) (E.contents errors.new) (refusal_of fault.now.cause) }
+{
+    if fault.cause == DefineCause::Memory {
+        return;
+    }
+    tell_people(alloc, fault.refusal(), fault.said(), errors);
+}
