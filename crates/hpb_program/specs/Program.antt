@@ -42,7 +42,7 @@ HasStatus (Refused text status) = (status ≡ WELL) ⊎ (status ≡ WRONG_WORDS)
 
 -- What is said of words that ask for no job.
 abbrev pub SaysFault : (errors_old errors_new : Option (List ℕ)) → WordsFault → Type 0
-SaysFault errors_old errors_new Memory = Keeps errors_old errors_new
+SaysFault errors_old errors_new Memory = TellsOf errors_old errors_new refusals.Memory
 SaysFault errors_old errors_new (Refused text status) = Says errors_old errors_new (string_bytes text)
 
 -- What is told of a fault on the output: the line of its refusal; or nothing where the output failed, since a front of another line may stand there.

@@ -1,9 +1,9 @@
 ghost use Rattle.std.specs.Prelude.{◌≡◌, ◌≢◌, ◌≤◌, IfErr, map};
-ghost use Rattle.std.specs.Io.KnownBytes.{Keeps};
 ghost use Rattle.std.specs.IoError.{error_kind};
 ghost use Rattle.hpb_program.specs.Program.{HasStatus, RunsAsked, RunsJob, RunsProgram, SaysFault, TellsEnd, TellsEnded, TellsRun, TellsScript, hint_text, status_of_fault, status_of_script};
 ghost use Rattle.hpb_server.specs.Streams.{streams};
-ghost use Rattle.hpb_server.specs.Telling.{Says};
+ghost use Rattle.hpb_rules.specs.declared.refusal.Refusal.TheVariants as refusals;
+ghost use Rattle.hpb_server.specs.Telling.{Says, TellsOf};
 
 use crate::checking::run_check;
 use crate::formatting::run_format;
@@ -14,7 +14,7 @@ use crate::noted::{Failures, Noted};
 use crate::run_end::{RunAdvice, RunEnd};
 use crate::script_end::ScriptAdvice;
 use crate::status::{ILL, WELL, WRONG_WORDS};
-use crate::telling::{advise, tell};
+use crate::telling::{advise, tell, tell_memory};
 use crate::words::{Job, WordsFault, read_words};
 use hpb_rules::Refusal;
 use hpb_server::{Fault, ScriptEnd, run_script, say};
@@ -48,13 +48,14 @@ pub fn program<H: Files<File = File>, S: AsStr, R: Read, W: Write, E: Write>(
     run_asked(rt, alloc, asked, input, output, errors, is_terminal)
 }
 
-/// The status of the program where its words can't be read: 1 where memory was refused, else 2, which
-/// the errors are told.
+/// The status of the program where its words can't be read: 1 where memory was refused, else 2. The errors are told
+/// which.
 pub fn refuse_words<E: Write>(error: &io::Error, errors: &mut E) -> u8
-    ensures memory { error_kind error.now ≡ ErrorKind.OutOfMemory → (result ≡ ILL) × Keeps (E.contents errors.old) (E.contents errors.new) }
+    ensures memory { error_kind error.now ≡ ErrorKind.OutOfMemory → (result ≡ ILL) × TellsOf (E.contents errors.old) (E.contents errors.new) refusals.Memory }
     ensures wrong { error_kind error.now ≢ ErrorKind.OutOfMemory → (result ≡ WRONG_WORDS) × Says (E.contents errors.old) (E.contents errors.new) NO_TEXT.now }
 {
     if error.kind() == ErrorKind::OutOfMemory {
+        tell_memory(errors);
         return ILL;
     }
     say(NO_TEXT.as_bytes(), errors);
@@ -106,36 +107,18 @@ fn run_job<H: Files<File = File>, R: Read, W: Write, E: Write>(
         }
         Job::Format { file, journal } => {
             let end = run_format(rt, alloc, file, journal, input, output);
-            tell_end(
-                alloc,
-                file,
-                end,
-                Failures::of(input, output),
-                output,
-                errors,
-            )
+            let failures = Failures::of(input, output);
+            tell_end(alloc, file, end, failures, output, errors)
         }
         Job::Check { file } => {
             let end = run_check(rt, alloc, file, output);
-            tell_end(
-                alloc,
-                file,
-                end,
-                Failures::of(input, output),
-                output,
-                errors,
-            )
+            let failures = Failures::of(input, output);
+            tell_end(alloc, file, end, failures, output, errors)
         }
         Job::Run { file, batch, every } => {
             let end = run_file(rt, alloc, file, batch as usize, every, input, output);
-            tell_run(
-                alloc,
-                file,
-                end,
-                Failures::of(input, output),
-                output,
-                errors,
-            )
+            let failures = Failures::of(input, output);
+            tell_run(alloc, file, end, failures, output, errors)
         }
     }
 }
@@ -239,7 +222,10 @@ fn say_fault<E: Write>(fault: WordsFault, errors: &mut E) -> u8
     ensures said { SaysFault (E.contents errors.old) (E.contents errors.new) fault }
 {
     match fault {
-        WordsFault::Memory => ILL,
+        WordsFault::Memory => {
+            tell_memory(errors);
+            ILL
+        }
         WordsFault::Refused { text, status } => {
             say(text.as_bytes(), errors);
             status

@@ -75,9 +75,16 @@ fn tell_of_memory<E: Write>(refusal: Refusal, errors: &mut E)
     ensures { TellsOf (E.contents errors.old) (E.contents errors.new) refusal }
 {
     match refusal {
-        Refusal::Memory => say(line_of_memory_told().as_bytes(), errors),
+        Refusal::Memory => tell_memory(errors),
         _ => {}
     }
+}
+
+/// Tells people of 90, without taking memory.
+pub(crate) fn tell_memory<E: Write>(errors: &mut E)
+    ensures { Says (E.contents errors.old) (E.contents errors.new) (told_line refusals.Memory (codes "memory was refused")) }
+{
+    say(line_of_memory_told().as_bytes(), errors);
 }
 
 fn line_of_memory_told() -> &'static str

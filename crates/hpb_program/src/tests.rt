@@ -207,7 +207,10 @@ fn words_that_are_no_text_are_refused(rt: HostRuntime) -> Result<(), Fail> {
     let mut errors = Vec::new(alloc);
     let status = refuse_words(&ErrorKind::OutOfMemory.into(), &mut errors);
     assert_eq!(rt; status, 1);
-    assert!(rt; errors.is_empty());
+    assert_eq!(rt;
+        errors.as_slice(),
+        b"hpb: 90 memory: memory was refused\n".as_slice()
+    );
     Ok(())
 }
 

@@ -44,8 +44,8 @@ pub(crate) enum TextMisfit {
     TooLarge,
     /// The text ends too early.
     End,
-    /// A character that can't stand there.
-    Stray(char),
+    /// Reading stopped at this character, or at the end. What is wrong stands there, or right before.
+    Stopped(Option<char>),
 }
 
 impl fmt::Display for TextMisfit {
@@ -58,9 +58,10 @@ impl fmt::Display for TextMisfit {
             TextMisfit::TooDeep => write!(f, "nested more than {} deep", Limit(MOST_DEPTH as u64)),
             TextMisfit::TooLarge => f.write_str("a number is too large to be read"),
             TextMisfit::End => f.write_str("the text ends before the JSON does"),
-            TextMisfit::Stray(character) => {
-                write!(f, "{} can't stand here", QuotedCharacter(character))
+            TextMisfit::Stopped(Some(character)) => {
+                write!(f, "reading stopped at {}", QuotedCharacter(character))
             }
+            TextMisfit::Stopped(None) => f.write_str("reading stopped at the end"),
         }
     }
 }
@@ -147,10 +148,10 @@ fn misfit_at(alloc: Global, text: &[u8], error: Error) -> Result<TextMisfit, All
     {
         return Ok(TextMisfit::TooLarge);
     }
-    match spot.character(text) {
-        Some(character) if !error.is_eof() => Ok(TextMisfit::Stray(character)),
-        _ => Ok(TextMisfit::End),
+    if error.is_eof() {
+        return Ok(TextMisfit::End);
     }
+    Ok(TextMisfit::Stopped(spot.character(text)))
 }
 
 /// Where a byte of a text stands.

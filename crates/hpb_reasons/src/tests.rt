@@ -30,22 +30,34 @@ static TEXTS: [(&str, &str); 20] = [
         "[1e999]",
         "line 1 column 7: a number is too large to be read",
     ),
-    ("{\"step\":10,}", "line 1 column 12: \"}\" can't stand here"),
+    (
+        "{\"step\":10,}",
+        "line 1 column 12: reading stopped at \"}\"",
+    ),
     (
         "{\"step\":10 \"percent\":1}",
-        "line 1 column 12: \"\\\"\" can't stand here",
+        "line 1 column 12: reading stopped at \"\\\"\"",
     ),
-    ("{'step':10}", "line 1 column 2: \"'\" can't stand here"),
-    ("{\"step\":010}", "line 1 column 9: \"0\" can't stand here"),
-    ("{\"step\":+1}", "line 1 column 9: \"+\" can't stand here"),
-    ("{\"step\":.5}", "line 1 column 9: \".\" can't stand here"),
-    ("[True]", "line 1 column 2: \"T\" can't stand here"),
-    ("{\"\u{e9}\":x}", "line 1 column 7: \"x\" can't stand here"),
-    ("{}{}", "line 1 column 3: \"{\" can't stand here"),
-    ("{}\n }", "line 2 column 2: \"}\" can't stand here"),
-    ("{}\0", "line 1 column 3: \"\\0\" can't stand here"),
-    ("\u{a0}{}", "line 1 column 1: \"\\u{a0}\" can't stand here"),
-    ("{\"a\":1]", "line 1 column 7: \"]\" can't stand here"),
+    ("{'step':10}", "line 1 column 2: reading stopped at \"'\""),
+    (
+        "{\"step\":010}",
+        "line 1 column 9: reading stopped at \"0\"",
+    ),
+    ("{\"step\":+1}", "line 1 column 9: reading stopped at \"+\""),
+    ("{\"step\":.5}", "line 1 column 9: reading stopped at \".\""),
+    ("[True]", "line 1 column 2: reading stopped at \"T\""),
+    (
+        "{\"\u{e9}\":x}",
+        "line 1 column 7: reading stopped at \"x\"",
+    ),
+    ("{}{}", "line 1 column 3: reading stopped at \"{\""),
+    ("{}\n }", "line 2 column 2: reading stopped at \"}\""),
+    ("{}\0", "line 1 column 3: reading stopped at \"\\0\""),
+    (
+        "\u{a0}{}",
+        "line 1 column 1: reading stopped at \"\\u{a0}\"",
+    ),
+    ("{\"a\":1]", "line 1 column 7: reading stopped at \"]\""),
 ];
 
 // Bytes that are no UTF-8.
@@ -444,7 +456,7 @@ static CHANGED: [(&str, &str, Refusal, &str); 65] = [
         r#""step":10"#,
         r#""step":10,"#,
         Json,
-        "line 1 column 12: \",\" can't stand here",
+        "line 1 column 12: reading stopped at \",\"",
     ),
 ];
 

@@ -15,7 +15,7 @@ use Rattle.hpb_server.specs.declared.fault.Fault.TheVariants as faults
 use Rattle.hpb_server.specs.declared.script.ScriptEnd.{ScriptEnd}
 use Rattle.hpb_server.specs.declared.script.ScriptEnd.TheVariants.{Answered, Refused}
 use Rattle.hpb_server.specs.Script.{IsTold, WritesRefusal, Refuses}
-use Rattle.hpb_server.specs.Telling.{Says, SaysOfScript, TellsOf, told_line}
+use Rattle.hpb_server.specs.Telling.{Says, SaysOfScript, TellsOf, accepted_text}
 use Rattle.hpb_server.specs.Writing.{Sends}
 use Rattle.hpb_server.proofs.Errors.{err_case}
 
@@ -52,9 +52,9 @@ pub said_of_refused : (is_terminal : Bool) (old new errors_old errors_new : Opti
     → TellsOf errors_old errors_new (refusal_of cause) → SaysOfScript is_terminal errors_old errors_new r
 said_of_refused is_terminal old new errors_old errors_new cause (Ok Answered) w told = absurd w
 said_of_refused is_terminal old new errors_old errors_new cause (Ok (Refused refusal)) w told = subst (TellsOf errors_old errors_new) (told_as cause refusal w.0) told
-said_of_refused is_terminal old new errors_old errors_new cause (Err fault) w told = (told_line (refusal_of cause) told.0, told.1)
+said_of_refused is_terminal old new errors_old errors_new cause (Err fault) w told = inr (refusal_of cause, told)
 
 -- where a fault comes later, what was said stands
-pub said_before : (is_terminal : Bool) (errors_old errors_new : Option (List ℕ)) (text : List ℕ) (fault : Fault) (r : Result ScriptEnd Fault) → IsErrAnd r (λ e. e ≡ fault)
-    → Says errors_old errors_new text → SaysOfScript is_terminal errors_old errors_new r
-said_before is_terminal errors_old errors_new text fault r bad says = err_case (SaysOfScript is_terminal errors_old errors_new) r bad (λ other is. (text, says))
+pub said_before : (is_terminal : Bool) (errors_old errors_new : Option (List ℕ)) (fault : Fault) (r : Result ScriptEnd Fault) → IsErrAnd r (λ e. e ≡ fault)
+    → Says errors_old errors_new (accepted_text is_terminal) → SaysOfScript is_terminal errors_old errors_new r
+said_before is_terminal errors_old errors_new fault r bad says = err_case (SaysOfScript is_terminal errors_old errors_new) r bad (λ other is. inl says)

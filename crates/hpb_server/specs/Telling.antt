@@ -1,5 +1,5 @@
 -- What is said to people, beside the answers.
-use Rattle.std.specs.Prelude.{ℕ, Bool, true, false, List, [], ◌++◌, Option, Result, Ok, Err, codes, decimal}
+use Rattle.std.specs.Prelude.{ℕ, Bool, true, false, List, [], ◌++◌, ◌⊎◌, Option, Result, Ok, Err, codes, decimal}
 use Rattle.std.specs.Io.KnownBytes.{Appends}
 use Rattle.hpb_rules.specs.declared.refusal.Refusal.{Refusal}
 use Rattle.hpb_rules.specs.Fronts.{IsFront}
@@ -26,8 +26,8 @@ abbrev pub accepted_text : (is_terminal : Bool) → List ℕ
 accepted_text true = ACCEPTED.now
 accepted_text false = []
 
--- What is said of a script: that its definition was accepted, or why it was refused. Where a fault ended it, either may have been said.
+-- What is said of a script: that its definition was accepted, or why it was refused. Where a fault ended it, either may have been said, and nothing else.
 abbrev pub SaysOfScript : (is_terminal : Bool) (errors_old errors_new : Option (List ℕ)) → Result ScriptEnd Fault → Type 0
 SaysOfScript is_terminal errors_old errors_new (Ok Answered) = Says errors_old errors_new (accepted_text is_terminal)
 SaysOfScript is_terminal errors_old errors_new (Ok (Refused refusal)) = TellsOf errors_old errors_new refusal
-SaysOfScript is_terminal errors_old errors_new (Err fault) = (text : List ℕ) × Says errors_old errors_new text
+SaysOfScript is_terminal errors_old errors_new (Err fault) = Says errors_old errors_new (accepted_text is_terminal) ⊎ ((refusal : Refusal) × TellsOf errors_old errors_new refusal)

@@ -34,7 +34,7 @@ returns-in-Ok-clause-runs g c =
 
 pub returns-in_err-answer_script-in-Ok-clause-said : goal.returns-in_err-answer_script-in-Ok-clause-said
 returns-in_err-answer_script-in-Ok-clause-said g c =
-    said_before c.args.is_terminal _ _ _ c.in_err-answer_script-in-Ok.field-0.0 c.from_residual-in_err-answer_script-in-Ok.result c.from_residual-in_err-answer_script-in-Ok.ensures.1 c.greet.ensures
+    said_before c.args.is_terminal _ _ c.in_err-answer_script-in-Ok.field-0.0 c.from_residual-in_err-answer_script-in-Ok.result c.from_residual-in_err-answer_script-in-Ok.ensures.1 c.greet.ensures
 
 pub returns-clause-said : goal.returns-clause-said
 returns-clause-said g c =
