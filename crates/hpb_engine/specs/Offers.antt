@@ -5,6 +5,7 @@ use Rattle.hpb_rules.specs.declared.letter.Letter.{Letter}
 use Rattle.hpb_rules.specs.Letters.{new_commands}
 use Rattle.hpb_rules.specs.Machine.{Machine, Effect, take_letters}
 use Rattle.hpb_rules.specs.Tree.{Rules}
+use Rattle.hpb_rules.specs.Values.{value_after}
 use Rattle.hpb_letters.specs.Judging.{judged_in}
 use Rattle.hpb_progress.specs.declared.progress.Progress.{Progress}
 use Rattle.hpb_progress.specs.Steps.{begun}
@@ -56,6 +57,16 @@ StaysUnlessInFlight (outcomes.Failed back) s t = t ≡ s
 StaysUnlessInFlight (outcomes.Busy back) s t = t ≡ s
 StaysUnlessInFlight (outcomes.Answered answers) s t = t ≡ s
 StaysUnlessInFlight (outcomes.Full back) s t = t ≡ s
+
+-- Every letter that is taken is judged by what is committed: those that are answered at once, and those that are in flight, after which the
+-- working auction is the committed one with what it newly accepts.
+abbrev pub AreJudged : Begun → List Letter → Progress → Progress → Type 0
+AreJudged (outcomes.Failed back) letters s t = Unit {0}
+AreJudged (outcomes.Busy back) letters s t = Unit {0}
+AreJudged (outcomes.Answered answers) letters s t = answers ≡ judged_in s.committed letters
+AreJudged (outcomes.Full back) letters s t = Unit {0}
+AreJudged outcomes.InFlight letters s t =
+    (t.commit.answers ≡ judged_in s.committed letters) × (t.commit.working ≡ value_after s.committed (new_commands (judged_in s.committed letters)))
 
 -- What an offer does to the machine without a disk: it takes the letters, or, where they are handed back, there is none.
 abbrev pub offer_by : Begun → Rules → Machine → List Letter → Effect

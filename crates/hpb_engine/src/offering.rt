@@ -3,10 +3,11 @@ ghost use Rattle.std.specs.Prelude.{◌≡◌, ◌+◌, ◌<◌, ◌≤◌, ℕ,
 ghost use Rattle.hpb_rules.specs.declared.command.Command.{Command};
 ghost use Rattle.hpb_rules.specs.Letters.{judged, new_commands};
 ghost use Rattle.hpb_rules.specs.Machine.{Machine};
+ghost use Rattle.hpb_rules.specs.Values.{value_after};
 ghost use Rattle.hpb_progress.specs.Keeping.{Inside, Keeps};
 ghost use Rattle.hpb_progress.specs.Steps.{begun};
 ghost use Rattle.hpb_letters.specs.Judging.{judged_in};
-ghost use Rattle.hpb_engine.specs.Offers.{AreOld, HandsBack, StaysUnlessInFlight, Weighs, begun_of, leaving_at, offer_by, weight_of};
+ghost use Rattle.hpb_engine.specs.Offers.{AreJudged, AreOld, HandsBack, StaysUnlessInFlight, Weighs, begun_of, leaving_at, offer_by, weight_of};
 
 use crate::begun::{Begun, Weight};
 use crate::engine::Engine;
@@ -49,6 +50,7 @@ impl<D: Disk + Drop> Engine<D> {
             → leaving_at result ≡ (offer_by result self.old.progress.committed.rules machine letters).leaving }
         ensures weight { Weighs self.old.failed self.old.progress letters (weight_of result) }
         ensures back { HandsBack letters result }
+        ensures judged { AreJudged result letters self.old.progress self.new.progress }
         ensures stays { StaysUnlessInFlight result self.old.progress self.new.progress }
         ensures committed { self.new.progress.committed ≡ self.old.progress.committed }
         ensures disk { self.new.disk ≡ self.old.disk }
@@ -73,6 +75,7 @@ impl<D: Disk + Drop> Engine<D> {
         ensures leaving { (machine : Machine) → Keeps D.seen D.may_leave self.old.disk self.old.progress self.old.failed machine
             → leaving.new ≡ (offer_by (begun_of result letters.now leaving.new) self.old.progress.committed.rules machine letters.now).leaving }
         ensures weight { Weighs self.old.failed self.old.progress letters.now result }
+        ensures judged { AreJudged (begun_of result letters.now leaving.new) letters.now self.old.progress self.new.progress }
         ensures stays { StaysUnlessInFlight (begun_of result letters.now leaving.new) self.old.progress self.new.progress }
         ensures committed { self.new.progress.committed ≡ self.old.progress.committed }
         ensures disk { self.new.disk ≡ self.old.disk }
@@ -103,6 +106,7 @@ impl<D: Disk + Drop> Engine<D> {
         requires room { self.old.progress.ring.next < self.old.progress.ring.clean_end }
         ensures begun { self.new.progress ≡ begun self.old.progress self.new.progress.commit.batch self.new.progress.commit.answers self.new.progress.commit.working }
         ensures answers { self.new.progress.commit.answers ≡ judged_in self.old.progress.committed letters.now }
+        ensures working { self.new.progress.commit.working ≡ value_after self.old.progress.committed (new_commands (judged_in self.old.progress.committed letters.now)) }
         ensures keeps { (history : List Command) → Inside D.seen D.may_leave self.old.disk self.old.progress self.old.failed history
             → Inside D.seen D.may_leave self.new.disk self.new.progress self.new.failed history }
         ensures disk { self.new.disk ≡ self.old.disk }
