@@ -1,0 +1,7 @@
+mod Adding
+mod Prefixes
+mod Values
+mod Rows
+mod Recent
+mod Keeping
+mod Rooms

@@ -1,0 +1,5 @@
+pub mod Publication
+pub mod Trails
+pub mod Rows
+pub mod Contents
+pub mod Views

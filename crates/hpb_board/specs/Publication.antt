@@ -1,0 +1,74 @@
+-- What is published: batches of letters, the auction and the answers that they lead to, and what a publisher and a viewer are to a contract.
+-- Source: this project's own.
+use Rattle.std.specs.Prelude.{◌<◌, ◌^◌, ◌+◌, ◌==◌, nat_lt, if◌then◌else◌, ℕ, zero, suc, List, [], ◌∷◌, ◌++◌, fold, filter, All, Option, None, slice_get, length}
+use Rattle.hpb_rules.specs.declared.letter.Answer.{Answer}
+use Rattle.hpb_rules.specs.declared.letter.Letter.{Letter}
+use Rattle.hpb_rules.specs.AuctionValue.{AuctionValue}
+use Rattle.hpb_rules.specs.Values.{next_value}
+use Rattle.hpb_letters.specs.Judging.{judged_in}
+use Rattle.logbook.specs.Pages.{Book}
+
+-- The letters of all batches, in order.
+abbrev pub joined : List (List Letter) → List Letter
+joined [] = []
+joined (batch ∷ batches) = batch ++ joined batches
+
+-- The value of an auction after a letter.
+abbrev pub after_letter : AuctionValue → Letter → AuctionValue
+after_letter value letter = next_value value letter.command
+
+-- The value of an auction after letters: each is judged by the value after those before it.
+abbrev pub value_by : AuctionValue → List Letter → AuctionValue
+value_by value letters = fold after_letter value letters
+
+-- The answers to the letters of one seat, among letters that a value judges one after another.
+abbrev pub answers_to : ℕ → AuctionValue → List Letter → List Answer
+answers_to seat value letters = filter (λ a. a.letter.seat == seat) (judged_in value letters)
+
+-- The answer of this number, from 1, where it is among the last 16.
+abbrev pub recent : List Answer → ℕ → Option Answer
+recent answers zero = None
+recent answers (suc i) = if nat_lt (length answers) (i + 17) then slice_get answers i else None
+
+-- How many letters of a seat there are.
+abbrev pub tally : ℕ → List Letter → ℕ
+tally seat letters = length (filter (λ l. l.seat == seat) letters)
+
+-- No seat's number of answers would pass the greatest that is counted.
+abbrev pub HasRoom : ℕ → List (List Letter) → List Letter → Type 0
+HasRoom seats batches letters = (seat : ℕ) → seat < seats → tally seat (joined batches ++ letters) < 2 ^ 64
+
+-- No number has more letters than are counted, be it a seat's or not.
+abbrev pub IsRoomy : List (List Letter) → Type 0
+IsRoomy batches = (seat : ℕ) → tally seat (joined batches) < 2 ^ 64
+
+-- Each letter's seat is one of these.
+abbrev pub AreSeated : ℕ → List Letter → Type 0
+AreSeated seats letters = All (λ (l : Letter). l.seat < seats) letters
+
+-- What a publisher is to a contract: the book of its trail, what was opened, how many seats there are, the published batches, and those prepared.
+pub record Publishing : Type 0 where
+  pub book : Book
+  pub opened : AuctionValue
+  pub seats : ℕ
+  pub list : List (List Letter)
+  pub pending : List (List Letter)
+
+-- What a viewer is to a contract: whose trail it follows, what was opened, the seats, and the batches that it has entered.
+pub record Viewing : Type 0 where
+  pub book : Book
+  pub opened : AuctionValue
+  pub seats : ℕ
+  pub list : List (List Letter)
+
+-- The auction that is published.
+abbrev pub published : Publishing → AuctionValue
+published p = value_by p.opened (joined p.list)
+
+-- The auction that a viewer has.
+abbrev pub auction_of : Viewing → AuctionValue
+auction_of v = value_by v.opened (joined v.list)
+
+-- The answers to the letters of one seat that a viewer has entered.
+abbrev pub answers_of : ℕ → Viewing → List Answer
+answers_of seat v = answers_to seat v.opened (joined v.list)

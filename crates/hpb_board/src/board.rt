@@ -1,0 +1,156 @@
+//! What is published.
+ghost use Rattle.std.specs.Prelude.{◌≡◌, length};
+ghost use Rattle.hpb_board.specs.Publication.{IsRoomy};
+ghost use Rattle.hpb_board.specs.Rows.{taken_in, shown_by};
+
+use crate::row::{BLANK, Row, note_in};
+use crate::trail::Trail;
+use hpb_auction::Auction;
+use hpb_rules::{Answer, Letter, Letters};
+use left_right::Absorb;
+use std::alloc::{AllocError, Global};
+use std::marker::Model;
+
+/// The auction and the answers, as data. No value of it is made.
+#[derive(Drop)]
+pub struct Shown {
+    pub auction: Auction,
+    pub rows: [Row; 0],
+}
+
+/// What was opened, as data. No value of it is made.
+#[derive(Drop)]
+pub struct Opening {
+    pub auction: Auction,
+    pub seats: u64,
+}
+
+/// What two copies of a board have in common. No value of it is made.
+#[derive(Drop)]
+pub struct Content {
+    pub trail: Trail,
+    pub shown: Shown,
+}
+
+/// An auction with a row of answers for each seat.
+#[derive(Drop)]
+pub struct Board {
+    pub trail: Trail,
+    /// How many batches were published.
+    pub number: u64,
+    pub auction: Auction,
+    pub rows: Vec<Row>,
+    pub ghost counted: { number ≡ length trail.log },
+    pub ghost roomy: { IsRoomy trail.log },
+}
+
+/// A batch to be published, and the trail with it.
+#[derive(Drop)]
+pub struct Prepared {
+    pub letters: Letters,
+    pub trail: Trail,
+    pub number: u64,
+    pub ghost counted: { number ≡ length trail.log },
+    pub ghost roomy: { IsRoomy trail.log },
+}
+
+impl Board {
+    ghost use Rattle.std.specs.Prelude.{◌≡◌, [], length, replicate, IfOk};
+    ghost use Rattle.hpb_board.specs.Rows.{blank};
+    ghost use Rattle.hpb_board.specs.Contents.{content};
+
+    /// The auction as opened, and no answers yet.
+    pub(crate) fn new(
+        alloc: Global,
+        trail: Trail,
+        auction: Auction,
+        seats: usize,
+    ) -> Result<Board, AllocError>
+        requires { trail.log ≡ [] }
+        ensures { IfOk result (λ b. (b.trail ≡ trail) × ((content b).shown ≡ record { auction = auction; rows = replicate seats blank })) }
+    {
+        let rows = Vec::from_elem(alloc, BLANK, seats)?;
+        Ok(Board {
+            trail,
+            number: 0,
+            auction,
+            rows,
+        })
+    }
+
+    /// A copy. Fails only where memory is refused.
+    pub(crate) fn copy(&self, alloc: Global) -> Result<Board, AllocError>
+        ensures { IfOk result (λ b. content b ≡ content self.now) }
+    {
+        let auction = self.auction.copy(alloc)?;
+        let rows = Vec::from_slice(alloc, self.rows.as_slice())?;
+        Ok(Board {
+            trail: self.trail.again(),
+            number: self.number,
+            auction,
+            rows,
+        })
+    }
+
+    /// Becomes the same as another board of the same auction. Takes no memory.
+    pub(crate) fn copy_from(&mut self, other: &Board)
+        requires rules { self.old.auction.rules ≡ other.now.auction.rules }
+        requires seats { length self.old.rows.items ≡ length other.now.rows.items }
+        ensures { content self.new ≡ content other.now }
+    {
+        let Board {
+            trail,
+            number,
+            auction,
+            rows,
+        } = self;
+        *trail = other.trail.again();
+        *number = other.number;
+        auction.copy_from(&other.auction);
+        rows.as_mut_slice().copy_from_slice(other.rows.as_slice());
+    }
+}
+
+/// Judges a letter, and puts its answer in its seat's row.
+fn take_in(auction: &mut Auction, rows: &mut [Row], letter: Letter)
+    ensures { record { auction = auction.new; rows = rows.new } ≡ taken_in (record { auction = auction.old; rows = rows.old }) letter }
+{
+    let at = auction.count();
+    let reply = auction.apply(&letter.command);
+    let answer = Answer { letter, at, reply };
+    note_in(rows, letter.seat as usize, answer);
+}
+
+/// Judges letters one after another, and puts their answers in their seats' rows.
+fn take_all(auction: &mut Auction, rows: &mut [Row], letters: &Letters)
+    ensures { record { auction = auction.new; rows = rows.new } ≡ shown_by (record { auction = auction.old; rows = rows.old }) letters.now }
+{
+    for letter in letters.as_slice() {
+        take_in(auction, rows, *letter);
+    }
+}
+
+impl Absorb<Prepared> for Board {
+    ghost use Rattle.hpb_board.specs.Contents.{content, applied};
+
+    type State = Content;
+
+    ghost state = { content };
+
+    ghost applied = { applied };
+
+    ghost never_fails = { Unit {0} };
+
+    fn absorb_first(&mut self, batch: &Prepared, _other: &Board) -> Result<(), AllocError> {
+        let Board {
+            trail,
+            number,
+            auction,
+            rows,
+        } = self;
+        *trail = batch.trail.again();
+        *number = batch.number;
+        take_all(auction, rows.as_mut_slice(), &batch.letters);
+        Ok(())
+    }
+}

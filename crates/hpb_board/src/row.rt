@@ -1,0 +1,75 @@
+//! The last answers of each seat.
+ghost use Rattle.std.specs.Prelude.{◌≡◌, ◌+◌, ◌<◌, ◌^◌, ◌↔◌, length, IsTrue};
+ghost use Rattle.hpb_board.specs.Publication.{tally};
+ghost use Rattle.hpb_board.specs.Rows.{noted, note_at, told, HaveRoom};
+
+use hpb_rules::{Answer, Letter};
+
+/// The answers of one seat: how many there were, and the last 16 of them.
+#[derive(Clone, Copy)]
+pub struct Row {
+    pub(crate) count: u64,
+    // The answer of a number, from 1, has the place of its number less 1, modulo 16.
+    pub(crate) last: [Option<Answer>; 16],
+}
+
+/// A row without an answer.
+pub(crate) const BLANK: Row = Row {
+    count: 0,
+    last: [None; 16],
+};
+
+impl Row {
+    /// Counts an answer. It takes the place of the one that came 16 before it.
+    fn note(&mut self, answer: Answer)
+        ensures { self.new ≡ noted self.old answer }
+    {
+        self.last[(self.count % 16) as usize] = Some(answer);
+        self.count = self.count.saturating_add(1);
+    }
+
+    /// The answer of this number, from 1, where it is among the last 16.
+    pub(crate) fn recent(&self, number: u64) -> Option<Answer>
+        ensures { result ≡ told self.now number }
+    {
+        if number == 0 || number > self.count || self.count - number >= 16 {
+            return None;
+        }
+        self.last[((number - 1) % 16) as usize]
+    }
+}
+
+/// Counts an answer to a seat. A seat that there isn't has none.
+#[tactic(auto, using(crate::proofs::Rows::row_lemmas))]
+pub(crate) fn note_in(rows: &mut [Row], seat: usize, answer: Answer)
+    ensures { rows.new ≡ note_at rows.old seat answer }
+{
+    if seat < rows.len() {
+        rows[seat].note(answer);
+    }
+}
+
+/// How many letters of a seat there are.
+fn count_of(seat: usize, letters: &[Letter]) -> u64
+    ensures { result ≡ tally seat letters.now }
+{
+    let mut count = 0;
+    for letter in letters {
+        if letter.seat as usize == seat {
+            count += 1;
+        }
+    }
+    count
+}
+
+/// Whether no row's number of answers would pass its greatest value by these letters.
+pub(crate) fn have_room(rows: &[Row], letters: &[Letter]) -> bool
+    ensures { IsTrue result ↔ HaveRoom rows.now letters.now }
+{
+    for seat in 0..rows.len() {
+        if count_of(seat, letters) > u64::MAX - rows[seat].count {
+            return false;
+        }
+    }
+    true
+}
