@@ -1,0 +1,39 @@
+-- What the intake gathers and tells.
+-- Source: this project's own.
+use Rattle.std.specs.Prelude.{◌≡◌, ℕ, zero, suc, ◌==◌, if◌then◌else◌, List, [], ◌∷◌, ◌++◌, map}
+use Rattle.rtrb.specs.Ring.{sent, received}
+use Rattle.hpb_rules.specs.declared.command.Command.{Command}
+use Rattle.hpb_rules.specs.declared.letter.Letter.{Letter}
+use Rattle.hpb_rings.specs.Slips.{commands}
+use Rattle.hpb_rings.specs.declared.ring.Ring.{Ring}
+
+-- A command as a letter of a seat.
+abbrev pub letter_of : ℕ → Command → Letter
+letter_of seat command = record { seat = seat; command = command }
+
+-- The commands of a seat's letters, in order.
+abbrev pub of_seat : ℕ → List Letter → List Command
+of_seat seat [] = []
+of_seat seat (letter ∷ letters) = if letter.seat == seat then letter.command ∷ of_seat seat letters else of_seat seat letters
+
+-- Commands were taken out of a ring, from those that came before to those that came after, and put to the letters that were had, as its seat's.
+abbrev pub Drained : ℕ → List Command → List Command → List Letter → List Letter → Type 0
+Drained seat before after had has = (moved : List Command) × (after ≡ before ++ moved) × (has ≡ had ++ map (letter_of seat) moved)
+
+-- The commands that came through each ring.
+abbrev pub gathered : {M : Type 0} → List (Ring M) → List (List Command)
+gathered rings = map (λ ring. commands (received ring.letters)) rings
+
+-- One seat's of them: none for a seat that there isn't.
+abbrev pub at_seat : List (List Command) → ℕ → List Command
+at_seat [] seat = []
+at_seat (first ∷ others) zero = first
+at_seat (first ∷ others) (suc seat) = at_seat others seat
+
+-- The marks that went to each seat.
+abbrev pub marks : {M : Type 0} → List (Ring M) → List (List M)
+marks rings = map (λ ring. sent ring.marks) rings
+
+-- The marks of a seat after a halt: with the mark, unless it has one.
+abbrev pub told_of : {M : Type 0} → M → Ring M → List M
+told_of mark ring = if ring.is_told then sent ring.marks else sent ring.marks ++ mark ∷ []

@@ -1,0 +1,4 @@
+pub mod Marks
+pub mod Slips
+pub mod Taking
+pub mod Gathering

@@ -1,0 +1,18 @@
+-- What comes out of a letter ring.
+-- Source: this project's own.
+use Rattle.std.specs.Prelude.{Bool, true, false, List, [], ◌∷◌}
+use Rattle.hpb_rules.specs.declared.command.Command.{Command}
+use Rattle.hpb_rings.specs.declared.slip.Slip.{Slip}
+use Rattle.hpb_rings.specs.declared.slip.Slip.TheVariants.{Letter as Post, End}
+
+-- The commands of the letters that came, in order.
+abbrev pub commands : List Slip → List Command
+commands [] = []
+commands (Post letter ∷ slips) = letter.command ∷ commands slips
+commands (End ∷ slips) = commands slips
+
+-- Whether the end mark came.
+abbrev pub ends : List Slip → Bool
+ends [] = false
+ends (Post letter ∷ slips) = ends slips
+ends (End ∷ slips) = true

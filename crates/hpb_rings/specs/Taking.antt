@@ -1,0 +1,30 @@
+-- What a client posts and takes.
+-- Source: this project's own.
+use Rattle.std.specs.Prelude.{◌≡◌, ℕ, ◌≤◌, List, [], ◌∷◌, length, map}
+use Rattle.hpb_rules.specs.declared.letter.Letter.{Letter}
+use Rattle.hpb_rules.specs.declared.letter.Answer.{Answer}
+use Rattle.hpb_rules.specs.Letters.{new_commands}
+use Rattle.hpb_rings.specs.declared.waiting.Waiting.{Waiting}
+use Rattle.hpb_rings.specs.declared.slip.Slip.{Slip}
+use Rattle.hpb_rings.specs.declared.slip.Slip.TheVariants.{Letter as Post}
+
+-- The letters that answers are for.
+abbrev pub letters_of : List Answer → List Letter
+letters_of answers = map (λ (answered : Answer). answered.letter) answers
+
+-- The letters that wait.
+abbrev pub posted : List Waiting → List Letter
+posted waiting = map (λ (one : Waiting). one.letter) waiting
+
+-- Letters as a ring carries them.
+abbrev pub slips : List Letter → List Slip
+slips letters = map Post letters
+
+-- How many of the answers newly accept a command.
+abbrev pub newly : List Answer → ℕ
+newly answers = length (new_commands answers)
+
+-- The answer is for the oldest letter that waits, and was given when no fewer commands were accepted than were known at its post.
+abbrev pub IsForOldest : List Waiting → Answer → Type 0
+IsForOldest [] answered = ⊥
+IsForOldest (oldest ∷ others) answered = (oldest.letter ≡ answered.letter) × (oldest.mark ≤ answered.at)

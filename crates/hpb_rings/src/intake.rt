@@ -1,0 +1,88 @@
+ghost use Rattle.std.specs.Prelude.{◌≡◌, ℕ, ◌<◌, ◌≤◌, ◌∷◌, ◌++◌, length, map, All, vec_len, true, IsTrue, ◌↔◌};
+ghost use Rattle.rtrb.specs.Ring.{sent, received};
+ghost use Rattle.hpb_rings.specs.Slips.{commands, ends};
+ghost use Rattle.hpb_rings.specs.Gathering.{of_seat, Drained, gathered, at_seat, marks, told_of};
+
+use crate::ring::Ring;
+use hpb_rules::{Letter, Letters, MOST_LETTERS};
+
+/// The committer's side of the rings of all seats.
+#[derive(Drop)]
+pub struct Intake<M: Copy> {
+    /// The ring of each seat, by its number.
+    pub rings: Vec<Ring<M>>,
+    /// The seat at which the next gathering begins.
+    first: usize,
+    ghost few: { vec_len rings ≤ 32 },
+}
+
+impl<M: Copy> Intake<M> {
+    /// The intake over the rings of seats 0, 1, .., at most 32.
+    pub fn new(rings: Vec<Ring<M>>) -> Intake<M>
+        requires { vec_len rings ≤ 32 }
+        ensures { result.rings ≡ rings }
+    {
+        Intake { rings, first: 0 }
+    }
+
+    /// Takes up to 64 letters that came, each with the seat of its ring, in the order in which they were posted there.
+    ///
+    /// Each call begins at another seat.
+    pub fn gather(&mut self) -> Letters
+        ensures each { (seat : ℕ) → at_seat (gathered self.new.rings.items) seat ≡ at_seat (gathered self.old.rings.items) seat ++ of_seat seat result }
+        ensures seats { All (λ l. l.seat < vec_len self.old.rings) result }
+        ensures same { (vec_len self.new.rings ≡ vec_len self.old.rings) × (marks self.new.rings.items ≡ marks self.old.rings.items) }
+    {
+        let mut letters = Letters::new();
+        let count = self.rings.len();
+        for i in 0..count {
+            let seat = (self.first % count + i) % count;
+            drain(&mut self.rings[seat], seat as u8, &mut letters);
+        }
+        self.first = self.first.wrapping_add(1);
+        letters
+    }
+
+    /// Sends a mark to each seat that has none yet, and rings the bell of each.
+    pub fn halt(&mut self, mark: M)
+        ensures told { marks self.new.rings.items ≡ map (told_of mark) self.old.rings.items }
+        ensures once { All (λ r. length (sent r.marks) ≡ 1) self.new.rings.items }
+        ensures same { gathered self.new.rings.items ≡ gathered self.old.rings.items }
+    {
+        for i in 0..self.rings.len() {
+            self.rings[i].tell(mark);
+        }
+    }
+
+    /// Rings the bell of a seat. Its client may then wake from a wait.
+    pub fn wake(&self, seat: u8)
+        requires { seat < vec_len self.now.rings }
+    {
+        self.rings[seat as usize].answered.unpark();
+    }
+
+    /// Whether every seat has sent its end mark.
+    pub fn all_ended(&self) -> bool
+        ensures { IsTrue result ↔ All (λ r. ends (received r.letters) ≡ true) self.now.rings.items }
+    {
+        self.rings.iter().all(|r| r.has_ended)
+    }
+}
+
+/// Moves letters out of a ring, as far as there is room.
+fn drain<M: Copy>(ring: &mut Ring<M>, seat: u8, letters: &mut Letters)
+    ensures drained { Drained seat (commands (received ring.old.letters)) (commands (received ring.new.letters)) letters.old letters.new }
+    ensures same { (ring.new.marks ≡ ring.old.marks) × (ring.new.is_told ≡ ring.old.is_told) }
+{
+    for _ in 0..16 {
+        if letters.len() == MOST_LETTERS {
+            return;
+        }
+        match ring.next() {
+            Some(command) => {
+                let _ = letters.push(Letter { seat, command });
+            }
+            None => return,
+        }
+    }
+}

@@ -1,0 +1,93 @@
+ghost use Rattle.std.specs.Prelude.{◌≡◌, ◌<◌, [], ◌∷◌, ◌++◌, length, true, false, if◌then◌else◌, MatchOption, IfOk};
+ghost use Rattle.rtrb.specs.Ring.{sent, received, known_free, known_items, IsPair};
+ghost use Rattle.hpb_rings.specs.Slips.{commands, ends};
+
+use crate::slip::Slip;
+use hpb_rules::Command;
+use rtrb::{Consumer, Producer, RingBuffer};
+use std::alloc::{AllocError, Global};
+use std::sync::Arc;
+use std::thread::Parker;
+
+/// A client's ends of its rings, before its first letter.
+#[derive(Drop)]
+pub struct Ends<M: Copy> {
+    pub letters: Producer<Slip>,
+    pub marks: Consumer<M>,
+    /// The bell of its seat.
+    pub answered: Arc<Parker, Global>,
+    ghost fresh: { sent letters ≡ [] },
+}
+
+/// The intake's ends of one seat's rings.
+#[derive(Drop)]
+pub struct Ring<M: Copy> {
+    pub letters: Consumer<Slip>,
+    pub marks: Producer<M>,
+    /// Whether the end mark came.
+    pub has_ended: bool,
+    /// Whether the seat has its mark.
+    pub is_told: bool,
+    /// The bell of the seat.
+    pub answered: Arc<Parker, Global>,
+    ghost ended: { has_ended ≡ ends (received letters) },
+    ghost once: { length (sent marks) ≡ (if is_told then 1 else 0) },
+    ghost free: { is_told ≡ false → 0 < known_free marks },
+}
+
+/// Makes the rings of one seat, with room for 16 letters and for one mark, and the seat's bell. Fails only where memory is
+/// refused (90 `memory`).
+pub fn seat_rings<M: Copy>(alloc: Global) -> Result<(Ends<M>, Ring<M>), AllocError>
+    ensures letters { IfOk result (λ r. IsPair r.0.letters r.1.letters × (known_free r.0.letters ≡ 16) × (received r.1.letters ≡ [])) }
+    ensures marks { IfOk result (λ r. IsPair r.1.marks r.0.marks × (sent r.1.marks ≡ []) × (received r.0.marks ≡ [])) }
+    ensures start { IfOk result (λ r. (r.1.has_ended ≡ false) × (r.1.is_told ≡ false)) }
+{
+    let (posts, letters) = RingBuffer::new(alloc, 16)?;
+    let (marks, tellings) = RingBuffer::new(alloc, 1)?;
+    let Ok(answered) = Arc::new(alloc, Parker::new()) else {
+        return Err(AllocError);
+    };
+    let ends = Ends {
+        letters: posts,
+        marks: tellings,
+        answered: Arc::try_clone(&answered)?,
+    };
+    let ring = Ring {
+        letters,
+        marks,
+        has_ended: false,
+        is_told: false,
+        answered,
+    };
+    Ok((ends, ring))
+}
+
+impl<M: Copy> Ring<M> {
+    /// The next command. `None` at the end mark, or where none is seen.
+    #[tactic(auto, using(crate::proofs::Gathering::slip_lemmas))]
+    pub(crate) fn next(&mut self) -> Option<Command>
+        ensures same { (self.new.marks ≡ self.old.marks) × (self.new.is_told ≡ self.old.is_told) }
+        ensures next { MatchOption result (commands (received self.new.letters) ≡ commands (received self.old.letters)) (λ c. commands (received self.new.letters) ≡ commands (received self.old.letters) ++ c ∷ []) }
+    {
+        match self.letters.pop() {
+            Ok(Slip::Letter(letter)) => Some(letter.command),
+            Ok(Slip::End) => {
+                self.has_ended = true;
+                None
+            }
+            Err(_) => None,
+        }
+    }
+
+    /// Sends a mark, where none was sent yet, and rings the bell of the seat.
+    pub(crate) fn tell(&mut self, mark: M)
+        ensures same { (self.new.letters ≡ self.old.letters) × (self.new.has_ended ≡ self.old.has_ended) }
+        ensures told { (self.new.is_told ≡ true) × (sent self.new.marks ≡ (if self.old.is_told then sent self.old.marks else sent self.old.marks ++ mark ∷ [])) }
+    {
+        if !self.is_told {
+            self.marks.push_reserved(mark);
+            self.is_told = true;
+        }
+        self.answered.unpark();
+    }
+}
