@@ -1,0 +1,8 @@
+mod Histories
+mod Lists
+mod Parts
+mod Prefixes
+mod Slices
+mod Together
+mod Totals
+mod Values

@@ -1,0 +1,29 @@
+use Rattle.std.proofs.Common.{◌<◌, ◌∙◌, arith, length, refl, slice_index_or}
+use Rattle.std.proofs.Math.ListN.{length-set}
+use Rattle.hpb_closing.specs.Reports.{said, book_of, opened_of}
+use Rattle.hpb_rings.specs.declared.report.Report.{Report}
+use Rattle.hpb_closing.proofs.Lists.{map-set, grew-set}
+use Rattle.hpb_closing.proofs.Prefixes.{prefix_self, prefix_trans}
+use Rattle.hpb_closing.proofs.Totals.{said_same}
+use Rattle.hpb_closing.proofs.comparing.view_each.Goals as goal
+
+pub loop-i-init : goal.loop-i-init
+loop-i-init c = (refl, refl, refl, refl, λ k d. prefix_self (slice_index_or c.args.reports.now k d).viewer.list)
+
+pub loop-i-preserved : goal.loop-i-preserved
+loop-i-preserved c =
+    let xs = c.loop-i.reports in
+    let i = c.loop-i.i in
+    let y = c.view_again-shows.new.self in
+    let d = c.index-reports-i.result in
+    let was : Report = slice_index_or xs i d in
+    let inv = c.loop-i.invariant in
+    let same = c.view_again-shows.ensures.same in
+    let whose = c.view_again-shows.ensures.viewer in
+    let lt : i < length xs = omega (arith, c.loop-i-test.true, c.loop-i.auto.reports) in (
+      map-set said xs i y d (said_same y was same.0 same.1 same.2 same.3 same.4) ∙ inv.0,
+      map-set book_of xs i y d whose.0 ∙ inv.1,
+      map-set opened_of xs i y d whose.1 ∙ inv.2,
+      length-set xs i y ∙ inv.3,
+      λ k e. prefix_trans _ _ _ (inv.4 k e) (grew-set (λ (r : Report). r.viewer.list) xs i y d c.view_again-shows.ensures.later lt k e),
+    )
