@@ -1,0 +1,305 @@
+-- What is so of a keeper stays so at each step.
+use Rattle.std.proofs.Common.{◌≡◌, ℕ, suc, ◌<◌, ◌==◌, Bool, true, false, None, Option, Some, List, [], ◌∷◌, ◌++◌, Ok, Err, Result, refl, sym, ap, ◌∙◌, subst, arith}
+use Rattle.std.specs.Prelude.{if◌then◌else◌}
+use Rattle.std.proofs.lemmas.List.{append-nil}
+use Rattle.std.proofs.lemmas.Bool.Decides.{nat_tests}
+use Rattle.hpb_rules.specs.declared.command.Command.{Command}
+use Rattle.hpb_rules.specs.declared.letter.Answer.{Answer}
+use Rattle.hpb_rules.specs.declared.letter.Letter.{Letter}
+use Rattle.hpb_rules.specs.AuctionValue.{AuctionValue, Shows}
+use Rattle.hpb_rules.specs.LetterLaws.{JudgedJoin}
+use Rattle.hpb_rules.specs.Letters.{judged, new_commands}
+use Rattle.hpb_rules.specs.Machine.{Machine, Effect, Flight, at_rest, in_flight, landed, offered, take_letters, turn, turned as turn_of}
+use Rattle.hpb_rules.specs.Tree.{Rules}
+use Rattle.hpb_rules.specs.Values.{value_after}
+use Rattle.hpb_letters.specs.Judging.{judged_in}
+use Rattle.hpb_letters.specs.Laws.{JudgedIsShown}
+use Rattle.hpb_image.specs.Standing.{Stands}
+use Rattle.hpb_progress.specs.declared.progress.Commit.{Commit}
+use Rattle.hpb_progress.specs.declared.progress.Progress.{Progress}
+use Rattle.hpb_progress.specs.Keeping.{Keeps, flight_of, machine_of}
+use Rattle.hpb_progress.specs.Steps.{begun, turned, acknowledged}
+use Rattle.hpb_engine.specs.declared.step.Fault.{Fault}
+use Rattle.hpb_engine.specs.declared.step.Fault.TheVariants as faults
+use Rattle.hpb_engine.specs.declared.step.Step.{Step}
+use Rattle.hpb_engine.specs.declared.step.Step.TheVariants as steps
+use Rattle.hpb_engine.specs.Offers.{AreOld}
+use Rattle.hpb_engine.specs.Steps.{TurnLeads, turn_by}
+use Rattle.hpb_board.specs.Publication.{Publishing, joined, published, value_by}
+use Rattle.hpb_house.specs.Keepers.{Keeping, IsKept, letters_of, pending_of, history_by, machine_by}
+use Rattle.hpb_house.proofs.Leading.{new_lead, lead_rules, lead_one, history_one, judged_letters}
+
+-- ---- machines
+same_machine : (m : Machine) (history : List Command) (flight : Option Flight) → m.acknowledged ≡ history → m.flight ≡ flight → m ≡ record { acknowledged = history; flight = flight }
+same_machine m history flight a f = ap (λ (h : List Command). record { acknowledged = h; flight = m.flight }) a ∙ ap (λ (g : Option Flight). record { acknowledged = history; flight = g }) f
+
+-- letters acknowledge nothing by themselves
+taken_acknowledged : (rules : Rules) (m : Machine) (letters : List Letter) → (take_letters rules m letters).machine.acknowledged ≡ m.acknowledged
+taken_acknowledged rules m letters = by m.flight
+  where
+    put : (answers : List Answer) (commands : List Command) → (offered m.acknowledged answers commands).machine.acknowledged ≡ m.acknowledged
+    put answers [] = refl
+    put answers (command ∷ more) = refl
+
+    by : (flight : Option Flight) → (take_letters rules (record { acknowledged = m.acknowledged; flight = flight }) letters).machine.acknowledged ≡ m.acknowledged
+    by None = put (judged rules m.acknowledged letters) (new_commands (judged rules m.acknowledged letters))
+    by (Some flight) = refl
+
+-- a turn whose call fails acknowledges nothing
+failed_acknowledged : (m : Machine) → (turn false m).machine.acknowledged ≡ m.acknowledged
+failed_acknowledged m = by m.flight
+  where
+    next : (flight : Flight) (b : Bool)
+        → (if◌then◌else◌ {A = Effect} b (record { leaving = []; machine = in_flight m.acknowledged flight.answers (suc flight.turns) })
+        (record { leaving = []; machine = in_flight m.acknowledged flight.answers flight.turns })).machine.acknowledged ≡ m.acknowledged
+    next flight true = refl
+    next flight false = refl
+
+    last : (flight : Flight) (b : Bool) → (flight.turns == landed) ≡ b → (turn_of false m.acknowledged flight).machine.acknowledged ≡ m.acknowledged
+    last flight true is = rw is refl
+    last flight false is = rw is (next flight (suc flight.turns == landed))
+
+    by : (flight : Option Flight) → (turn false (record { acknowledged = m.acknowledged; flight = flight })).machine.acknowledged ≡ m.acknowledged
+    by None = refl
+    by (Some flight) = last flight (flight.turns == landed) refl
+
+-- a turn before the last one acknowledges nothing
+early_acknowledged : (history : List Command) (flight : Flight) → (flight.turns == landed) ≡ false → (turn_of true history flight).machine.acknowledged ≡ history
+early_acknowledged history flight is = rw is refl
+
+-- the last one acknowledges what is in flight
+last_acknowledged : (history : List Command) (flight : Flight) → (flight.turns == landed) ≡ true → (turn_of true history flight).machine.acknowledged ≡ history ++ new_commands flight.answers
+last_acknowledged history flight is = rw is refl
+
+busy_flight : (commit : Commit) → commit.busy ≡ true → flight_of commit ≡ Some (record { answers = commit.answers; turns = commit.turns })
+busy_flight commit busy = rw busy refl
+
+free_flight : (commit : Commit) → commit.busy ≡ false → flight_of commit ≡ None
+free_flight commit free = rw free refl
+
+pub busy_pending : (commit : Commit) → commit.busy ≡ true → pending_of commit ≡ letters_of commit.answers ∷ []
+busy_pending commit busy = rw busy refl
+
+pub free_pending : (commit : Commit) → commit.busy ≡ false → pending_of commit ≡ []
+free_pending commit free = rw free refl
+
+-- with nothing in flight a turn acknowledges nothing, and one before the last one doesn't either
+idle_acknowledged : (s : Progress) (history : List Command) → s.commit.busy ≡ false → (turn true (machine_of s history)).machine.acknowledged ≡ history
+idle_acknowledged s history free =
+    ap (λ (m : Machine). (turn true m).machine.acknowledged) (same_machine (machine_of s history) history None refl (free_flight s.commit free))
+
+went_acknowledged : (s : Progress) (history : List Command) → s.commit.busy ≡ true → s.commit.turns < 3 → (turn true (machine_of s history)).machine.acknowledged ≡ history
+went_acknowledged s history busy early =
+    let flight : Flight = record { answers = s.commit.answers; turns = s.commit.turns } in
+    let not_last : (flight.turns == landed) ≡ false = grind (arith, nat_tests, early) in
+    ap (λ (m : Machine). (turn true m).machine.acknowledged) (same_machine (machine_of s history) history (Some flight) refl (busy_flight s.commit busy))
+    ∙ early_acknowledged history flight not_last
+
+-- a turn whose call fails changes the number of turns alone
+device_same : (s t : Progress) → (s.commit.turns ≡ 2 → t ≡ turned s 3) → ((s.commit.turns ≡ 2 → ⊥) → t ≡ s) → (b : Bool) → (s.commit.turns == 2) ≡ b
+    → (t.committed ≡ s.committed) × (t.commit.busy ≡ s.commit.busy) × (t.commit.answers ≡ s.commit.answers) × (t.commit.working ≡ s.commit.working)
+device_same s t third other true is =
+    let e : t ≡ turned s 3 = third (grind (arith, nat_tests, is)) in
+    (ap (λ (p : Progress). p.committed) e, ap (λ (p : Progress). p.commit.busy) e, ap (λ (p : Progress). p.commit.answers) e, ap (λ (p : Progress). p.commit.working) e)
+device_same s t third other false is =
+    let e : t ≡ s = other (λ two. absurd (grind (arith, nat_tests, is, two))) in
+    (ap (λ (p : Progress). p.committed) e, ap (λ (p : Progress). p.commit.busy) e, ap (λ (p : Progress). p.commit.answers) e, ap (λ (p : Progress). p.commit.working) e)
+
+-- a step that isn't the last one of a commit
+abbrev pub IsNotDone : Result Step Fault → Type 0
+IsNotDone (Ok steps.Idle) = Unit {0}
+IsNotDone (Ok steps.Went) = Unit {0}
+IsNotDone (Ok (steps.Done answers)) = ⊥
+IsNotDone (Err fault) = Unit {0}
+
+module _ {D : Type 0} (seen : D → List ℕ) (may_leave : D → List ℕ → Type 0) where
+  kept_as : (k : Keeping D) (m : Machine) (history : List Command) → Keeps seen may_leave k.disk k.progress k.failed m → m.acknowledged ≡ history
+      → Keeps seen may_leave k.disk k.progress k.failed (machine_of k.progress history)
+  kept_as k m history keeps is = subst (Keeps seen may_leave k.disk k.progress k.failed) (same_machine m history (flight_of k.progress.commit) is keeps.flight) keeps
+
+  -- the acknowledged commands of what is kept
+  abbrev acknowledged_by : Keeping D → List Command → List Command
+  acknowledged_by k history = history_by k.board.opened.rules history (joined k.board.list)
+
+  -- the definition of what is committed is that of what was opened
+  ruled : (k : Keeping D) → published k.board ≡ k.progress.committed → k.progress.committed.rules ≡ k.board.opened.rules
+  ruled k shown = ap (λ (value : AuctionValue). value.rules) (sym shown) ∙ lead_rules k.board.opened (joined k.board.list)
+
+  -- letters are answered by the committed auction as they are after the acknowledged commands
+  answered_so : JudgedIsShown → (k : Keeping D) → published k.board ≡ k.progress.committed → (history : List Command) → Shows k.progress.committed history → (letters : List Letter)
+      → judged_in k.progress.committed letters ≡ judged k.board.opened.rules history letters
+  answered_so law k shown history shows letters = law k.progress.committed history letters shows ∙ ap (λ (rules : Rules). judged rules history letters) (ruled k shown)
+
+  -- what is published and what is in flight stay, and the machine acknowledges nothing
+  pub quiet_kept : {k k' : Keeping D} → IsKept seen may_leave k → k'.image ≡ k.image → k'.board ≡ k.board → k'.progress.committed ≡ k.progress.committed
+      → k'.progress.commit.busy ≡ k.progress.commit.busy → k'.progress.commit.answers ≡ k.progress.commit.answers → k'.progress.commit.working ≡ k.progress.commit.working
+      → ((history : List Command) → Keeps seen may_leave k.disk k.progress k.failed (machine_by k history)
+      → (m : Machine) × (m.acknowledged ≡ (machine_by k history).acknowledged) × Keeps seen may_leave k'.disk k'.progress k'.failed m)
+      → IsKept seen may_leave k'
+  quiet_kept {k} {k'} is image board committed busy answers working moves = record {
+    shown = ap published board ∙ (is.shown ∙ sym committed);
+    prepared = ap (λ (b : Publishing). b.pending) board ∙ (is.prepared ∙ same (sym busy) (sym answers));
+    judged = λ now. answers ∙ (is.judged (sym busy ∙ now) ∙ both (sym committed) (sym answers));
+    working = λ now. working ∙ (is.working (sym busy ∙ now) ∙ led (sym committed) (sym answers));
+    keeps = λ history stands.
+        let old = is.keeps history (subst (Stands history) image stands) in
+        let moved = moves history old in
+        kept_as k' moved.0 (acknowledged_by k' history) moved.2 (moved.1 ∙ ap (λ (b : Publishing). history_by b.opened.rules history (joined b.list)) (sym board));
+  }
+    where
+      same : {b b' : Bool} {xs ys : List Answer} → b ≡ b' → xs ≡ ys → (if b then letters_of xs ∷ [] else []) ≡ (if b' then letters_of ys ∷ [] else [])
+      same {b} {b'} {xs} {ys} e f = ap (λ x. if x then letters_of xs ∷ [] else []) e ∙ ap (λ zs. if b' then letters_of zs ∷ [] else []) f
+
+      both : {v v' : AuctionValue} {xs ys : List Answer} → v ≡ v' → xs ≡ ys → judged_in v (letters_of xs) ≡ judged_in v' (letters_of ys)
+      both {v} {v'} {xs} {ys} e f = ap (λ x. judged_in x (letters_of xs)) e ∙ ap (λ zs. judged_in v' (letters_of zs)) f
+
+      led : {v v' : AuctionValue} {xs ys : List Answer} → v ≡ v' → xs ≡ ys → value_by v (letters_of xs) ≡ value_by v' (letters_of ys)
+      led {v} {v'} {xs} {ys} e f = ap (λ x. value_by x (letters_of xs)) e ∙ ap (λ zs. value_by v' (letters_of zs)) f
+
+  -- a keeper at its start
+  pub started_kept : {k : Keeping D} → k.board.opened ≡ k.progress.committed → k.board.list ≡ [] → k.board.pending ≡ [] → k.progress.commit.busy ≡ false
+      → ((history : List Command) → Stands history k.image → Keeps seen may_leave k.disk k.progress k.failed (at_rest history))
+      → IsKept seen may_leave k
+  started_kept {k} opened list pending free keeps = record {
+    shown = ap (λ (l : List (List Letter)). value_by k.board.opened (joined l)) list ∙ opened;
+    prepared = pending ∙ sym (free_pending k.progress.commit free);
+    judged = λ busy. absurd (never (sym free ∙ busy));
+    working = λ busy. absurd (never (sym free ∙ busy));
+    keeps = λ history stands.
+        let e : history ≡ acknowledged_by k history = sym (ap (λ (l : List (List Letter)). history_by k.board.opened.rules history (joined l)) list ∙ append-nil history) in
+        kept_as k (at_rest history) (acknowledged_by k history) (keeps history stands) e;
+  }
+    where
+      never : false ≡ true → ⊥
+      never e = cc e
+
+  -- letters are put in flight
+  pub begun_kept : {k k' : Keeping D} (letters : List Letter) → IsKept seen may_leave k → k'.image ≡ k.image
+      → k'.board.opened ≡ k.board.opened → k'.board.list ≡ k.board.list → k'.board.pending ≡ letters ∷ []
+      → k'.progress ≡ begun k.progress k'.progress.commit.batch k'.progress.commit.answers k'.progress.commit.working
+      → k'.progress.commit.answers ≡ judged_in k.progress.committed letters
+      → k'.progress.commit.working ≡ value_after k.progress.committed (new_commands (judged_in k.progress.committed letters))
+      → ((machine : Machine) → Keeps seen may_leave k.disk k.progress k.failed machine
+      → Keeps seen may_leave k'.disk k'.progress k'.failed (take_letters k.progress.committed.rules machine letters).machine)
+      → IsKept seen may_leave k'
+  begun_kept {k} {k'} letters is image opened list pending begins answers working keeps =
+      let busy : k'.progress.commit.busy ≡ true = ap (λ (s : Progress). s.commit.busy) begins in
+      let committed : k'.progress.committed ≡ k.progress.committed = ap (λ (s : Progress). s.committed) begins in
+      let own : letters_of k'.progress.commit.answers ≡ letters = ap letters_of answers ∙ judged_letters k.progress.committed letters in
+      record {
+        shown = ap (λ (v : AuctionValue). value_by v (joined k'.board.list)) opened ∙ (ap (λ (l : List (List Letter)). value_by k.board.opened (joined l)) list ∙ (is.shown ∙ sym committed));
+        prepared = pending ∙ sym (busy_pending k'.progress.commit busy ∙ ap (λ (l : List Letter). l ∷ []) own);
+        judged = λ now. answers ∙ (ap (λ (v : AuctionValue). judged_in v letters) (sym committed) ∙ ap (judged_in k'.progress.committed) (sym own));
+        working = λ now. working ∙ (new_lead k.progress.committed letters ∙ (ap (λ (v : AuctionValue). value_by v letters) (sym committed) ∙ ap (value_by k'.progress.committed) (sym own)));
+        keeps = λ history stands.
+            let old = is.keeps history (subst (Stands history) image stands) in
+            let m = machine_by k history in
+            let e : (take_letters k.progress.committed.rules m letters).machine.acknowledged ≡ acknowledged_by k' history =
+            taken_acknowledged k.progress.committed.rules m letters
+            ∙ (ap (λ (v : AuctionValue). history_by v.rules history (joined k.board.list)) (sym opened)
+            ∙ ap (λ (l : List (List Letter)). history_by k'.board.opened.rules history (joined l)) (sym list)) in
+            kept_as k' (take_letters k.progress.committed.rules m letters).machine (acknowledged_by k' history) (keeps m old) e;
+      }
+
+  -- letters of which none is new are answered at once
+  pub answered_kept : JudgedIsShown → JudgedJoin → {k k' : Keeping D} (letters : List Letter) → IsKept seen may_leave k → k'.image ≡ k.image
+      → k'.board.opened ≡ k.board.opened → k'.board.list ≡ k.board.list ++ letters ∷ [] → k'.board.pending ≡ []
+      → k'.progress ≡ k.progress → k'.progress.commit.busy ≡ false → AreOld k.progress letters
+      → ((machine : Machine) → Keeps seen may_leave k.disk k.progress k.failed machine
+      → Keeps seen may_leave k'.disk k'.progress k'.failed (take_letters k.progress.committed.rules machine letters).machine)
+      → IsKept seen may_leave k'
+  answered_kept shown_law join {k} {k'} letters is image opened list pending same free old keeps =
+      let committed : k.progress.committed ≡ k'.progress.committed = ap (λ (s : Progress). s.committed) (sym same) in
+      let stays : value_by k.progress.committed letters ≡ k.progress.committed = sym (new_lead k.progress.committed letters) ∙ ap (value_after k.progress.committed) old in
+      record {
+        shown = ap (λ (v : AuctionValue). value_by v (joined k'.board.list)) opened
+            ∙ (ap (λ (l : List (List Letter)). value_by k.board.opened (joined l)) list
+            ∙ (lead_one k.board.opened k.board.list letters ∙ (ap (λ (v : AuctionValue). value_by v letters) is.shown ∙ (stays ∙ committed))));
+        prepared = pending ∙ sym (free_pending k'.progress.commit free);
+        judged = λ busy. absurd (never (sym free ∙ busy));
+        working = λ busy. absurd (never (sym free ∙ busy));
+        keeps = λ history stands.
+            let before = is.keeps history (subst (Stands history) image stands) in
+            let none : new_commands (judged k.board.opened.rules (acknowledged_by k history) letters) ≡ [] =
+            ap new_commands (sym (answered_so shown_law k is.shown (acknowledged_by k history) before.shows letters)) ∙ old in
+            let e : acknowledged_by k history ≡ acknowledged_by k' history = sym (
+            ap (λ (v : AuctionValue). history_by v.rules history (joined k'.board.list)) opened
+            ∙ (ap (λ (l : List (List Letter)). history_by k.board.opened.rules history (joined l)) list
+            ∙ (history_one join k.board.opened.rules history k.board.list letters
+            ∙ (ap (λ (commands : List Command). acknowledged_by k history ++ commands) none ∙ append-nil (acknowledged_by k history))))) in
+            let m = machine_by k history in
+            kept_as k' (take_letters k.progress.committed.rules m letters).machine (acknowledged_by k' history) (keeps m before)
+            (taken_acknowledged k.progress.committed.rules m letters ∙ e);
+      }
+    where
+      never : false ≡ true → ⊥
+      never e = cc e
+
+  -- the batch in flight is acknowledged
+  pub done_kept : JudgedIsShown → JudgedJoin → {k k' : Keeping D} → IsKept seen may_leave k → k'.image ≡ k.image
+      → k'.board.opened ≡ k.board.opened → k'.board.list ≡ k.board.list ++ k.board.pending → k'.board.pending ≡ []
+      → k.progress.commit.busy ≡ true → k.progress.commit.turns ≡ 3 → k'.progress ≡ acknowledged k.progress
+      → ((machine : Machine) → Keeps seen may_leave k.disk k.progress k.failed machine → Keeps seen may_leave k'.disk k'.progress k'.failed (turn true machine).machine)
+      → IsKept seen may_leave k'
+  done_kept shown_law join {k} {k'} is image opened list pending busy turns next keeps =
+      let letters = letters_of k.progress.commit.answers in
+      let grown : k'.board.list ≡ k.board.list ++ letters ∷ [] = list ∙ ap (λ (l : List (List Letter)). k.board.list ++ l) (is.prepared ∙ busy_pending k.progress.commit busy) in
+      let free : k'.progress.commit.busy ≡ false = ap (λ (s : Progress). s.commit.busy) next in
+      record {
+        shown = ap (λ (v : AuctionValue). value_by v (joined k'.board.list)) opened
+            ∙ (ap (λ (l : List (List Letter)). value_by k.board.opened (joined l)) grown
+            ∙ (lead_one k.board.opened k.board.list letters ∙ (ap (λ (v : AuctionValue). value_by v letters) is.shown
+            ∙ (sym (is.working busy) ∙ sym (ap (λ (s : Progress). s.committed) next)))));
+        prepared = pending ∙ sym (free_pending k'.progress.commit free);
+        judged = λ now. absurd (never (sym free ∙ now));
+        working = λ now. absurd (never (sym free ∙ now));
+        keeps = λ history stands.
+            let before = is.keeps history (subst (Stands history) image stands) in
+            let m = machine_by k history in
+            let flight : Flight = record { answers = k.progress.commit.answers; turns = k.progress.commit.turns } in
+            let at : m ≡ record { acknowledged = acknowledged_by k history; flight = Some flight } =
+            same_machine m (acknowledged_by k history) (Some flight) refl (busy_flight k.progress.commit busy) in
+            let is_last : (flight.turns == landed) ≡ true = grind (arith, nat_tests, turns) in
+            let gives : (turn true m).machine.acknowledged ≡ acknowledged_by k history ++ new_commands k.progress.commit.answers =
+            ap (λ (n : Machine). (turn true n).machine.acknowledged) at ∙ last_acknowledged (acknowledged_by k history) flight is_last in
+            let so : k.progress.commit.answers ≡ judged k.board.opened.rules (acknowledged_by k history) letters =
+            is.judged busy ∙ answered_so shown_law k is.shown (acknowledged_by k history) before.shows letters in
+            let e : acknowledged_by k' history ≡ acknowledged_by k history ++ new_commands k.progress.commit.answers =
+            ap (λ (v : AuctionValue). history_by v.rules history (joined k'.board.list)) opened
+            ∙ (ap (λ (l : List (List Letter)). history_by k.board.opened.rules history (joined l)) grown
+            ∙ (history_one join k.board.opened.rules history k.board.list letters
+            ∙ ap (λ (answers : List Answer). acknowledged_by k history ++ new_commands answers) (sym so))) in
+            kept_as k' (turn true m).machine (acknowledged_by k' history) (keeps m before) (gives ∙ sym e);
+      }
+    where
+      never : false ≡ true → ⊥
+      never e = cc e
+
+  -- a turn that isn't the last one
+  pub turned_kept : {k k' : Keeping D} (result : Result Step Fault) → IsNotDone result → IsKept seen may_leave k → k'.image ≡ k.image → k'.board ≡ k.board
+      → TurnLeads k.failed result k.progress k'.progress
+      → ((machine : Machine) → Keeps seen may_leave k.disk k.progress k.failed machine → Keeps seen may_leave k'.disk k'.progress k'.failed (turn_by result machine).machine)
+      → IsKept seen may_leave k'
+  turned_kept {k} {k'} (Ok steps.Idle) not is image board leads keeps =
+      quiet_kept is image board (at leads.2 (λ s. s.committed)) (at leads.2 (λ s. s.commit.busy)) (at leads.2 (λ s. s.commit.answers)) (at leads.2 (λ s. s.commit.working))
+      (λ history old. ((turn true (machine_by k history)).machine, idle_acknowledged k.progress (acknowledged_by k history) leads.1, keeps (machine_by k history) old))
+    where
+      at : {A : Type 0} {s t : Progress} → t ≡ s → (f : Progress → A) → f t ≡ f s
+      at e f = ap f e
+  turned_kept {k} {k'} (Ok steps.Went) not is image board leads keeps =
+      quiet_kept is image board (at leads.3 (λ s. s.committed)) (at leads.3 (λ s. s.commit.busy)) (at leads.3 (λ s. s.commit.answers)) (at leads.3 (λ s. s.commit.working))
+      (λ history old. ((turn true (machine_by k history)).machine, went_acknowledged k.progress (acknowledged_by k history) leads.1 leads.2, keeps (machine_by k history) old))
+    where
+      at : {A : Type 0} {s t : Progress} → t ≡ s → (f : Progress → A) → f t ≡ f s
+      at e f = ap f e
+  turned_kept (Ok (steps.Done answers)) not is image board leads keeps = absurd not
+  turned_kept {k} {k'} (Err faults.Device) not is image board leads keeps =
+      let same = device_same k.progress k'.progress leads.2 leads.3 (k.progress.commit.turns == 2) refl in
+      quiet_kept is image board same.0 same.1 same.2 same.3
+      (λ history old. ((turn false (machine_by k history)).machine, failed_acknowledged (machine_by k history), keeps (machine_by k history) old))
+  turned_kept {k} {k'} (Err faults.Failed) not is image board leads keeps =
+      quiet_kept is image board (at leads.1 (λ s. s.committed)) (at leads.1 (λ s. s.commit.busy)) (at leads.1 (λ s. s.commit.answers)) (at leads.1 (λ s. s.commit.working))
+      (λ history old. (machine_by k history, refl, keeps (machine_by k history) old))
+    where
+      at : {A : Type 0} {s t : Progress} → t ≡ s → (f : Progress → A) → f t ≡ f s
+      at e f = ap f e

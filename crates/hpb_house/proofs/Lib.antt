@@ -1,0 +1,5 @@
+pub mod Leading
+pub mod Keeping
+pub mod Beginning
+pub mod SameHeads
+pub mod Crossing

@@ -1,0 +1,3 @@
+pub mod Keepers
+pub mod Offers
+pub mod Starts

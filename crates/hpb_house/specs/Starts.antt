@@ -1,0 +1,28 @@
+-- How the clients of a house begin.
+-- Source: this project's own.
+use Rattle.std.specs.Prelude.{◌≡◌, ℕ, false, List, [], All, map}
+use Rattle.std.specs.List.{range_with_len}
+use Rattle.hpb_board.specs.Publication.{Publishing, Viewing, auction_of}
+use Rattle.hpb_house.specs.declared.keeper.Halt.{Halt}
+use Rattle.hpb_rings.specs.declared.client.Client.{Client}
+
+-- A viewer has entered what is published.
+abbrev pub IsViewOf : Publishing → Viewing → Type 0
+IsViewOf board v = (v.book ≡ board.book) × (v.opened ≡ board.opened) × (v.seats ≡ board.seats) × (v.list ≡ board.list)
+
+-- A viewer began as another did.
+abbrev pub BeganAs : Viewing → Viewing → Type 0
+BeganAs eye v = (v.book ≡ eye.book) × (v.opened ≡ eye.opened) × (v.seats ≡ eye.seats) × (v.list ≡ eye.list)
+
+-- A client before its first letter: its viewer began as this one, nothing is outstanding or taken, it has seen what was opened alone, and no halt came.
+pub record IsBegun (eye : Viewing) (client : Client Halt) : Type 0 where
+  pub viewer : BeganAs eye client.viewer
+  pub waiting : client.waiting.items ≡ []
+  pub taken : client.taken ≡ 0
+  pub mark : client.mark ≡ (auction_of eye).count
+  pub halted : client.is_halted ≡ false
+
+-- There is a client for each seat from 0 on, before its first letter.
+pub record AreBegun (eye : Viewing) (clients : List (Client Halt)) (count : ℕ) : Type 0 where
+  pub numbered : map (λ (client : Client Halt). client.seat) clients ≡ range_with_len 0 count
+  pub begun : All (IsBegun eye) clients

@@ -1,0 +1,198 @@
+//! The worker that commits letters.
+use crate::gate::{Gate, Point};
+use crate::house::House;
+use crate::keeper::Halt;
+use crate::offered::{Offered, Reason};
+use hpb_disk::Disk;
+use hpb_engine::Step;
+use hpb_rings::Intake;
+use hpb_rules::{Answers, Letters};
+use std::sync::Wait;
+use std::thread::Parker;
+use std::time::Duration;
+
+/// How long the committer waits before it offers letters again for which memory or room was refused, in milliseconds.
+const PAUSE: u64 = 1;
+
+/// What came of a turn of the committer.
+enum Turned {
+    /// It holds no letters.
+    Free,
+    /// It holds letters that it offers again.
+    Held(Letters),
+    /// The engine has failed.
+    Halted(Halt),
+    /// Every seat has sent its end mark.
+    Ended,
+}
+
+/// Commits letters: it gathers those that wait, offers them as one batch and makes the steps of its commit, taking the lock
+/// for one step at a time. With nothing to do it waits for its bell.
+///
+/// Letters that are handed back for want of a clean frame, of memory or of room on the board are offered again. Once the
+/// engine has failed it sends a `Halt` to each seat, and from then on only empties the rings. It ends when every seat has
+/// sent its end mark, and then the checkpointer ends too. It may wait.
+pub fn committer<D: Disk + Drop, W: Wait + Drop, G: Gate, R: Wait>(
+    rt: &R,
+    house: &House<D, W>,
+    mut intake: Intake<Halt>,
+    gate: &G,
+) {
+    let mut held = Letters::new();
+    for _ in rt.forever() {
+        match turn(rt, house, &mut intake, gate, held) {
+            Turned::Free => held = Letters::new(),
+            Turned::Held(letters) => held = letters,
+            Turned::Halted(halt) => {
+                intake.halt(halt);
+                drain(rt, house, &mut intake, gate);
+                break;
+            }
+            Turned::Ended => break,
+        }
+    }
+    house.end();
+}
+
+/// One turn: the letters that are held, or else those that wait, are offered.
+fn turn<D: Disk + Drop, W: Wait + Drop, G: Gate, R: Wait>(
+    rt: &R,
+    house: &House<D, W>,
+    intake: &mut Intake<Halt>,
+    gate: &G,
+    held: Letters,
+) -> Turned {
+    if held.len() > 0 {
+        return offer(rt, house, intake, gate, held);
+    }
+    let letters = intake.gather();
+    gate.at(rt, Point::Gathered);
+    if letters.len() == 0 {
+        return idle(rt, house, intake);
+    }
+    offer(rt, house, intake, gate, letters)
+}
+
+/// There is nothing to offer: it ends, or waits for its bell.
+fn idle<D: Disk + Drop, W: Wait + Drop, R: Wait>(
+    rt: &R,
+    house: &House<D, W>,
+    intake: &Intake<Halt>,
+) -> Turned {
+    if intake.all_ended() {
+        return Turned::Ended;
+    }
+    if let Some(halt) = house.halt(rt) {
+        return Turned::Halted(halt);
+    }
+    house.committing.park(rt);
+    Turned::Free
+}
+
+/// Offers letters, and commits them.
+fn offer<D: Disk + Drop, W: Wait + Drop, G: Gate, R: Wait>(
+    rt: &R,
+    house: &House<D, W>,
+    intake: &Intake<Halt>,
+    gate: &G,
+    letters: Letters,
+) -> Turned {
+    match house.offer(rt, letters) {
+        Offered::InFlight => commit(rt, house, intake, gate),
+        Offered::Answered(answers) => {
+            wake_answered(intake, &answers);
+            Turned::Free
+        }
+        Offered::Back(letters, reason) => hold(rt, house, letters, reason),
+    }
+}
+
+/// Makes the steps of a commit.
+fn commit<D: Disk + Drop, W: Wait + Drop, G: Gate, R: Wait>(
+    rt: &R,
+    house: &House<D, W>,
+    intake: &Intake<Halt>,
+    gate: &G,
+) -> Turned {
+    for _ in rt.forever() {
+        match house.commit(rt) {
+            Ok(Step::Went) => {}
+            Ok(Step::Idle) => return Turned::Free,
+            Ok(Step::Done(answers)) => {
+                wake_answered(intake, &answers);
+                house.checkpointing.unpark();
+                gate.at(rt, Point::Committed);
+                return Turned::Free;
+            }
+            Err(_) => return halted(rt, house),
+        }
+    }
+    Turned::Free
+}
+
+/// Waits until letters can be offered again.
+fn hold<D: Disk + Drop, W: Wait + Drop, R: Wait>(
+    rt: &R,
+    house: &House<D, W>,
+    letters: Letters,
+    reason: Reason,
+) -> Turned {
+    match reason {
+        Reason::Failed => return halted(rt, house),
+        // A whole checkpoint rings the bell.
+        Reason::Full => {
+            house.checkpointing.unpark();
+            house.committing.park(rt);
+        }
+        // Nobody rings this bell: the wait lasts its time.
+        Reason::Busy | Reason::Spent | Reason::Memory => {
+            Parker::new().park_timeout(rt, Duration::from_millis(PAUSE));
+        }
+    }
+    Turned::Held(letters)
+}
+
+/// The engine has failed.
+fn halted<D: Disk + Drop, W: Wait + Drop, R: Wait>(rt: &R, house: &House<D, W>) -> Turned {
+    match house.halt(rt) {
+        Some(halt) => Turned::Halted(halt),
+        None => Turned::Free,
+    }
+}
+
+/// Empties the rings until every seat has sent its end mark. A seat whose letters were taken is told, since there is room for
+/// its end mark now.
+fn drain<D: Disk + Drop, W: Wait + Drop, G: Gate, R: Wait>(
+    rt: &R,
+    house: &House<D, W>,
+    intake: &mut Intake<Halt>,
+    gate: &G,
+) {
+    for _ in rt.forever() {
+        let letters = intake.gather();
+        gate.at(rt, Point::Gathered);
+        if intake.all_ended() {
+            return;
+        }
+        if letters.len() == 0 {
+            house.committing.park(rt);
+        }
+        for letter in letters.as_slice() {
+            wake(intake, letter.seat);
+        }
+    }
+}
+
+/// Rings the bell of each seat that was answered.
+fn wake_answered(intake: &Intake<Halt>, answers: &Answers) {
+    for answer in answers.as_slice() {
+        wake(intake, answer.letter.seat);
+    }
+}
+
+/// Rings the bell of a seat.
+fn wake(intake: &Intake<Halt>, seat: u8) {
+    if usize::from(seat) < intake.rings.len() {
+        intake.wake(seat);
+    }
+}

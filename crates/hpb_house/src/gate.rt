@@ -1,0 +1,28 @@
+use std::sync::Wait;
+
+/// Where a worker stands, outside the lock.
+#[derive(Clone, Copy, Debug, PartialEq, Eq)]
+pub enum Point {
+    /// The committer has gathered letters, or found none.
+    Gathered,
+    /// It has finished a commit: the answers are published.
+    Committed,
+    /// The checkpointer has written the page of this place, from 0 to 3.
+    Page(u8),
+    /// It has retired a frame.
+    Retired,
+}
+
+/// Is told where the workers stand. It is called outside the lock, and may wait.
+pub trait Gate {
+    /// A worker stands at this point.
+    fn at<R: Wait>(&self, rt: &R, point: Point);
+}
+
+/// A gate that lets every worker pass.
+#[derive(Clone, Copy, Debug)]
+pub struct OpenGate;
+
+impl Gate for OpenGate {
+    fn at<R: Wait>(&self, _rt: &R, _point: Point) {}
+}

@@ -1,0 +1,230 @@
+//! Starting a house.
+ghost use Rattle.std.specs.Prelude.{◌≡◌, ◌≤◌, ◌<◌, List, [], IfOk, IfErr, vec_len};
+ghost use Rattle.hpb_rules.specs.declared.command.Command.{Command};
+ghost use Rattle.hpb_rules.specs.Machine.{at_rest};
+ghost use Rattle.hpb_image.specs.Standing.{Stands};
+ghost use Rattle.hpb_progress.specs.Keeping.{Keeps};
+ghost use Rattle.hpb_engine.specs.Starts.{IsStarted};
+ghost use Rattle.hpb_house.specs.Starts.{AreBegun, IsBegun, IsViewOf};
+
+use crate::house::House;
+use crate::keeper::{Halt, Keeper};
+use hpb_auction::Auction;
+use hpb_board::{Publisher, Viewer};
+use hpb_disk::Disk;
+use hpb_engine::Engine;
+use hpb_recover::Opened;
+use hpb_rings::{Client, Intake, Ring, seat_rings};
+use std::alloc::Global;
+use std::snapshot::Snapshot;
+use std::sync::atomic::AtomicBool;
+use std::sync::{Arc, Mutex, Wait};
+use std::thread::Parker;
+use thiserror::Error;
+
+/// Why a house wasn't started. The words are those of an `ERR` line.
+#[derive(Clone, Copy, Debug, PartialEq, Eq, Error)]
+pub enum StartCause {
+    /// 90: memory was refused.
+    #[error("memory")]
+    Memory,
+    /// 94: a ring or a viewer's place was refused.
+    #[error("place")]
+    Place,
+}
+
+/// A house that wasn't started hands the opened device back.
+#[derive(Drop)]
+pub struct StartFault<D: Disk + Drop> {
+    pub opened: Opened<D>,
+    pub cause: StartCause,
+}
+
+/// A house with what its threads need.
+#[derive(Drop)]
+pub struct Started<D: Disk + Drop, W: Wait + Drop> {
+    pub house: House<D, W>,
+    /// The committer's side of the rings.
+    pub intake: Intake<Halt>,
+    /// A client for each seat, from 0 on.
+    pub clients: Vec<Client<Halt>>,
+}
+
+/// What stands before the engine: the board with its viewers, the rings and the committer's bell.
+#[derive(Drop)]
+struct Front<W: Wait + Drop> {
+    publisher: Publisher<W>,
+    eye: Viewer,
+    bell: Arc<Parker, Global>,
+    rings: Vec<Ring<Halt>>,
+    clients: Vec<Client<Halt>>,
+}
+
+/// Makes the rings and the client of a seat.
+fn seat_client<W: Wait + Drop>(
+    alloc: Global,
+    publisher: &mut Publisher<W>,
+    eye: &Viewer,
+    bell: &Arc<Parker, Global>,
+    seat: u8,
+) -> Result<(Ring<Halt>, Client<Halt>), StartCause>
+    requires eye { IsViewOf publisher.old eye.now }
+    requires seat { seat < publisher.old.seats }
+    ensures same { publisher.new ≡ publisher.old }
+    ensures seat { IfOk result (λ made. made.1.seat ≡ seat) }
+    ensures begun { IfOk result (λ made. IsBegun eye.now made.1) }
+{
+    let Ok(viewer) = publisher.introduce(alloc) else {
+        return Err(StartCause::Place);
+    };
+    let Ok((ends, ring)) = seat_rings(alloc) else {
+        return Err(StartCause::Place);
+    };
+    let Ok(bell) = Arc::try_clone(bell) else {
+        return Err(StartCause::Memory);
+    };
+    Ok((ring, Client::new(seat, ends, viewer, bell)))
+}
+
+/// The rings and the clients of seats.
+#[derive(Drop)]
+struct Seats {
+    rings: Vec<Ring<Halt>>,
+    clients: Vec<Client<Halt>>,
+}
+
+/// Makes the rings and the clients of all seats.
+fn seat_clients<W: Wait + Drop>(
+    alloc: Global,
+    publisher: &mut Publisher<W>,
+    eye: &Viewer,
+    bell: &Arc<Parker, Global>,
+    sessions: u8,
+) -> Result<Seats, StartCause>
+    requires eye { IsViewOf publisher.old eye.now }
+    requires seats { publisher.old.seats ≡ sessions }
+    ensures same { publisher.new ≡ publisher.old }
+    ensures rings { IfOk result (λ made. vec_len made.rings ≡ sessions) }
+    ensures clients { IfOk result (λ made. AreBegun eye.now made.clients.items sessions) }
+{
+    let mut rings = Vec::new(alloc);
+    let mut clients = Vec::new(alloc);
+    for seat in 0..sessions {
+        let (ring, client) = seat_client(alloc, publisher, eye, bell, seat)?;
+        match rings.push(ring) {
+            Ok(()) => {}
+            Err(_) => return Err(StartCause::Memory),
+        }
+        match clients.push(client) {
+            Ok(()) => {}
+            Err(_) => return Err(StartCause::Memory),
+        }
+    }
+    Ok(Seats { rings, clients })
+}
+
+/// Makes all that stands before the engine.
+fn make_front<W: Wait + Drop>(
+    rt: W,
+    alloc: Global,
+    auction: &Auction,
+    sessions: u8,
+) -> Result<Front<W>, StartCause>
+    ensures publisher { IfOk result (λ made. (made.publisher.opened ≡ auction.now) × (made.publisher.seats ≡ sessions) × (made.publisher.list ≡ []) × (made.publisher.pending ≡ [])) }
+    ensures eye { IfOk result (λ made. (made.eye.opened ≡ auction.now) × (made.eye.list ≡ [])) }
+    ensures rings { IfOk result (λ made. vec_len made.rings ≡ sessions) }
+    ensures clients { IfOk result (λ made. AreBegun made.eye made.clients.items sessions) }
+{
+    let readers = usize::from(sessions) + 1;
+    let Ok(mut publisher) = Publisher::open(rt, alloc, auction, sessions, readers) else {
+        return Err(StartCause::Memory);
+    };
+    let Ok(eye) = publisher.introduce(alloc) else {
+        return Err(StartCause::Place);
+    };
+    let Ok(bell) = Arc::new(alloc, Parker::new()) else {
+        return Err(StartCause::Memory);
+    };
+    let Seats { rings, clients } = seat_clients(alloc, &mut publisher, &eye, &bell, sessions)?;
+    Ok(Front {
+        publisher,
+        eye,
+        bell,
+        rings,
+        clients,
+    })
+}
+
+impl<D: Disk + Drop, W: Wait + Drop> House<D, W> {
+    /// Starts a house over an opened device for so many sessions, from 1 to 32: the house, the committer's side of the
+    /// rings, and a client for each seat.
+    ///
+    /// 90 `memory` where memory is refused, 94 `place` where a ring or a viewer's place is: both hand the opened device
+    /// back as it was.
+    pub fn start(
+        rt: W,
+        alloc: Global,
+        opened: Opened<D>,
+        sessions: u8,
+    ) -> Result<Started<D, W>, StartFault<D>>
+        requires { (1 ≤ sessions) × (sessions ≤ 32) }
+        // Every client begins with what was opened, and there is one for each seat.
+        ensures opened { IfOk result (λ made. (made.house.opened ≡ opened.plan.auction) × (made.house.list ≡ [])) }
+        ensures clients { IfOk result (λ made. AreBegun made.house made.clients.items sessions) }
+        ensures rings { IfOk result (λ made. vec_len made.intake.rings ≡ sessions) }
+        ensures back { IfErr result (λ fault. (fault.opened.disk ≡ opened.disk) × (fault.opened.plan ≡ opened.plan)) }
+    {
+        let front = match make_front(rt, alloc, opened.auction(), sessions) {
+            Ok(front) => front,
+            Err(cause) => return Err(StartFault { opened, cause }),
+        };
+        let snapshot = Snapshot::of(&opened);
+        let engine = match Engine::start(alloc, opened) {
+            Ok(engine) => engine,
+            Err(opened) => {
+                return Err(StartFault {
+                    opened,
+                    cause: StartCause::Memory,
+                });
+            }
+        };
+        Ok(assemble(engine, front, sessions, snapshot))
+    }
+}
+
+/// Puts a house together.
+fn assemble<D: Disk + Drop, W: Wait + Drop>(
+    engine: Engine<D>,
+    front: Front<W>,
+    sessions: u8,
+    opened: Snapshot<Opened<D>>,
+) -> Started<D, W>
+    requires started { IsStarted engine.progress opened.value.plan }
+    requires keeps { (history : List Command) → Stands history (D.seen opened.value.disk) → Keeps D.seen D.may_leave engine.disk engine.progress engine.failed (at_rest history) }
+    requires publisher { (front.publisher.opened ≡ opened.value.plan.auction) × (front.publisher.seats ≡ sessions) × (front.publisher.list ≡ []) × (front.publisher.pending ≡ []) }
+    requires eye { front.eye.list ≡ [] }
+    requires rings { vec_len front.rings ≤ 32 }
+    ensures house { result.house ≡ front.eye }
+    ensures intake { result.intake.rings ≡ front.rings }
+    ensures clients { result.clients ≡ front.clients }
+{
+    let Front {
+        publisher,
+        eye,
+        bell,
+        rings,
+        clients,
+    } = front;
+    let house = House {
+        keeper: Mutex::new(Keeper::new(engine, publisher, sessions, opened)),
+        eye,
+        committing: bell,
+        checkpointing: Parker::new(),
+        is_over: AtomicBool::new(false),
+    };
+    Started {
+        house,
+        intake: Intake::new(rings),
+        clients,
+    }
+}
