@@ -1,0 +1,34 @@
+use Rattle.std.proofs.Common.{rules, ◌≡◌, ◌∙◌, ap}
+use denote.Param.Send.{sendable}
+use Rattle.hpb_house.proofs.keeper.Halt.TheSendSync as Halt
+use Rattle.hpb_rings.proofs.intake.Intake.TheSendSync as Intake
+use Rattle.hpb_house_rows.specs.Boards.{SameBoard}
+use Rattle.hpb_house_rows.proofs.Beginning.{all_and_one, next_of, rest_of}
+use Rattle.hpb_house.proofs.Crossing.{House-sync}
+use Rattle.hpb_house_rows.proofs.harness.fn.run_threads.scope.Goals as goal
+
+pub spawn-requires-send-F : goal.spawn-requires-send-F
+spawn-requires-send-F g c κs within =
+    let f = c.requires.cross in
+    let house = House-sync _ _ g.D.Disk f.0 f.1 in
+    let intake = Intake.the_send _ Halt.the_send in
+    search sendable depth 20
+
+pub spawn-requires-2-send-F : goal.spawn-requires-2-send-F
+spawn-requires-2-send-F g c κs within =
+    let f = c.requires.cross in
+    let house = House-sync _ _ g.D.Disk f.0 f.1 in
+    search sendable depth 20
+
+pub spawn_with-requires-clause-keeps : goal.spawn_with-requires-clause-keeps
+spawn_with-requires-clause-keeps g c κs within r post =
+    let began : SameBoard c.captures.house.now c.in-Some.client.viewer = next_of (λ c'. SameBoard c.captures.house.now c'.viewer) c.loop-client.client-iterator c.next.new.self c.in-Some.client c.loop-client.invariant.1 c.in-Some.ensures.steps in
+    let ended : SameBoard c.in-Some.client.viewer r.viewer = search rules in
+    search rules
+
+pub loop-client-preserved : goal.loop-client-preserved
+loop-client-preserved g c =
+    let is : c.in_ok-spawn_with.field-0.promise.0.value ≡ c.captures.house.now = ap (λ p. p.0.value) c.in_ok-spawn_with.ensures.ok ∙ c.of.ensures in
+    let all = all_and_one (λ h. h.promise.0.value ≡ c.captures.house.now) c.loop-client.threads.items c.in_ok-spawn_with.field-0 c.loop-client.invariant.0 is in
+    let rest = rest_of (λ c'. SameBoard c.captures.house.now c'.viewer) c.loop-client.client-iterator c.next.new.self c.in-Some.client c.loop-client.invariant.1 c.in-Some.ensures.steps in
+    (rw c.in_ok-push.ensures.items all, rest)

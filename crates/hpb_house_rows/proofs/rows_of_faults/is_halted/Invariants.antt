@@ -1,0 +1,6 @@
+use Rattle.std.proofs.Common.{◌≡◌}
+use Rattle.hpb_house_rows.specs.Boards.{SameBoard}
+use Rattle.hpb_house_rows.proofs.rows_of_faults.is_halted.Given as goal
+
+abbrev pub invariant-loop : goal.invariant-loop
+invariant-loop g l = SameBoard l.fn.client.viewer l.client.viewer × (l.client.seat ≡ l.fn.client.seat)

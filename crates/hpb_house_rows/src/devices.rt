@@ -1,0 +1,79 @@
+//! What is opened for a house.
+
+use anyhow::Error;
+use hpb_disk::{MemoryDisk, OnceDisk};
+use hpb_engine_rows::devices::{new_device, new_engine, opened};
+use hpb_format::format;
+use hpb_recover::Opened;
+use hpb_tree::{BidderDraft, Definition, Draft, NodeDraft, TermsDraft};
+use std::alloc::{AllocError, Global};
+use std::test::Fail;
+
+/// A new device of six nodes, four bidders and four frames, opened.
+pub(crate) fn six_nodes_opened(alloc: Global) -> Result<Opened<MemoryDisk>, Fail> {
+    match opened(alloc, new_device(alloc)?) {
+        Ok(opened) => Ok(opened),
+        Err(fault) => Err(Fail::from(Error::from(fault.cause))),
+    }
+}
+
+/// The same, of which one call fails: so many after it was opened, from 1.
+pub(crate) fn faulty_opened(
+    alloc: Global,
+    call: u64,
+) -> Result<Opened<OnceDisk<MemoryDisk>>, Fail> {
+    let opening = new_engine(alloc)?.finish().calls() as u64;
+    let disk = OnceDisk::new(new_device(alloc)?, opening.saturating_add(call));
+    match opened(alloc, disk) {
+        Ok(opened) => Ok(opened),
+        Err(fault) => Err(Fail::from(Error::from(fault.cause))),
+    }
+}
+
+/// How many licences and how many bidders the wide definition has.
+pub(crate) const WIDE: u8 = 32;
+
+/// The frames of the wide device.
+const FRAMES: u32 = 64;
+
+/// The bytes of a device with so many frames.
+const DEVICE_BYTES: usize = 315_392;
+
+/// Licences, and bidders that may bid on all of them.
+fn wide_draft(alloc: Global) -> Result<Draft, AllocError> {
+    let mut draft = Draft {
+        step: 10,
+        percent: 10,
+        stages: vec![in alloc; 80]?,
+        nodes: Vec::new(alloc),
+        bidders: Vec::new(alloc),
+    };
+    for place in 0..WIDE {
+        draft.nodes.push(NodeDraft {
+            name: format!(in alloc; "n{place}")?,
+            parent: None,
+            terms: Some(TermsDraft {
+                units: 1,
+                opening: 100,
+            }),
+        })?;
+        let name = format!(in alloc; "b{place}")?;
+        draft.bidders.push(BidderDraft { name, units: 32 })?;
+    }
+    Ok(draft)
+}
+
+/// A new device of 32 licences, 32 bidders and 64 frames, opened.
+pub(crate) fn wide_opened(alloc: Global) -> Result<Opened<MemoryDisk>, Fail> {
+    let draft = wide_draft(alloc)?;
+    let definition = Definition::check(alloc, &draft)?;
+    let disk = MemoryDisk::zeros(alloc, DEVICE_BYTES)?;
+    let disk = match format(alloc, disk, &definition, FRAMES) {
+        Ok(disk) => disk,
+        Err(fault) => return Err(Fail::from(Error::from(fault.cause))),
+    };
+    match opened(alloc, disk) {
+        Ok(opened) => Ok(opened),
+        Err(fault) => Err(Fail::from(Error::from(fault.cause))),
+    }
+}

@@ -1,0 +1,232 @@
+//! A house with all its threads: the two workers, and one for each client.
+ghost use Rattle.std.specs.Prelude.{◌≡◌, ◌≤◌, ◌⊎◌, [], true, All, IfOk};
+ghost use Rattle.std.specs.Thread.{IsSend, IsSync};
+ghost use Rattle.hpb_house_rows.specs.Boards.{SameBoard};
+
+use hpb_disk::{Disk, MemoryDisk, OnceDisk};
+use hpb_house::{CloseFault, Closing, Gate, Halt, House, Started, checkpointer, committer};
+use hpb_recover::Opened;
+use hpb_rings::{Client, Intake, Report};
+use std::alloc::{AllocError, Global};
+use std::snapshot::Snapshot;
+use std::sync::Wait;
+use std::test::Fail;
+use std::thread;
+use std::thread::{Promise, Threads};
+
+/// What the clients of a house do while it is open. Each is called in a thread of its own.
+pub(crate) trait Session {
+    ghost use Rattle.std.specs.Prelude.{◌≡◌};
+    ghost use Rattle.hpb_house_rows.specs.Boards.{SameBoard};
+
+    fn run<R: Wait>(&self, rt: &R, client: Client<Halt>) -> Client<Halt>
+        ensures board { SameBoard client.viewer result.viewer }
+        ensures seat { result.seat ≡ client.seat };
+}
+
+/// What came of a house that was closed.
+#[derive(Clone, Copy, Debug, PartialEq, Eq)]
+pub(crate) struct Outcome {
+    /// Whether the counts were the same.
+    pub(crate) is_closed: bool,
+    /// How many commands were committed since the opening.
+    pub(crate) committed: u64,
+    /// How many answers the clients took.
+    pub(crate) taken: u64,
+    /// How many of these newly accepted a command.
+    pub(crate) accepted: u64,
+}
+
+/// A house that was closed, with its device.
+#[derive(Drop)]
+pub(crate) struct Run<D: Disk + Drop> {
+    pub(crate) outcome: Outcome,
+    pub(crate) disk: D,
+}
+
+/// The report is of the board of a house.
+#[derive(Drop)]
+struct OfHouse<D: Disk + Drop, W: Wait + Drop>(Snapshot<House<D, W>>);
+
+impl<D: Disk + Drop, W: Wait + Drop> Promise<Report> for OfHouse<D, W> {
+    ghost use Rattle.hpb_house_rows.specs.Boards.{SameBoard};
+
+    ghost kept_by = { λ p r. SameBoard p.0.value r.viewer };
+}
+
+/// Takes answers until no letter waits, or the client is halted.
+fn settle<R: Wait>(rt: &R, client: &mut Client<Halt>)
+    ensures board { SameBoard client.old.viewer client.new.viewer }
+    ensures settled { (client.new.waiting.items ≡ []) ⊎ (client.new.is_halted ≡ true) }
+{
+    for _ in rt.forever() {
+        if client.outstanding() == 0 || client.halted() {
+            return;
+        }
+        let _ = client.poll();
+        match client.take() {
+            Ok(Some(_)) => {}
+            Ok(None) | Err(_) => client.wait(rt),
+        }
+    }
+    unreachable!()
+}
+
+/// Takes the answers that are left, and finishes the client.
+fn finish<R: Wait>(rt: &R, client: Client<Halt>) -> Report
+    ensures board { SameBoard client.viewer result.viewer }
+{
+    let mut client = client;
+    settle(rt, &mut client);
+    for _ in rt.forever() {
+        match client.finish() {
+            Ok(report) => return report,
+            Err(back) => client = back,
+        }
+        thread::yield_now();
+    }
+    unreachable!()
+}
+
+/// A client's thread.
+fn serve<S: Session, R: Wait>(rt: &R, session: &S, client: Client<Halt>) -> Report
+    ensures board { SameBoard client.viewer result.viewer }
+{
+    finish(rt, session.run(rt, client))
+}
+
+/// Runs the threads of a house to their ends.
+fn run_threads<
+    D: Disk + Drop + Send,
+    W: Wait + Drop + Send,
+    G: Gate + Sync,
+    S: Session + Sync,
+    R: Threads + Wait + Sync,
+>(
+    rt: &R,
+    alloc: Global,
+    house: &House<D, W>,
+    intake: Intake<Halt>,
+    clients: Vec<Client<Halt>>,
+    gate: &G,
+    session: &S,
+) -> Result<Vec<Report>, AllocError>
+    requires { All (λ c. SameBoard house.now c.viewer) clients.items }
+    ensures { IfOk result (λ rs. All (λ r. SameBoard house.now r.viewer) rs.items) }
+{
+    thread::scope(
+        thread::scope_env(),
+        rt,
+        move |scope| -> Result<Vec<Report>, AllocError>
+            requires cross { IsSend D.row × IsSend W.row × IsSync G.row × IsSync S.row × IsSync R.row }
+            requires same { All (λ c. SameBoard house.now c.viewer) clients.items }
+            ensures { IfOk result (λ rs. All (λ r. SameBoard house.entry.now r.viewer) rs.items) }
+        {
+            let mut threads = Vec::with_capacity(alloc, clients.len())?;
+            let commits = scope.spawn(move || committer(rt, house, intake, gate))?;
+            let checkpoints = scope.spawn(move || checkpointer(rt, house, gate))?;
+            for client in clients {
+                let promise = OfHouse(Snapshot::of(house));
+                threads.push(scope.spawn_with(promise, move || serve(rt, session, client))?)?;
+            }
+            let reports = thread::join_promised(rt, threads)?;
+            commits.join(rt);
+            checkpoints.join(rt);
+            Ok(reports)
+        },
+    )
+}
+
+/// How many answers were taken, and how many of these newly accepted a command.
+fn sums(reports: &[Report]) -> (u64, u64) {
+    let mut taken = 0u64;
+    let mut accepted = 0u64;
+    for report in reports {
+        taken = taken.saturating_add(report.taken);
+        accepted = accepted.saturating_add(report.accepted);
+    }
+    (taken, accepted)
+}
+
+/// What came of a house, by its closing and what its clients took.
+fn ended<D: Disk + Drop>(
+    closed: Result<Closing<D>, CloseFault<D>>,
+    opened: u32,
+    sums: (u64, u64),
+) -> Run<D> {
+    let (taken, accepted) = sums;
+    match closed {
+        Ok(Closing { disk, auction }) => Run {
+            outcome: Outcome {
+                is_closed: true,
+                committed: u64::from(auction.count().saturating_sub(opened)),
+                taken,
+                accepted,
+            },
+            disk,
+        },
+        Err(CloseFault { disk, counts, .. }) => Run {
+            outcome: Outcome {
+                is_closed: false,
+                committed: counts.committed,
+                taken,
+                accepted,
+            },
+            disk,
+        },
+    }
+}
+
+/// Starts a house over what was opened, with a client for each of so many sessions, runs all its threads and closes it.
+fn run_house<D: Disk + Drop + Send, G: Gate + Sync, S: Session + Sync, R: Threads + Wait + Sync>(
+    rt: &R,
+    alloc: Global,
+    opened: Opened<D>,
+    sessions: u8,
+    gate: &G,
+    session: &S,
+) -> Result<Run<D>, Fail>
+    requires { (1 ≤ sessions) × (sessions ≤ 32) }
+{
+    let before = opened.auction().count();
+    let Ok(started) = House::start(rt, alloc, opened, sessions) else {
+        return Err(Fail::new("the house was not started"));
+    };
+    let Started {
+        house,
+        intake,
+        clients,
+    } = started;
+    let mut reports = run_threads(rt, alloc, &house, intake, clients, gate, session)?;
+    let sums = sums(&reports);
+    let closed = house.close(&mut reports);
+    Ok(ended(closed, before, sums))
+}
+
+/// `run_house` over a device in memory.
+pub(crate) fn run_in_memory<G: Gate + Sync, S: Session + Sync, R: Threads + Wait + Sync>(
+    rt: &R,
+    alloc: Global,
+    opened: Opened<MemoryDisk>,
+    sessions: u8,
+    gate: &G,
+    session: &S,
+) -> Result<Run<MemoryDisk>, Fail>
+    requires { (1 ≤ sessions) × (sessions ≤ 32) }
+{
+    run_house(rt, alloc, opened, sessions, gate, session)
+}
+
+/// `run_house` over a device in memory of which one call fails.
+pub(crate) fn run_with_fault<G: Gate + Sync, S: Session + Sync, R: Threads + Wait + Sync>(
+    rt: &R,
+    alloc: Global,
+    opened: Opened<OnceDisk<MemoryDisk>>,
+    sessions: u8,
+    gate: &G,
+    session: &S,
+) -> Result<Run<OnceDisk<MemoryDisk>>, Fail>
+    requires { (1 ≤ sessions) × (sessions ≤ 32) }
+{
+    run_house(rt, alloc, opened, sessions, gate, session)
+}

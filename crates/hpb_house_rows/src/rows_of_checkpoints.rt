@@ -1,0 +1,133 @@
+//! Commits beside a checkpoint that is held.
+ghost use Rattle.std.specs.Prelude.{◌≡◌};
+ghost use Rattle.hpb_house_rows.specs.Boards.{SameBoard};
+
+use crate::devices::six_nodes_opened;
+use crate::harness::{Outcome, Session, run_in_memory};
+use crate::hold::Hold;
+use crate::script::{accepted_command, ask_places};
+use crate::turns::{TURNS, pause, post, take_within};
+use hpb_engine_rows::devices::count_on;
+use hpb_house::{Halt, Point};
+use hpb_rings::Client;
+use hpb_rules::Reply;
+use std::sync::Wait;
+use std::sync::atomic::{AtomicBool, AtomicU64, Ordering};
+use std::test::*;
+
+/// How many short waits a letter is looked at that isn't to be answered.
+const LOOKS: u32 = 10_000;
+
+/// Whether a letter that was posted is accepted with this number within so many turns.
+fn is_accepted<R: Wait>(rt: &R, client: &mut Client<Halt>, number: u32, turns: u32) -> bool
+    ensures same { SameBoard client.old.viewer client.new.viewer × (client.new.seat ≡ client.old.seat) }
+{
+    match take_within(rt, client, turns) {
+        Some(answer) => answer.reply == Reply::Ok(number),
+        None => false,
+    }
+}
+
+/// Fills the journal while the checkpointer is held.
+#[derive(Drop)]
+struct FullJournal {
+    hold: Hold,
+    first: AtomicU64,
+    waits: AtomicBool,
+    goes_on: AtomicBool,
+}
+
+impl Session for FullJournal {
+    fn run<R: Wait>(&self, rt: &R, client: Client<Halt>) -> Client<Halt> {
+        let mut client = client;
+        let first = ask_places(rt, &mut client, 0, 4);
+        self.first.store(first, Ordering::SeqCst);
+        let is_posted = post(&mut client, accepted_command(4));
+        let comes = take_within(rt, &mut client, LOOKS).is_some();
+        let waits = is_posted && !comes && self.hold.was_entered();
+        self.waits.store(waits, Ordering::SeqCst);
+        self.hold.open();
+        let goes_on = is_accepted(rt, &mut client, 5, TURNS);
+        self.goes_on.store(goes_on, Ordering::SeqCst);
+        client
+    }
+}
+
+#[test]
+fn full_journal_waits(rt: HostRuntime) -> Result<(), Fail> {
+    let alloc = rt.alloc();
+    let session = FullJournal {
+        hold: Hold::at_point(Point::Page(0)),
+        first: AtomicU64::new(0),
+        waits: AtomicBool::new(false),
+        goes_on: AtomicBool::new(false),
+    };
+    let opened = six_nodes_opened(alloc)?;
+    let run = run_in_memory(&rt, alloc, opened, 1, &session.hold, &session)?;
+    assert_eq!(rt; session.first.load(Ordering::SeqCst), 4);
+    assert!(rt; session.waits.load(Ordering::SeqCst));
+    assert!(rt; session.goes_on.load(Ordering::SeqCst));
+    assert_eq!(rt; run.outcome.committed, 5);
+    assert_eq!(rt; count_on(alloc, run.disk)?, 5);
+    Ok(())
+}
+
+/// Waits until the gate's point was told: `false` where it wasn't within the most turns.
+fn is_entered<R: Wait>(rt: &R, hold: &Hold) -> bool {
+    for _ in 0..TURNS {
+        if hold.was_entered() {
+            return true;
+        }
+        pause(rt);
+    }
+    false
+}
+
+/// Goes on with commits while the checkpointer is held, and after it.
+#[derive(Drop)]
+struct Beside {
+    hold: Hold,
+    is_entered: AtomicBool,
+    beside: AtomicU64,
+    after: AtomicU64,
+}
+
+impl Session for Beside {
+    fn run<R: Wait>(&self, rt: &R, client: Client<Halt>) -> Client<Halt> {
+        let mut client = client;
+        let _ = ask_places(rt, &mut client, 0, 1);
+        self.is_entered
+            .store(is_entered(rt, &self.hold), Ordering::SeqCst);
+        let beside = ask_places(rt, &mut client, 1, 3);
+        self.beside.store(beside, Ordering::SeqCst);
+        self.hold.open();
+        let after = ask_places(rt, &mut client, 3, 10);
+        self.after.store(after, Ordering::SeqCst);
+        client
+    }
+}
+
+#[test]
+fn commits_beside_a_checkpoint(rt: HostRuntime) -> Result<(), Fail> {
+    let alloc = rt.alloc();
+    let session = Beside {
+        hold: Hold::at_point(Point::Page(1)),
+        is_entered: AtomicBool::new(false),
+        beside: AtomicU64::new(0),
+        after: AtomicU64::new(0),
+    };
+    let opened = six_nodes_opened(alloc)?;
+    let run = run_in_memory(&rt, alloc, opened, 1, &session.hold, &session)?;
+    assert!(rt; session.is_entered.load(Ordering::SeqCst));
+    assert_eq!(rt; session.beside.load(Ordering::SeqCst), 2);
+    assert_eq!(rt; session.after.load(Ordering::SeqCst), 7);
+    let wanted = Outcome {
+        is_closed: true,
+        committed: 10,
+        taken: 10,
+        accepted: 10,
+    };
+    assert_eq!(rt; run.outcome, wanted);
+    assert_eq!(rt; count_on(alloc, run.disk)?, 10);
+    Ok(())
+}

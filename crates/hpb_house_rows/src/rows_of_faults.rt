@@ -1,0 +1,67 @@
+//! A client of a house whose device fails.
+ghost use Rattle.std.specs.Prelude.{◌≡◌};
+ghost use Rattle.hpb_house_rows.specs.Boards.{SameBoard};
+
+use crate::devices::faulty_opened;
+use crate::harness::{Outcome, Session, run_with_fault};
+use crate::script::accepted_command;
+use crate::turns::{TURNS, pause, post};
+use hpb_house::{Halt, OpenGate};
+use hpb_rings::Client;
+use std::sync::Wait;
+use std::sync::atomic::{AtomicU32, Ordering};
+use std::test::*;
+
+/// Whether the client is halted within the most turns.
+fn is_halted<R: Wait>(rt: &R, client: &mut Client<Halt>) -> bool
+    ensures same { SameBoard client.old.viewer client.new.viewer × (client.new.seat ≡ client.old.seat) }
+{
+    for _ in 0..TURNS {
+        if client.halted() {
+            return true;
+        }
+        pause(rt);
+    }
+    false
+}
+
+/// Bids, and waits until it is halted. Then no answer comes.
+#[derive(Drop)]
+struct Halted {
+    right: AtomicU32,
+}
+
+impl Session for Halted {
+    fn run<R: Wait>(&self, rt: &R, client: Client<Halt>) -> Client<Halt> {
+        let mut client = client;
+        let is_posted = post(&mut client, accepted_command(0));
+        let is_halted = is_halted(rt, &mut client);
+        let is_answered = client.poll().is_some();
+        if is_posted && is_halted && !is_answered {
+            self.right.fetch_add(1, Ordering::SeqCst);
+        }
+        client
+    }
+}
+
+#[test]
+fn halted_client(rt: HostRuntime) -> Result<(), Fail> {
+    let alloc = rt.alloc();
+    let wanted = Outcome {
+        is_closed: true,
+        committed: 0,
+        taken: 0,
+        accepted: 0,
+    };
+    let session = Halted {
+        right: AtomicU32::new(0),
+    };
+    // Each of the four calls of the first commit.
+    for call in 1..5 {
+        let opened = faulty_opened(alloc, call)?;
+        let run = run_with_fault(&rt, alloc, opened, 1, &OpenGate, &session)?;
+        assert_eq!(rt; run.outcome, wanted, "{call}");
+    }
+    assert_eq!(rt; session.right.load(Ordering::SeqCst), 4);
+    Ok(())
+}
