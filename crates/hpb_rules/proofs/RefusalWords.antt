@@ -50,6 +50,9 @@ told_back refusals.Memory = (refl, refl)
 told_back refusals.Device = (refl, refl)
 told_back refusals.Stream = (refl, refl)
 told_back refusals.Failed = (refl, refl)
+told_back refusals.Place = (refl, refl)
+told_back refusals.Order = (refl, refl)
+told_back refusals.Counts = (refl, refl)
 
 -- what is found in a list is in it
 found_in : {A : Type 0} (test : A → Bool) (items : List A) (item : A) → find test items ≡ Some item → Contains items item

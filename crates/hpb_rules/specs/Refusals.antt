@@ -41,6 +41,9 @@ told refusals.Memory = (90, codes "memory")
 told refusals.Device = (91, codes "device")
 told refusals.Stream = (92, codes "stream")
 told refusals.Failed = (93, codes "failed")
+told refusals.Place = (94, codes "place")
+told refusals.Order = (95, codes "order")
+told refusals.Counts = (96, codes "counts")
 
 -- The number of a refusal.
 abbrev pub number_of : Refusal → ℕ

@@ -13,7 +13,7 @@ all_refusals =
     ∷ refusals.Unformatted ∷ refusals.Formatted ∷ refusals.Layout ∷ refusals.Length ∷ refusals.Checkpoint ∷ refusals.Frame
     ∷ refusals.Empty ∷ refusals.Name ∷ refusals.Duplicate ∷ refusals.Parent ∷ refusals.Children ∷ refusals.Leaf ∷ refusals.Limits
     ∷ refusals.Terms ∷ refusals.Json ∷ refusals.Field ∷ refusals.Number
-    ∷ refusals.Memory ∷ refusals.Device ∷ refusals.Stream ∷ refusals.Failed ∷ []
+    ∷ refusals.Memory ∷ refusals.Device ∷ refusals.Stream ∷ refusals.Failed ∷ refusals.Place ∷ refusals.Order ∷ refusals.Counts ∷ []
 
 -- The numbers and the words, as they stand in `ERR` lines.
 abbrev pub written_words : List (ℕ × List ℕ)
@@ -25,7 +25,8 @@ written_words =
     ∷ (44, codes "checkpoint") ∷ (45, codes "frame")
     ∷ (50, codes "empty") ∷ (51, codes "name") ∷ (52, codes "duplicate") ∷ (53, codes "parent") ∷ (54, codes "children")
     ∷ (55, codes "leaf") ∷ (56, codes "limits") ∷ (57, codes "terms") ∷ (60, codes "json") ∷ (61, codes "field")
-    ∷ (62, codes "number") ∷ (90, codes "memory") ∷ (91, codes "device") ∷ (92, codes "stream") ∷ (93, codes "failed") ∷ []
+    ∷ (62, codes "number") ∷ (90, codes "memory") ∷ (91, codes "device") ∷ (92, codes "stream")
+    ∷ (93, codes "failed") ∷ (94, codes "place") ∷ (95, codes "order") ∷ (96, codes "counts") ∷ []
 
 -- The refusals in their order are told by these numbers and words, each refusal is among them, and no two have one number or one word.
 pub record WordsAre : Type 0 where

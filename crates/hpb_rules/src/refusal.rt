@@ -74,6 +74,12 @@ pub enum Refusal {
     Stream,
     /// 93 `failed`: what was asked can't be shown or done any more until the auction is opened anew.
     Failed,
+    /// 94 `place`: a ring or a viewer's place was refused when a house was to start.
+    Place,
+    /// 95 `order`: an answer that isn't the one that its client waits for.
+    Order,
+    /// 96 `counts`: what the clients of a house counted and what it committed don't agree.
+    Counts,
 }
 
 impl Refusal {
@@ -117,6 +123,9 @@ impl Refusal {
             Refusal::Device => 91,
             Refusal::Stream => 92,
             Refusal::Failed => 93,
+            Refusal::Place => 94,
+            Refusal::Order => 95,
+            Refusal::Counts => 96,
         }
     }
 
@@ -160,6 +169,9 @@ impl Refusal {
             Refusal::Device => "device",
             Refusal::Stream => "stream",
             Refusal::Failed => "failed",
+            Refusal::Place => "place",
+            Refusal::Order => "order",
+            Refusal::Counts => "counts",
         }
     }
 }

@@ -32,7 +32,7 @@ device_replies old new command reply told (inl it) tells = (
   ),
 )
 device_replies old new command reply told (inr (inl it)) tells =
-    (told, front_self told, inr (inr (inr it.1), tells ∙ sym (ap (λ (state : State). state.history) it.2)))
+    (told, front_self told, inr (inr (inr (inl it.1)), tells ∙ sym (ap (λ (state : State). state.history) it.2)))
 device_replies old new command reply told (inr (inr it)) tells =
     (told, front_self told, inr (inr (inl it.0), tells ∙ sym (ap (λ (state : State). state.history) it.1)))
 

@@ -9,9 +9,9 @@ use Rattle.hpb_rules.specs.Answer.{answer, history_after}
 use Rattle.hpb_rules.specs.AuctionValue.{AuctionValue, Shows}
 use Rattle.hpb_rules.specs.Fronts.{IsFront}
 
--- A reply by which the desk tells of itself and not of the rules: memory was refused, a call of its device failed, or it can do nothing more.
+-- A reply by which the desk tells of itself and not of the rules: memory was refused, it can do nothing more, a call of its device failed, or an answer came that isn't the one that it waits for.
 abbrev pub IsOfDesk : Reply → Type 0
-IsOfDesk reply = (reply ≡ replies.Refused refusals.Memory) ⊎ (reply ≡ replies.Refused refusals.Failed) ⊎ (reply ≡ replies.Refused refusals.Device)
+IsOfDesk reply = (reply ≡ replies.Refused refusals.Memory) ⊎ (reply ≡ replies.Refused refusals.Failed) ⊎ (reply ≡ replies.Refused refusals.Device) ⊎ (reply ≡ replies.Refused refusals.Order)
 
 -- After a history was told of, a command gets the reply of the rules after a history that goes on from it, and is then told of; or the desk tells of itself, and nothing is accepted.
 abbrev pub RepliesAfter : (rules : Rules) (told : List Command) → Command → Reply → (tells : List Command → Type 0) → Type 0
