@@ -26,7 +26,7 @@ one_of true y e f = absurd (both_ways true f refl)
 one_of false y e f = e
 
 -- what is found under one node more
-one_more : (under active : ℕ → Bool) (on a k : ℕ) → a ≤ on → on < a + k
+pub one_more : (under active : ℕ → Bool) (on a k : ℕ) → a ≤ on → on < a + k
     → list_any (λ n. under n && ((on == n) || active n)) (range_with_len a k) ≡ (list_any (λ n. under n && active n) (range_with_len a k) || under on)
 one_more under active on a k from to = same_answer _ _ there back
   where

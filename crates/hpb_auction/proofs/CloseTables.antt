@@ -15,6 +15,7 @@ use Rattle.hpb_bids.specs.View.{BooksView, IsQuiet, offer_at, has_bid}
 use Rattle.hpb_auction.specs.declared.sender.BidderRow.{BidderRow}
 use Rattle.hpb_auction.specs.declared.auction.Auction.TheInside.{Inside}
 use Rattle.hpb_rules.specs.declared.saved.Accepted.{Accepted}
+use Rattle.hpb_units.specs.Activity.{activity_of}
 use Rattle.hpb_auction.specs.Rows.{renewed}
 use Rattle.hpb_auction.specs.Inside.{value_inside, booked, state_at, row_at, bidder_places, AreBidsOf, IsOfferOf, IsKept}
 use Rattle.hpb_rules.proofs.Tests.{no_bit}
@@ -46,7 +47,7 @@ folded_kept rules books books' kept new = record {
 pub record IsRenewed (a : Inside) (books' : BooksView) (rows' : List BidderRow) (percentage : ℕ) : Type 0 where
   pub folded : IsFolded a.books books'
   pub in_force : percentage ≡ slice_index a.definition.stages (a.stage - 1)
-  pub rows : (b : ℕ) → b < length a.bidders.items → row_at rows' b ≡ renewed a.definition.nodes a.books a.outcome percentage b (row_at a.bidders.items b)
+  pub rows : (b : ℕ) → b < length a.bidders.items → row_at rows' b ≡ renewed (activity_of a.definition.nodes a.books a.outcome b) percentage (row_at a.bidders.items b)
 
 module _ (a : Inside) (kept : IsKept a) (books' : BooksView) (rows' : List BidderRow) (percentage : ℕ) (new : IsRenewed a books' rows' percentage) where
   abbrev value : AuctionValue
@@ -63,7 +64,7 @@ module _ (a : Inside) (kept : IsKept a) (books' : BooksView) (rows' : List Bidde
   pub bidders_closed : map (state_at a.definition books' rows') (bidder_places a.definition) ≡ map (closed_bidder value) (bidder_places a.definition)
   bidders_closed = map_same (state_at a.definition books' rows') (closed_bidder value) 0 (length a.definition.bidders)
       (λ b l m. let inside : b < length a.definition.bidders = omega arith in
-      let row : row_at rows' b ≡ renewed a.definition.nodes a.books a.outcome percentage b (row_at a.bidders.items b) = new.rows b (omega (arith, kept.rows)) in
+      let row : row_at rows' b ≡ renewed (activity_of a.definition.nodes a.books a.outcome b) percentage (row_at a.bidders.items b) = new.rows b (omega (arith, kept.rows)) in
       same_state (state_at a.definition books' rows' b) (closed_bidder value b)
       (ap (λ (row : BidderRow). row.eligibility) row
       ∙ least (sym (ap (λ (state : BidderState). state.eligibility) (bidder_here a b inside))) (sym (activity_here a kept b inside)) new.in_force)

@@ -2,6 +2,7 @@ pub mod Verdicts
 pub mod Tables
 pub mod HighBids
 pub mod Activities
+pub mod Holdings
 pub mod Kept
 pub mod Quiet
 pub mod BidTables

@@ -11,6 +11,7 @@ use Rattle.hpb_rules.specs.ProperValues.{IsProper}
 use Rattle.hpb_bids.specs.View.{BooksView, offer_at, has_bid, bid_of}
 use Rattle.hpb_winners.specs.View.{OutcomeView, IsOutcome}
 use Rattle.hpb_prices.specs.View.{PricesView, HasPrices, HasMinima}
+use Rattle.hpb_units.specs.Holdings.{AreHoldings}
 use Rattle.hpb_rules.specs.declared.saved.Accepted.{Accepted}
 use Rattle.hpb_auction.specs.declared.sender.BidderRow.{BidderRow}
 use Rattle.hpb_auction.specs.declared.auction.Auction.TheInside.{Inside}
@@ -81,3 +82,4 @@ pub record IsKept (a : Inside) : Type 0 where
   pub most_rows : length a.bidders.items ≤ MOST_BIDDERS
   pub bids : AreBidsOf a.definition a.books
   pub tables : AreTablesOf a.definition a.books a.outcome a.prices
+  pub holdings : AreHoldings a.definition.nodes a.books a.outcome a.holdings

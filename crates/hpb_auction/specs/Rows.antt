@@ -1,10 +1,7 @@
 -- The rows of bidders.
 use Rattle.std.specs.Prelude.{ℕ, ◌*◌, ◌/◌, List, map, min, None}
-use Rattle.hpb_rules.specs.Tree.{Rules, Node}
+use Rattle.hpb_rules.specs.Tree.{Rules}
 use Rattle.hpb_rules.specs.History.{bidder_units}
-use Rattle.hpb_bids.specs.View.{BooksView}
-use Rattle.hpb_winners.specs.View.{OutcomeView}
-use Rattle.hpb_units.specs.Activity.{activity_of}
 use Rattle.hpb_auction.specs.declared.sender.BidderRow.{BidderRow}
 use Rattle.hpb_auction.specs.Inside.{bidder_places}
 
@@ -17,5 +14,5 @@ abbrev pub first_rows : Rules → List BidderRow
 first_rows rules = map (first_row rules) (bidder_places rules)
 
 -- A bidder's row after a close: its eligibility is at most what its activity allows under the percentage.
-abbrev pub renewed : List Node → BooksView → OutcomeView → ℕ → ℕ → BidderRow → BidderRow
-renewed nodes books outcome percentage bidder row = record row { eligibility = min row.eligibility (activity_of nodes books outcome bidder * 100 / percentage) }
+abbrev pub renewed : ℕ → ℕ → BidderRow → BidderRow
+renewed activity percentage row = record row { eligibility = min row.eligibility (activity * 100 / percentage) }

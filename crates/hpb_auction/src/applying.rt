@@ -77,6 +77,8 @@ impl Auction {
     {
         self.count = accepted.number;
         self.books.place(bidder, node, amount);
+        let tree = self.definition.tree();
+        self.holdings.add(tree, bidder, node);
         self.bidders[bidder.place()].last = Some(accepted);
     }
 
@@ -115,14 +117,7 @@ impl Auction {
     {
         // 1. Eligibilities, by the activity before the close.
         let percentage = self.definition.percentage(self.stage);
-        let tree = self.definition.tree();
-        renew_eligibility(
-            &mut self.bidders,
-            percentage,
-            tree,
-            &self.books,
-            &self.outcome,
-        );
+        renew_eligibility(&mut self.bidders, percentage, &self.holdings);
 
         // 2. A round without a bid ends the auction; any other is followed by the next.
         let quiet = self.books.is_quiet();
@@ -132,8 +127,10 @@ impl Auction {
         // 3. Incoming bids become high bids where they are greater; who bid where is forgotten.
         self.books.fold_round();
 
-        // 4. Winners from the bottom up, then prices and minima from the top down.
+        // 4. Winners from the bottom up and what they hold, then prices and minima from the top down.
+        let tree = self.definition.tree();
         upward(tree, &self.books, &mut self.outcome);
+        self.holdings.find_won(tree, &self.books, &self.outcome);
         downward(tree, &self.books, &self.outcome, &mut self.prices);
     }
 }

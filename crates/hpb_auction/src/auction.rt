@@ -8,7 +8,7 @@ use hpb_bids::Books;
 use hpb_prices::Prices;
 use hpb_rules::{Accepted, BidderId, NodeId};
 use hpb_tree::Definition;
-use hpb_units::activity;
+use hpb_units::Holdings;
 use hpb_winners::Outcome;
 use std::alloc::{AllocError, Global};
 use std::marker::Model;
@@ -21,6 +21,7 @@ pub struct Auction {
     pub(crate) books: Books,
     pub(crate) outcome: Outcome,
     pub(crate) prices: Prices,
+    pub(crate) holdings: Holdings,
     pub(crate) bidders: Vec<BidderRow>,
     pub(crate) auctioneer: Option<Accepted>,
     pub(crate) count: u32,
@@ -61,12 +62,14 @@ impl Auction {
         let books = Books::new(alloc, definition.tree())?;
         let outcome = Outcome::new(alloc, definition.tree())?;
         let prices = Prices::new(alloc, definition.tree())?;
+        let holdings = Holdings::new(alloc, definition.tree(), &books, &outcome)?;
         let bidders = bidder_rows(alloc, &definition)?;
         Ok(Auction {
             definition,
             books,
             outcome,
             prices,
+            holdings,
             bidders,
             auctioneer: None,
             count: 0,
@@ -85,6 +88,7 @@ impl Auction {
             books: self.books.copy(alloc)?,
             outcome: self.outcome.copy(alloc)?,
             prices: self.prices.copy(alloc)?,
+            holdings: self.holdings.copy(alloc)?,
             bidders: Vec::from_slice(alloc, self.bidders.as_slice())?,
             auctioneer: self.auctioneer,
             count: self.count,
@@ -102,6 +106,7 @@ impl Auction {
         self.books.copy_from(&other.books);
         self.outcome.copy_from(&other.outcome);
         self.prices.copy_from(&other.prices);
+        self.holdings.copy_from(&other.holdings);
         self.bidders.copy_from_slice(other.bidders.as_slice());
         self.auctioneer = other.auctioneer;
         self.count = other.count;
@@ -191,7 +196,7 @@ impl Auction {
         let row = &self.bidders[bidder.place()];
         BidderView {
             eligibility: row.eligibility,
-            activity: activity(self.definition.tree(), &self.books, &self.outcome, bidder),
+            activity: self.holdings.activity(bidder),
             ticket: last_ticket(row.last.as_ref()),
         }
     }

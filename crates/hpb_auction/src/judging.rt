@@ -11,7 +11,6 @@ ghost use Rattle.hpb_auction.specs.Verdicts.{reply_of, state_reply, IfNew, IfRep
 use crate::auction::Auction;
 use crate::verdict::{Verdict, by_ticket};
 use hpb_rules::{Accepted, BidderId, Command, MOST_AMOUNT, MOST_COMMANDS, NodeId, Refusal, Reply};
-use hpb_units::fits;
 
 impl Auction {
     /// What the command would be answered: what the rules answer it after each history that the auction
@@ -128,7 +127,7 @@ impl Auction {
         }
         let eligibility = self.bidders[bidder.place()].eligibility;
         let tree = self.definition.tree();
-        if !fits(tree, &self.books, &self.outcome, bidder, node, eligibility) {
+        if !self.holdings.fits(tree, bidder, node, eligibility) {
             return Some(Refusal::Eligibility);
         }
         None

@@ -36,7 +36,7 @@ impl Auction {
     }
 
     /// Becomes what was saved, under its own definition: `true` exactly where this may be restored, else the auction
-    /// stays as it was. Winners, prices and minima are computed anew. Takes no memory.
+    /// stays as it was. Winners, activities, prices and minima are computed anew. Takes no memory.
     pub fn restore(&mut self, saved: &Saved) -> bool
         ensures found { IsTrue result → IsSaved self.old.rules saved.now }
         ensures only { IsSaved self.old.rules saved.now → IsTrue result }
@@ -68,6 +68,7 @@ impl Auction {
         restore_bids(&mut self.books, &saved.bidders);
         let tree = self.definition.tree();
         upward(tree, &self.books, &mut self.outcome);
+        self.holdings.find(tree, &self.books, &self.outcome);
         downward(tree, &self.books, &self.outcome, &mut self.prices);
     }
 }

@@ -1,15 +1,13 @@
-ghost use Rattle.std.specs.Prelude.{◌≡◌, ℕ, ◌<◌, ◌≤◌, length, IfOk};
+ghost use Rattle.std.specs.Prelude.{◌≡◌, ℕ, ◌<◌, ◌≤◌, length, slice_index, IfOk};
 ghost use Rattle.hpb_rules.specs.History.{ticket_of, ticket_of_last};
 ghost use Rattle.hpb_rules.specs.declared.limits.TheConstants.{MOST_BIDDERS};
 ghost use Rattle.hpb_auction.specs.Verdicts.{read_last};
 ghost use Rattle.hpb_auction.specs.Inside.{row_at};
 ghost use Rattle.hpb_auction.specs.Rows.{first_rows, renewed};
 
-use hpb_bids::Books;
 use hpb_rules::{Accepted, BidderId, Command};
-use hpb_tree::{Definition, Tree};
-use hpb_units::{activity, next_eligibility};
-use hpb_winners::Outcome;
+use hpb_tree::Definition;
+use hpb_units::{Holdings, next_eligibility};
 use std::alloc::{AllocError, Global};
 
 /// The ticket that a command carries.
@@ -60,21 +58,15 @@ pub(crate) fn bidder_rows(
 }
 
 /// At a close each bidder's eligibility becomes what its activity allows under the percentage in force.
-pub(crate) fn renew_eligibility(
-    rows: &mut [BidderRow],
-    percentage: u8,
-    tree: &Tree,
-    books: &Books,
-    outcome: &Outcome,
-)
+pub(crate) fn renew_eligibility(rows: &mut [BidderRow], percentage: u8, holdings: &Holdings)
     requires rows { length rows.old ≤ MOST_BIDDERS }
     requires some { 50 ≤ percentage }
     requires most { percentage ≤ 100 }
     ensures length { length rows.new ≡ length rows.old }
-    ensures rows { (b : ℕ) → b < length rows.old → row_at rows.new b ≡ renewed tree.now.nodes books.now outcome.now percentage b (row_at rows.old b) }
+    ensures rows { (b : ℕ) → b < length rows.old → row_at rows.new b ≡ renewed (slice_index holdings.now.units b) percentage (row_at rows.old b) }
 {
     for place in 0..rows.len() {
-        let used = activity(tree, books, outcome, BidderId::new(place));
+        let used = holdings.activity(BidderId::new(place));
         let row = &mut rows[place];
         row.eligibility = next_eligibility(used, percentage, row.eligibility);
     }

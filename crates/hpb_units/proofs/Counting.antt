@@ -14,7 +14,7 @@ use Rattle.hpb_rules.proofs.Places.{sum_more, sum_has, count_yes, count_no, term
 use Rattle.hpb_units.specs.Activity.{is_marked}
 
 -- a sum to which no place adds
-sum_none : (f : ℕ → ℕ) (n : ℕ) → ((m : ℕ) → m < n → f m ≡ 0) → sum_by f (range_with_len 0 n) ≡ 0
+pub sum_none : (f : ℕ → ℕ) (n : ℕ) → ((m : ℕ) → m < n → f m ≡ 0) → sum_by f (range_with_len 0 n) ≡ 0
 sum_none f zero h = refl
 sum_none f (suc n) h = ap (λ m. sum_by f (range_with_len 0 m)) (sym (add-one n)) ∙ omega (arith, sum_more f n, sum_none f n (λ m l. h m (omega arith)), h n (omega arith))
 
@@ -39,14 +39,14 @@ module _ (nodes : List Node) where
   itself (suc k) l = ap (λ b. b || at_parent (parent_of nodes l) (at_or_under_within nodes k l)) (eq-eqb l l refl)
 
   -- what a place adds where it is a licence, and where it is none
-  part_some : (test : ℕ → Bool) (f : ℕ → ℕ) (l : ℕ) → is_some (terms_of nodes l) ≡ true → part_over nodes test f l ≡ cond (test l) (f l) 0
+  pub part_some : (test : ℕ → Bool) (f : ℕ → ℕ) (l : ℕ) → is_some (terms_of nodes l) ≡ true → part_over nodes test f l ≡ cond (test l) (f l) 0
   part_some test f l some = by (terms_of nodes l) some
     where
       by : (t : Option Terms) → is_some t ≡ true → part t (cond (test l) (f l) 0) ≡ cond (test l) (f l) 0
       by None e = absurd (both_ways _ refl e)
       by (Some t) e = refl
 
-  part_none : (test : ℕ → Bool) (f : ℕ → ℕ) (l : ℕ) → is_some (terms_of nodes l) ≡ false → part_over nodes test f l ≡ 0
+  pub part_none : (test : ℕ → Bool) (f : ℕ → ℕ) (l : ℕ) → is_some (terms_of nodes l) ≡ false → part_over nodes test f l ≡ 0
   part_none test f l none = by (terms_of nodes l) none
     where
       by : (t : Option Terms) → is_some t ≡ false → part t (cond (test l) (f l) 0) ≡ 0

@@ -1,2 +1,3 @@
 pub mod Marks
 pub mod Counting
+pub mod Held

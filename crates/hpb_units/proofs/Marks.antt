@@ -13,7 +13,7 @@ use Rattle.hpb_tree.specs.Licences.{licence_number, IsMask}
 use Rattle.hpb_rules.proofs.Places.{range_more}
 use Rattle.hpb_units.specs.Activity.{is_marked}
 
-any_more : (test : ℕ → Bool) (i : ℕ) → list_any test (range_with_len 0 (i + 1)) ≡ (list_any test (range_with_len 0 i) || test i)
+pub any_more : (test : ℕ → Bool) (i : ℕ) → list_any test (range_with_len 0 (i + 1)) ≡ (list_any test (range_with_len 0 i) || test i)
 any_more test i =
     ap (list_any test) (range_more i)
     ∙ list_any-append test (range_with_len 0 i) (i ∷ [])

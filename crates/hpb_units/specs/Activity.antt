@@ -9,6 +9,10 @@ use Rattle.hpb_tree.specs.Licences.{licence_number}
 use Rattle.hpb_bids.specs.View.{BooksView, offer_at, has_bid}
 use Rattle.hpb_winners.specs.View.{OutcomeView}
 
+-- Whether a bidder won a node at the last close.
+abbrev pub is_won_by : BooksView → OutcomeView → ℕ → ℕ → Bool
+is_won_by books outcome bidder node = is_in outcome.wins node && is_of bidder (offer_at books.standing node)
+
 -- Whether a bidder bid on a node in the open round, or won it at the last close.
 abbrev pub is_active_on : BooksView → OutcomeView → ℕ → ℕ → Bool
 is_active_on books outcome bidder node = has_bid books bidder node || (is_in outcome.wins node && is_of bidder (offer_at books.standing node))

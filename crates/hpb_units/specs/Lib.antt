@@ -1,1 +1,3 @@
 pub mod Activity
+pub mod Holdings
+pub mod Inside

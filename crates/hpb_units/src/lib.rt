@@ -2,7 +2,9 @@
 #![tactic(auto)]
 
 mod eligibility;
+mod holdings;
 mod units;
 
 pub use eligibility::{next_eligibility, required_met};
+pub use holdings::Holdings;
 pub use units::{activity, fits};

@@ -35,7 +35,7 @@ pub fn fits(
 }
 
 /// A bit for each licence of the nodes on which a bidder bid in the open round or which it won.
-fn licences_held(tree: &Tree, books: &Books, outcome: &Outcome, bidder: BidderId) -> u64
+pub(crate) fn licences_held(tree: &Tree, books: &Books, outcome: &Outcome, bidder: BidderId) -> u64
     ensures { (l : ℕ) → IsSome (terms_of tree.now.nodes l) → is_marked tree.now.nodes result l ≡ held tree.now.nodes books.now outcome.now bidder l }
 {
     let mut licences = 0;
@@ -65,7 +65,7 @@ fn has_won(books: &Books, outcome: &Outcome, bidder: BidderId, node: NodeId) -> 
 }
 
 /// The bidding units of these licences: bit i is for the i-th licence of the tree, from 0.
-fn units_of(tree: &Tree, licences: u64) -> u32
+pub(crate) fn units_of(tree: &Tree, licences: u64) -> u32
     ensures { result ≡ sum_over tree.now.nodes (is_marked tree.now.nodes licences) (units_at tree.now.nodes) }
 {
     tree.facts();

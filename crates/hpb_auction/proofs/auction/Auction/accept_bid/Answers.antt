@@ -10,6 +10,9 @@ use Rattle.hpb_bids.specs.View.{BooksView, offer_at, bid_of}
 use Rattle.hpb_auction.specs.declared.sender.BidderRow.{BidderRow}
 use Rattle.hpb_auction.specs.Inside.{value_inside, row_at}
 use Rattle.hpb_auction.proofs.Tables.{row_found}
+use Rattle.hpb_rules.specs.Tree.{TreeRules}
+use Rattle.hpb_units.specs.Holdings.{AreSmall, AreSummed, HoldsMore}
+use Rattle.hpb_auction.proofs.Holdings.{small, holdings_placed}
 use Rattle.hpb_auction.proofs.Kept.{tables_stay}
 use Rattle.hpb_auction.proofs.BidTables.{IsPlaced, placed_kept, bid_seen, row_set, row_other, with_last}
 use Rattle.hpb_auction.proofs.auction.Auction.accept_bid.Goals as goal
@@ -62,4 +65,18 @@ invariant_of-self c =
       most_rows = search rules;
       bids = placed_kept a.definition a.books c.place.new.self c.args.bidder c.args.node c.args.amount kept.bids (placed c) (known c).0 (known c).1;
       tables = tables_stay a.definition a.books c.place.new.self a.outcome a.prices (ap bid_of c.place.ensures.value) kept.tables;
+      holdings = holdings_placed a.definition.nodes a.books c.place.new.self a.outcome c.args.bidder c.args.node c.args.amount (known c).1 (placed c) a.holdings c.add.new.self kept.holdings
+          (subst (λ (t : TreeRules). HoldsMore t.nodes a.holdings c.add.new.self c.args.bidder c.args.node) c.tree-tree.ensures c.add.ensures.more)
+          (subst (λ (t : TreeRules). AreSummed t.nodes c.add.new.self) c.tree-tree.ensures c.add.ensures.summed);
     }
+
+pub add-requires-clause-node : goal.add-requires-clause-node
+add-requires-clause-node c = subst (λ (t : TreeRules). c.args.node < length t.nodes) (sym c.tree-tree.ensures)
+    (subst (λ (command : Command). IsKnown (value_inside c.self.inside) command) c.requires.command
+    (subst (λ (value : AuctionValue). IsKnown value c.args.accepted.command) (sym c.self.view_is) c.requires.known)).1
+
+pub add-requires-clause-small : goal.add-requires-clause-small
+add-requires-clause-small c = subst (λ (t : TreeRules). AreSmall t.nodes) (sym c.tree-tree.ensures) (small c.self.inside.definition c.self.invariant.accepted)
+
+pub add-requires-clause-summed : goal.add-requires-clause-summed
+add-requires-clause-summed c = subst (λ (t : TreeRules). AreSummed t.nodes c.self.inside.holdings) (sym c.tree-tree.ensures) c.self.invariant.holdings.summed

@@ -27,6 +27,7 @@ invariant_of-self c =
       most_rows = kept.most_rows;
       bids = kept.bids;
       tables = kept.tables;
+      holdings = kept.holdings;
     }
 
 pub invariant_of-self-2 : goal.invariant_of-self-2
@@ -40,4 +41,5 @@ invariant_of-self-2 c =
       most_rows = kept.most_rows;
       bids = kept.bids;
       tables = kept.tables;
+      holdings = kept.holdings;
     }

@@ -23,4 +23,5 @@ invariant_of-self c =
       most_rows = kept.most_rows;
       bids = kept.bids;
       tables = kept.tables;
+      holdings = kept.holdings;
     }

@@ -1,6 +1,9 @@
-use Rattle.std.proofs.Common.{true, false, not, refl, sym, ap, ◌∙◌, arith}
+use Rattle.std.proofs.Common.{true, false, not, refl, sym, ap, ◌∙◌, arith, subst}
 use Rattle.std.proofs.lemmas.Bool.{lt-ltb, le-ltb}
 use Rattle.hpb_rules.specs.declared.limits.TheConstants.{MOST_AMOUNT}
+use Rattle.hpb_rules.specs.Tree.{TreeRules}
+use Rattle.hpb_units.specs.Holdings.{AreSmall, AreSummed, AreHoldings}
+use Rattle.hpb_auction.proofs.Holdings.{small}
 use Rattle.hpb_auction.proofs.Faults.{fault_is, stepped_at, low_found, again_found, over}
 use Rattle.hpb_auction.proofs.auction.Auction.bid_fault.Goals as goal
 
@@ -35,7 +38,8 @@ returns-then-not-fits-clause-value c =
     (low_found c.self.inside c.self.invariant c.args.self.now c.self.view_is c.args.bidder c.args.node c.args.amount c.requires.bidder c.requires.node c.minimum.result c.minimum.ensures ∙ le-ltb c.args.amount c.minimum.result (omega (arith, c.if-amount-minimum.false)))
     (le-ltb MOST_AMOUNT c.args.amount (omega (arith, c.if-amount-gt-MOST_AMOUNT.false)))
     (again_found c.self.inside c.self.invariant c.args.self.now c.self.view_is c.args.bidder c.args.node c.args.amount c.requires.bidder c.requires.node ∙ sym c.has_bid_on.ensures ∙ c.if-has_bid_on.false)
-    (over c.self.inside c.self.invariant c.args.self.now c.self.view_is c.args.bidder c.args.node c.args.amount c.place.result c.requires.bidder c.requires.node c.index.result.now c.index.ensures c.place.ensures.value c.tree-tree.result.now c.tree-tree.ensures c.fits.result c.fits.ensures
+    (over c.self.inside c.self.invariant c.args.self.now c.self.view_is c.args.bidder c.args.node c.args.amount c.place.result c.requires.bidder c.requires.node c.index.result.now c.index.ensures c.place.ensures.value c.tree-tree.result.now c.tree-tree.ensures c.fits.result
+    (c.fits.ensures c.self.inside.books c.self.inside.outcome (subst (λ (t : TreeRules). AreHoldings t.nodes c.self.inside.books c.self.inside.outcome c.self.inside.holdings) (sym c.tree-tree.ensures) c.self.invariant.holdings))
     ∙ ap not c.if-not-fits.true)
 
 pub returns-clause-value : goal.returns-clause-value
@@ -45,5 +49,12 @@ returns-clause-value c =
     (low_found c.self.inside c.self.invariant c.args.self.now c.self.view_is c.args.bidder c.args.node c.args.amount c.requires.bidder c.requires.node c.minimum.result c.minimum.ensures ∙ le-ltb c.args.amount c.minimum.result (omega (arith, c.if-amount-minimum.false)))
     (le-ltb MOST_AMOUNT c.args.amount (omega (arith, c.if-amount-gt-MOST_AMOUNT.false)))
     (again_found c.self.inside c.self.invariant c.args.self.now c.self.view_is c.args.bidder c.args.node c.args.amount c.requires.bidder c.requires.node ∙ sym c.has_bid_on.ensures ∙ c.if-has_bid_on.false)
-    (over c.self.inside c.self.invariant c.args.self.now c.self.view_is c.args.bidder c.args.node c.args.amount c.place.result c.requires.bidder c.requires.node c.index.result.now c.index.ensures c.place.ensures.value c.tree-tree.result.now c.tree-tree.ensures c.fits.result c.fits.ensures
+    (over c.self.inside c.self.invariant c.args.self.now c.self.view_is c.args.bidder c.args.node c.args.amount c.place.result c.requires.bidder c.requires.node c.index.result.now c.index.ensures c.place.ensures.value c.tree-tree.result.now c.tree-tree.ensures c.fits.result
+    (c.fits.ensures c.self.inside.books c.self.inside.outcome (subst (λ (t : TreeRules). AreHoldings t.nodes c.self.inside.books c.self.inside.outcome c.self.inside.holdings) (sym c.tree-tree.ensures) c.self.invariant.holdings))
     ∙ ap not c.if-not-fits.false)
+
+pub fits-requires-clause-small : goal.fits-requires-clause-small
+fits-requires-clause-small c = subst (λ (t : TreeRules). AreSmall t.nodes) (sym c.tree-tree.ensures) (small c.self.inside.definition c.self.invariant.accepted)
+
+pub fits-requires-clause-summed : goal.fits-requires-clause-summed
+fits-requires-clause-summed c = subst (λ (t : TreeRules). AreSummed t.nodes c.self.inside.holdings) (sym c.tree-tree.ensures) c.self.invariant.holdings.summed

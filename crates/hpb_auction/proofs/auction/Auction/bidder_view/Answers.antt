@@ -1,13 +1,12 @@
 use Rattle.std.proofs.Common.{◌≡◌, ◌<◌, length, reverse, ap, sym, ◌∙◌, arith}
-use Rattle.hpb_rules.specs.Tree.{TreeRules}
 use Rattle.hpb_rules.specs.History.{ticket_of_last}
 use Rattle.hpb_rules.specs.AuctionValue.{AuctionValue, BidderState}
 use Rattle.hpb_rules.proofs.RunLaws.{activity_is_shown, eligibility_is_shown, ticket_is_shown}
-use Rattle.hpb_units.specs.Activity as units
 use Rattle.hpb_auction.specs.Inside.{row_at}
 use Rattle.hpb_auction.specs.declared.sender.BidderRow.{BidderRow}
 use Rattle.hpb_auction.proofs.Tables.{bidder_found, row_found, last_seen}
 use Rattle.hpb_auction.proofs.Activities.{activity_found}
+use Rattle.hpb_auction.proofs.Holdings.{activity_held}
 use Rattle.hpb_auction.proofs.auction.Auction.bidder_view.Goals as goal
 
 read : (c : goal.After-last_ticket) → c.index-row.result.now ≡ row_at c.self.inside.bidders.items c.args.bidder
@@ -28,8 +27,10 @@ returns-clause-ticket c =
 
 pub returns-clause-activity : goal.returns-clause-activity
 returns-clause-activity c =
+    let a = c.self.inside in
+    let within : c.args.bidder < length a.bidders.items = omega (arith, c.self.invariant.rows, c.requires, ap (λ (value : AuctionValue). length value.rules.bidders) c.self.view_is) in
     c.activity.ensures
-    ∙ ap (λ (t : TreeRules). units.activity_of t.nodes c.self.inside.books c.self.inside.outcome c.args.bidder) c.tree.ensures
+    ∙ activity_held a.definition.nodes a.books a.outcome a.holdings c.self.invariant.holdings c.args.bidder (omega (arith, within, c.self.invariant.most_rows))
     ∙ sym (activity_found c.self.inside c.self.invariant c.args.self.now c.self.view_is c.args.bidder c.requires)
 
 pub returns-clause-eligibility_after : goal.returns-clause-eligibility_after

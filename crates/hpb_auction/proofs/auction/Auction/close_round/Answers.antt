@@ -12,6 +12,10 @@ use Rattle.hpb_winners.specs.View.{IsOutcome}
 use Rattle.hpb_prices.specs.View.{HasPrices, HasMinima}
 use Rattle.hpb_auction.specs.declared.sender.BidderRow.{BidderRow}
 use Rattle.hpb_rules.specs.Values.{has_open_bid, closed_value}
+use Rattle.std.specs.Prelude.{slice_index}
+use Rattle.hpb_units.specs.Activity.{activity_of}
+use Rattle.hpb_units.specs.Holdings.{AreSmall, AreHoldings}
+use Rattle.hpb_auction.proofs.Holdings.{small, activity_held}
 use Rattle.hpb_auction.specs.Rows.{renewed}
 use Rattle.hpb_auction.specs.Inside.{value_inside, booked, state_at, bidder_places, row_at}
 use Rattle.hpb_auction.proofs.Quiet.{quiet_seen}
@@ -32,13 +36,13 @@ whole c =
     ∙ take-append_seam c.renew_eligibility.new.rows (drop (length c.renew_eligibility.new.rows) c.self.inside.bidders.items)
 
 renewed_rows : (c : After-downward) → (b : ℕ) → b < length c.self.inside.bidders.items
-    → row_at (kept c) b ≡ renewed c.self.inside.definition.nodes c.self.inside.books c.self.inside.outcome c.percentage-percentage.result b (row_at c.self.inside.bidders.items b)
+    → row_at (kept c) b ≡ renewed (activity_of c.self.inside.definition.nodes c.self.inside.books c.self.inside.outcome b) c.percentage-percentage.result (row_at c.self.inside.bidders.items b)
 renewed_rows c b h =
     let a = c.self.inside in
     ap (λ (rows : List BidderRow). row_at rows b) (whole c)
     ∙ c.renew_eligibility.ensures.rows b (omega (arith, h, ap length (seen c)))
-    ∙ ap (λ (rows : List BidderRow). renewed c.tree-tree.result.now.nodes a.books a.outcome c.percentage-percentage.result b (row_at rows b)) (seen c)
-    ∙ ap (λ (t : TreeRules). renewed t.nodes a.books a.outcome c.percentage-percentage.result b (row_at a.bidders.items b)) c.tree-tree.ensures
+    ∙ ap (λ (rows : List BidderRow). renewed (slice_index a.holdings.units b) c.percentage-percentage.result (row_at rows b)) (seen c)
+    ∙ ap (λ used. renewed used c.percentage-percentage.result (row_at a.bidders.items b)) (activity_held a.definition.nodes a.books a.outcome a.holdings c.self.invariant.holdings b (omega (arith, h, c.self.invariant.most_rows)))
 
 -- the rows are as many as before
 rows_stay : (c : After-downward) → length (kept c) ≡ length c.self.inside.bidders.items
@@ -111,7 +115,11 @@ invariant_of-self c =
         prices = subst (λ (t : TreeRules). HasPrices t.nodes (bid_of c.fold_round.new.self) c.downward.new.prices) c.tree-tree.ensures c.downward.ensures.prices;
         minima = subst (λ (t : TreeRules). HasMinima t (bid_of c.fold_round.new.self) c.downward.new.prices) c.tree-tree.ensures c.downward.ensures.minima;
       };
+      holdings = subst (λ (t : TreeRules). AreHoldings t.nodes c.fold_round.new.self c.upward.new.outcome c.find_won.new.self) c.tree-tree.ensures c.find_won.ensures;
     }
 
 pub returns : goal.returns
 returns c = seen_closed c ∙ ap closed_value c.self.view_is
+
+pub find_won-requires-clause-small : goal.find_won-requires-clause-small
+find_won-requires-clause-small c = subst (λ (t : TreeRules). AreSmall t.nodes) (sym c.tree-tree.ensures) (small c.self.inside.definition c.self.invariant.accepted)

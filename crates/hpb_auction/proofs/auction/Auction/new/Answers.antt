@@ -8,6 +8,7 @@ use Rattle.hpb_rules.proofs.TreeLaws.{accepted_is_definition}
 use Rattle.hpb_bids.specs.View.{no_bid}
 use Rattle.hpb_winners.specs.View.{IsOutcome}
 use Rattle.hpb_prices.specs.View.{HasPrices, HasMinima}
+use Rattle.hpb_units.specs.Holdings.{AreHoldings}
 use Rattle.hpb_auction.specs.Inside.{AreTablesOf}
 use Rattle.hpb_auction.proofs.FirstTables.{empty_kept, rows_count, first_parts, first_seen}
 use Rattle.hpb_auction.proofs.Kept.{tables_by}
@@ -35,6 +36,7 @@ invariant_of-result c =
       most_rows = omega (arith, count, c.in_ok-bidders.ensures.most);
       bids = empty_kept rules c.in_ok-books.books c.in_ok-books.ensures.empty;
       tables = tables c;
+      holdings = subst (λ (t : TreeRules). AreHoldings t.nodes c.in_ok-books.books c.in_ok-outcome.outcome c.in_ok-holdings.holdings) c.tree-4.ensures c.in_ok-holdings.ensures;
     }
 
 pub returns-clause-value : goal.returns-clause-value

@@ -9,6 +9,7 @@ use Rattle.hpb_bids.specs.View.{BooksView, bid_of}
 use Rattle.hpb_winners.specs.View.{IsOutcome}
 use Rattle.hpb_prices.specs.View.{HasPrices, HasMinima}
 use Rattle.hpb_auction.specs.declared.sender.BidderRow.{BidderRow}
+use Rattle.hpb_units.specs.Holdings.{AreHoldings}
 use Rattle.hpb_auction.specs.Inside.{AreBidsOf}
 use Rattle.hpb_auction.specs.Saving.{books_in, row_in}
 use Rattle.hpb_auction.proofs.Restored.{value_of_tables, value_restored, bids_restored, entries_small}
@@ -69,6 +70,7 @@ invariant_of-self c =
         prices = subst (λ (t : TreeRules). HasPrices t.nodes (bid_of c.restore_bids.new.books) c.downward.new.prices) c.tree-tree.ensures c.downward.ensures.prices;
         minima = subst (λ (t : TreeRules). HasMinima t (bid_of c.restore_bids.new.books) c.downward.new.prices) c.tree-tree.ensures c.downward.ensures.minima;
       };
+      holdings = subst (λ (t : TreeRules). AreHoldings t.nodes c.restore_bids.new.books c.upward.new.outcome c.find.new.self) c.tree-tree.ensures c.find.ensures;
     }
 
 pub returns-clause-value : goal.returns-clause-value

@@ -1,0 +1,187 @@
+ghost use Rattle.std.specs.Prelude.{◌≡◌, ◌≤◌, ◌<◌, ◌↔◌, ◌||◌, ℕ, IfOk, IsTrue, length, slice_index};
+ghost use Rattle.hpb_rules.specs.Tree.{sum_over, at_or_under, units_at};
+ghost use Rattle.hpb_bids.specs.View.{BooksView, IsQuiet};
+ghost use Rattle.hpb_winners.specs.View.{OutcomeView};
+ghost use Rattle.hpb_units.specs.Activity.{activity_with, is_won_by};
+ghost use Rattle.hpb_units.specs.Holdings.{holds, IsNothing, AreSummed, AreSmall, AreHoldings, HoldsMore, is_bidder};
+
+use crate::units::{licences_held, units_of};
+use hpb_bids::Books;
+use hpb_rules::{BidderId, MOST_BIDDERS, NodeId};
+use hpb_tree::Tree;
+use hpb_winners::Outcome;
+use std::alloc::{AllocError, Global};
+use std::marker::Model;
+
+/// The licences that each bidder holds, and its activity: what follows from the books and the outcome, kept
+/// so that it need not be found anew for each bid.
+#[derive(Debug, Drop)]
+pub struct Holdings {
+    /// A mask for each bidder: bit i is for the i-th licence of the tree, from 0.
+    pub(crate) licences: Vec<u64>,
+    /// The bidding units of these licences.
+    pub(crate) units: Vec<u32>,
+}
+
+impl Model for Holdings {
+    ghost use Rattle.hpb_units.specs.Holdings.{HoldingsView};
+
+    ghost Value = { HoldingsView };
+
+    ghost use Rattle.hpb_units.specs.Inside.{holdings_view, IsKept};
+
+    ghost view = { holdings_view };
+
+    ghost invariant = { IsKept };
+}
+
+impl Holdings {
+    /// The holdings by some books and an outcome. Fails only where memory is refused.
+    pub fn new(
+        alloc: Global,
+        tree: &Tree,
+        books: &Books,
+        outcome: &Outcome,
+    ) -> Result<Holdings, AllocError>
+        ensures { IfOk result (AreHoldings tree.now.nodes books.now outcome.now) }
+    {
+        let mut holdings = Holdings {
+            licences: vec![in alloc; 0; MOST_BIDDERS]?,
+            units: vec![in alloc; 0; MOST_BIDDERS]?,
+        };
+        holdings.find(tree, books, outcome);
+        Ok(holdings)
+    }
+
+    /// The same holdings once more. Fails only where memory is refused.
+    pub fn copy(&self, alloc: Global) -> Result<Holdings, AllocError>
+        ensures { IfOk result (λ holdings. holdings ≡ self.now) }
+    {
+        Ok(Holdings {
+            licences: self.licences.as_slice().to_vec(alloc)?,
+            units: self.units.as_slice().to_vec(alloc)?,
+        })
+    }
+
+    /// Becomes the same as other holdings. Takes no memory.
+    pub fn copy_from(&mut self, other: &Holdings)
+        ensures { self.new ≡ other.now }
+    {
+        self.licences.copy_from_slice(other.licences.as_slice());
+        self.units.copy_from_slice(other.units.as_slice());
+    }
+
+    /// The activity of a bidder, in bidding units: those of the licences that it holds, each licence once.
+    pub fn activity(&self, bidder: BidderId) -> u32
+        ensures { result ≡ slice_index self.now.units bidder }
+    {
+        self.units[bidder.place()]
+    }
+
+    /// Whether a bidder's activity with one more node is within its eligibility, in bidding units.
+    pub fn fits(&self, tree: &Tree, bidder: BidderId, node: NodeId, eligibility: u32) -> bool
+        requires node { node < length tree.now.nodes }
+        requires small { AreSmall tree.now.nodes }
+        requires summed { AreSummed tree.now.nodes self.now }
+        ensures { (books : BooksView) (outcome : OutcomeView) → AreHoldings tree.now.nodes books outcome self.now → IsTrue result ↔ (activity_with tree.now.nodes books outcome bidder node ≤ eligibility) }
+    {
+        self.units_with(tree, bidder, node) <= eligibility
+    }
+
+    /// Becomes the holdings by some books and an outcome.
+    pub fn find(&mut self, tree: &Tree, books: &Books, outcome: &Outcome)
+        ensures { AreHoldings tree.now.nodes books.now outcome.now self.new }
+    {
+        for place in 0..MOST_BIDDERS {
+            let bidder = BidderId::new(place);
+            let licences = licences_held(tree, books, outcome, bidder);
+            self.set(bidder, licences, units_of(tree, licences));
+        }
+    }
+
+    /// Becomes the holdings by an outcome and books without a bid in the open round: those of the winners.
+    pub fn find_won(&mut self, tree: &Tree, books: &Books, outcome: &Outcome)
+        requires quiet { IsQuiet books.now }
+        requires small { AreSmall tree.now.nodes }
+        ensures { AreHoldings tree.now.nodes books.now outcome.now self.new }
+    {
+        self.clear();
+        for &node in tree.nodes() {
+            if let Some(winner) = winner_of(books, outcome, node) {
+                self.add(tree, winner, node);
+            }
+        }
+    }
+
+    /// A bidder holds the licences of one node more.
+    pub fn add(&mut self, tree: &Tree, bidder: BidderId, node: NodeId)
+        requires node { node < length tree.now.nodes }
+        requires small { AreSmall tree.now.nodes }
+        requires summed { AreSummed tree.now.nodes self.old }
+        ensures more { HoldsMore tree.now.nodes self.old self.new bidder node }
+        ensures summed { AreSummed tree.now.nodes self.new }
+    {
+        let units = self.units_with(tree, bidder, node);
+        let licences = self.licences(bidder) | tree.licences(node);
+        self.set(bidder, licences, units);
+    }
+
+    /// The units of the licences that a bidder holds or that are a node's. The sum over all licences is only
+    /// needed where it holds a part of the node's.
+    fn units_with(&self, tree: &Tree, bidder: BidderId, node: NodeId) -> u32
+        requires node { node < length tree.now.nodes }
+        requires small { AreSmall tree.now.nodes }
+        requires summed { AreSummed tree.now.nodes self.now }
+        ensures within { bidder < MOST_BIDDERS }
+        ensures value { result ≡ sum_over tree.now.nodes (λ licence. holds tree.now.nodes self.now bidder licence || at_or_under tree.now.nodes node licence) (units_at tree.now.nodes) }
+    {
+        tree.facts();
+        let own = self.licences(bidder);
+        let more = tree.licences(node);
+        if own | more == own {
+            return self.activity(bidder);
+        }
+        if own & more == 0 {
+            return self.activity(bidder) + tree.units(node);
+        }
+        units_of(tree, own | more)
+    }
+
+    /// The licences that a bidder holds: bit i is for the i-th licence of the tree, from 0.
+    fn licences(&self, bidder: BidderId) -> u64
+        ensures value { result ≡ slice_index self.now.licences bidder }
+        ensures within { bidder < MOST_BIDDERS }
+    {
+        self.licences[bidder.place()]
+    }
+
+    /// Sets what a bidder holds, and nothing else.
+    fn set(&mut self, bidder: BidderId, licences: u64, units: u32)
+        ensures licences { slice_index self.new.licences bidder ≡ licences }
+        ensures units { slice_index self.new.units bidder ≡ units }
+        ensures other_licences { (other : ℕ) → (other ≡ bidder → ⊥) → slice_index self.new.licences other ≡ slice_index self.old.licences other }
+        ensures other_units { (other : ℕ) → (other ≡ bidder → ⊥) → slice_index self.new.units other ≡ slice_index self.old.units other }
+    {
+        let place = bidder.place();
+        self.licences[place] = licences;
+        self.units[place] = units;
+    }
+
+    /// Nobody holds anything.
+    fn clear(&mut self)
+        ensures { IsNothing self.new }
+    {
+        self.licences.fill(0);
+        self.units.fill(0);
+    }
+}
+
+/// The bidder whose bid on a node won, if it did.
+fn winner_of(books: &Books, outcome: &Outcome, node: NodeId) -> Option<BidderId>
+    ensures { (bidder : ℕ) → is_won_by books.now outcome.now bidder node ≡ is_bidder result bidder }
+{
+    if !outcome.wins(node) {
+        return None;
+    }
+    books.standing(node).map(|offer| offer.bidder)
+}
