@@ -13,8 +13,6 @@ mod board;
 mod publisher;
 mod row;
 mod rule;
-#[cfg(test)]
-mod tests;
 mod trail;
 mod viewer;
 mod writing;

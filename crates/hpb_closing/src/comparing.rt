@@ -1,3 +1,4 @@
+//! Comparing reports with a committed auction.
 ghost use Rattle.std.specs.Prelude.{◌≡◌, ◌≢◌, ℕ, ◌-◌, ◌^◌, ◌<◌, ◌↔◌, ◌++◌, List, length, map, min, All, OnOk, IfErr, IsTrue, IsPermutation, flat_map};
 ghost use mathlib.Core.List.{IsPrefix};
 ghost use Rattle.hpb_rules.specs.declared.command.Command.{Command};

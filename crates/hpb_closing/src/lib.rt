@@ -8,8 +8,6 @@
 
 mod comparing;
 mod sameness;
-#[cfg(test)]
-mod tests;
 
 pub use comparing::{Counts, agree, compare, count, view_each};
 pub use sameness::same_auction;

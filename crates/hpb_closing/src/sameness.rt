@@ -1,3 +1,4 @@
+//! Whether two auctions of one definition are equal.
 ghost use Rattle.std.specs.Prelude.{◌≡◌, ◌↔◌, IsTrue};
 
 use hpb_auction::Auction;

@@ -6,7 +6,7 @@ use Rattle.std.proofs.lemmas.List.Elements.{All-append}
 use Rattle.hpb_board.specs.Publication.{Viewing}
 use Rattle.hpb_rings.specs.declared.client.Client.{Client}
 use Rattle.hpb_house.specs.declared.keeper.Halt.{Halt}
-use Rattle.hpb_house.specs.Starts.{AreBegun, IsBegun}
+use Rattle.hpb_house.specs.Starts.{AreBegun, AreOneByOne, IsBegun}
 
 range_more : (a n : ℕ) → range_with_len a (suc n) ≡ range_with_len a n ++ (a + n) ∷ []
 range_more a zero = ap (λ (k : ℕ). k ∷ []) (omega arith)
@@ -35,3 +35,11 @@ begun_more eye clients client n are at begun = record {
   numbered = numbered_more (λ (c : Client Halt). c.seat) clients client n are.numbered at;
   begun = all_more (IsBegun eye) clients client are.begun begun;
 }
+
+-- one more on each side
+pub one_more_each : {A B : Type 0} (has : A → B → Type 0) (xs : List A) (ys : List B) (x : A) (y : B) → AreOneByOne has xs ys → has x y
+    → AreOneByOne has (xs ++ x ∷ []) (ys ++ y ∷ [])
+one_more_each has [] [] x y each one = (one, tt)
+one_more_each has [] (second ∷ ys) x y each one = absurd each
+one_more_each has (first ∷ xs) [] x y each one = absurd each
+one_more_each has (first ∷ xs) (second ∷ ys) x y each one = (each.0, one_more_each has xs ys x y each.1 one)

@@ -1,3 +1,6 @@
+pub mod Boards
+pub mod Closings
 pub mod Keepers
 pub mod Offers
 pub mod Starts
+pub mod Told

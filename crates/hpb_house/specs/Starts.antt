@@ -1,10 +1,12 @@
 -- How the clients of a house begin.
 -- Source: this project's own.
-use Rattle.std.specs.Prelude.{◌≡◌, ℕ, false, List, [], All, map}
+use Rattle.std.specs.Prelude.{◌≡◌, ℕ, false, List, [], ◌∷◌, All, map}
 use Rattle.std.specs.List.{range_with_len}
 use Rattle.hpb_board.specs.Publication.{Publishing, Viewing, auction_of}
 use Rattle.hpb_house.specs.declared.keeper.Halt.{Halt}
 use Rattle.hpb_rings.specs.declared.client.Client.{Client}
+use Rattle.hpb_rings.specs.declared.ring.Ring.{Ring}
+use Rattle.rtrb.specs.Ring.{IsPair}
 
 -- A viewer has entered what is published.
 abbrev pub IsViewOf : Publishing → Viewing → Type 0
@@ -26,3 +28,18 @@ pub record IsBegun (eye : Viewing) (client : Client Halt) : Type 0 where
 pub record AreBegun (eye : Viewing) (clients : List (Client Halt)) (count : ℕ) : Type 0 where
   pub numbered : map (λ (client : Client Halt). client.seat) clients ≡ range_with_len 0 count
   pub begun : All (IsBegun eye) clients
+
+-- A client posts its letters into this ring, and gets its mark out of it.
+abbrev pub HasRing : Client Halt → Ring Halt → Type 0
+HasRing client ring = IsPair client.letters ring.letters × IsPair ring.marks client.marks
+
+-- Each of these has the one at the same place, and there are as many.
+abbrev pub AreOneByOne : {A B : Type 0} (has : A → B → Type 0) → List A → List B → Type 0
+AreOneByOne has [] [] = Unit {0}
+AreOneByOne has [] (y ∷ ys) = ⊥
+AreOneByOne has (x ∷ xs) [] = ⊥
+AreOneByOne has (x ∷ xs) (y ∷ ys) = has x y × AreOneByOne has xs ys
+
+-- Each client has the ring of its place.
+abbrev pub HaveRings : List (Client Halt) → List (Ring Halt) → Type 0
+HaveRings clients rings = AreOneByOne HasRing clients rings

@@ -1,10 +1,12 @@
 //! Closing a house.
-ghost use Rattle.std.specs.Prelude.{◌≡◌, ◌-◌, ◌^◌, ◌++◌, [], List, All, IfOk, IfErr, IsPermutation, OnOk, flat_map, length, map, min};
+ghost use Rattle.std.specs.Prelude.{◌≡◌, ◌-◌, ◌^◌, ◌++◌, [], List, All, IfOk, IfErr, IsPermutation, MatchResult, OnOk, flat_map, length, map, min};
 ghost use Rattle.hpb_rules.specs.declared.command.Command.{Command};
+ghost use Rattle.hpb_rules.specs.declared.refusal.Refusal.TheVariants as refusals;
 ghost use Rattle.hpb_rules.specs.AuctionValue.{Shows};
 ghost use Rattle.hpb_rules.specs.Letters.{new_commands};
 ghost use Rattle.hpb_board.specs.Publication.{answers_of, auction_of};
 ghost use Rattle.hpb_closing.specs.Histories.{history_of};
+ghost use Rattle.hpb_house.specs.Closings.{AreOfKeeper};
 ghost use Rattle.hpb_closing.specs.Reports.{AreApart, accepted_by, said, total};
 
 use crate::definitions::same_definition;
@@ -14,6 +16,7 @@ use hpb_board::Viewer;
 use hpb_closing::{Counts, compare, count};
 use hpb_disk::Disk;
 use hpb_rings::Report;
+use hpb_rules::Refusal;
 use std::sync::Wait;
 
 /// What a house leaves.
@@ -23,6 +26,8 @@ pub struct Closing<D: Disk + Drop> {
     pub disk: D,
     /// The committed auction.
     pub auction: Auction,
+    /// Whether a call of the device has failed (91).
+    pub has_failed: bool,
 }
 
 /// 96 `counts`: what the clients took isn't what was committed.
@@ -32,8 +37,19 @@ pub struct CloseFault<D: Disk + Drop> {
     pub disk: D,
     /// The committed auction.
     pub auction: Auction,
+    /// Whether a call of the device has failed (91).
+    pub has_failed: bool,
     /// How many answers that were taken newly accepted a command, and how many commands were committed since the opening.
     pub counts: Counts,
+}
+
+impl<D: Disk + Drop> CloseFault<D> {
+    /// The refusal that an `ERR` line tells it by.
+    pub fn refusal(&self) -> Refusal
+        ensures { result ≡ refusals.Counts }
+    {
+        Refusal::Counts
+    }
 }
 
 impl<D: Disk + Drop, W: Wait + Drop> House<D, W> {
@@ -57,22 +73,31 @@ impl<D: Disk + Drop, W: Wait + Drop> House<D, W> {
         ensures taken { OnOk result (AreApart reports.old → All (λ r. accepted_by r ≡ new_commands (answers_of r.seat r.viewer)) reports.new) }
         ensures once { OnOk result (AreApart reports.old → All (λ r. IsPermutation (flat_map accepted_by reports.new) (history_of r.viewer)) reports.new) }
         ensures numbers { IfOk result (λ closing. total reports.new ≡ closing.auction.count - self.opened.count) }
+        // The device and the auction are those of a keeper, which kept what it published, and so is what is told of failed calls.
+        ensures kept { MatchResult result (λ closing. AreOfKeeper D.seen D.may_leave closing.disk closing.auction closing.has_failed) (λ fault. AreOfKeeper D.seen D.may_leave fault.disk fault.auction fault.has_failed) }
         // The numbers that are told.
         ensures accepted { IfErr result (λ fault. fault.counts.accepted ≡ min (total reports.new) (2 ^ 64 - 1)) }
         ensures committed { IfErr result (λ fault. fault.counts.committed ≡ fault.auction.count - self.opened.count) }
     {
         let House { keeper, eye, .. } = self;
         let keeper = keeper.into_inner();
+        keeper.facts();
+        let has_failed = keeper.has_failed();
         match settle(reports, keeper.committed(), &eye) {
             Ok(()) => {
                 let (disk, auction) = keeper.finish();
-                Ok(Closing { disk, auction })
+                Ok(Closing {
+                    disk,
+                    auction,
+                    has_failed,
+                })
             }
             Err(counts) => {
                 let (disk, auction) = keeper.finish();
                 Err(CloseFault {
                     disk,
                     auction,
+                    has_failed,
                     counts,
                 })
             }

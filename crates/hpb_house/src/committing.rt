@@ -8,16 +8,20 @@ use hpb_engine::Step;
 use hpb_rings::Intake;
 use hpb_rules::{Answers, Letters};
 use std::sync::Wait;
+use std::thread;
 use std::thread::Parker;
 use std::time::Duration;
 
 /// How long the committer waits before it offers letters again for which memory or room was refused, in milliseconds.
 const PAUSE: u64 = 1;
 
+/// How often the committer looks for one letter more where more are expected. Other threads run between two looks.
+const LOOKS: u32 = 100;
+
 /// What came of a turn of the committer.
 enum Turned {
-    /// It holds no letters.
-    Free,
+    /// It holds no letters, and expects so many: those that wait, and one more of each that was answered.
+    Free { expected: usize },
     /// It holds letters that it offers again.
     Held(Letters),
     /// The engine has failed.
@@ -27,7 +31,8 @@ enum Turned {
 }
 
 /// Commits letters: it gathers those that wait, offers them as one batch and makes the steps of its commit, taking the lock
-/// for one step at a time. With nothing to do it waits for its bell.
+/// for one step at a time. With nothing to do it waits for its bell. Where more letters are expected, since their senders
+/// were just answered, it looks for each of these for some microseconds before that.
 ///
 /// Letters that are handed back for want of a clean frame, of memory or of room on the board are offered again. Once the
 /// engine has failed it sends a `Halt` to each seat, and from then on only empties the rings. It ends when every seat has
@@ -39,9 +44,16 @@ pub fn committer<D: Disk + Drop, W: Wait + Drop, G: Gate, R: Wait>(
     gate: &G,
 ) {
     let mut held = Letters::new();
+    let mut awaited = 0;
     for _ in rt.forever() {
+        if held.len() == 0 {
+            await_letters(&mut intake, awaited);
+        }
         match turn(rt, house, &mut intake, gate, held) {
-            Turned::Free => held = Letters::new(),
+            Turned::Free { expected } => {
+                held = Letters::new();
+                awaited = expected;
+            }
             Turned::Held(letters) => held = letters,
             Turned::Halted(halt) => {
                 intake.halt(halt);
@@ -51,7 +63,28 @@ pub fn committer<D: Disk + Drop, W: Wait + Drop, G: Gate, R: Wait>(
             Turned::Ended => break,
         }
     }
-    house.end();
+    house.dismiss();
+}
+
+/// Waits until as many letters wait as are expected, or looking for one more was in vain.
+fn await_letters(intake: &mut Intake<Halt>, expected: usize) {
+    for _ in 0..expected {
+        let waiting = intake.waiting();
+        if waiting >= expected || !one_more(intake, waiting) {
+            return;
+        }
+    }
+}
+
+/// Looks for one letter more than so many, and tells whether it came.
+fn one_more(intake: &mut Intake<Halt>, waiting: usize) -> bool {
+    for _ in 0..LOOKS {
+        thread::yield_now();
+        if intake.waiting() > waiting {
+            return true;
+        }
+    }
+    false
 }
 
 /// One turn: the letters that are held, or else those that wait, are offered.
@@ -86,14 +119,14 @@ fn idle<D: Disk + Drop, W: Wait + Drop, R: Wait>(
         return Turned::Halted(halt);
     }
     house.committing.park(rt);
-    Turned::Free
+    Turned::Free { expected: 0 }
 }
 
 /// Offers letters, and commits them.
 fn offer<D: Disk + Drop, W: Wait + Drop, G: Gate, R: Wait>(
     rt: &R,
     house: &House<D, W>,
-    intake: &Intake<Halt>,
+    intake: &mut Intake<Halt>,
     gate: &G,
     letters: Letters,
 ) -> Turned {
@@ -101,7 +134,7 @@ fn offer<D: Disk + Drop, W: Wait + Drop, G: Gate, R: Wait>(
         Offered::InFlight => commit(rt, house, intake, gate),
         Offered::Answered(answers) => {
             wake_answered(intake, &answers);
-            Turned::Free
+            expecting(intake, &answers)
         }
         Offered::Back(letters, reason) => hold(rt, house, letters, reason),
     }
@@ -111,23 +144,29 @@ fn offer<D: Disk + Drop, W: Wait + Drop, G: Gate, R: Wait>(
 fn commit<D: Disk + Drop, W: Wait + Drop, G: Gate, R: Wait>(
     rt: &R,
     house: &House<D, W>,
-    intake: &Intake<Halt>,
+    intake: &mut Intake<Halt>,
     gate: &G,
 ) -> Turned {
     for _ in rt.forever() {
         match house.commit(rt) {
             Ok(Step::Went) => {}
-            Ok(Step::Idle) => return Turned::Free,
+            Ok(Step::Idle) => return Turned::Free { expected: 0 },
             Ok(Step::Done(answers)) => {
                 wake_answered(intake, &answers);
                 house.checkpointing.unpark();
                 gate.at(rt, Point::Committed);
-                return Turned::Free;
+                return expecting(intake, &answers);
             }
             Err(_) => return halted(rt, house),
         }
     }
-    Turned::Free
+    Turned::Free { expected: 0 }
+}
+
+/// It is free, and expects a letter more for each of these answers.
+fn expecting(intake: &mut Intake<Halt>, answers: &Answers) -> Turned {
+    let expected = intake.waiting().saturating_add(answers.len());
+    Turned::Free { expected }
 }
 
 /// Waits until letters can be offered again.
@@ -156,7 +195,7 @@ fn hold<D: Disk + Drop, W: Wait + Drop, R: Wait>(
 fn halted<D: Disk + Drop, W: Wait + Drop, R: Wait>(rt: &R, house: &House<D, W>) -> Turned {
     match house.halt(rt) {
         Some(halt) => Turned::Halted(halt),
-        None => Turned::Free,
+        None => Turned::Free { expected: 0 },
     }
 }
 

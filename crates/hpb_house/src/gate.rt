@@ -1,3 +1,5 @@
+//! Where the workers stand, told to whoever holds the gate.
+
 use std::sync::Wait;
 
 /// Where a worker stands, outside the lock.

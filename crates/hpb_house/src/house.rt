@@ -69,8 +69,9 @@ impl<D: Disk + Drop, W: Wait + Drop> House<D, W> {
         self.keeper.lock(rt).halt()
     }
 
-    /// Tells the checkpointer that the committer has ended.
-    pub(crate) fn end(&self) {
+    /// Lets the checkpointer end. The committer calls it as its last word; where no committer could be started, who
+    /// started the house does.
+    pub fn dismiss(&self) {
         self.is_over.store(true, Ordering::SeqCst);
         self.checkpointing.unpark();
     }

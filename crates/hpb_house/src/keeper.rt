@@ -210,6 +210,13 @@ impl<D: Disk + Drop, R: Wait + Drop> Keeper<D, R> {
         }
     }
 
+    /// Whether a call of the device has failed.
+    pub(crate) fn has_failed(&self) -> bool
+        ensures { result ≡ self.now.failed }
+    {
+        self.engine.failed
+    }
+
     /// The committed auction.
     pub fn committed(&self) -> &Auction
         ensures { result.now ≡ self.now.progress.committed }

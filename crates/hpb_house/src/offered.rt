@@ -1,3 +1,5 @@
+//! What comes of an offer.
+
 use hpb_rules::{Answers, Letters};
 
 /// What became of letters that were offered.

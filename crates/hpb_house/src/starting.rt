@@ -5,7 +5,8 @@ ghost use Rattle.hpb_rules.specs.Machine.{at_rest};
 ghost use Rattle.hpb_image.specs.Standing.{Stands};
 ghost use Rattle.hpb_progress.specs.Keeping.{Keeps};
 ghost use Rattle.hpb_engine.specs.Starts.{IsStarted};
-ghost use Rattle.hpb_house.specs.Starts.{AreBegun, IsBegun, IsViewOf};
+ghost use Rattle.hpb_house.specs.Starts.{AreBegun, HasRing, HaveRings, IsBegun, IsViewOf};
+ghost use Rattle.hpb_house.specs.Told.{refusal_of};
 
 use crate::house::House;
 use crate::keeper::{Halt, Keeper};
@@ -15,6 +16,7 @@ use hpb_disk::Disk;
 use hpb_engine::Engine;
 use hpb_recover::Opened;
 use hpb_rings::{Client, Intake, Ring, seat_rings};
+use hpb_rules::Refusal;
 use std::alloc::Global;
 use std::snapshot::Snapshot;
 use std::sync::atomic::AtomicBool;
@@ -33,9 +35,22 @@ pub enum StartCause {
     Place,
 }
 
+impl StartCause {
+    /// The refusal that an `ERR` line tells it by.
+    pub fn refusal(self) -> Refusal
+        ensures { result ≡ refusal_of self }
+    {
+        match self {
+            StartCause::Memory => Refusal::Memory,
+            StartCause::Place => Refusal::Place,
+        }
+    }
+}
+
 /// A house that wasn't started hands the opened device back.
 #[derive(Drop)]
 pub struct StartFault<D: Disk + Drop> {
+    /// As it was handed over.
     pub opened: Opened<D>,
     pub cause: StartCause,
 }
@@ -73,6 +88,7 @@ fn seat_client<W: Wait + Drop>(
     ensures same { publisher.new ≡ publisher.old }
     ensures seat { IfOk result (λ made. made.1.seat ≡ seat) }
     ensures begun { IfOk result (λ made. IsBegun eye.now made.1) }
+    ensures ring { IfOk result (λ made. HasRing made.1 made.0) }
 {
     let Ok(viewer) = publisher.introduce(alloc) else {
         return Err(StartCause::Place);
@@ -106,6 +122,7 @@ fn seat_clients<W: Wait + Drop>(
     ensures same { publisher.new ≡ publisher.old }
     ensures rings { IfOk result (λ made. vec_len made.rings ≡ sessions) }
     ensures clients { IfOk result (λ made. AreBegun eye.now made.clients.items sessions) }
+    ensures joined { IfOk result (λ made. HaveRings made.clients.items made.rings.items) }
 {
     let mut rings = Vec::new(alloc);
     let mut clients = Vec::new(alloc);
@@ -134,6 +151,7 @@ fn make_front<W: Wait + Drop>(
     ensures eye { IfOk result (λ made. (made.eye.opened ≡ auction.now) × (made.eye.list ≡ [])) }
     ensures rings { IfOk result (λ made. vec_len made.rings ≡ sessions) }
     ensures clients { IfOk result (λ made. AreBegun made.eye made.clients.items sessions) }
+    ensures joined { IfOk result (λ made. HaveRings made.clients.items made.rings.items) }
 {
     let readers = usize::from(sessions) + 1;
     let Ok(mut publisher) = Publisher::open(rt, alloc, auction, sessions, readers) else {
@@ -168,10 +186,11 @@ impl<D: Disk + Drop, W: Wait + Drop> House<D, W> {
         sessions: u8,
     ) -> Result<Started<D, W>, StartFault<D>>
         requires { (1 ≤ sessions) × (sessions ≤ 32) }
-        // Every client begins with what was opened, and there is one for each seat.
+        // Every client begins with what was opened, and there is one for each seat, with the ring of that seat.
         ensures opened { IfOk result (λ made. (made.house.opened ≡ opened.plan.auction) × (made.house.list ≡ [])) }
         ensures clients { IfOk result (λ made. AreBegun made.house made.clients.items sessions) }
         ensures rings { IfOk result (λ made. vec_len made.intake.rings ≡ sessions) }
+        ensures joined { IfOk result (λ made. HaveRings made.clients.items made.intake.rings.items) }
         ensures back { IfErr result (λ fault. (fault.opened.disk ≡ opened.disk) × (fault.opened.plan ≡ opened.plan)) }
     {
         let front = match make_front(rt, alloc, opened.auction(), sessions) {

@@ -7,7 +7,7 @@ use Rattle.hpb_board.specs.Publication.{Viewing}
 use Rattle.hpb_house.specs.declared.keeper.Halt.{Halt}
 use Rattle.hpb_rings.specs.declared.client.Client.{Client}
 use Rattle.hpb_house.specs.Starts.{AreBegun}
-use Rattle.hpb_house_rows.specs.Boards.{SameBoard}
+use Rattle.hpb_house.specs.Boards.{SameBoard}
 
 one_of : {A : Type 0} (P : A → Type 0) (x : A) → P x → All P (x ∷ [])
 one_of P x h zero d lt = h

@@ -1,7 +1,7 @@
 //! A house with all its threads: the two workers, and one for each client.
 ghost use Rattle.std.specs.Prelude.{◌≡◌, ◌≤◌, ◌⊎◌, [], true, All, IfOk};
 ghost use Rattle.std.specs.Thread.{IsSend, IsSync};
-ghost use Rattle.hpb_house_rows.specs.Boards.{SameBoard};
+ghost use Rattle.hpb_house.specs.Boards.{SameBoard};
 
 use hpb_disk::{Disk, MemoryDisk, OnceDisk};
 use hpb_house::{CloseFault, Closing, Gate, Halt, House, Started, checkpointer, committer};
@@ -17,7 +17,7 @@ use std::thread::{Promise, Threads};
 /// What the clients of a house do while it is open. Each is called in a thread of its own.
 pub(crate) trait Session {
     ghost use Rattle.std.specs.Prelude.{◌≡◌};
-    ghost use Rattle.hpb_house_rows.specs.Boards.{SameBoard};
+    ghost use Rattle.hpb_house.specs.Boards.{SameBoard};
 
     fn run<R: Wait>(&self, rt: &R, client: Client<Halt>) -> Client<Halt>
         ensures board { SameBoard client.viewer result.viewer }
@@ -49,7 +49,7 @@ pub(crate) struct Run<D: Disk + Drop> {
 struct OfHouse<D: Disk + Drop, W: Wait + Drop>(Snapshot<House<D, W>>);
 
 impl<D: Disk + Drop, W: Wait + Drop> Promise<Report> for OfHouse<D, W> {
-    ghost use Rattle.hpb_house_rows.specs.Boards.{SameBoard};
+    ghost use Rattle.hpb_house.specs.Boards.{SameBoard};
 
     ghost kept_by = { λ p r. SameBoard p.0.value r.viewer };
 }
@@ -156,7 +156,7 @@ fn ended<D: Disk + Drop>(
 ) -> Run<D> {
     let (taken, accepted) = sums;
     match closed {
-        Ok(Closing { disk, auction }) => Run {
+        Ok(Closing { disk, auction, .. }) => Run {
             outcome: Outcome {
                 is_closed: true,
                 committed: u64::from(auction.count().saturating_sub(opened)),

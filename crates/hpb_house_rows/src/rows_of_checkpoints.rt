@@ -1,6 +1,6 @@
 //! Commits beside a checkpoint that is held.
 ghost use Rattle.std.specs.Prelude.{◌≡◌};
-ghost use Rattle.hpb_house_rows.specs.Boards.{SameBoard};
+ghost use Rattle.hpb_house.specs.Boards.{SameBoard};
 
 use crate::devices::six_nodes_opened;
 use crate::harness::{Outcome, Session, run_in_memory};

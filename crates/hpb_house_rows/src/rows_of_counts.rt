@@ -1,6 +1,6 @@
 //! Many clients: what they took is what was committed.
 ghost use Rattle.std.specs.Prelude.{◌≡◌};
-ghost use Rattle.hpb_house_rows.specs.Boards.{SameBoard};
+ghost use Rattle.hpb_house.specs.Boards.{SameBoard};
 
 use crate::devices::{WIDE, six_nodes_opened, wide_opened};
 use crate::harness::{Outcome, Session, run_in_memory};

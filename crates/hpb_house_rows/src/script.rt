@@ -1,7 +1,7 @@
 //! Commands that are accepted one after the other, in the auction of six nodes and four bidders.
 
 ghost use Rattle.std.specs.Prelude.{◌≡◌};
-ghost use Rattle.hpb_house_rows.specs.Boards.{SameBoard};
+ghost use Rattle.hpb_house.specs.Boards.{SameBoard};
 
 use crate::turns::ask;
 use hpb_engine_rows::letters::Bidder::{W, X, Y, Z};

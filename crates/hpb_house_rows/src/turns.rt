@@ -1,6 +1,6 @@
 //! Turns of a client: it polls and takes, and else waits for a short time.
 ghost use Rattle.std.specs.Prelude.{◌≡◌};
-ghost use Rattle.hpb_house_rows.specs.Boards.{SameBoard};
+ghost use Rattle.hpb_house.specs.Boards.{SameBoard};
 
 use hpb_house::Halt;
 use hpb_rings::Client;

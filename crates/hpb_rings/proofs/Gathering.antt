@@ -145,13 +145,13 @@ module _ {M : Type 0} where
       → (s : ℕ) → at_seat (gathered (slice_set rs k y)) s ≡ at_seat olds s ++ of_seat s ls'
   poured rs olds k y d ls ls' h got each s = poured_at rs olds k y d ls ls' h got s (each s) (k == s) refl
 
-  gathered-same : (rs : List (Ring M)) (k : ℕ) (y d : Ring M) → y.letters ≡ (slice_index_or rs k d).letters → gathered (slice_set rs k y) ≡ gathered rs
+  gathered-same : (rs : List (Ring M)) (k : ℕ) (y d : Ring M) → received y.letters ≡ received (slice_index_or rs k d).letters → gathered (slice_set rs k y) ≡ gathered rs
   gathered-same [] k y d e = refl
-  gathered-same (r ∷ rs) zero y d e = ap (λ c. commands (received c) ∷ gathered rs) e
+  gathered-same (r ∷ rs) zero y d e = ap (λ (slips : List Slip). commands slips ∷ gathered rs) e
   gathered-same (r ∷ rs) (suc k) y d e = ap (λ (l : List (List Command)). commands (received r.letters) ∷ l) (gathered-same rs k y d e)
 
   -- letters stay as they were gathered where a ring keeps its own
-  pub gathered-on : (rs : List (Ring M)) (k : ℕ) (y d : Ring M) (all : List (List Command)) → y.letters ≡ (slice_index_or rs k d).letters → gathered rs ≡ all → gathered (slice_set rs k y) ≡ all
+  pub gathered-on : (rs : List (Ring M)) (k : ℕ) (y d : Ring M) (all : List (List Command)) → received y.letters ≡ received (slice_index_or rs k d).letters → gathered rs ≡ all → gathered (slice_set rs k y) ≡ all
   gathered-on rs k y d all e was = gathered-same rs k y d e ∙ was
 
   once_or : (m : M) (xs : List M) (b : Bool) → length xs ≡ (if b then 1 else 0) → length (if b then xs else xs ++ m ∷ []) ≡ 1

@@ -1,3 +1,4 @@
+//! The client of a seat: it posts letters and takes their answers.
 ghost use Rattle.std.specs.Prelude.{◌≡◌, ℕ, ◌+◌, ◌<◌, ◌≤◌, ◌^◌, ◌⊎◌, [], ◌∷◌, ◌++◌, List, length, take, drop, max, Some, true, false, IfOk, IfErr, OnErr, IsTrue, IsOk, IsErr, MatchOption, MatchResult};
 ghost use mathlib.Core.List.{IsPrefix};
 ghost use Rattle.rtrb.specs.Ring.{sent, received, known_free};
@@ -153,8 +154,8 @@ impl<M: Copy> Client<M> {
         Ok(Some(answer))
     }
 
-    /// Views. `false` where the publisher has ended.
-    fn look(&mut self) -> bool
+    /// Views: `viewer` then has what is published. `false` where the publisher has ended.
+    pub fn refresh(&mut self) -> bool
         ensures same { (self.new.seat ≡ self.old.seat) × (self.new.letters ≡ self.old.letters) × (self.new.marks ≡ self.old.marks) × (self.new.waiting ≡ self.old.waiting) × (self.new.taken ≡ self.old.taken) × (self.new.accepted ≡ self.old.accepted) × (self.new.is_halted ≡ self.old.is_halted) }
         ensures viewer { (self.new.viewer.book ≡ self.old.viewer.book) × (self.new.viewer.opened ≡ self.old.viewer.opened) × (self.new.viewer.seats ≡ self.old.viewer.seats) }
         ensures later { IsPrefix self.old.viewer.list self.new.viewer.list }
@@ -173,7 +174,7 @@ impl<M: Copy> Client<M> {
         ensures mark { self.new.mark ≡ max self.old.mark (auction_of self.new.viewer).count }
         ensures told { result ≡ recent (answers_of self.new.seat self.new.viewer) (self.new.taken + 1) }
     {
-        self.look();
+        self.refresh();
         self.next_answer()
     }
 
@@ -201,7 +202,9 @@ impl<M: Copy> Client<M> {
     /// Waits until the bell of its seat rings, or at once where it rang since the last wait. The bell rings where letters of the
     /// seat are answered, at a halt, and after a halt where letters of the seat were taken out of its ring. A caller polls,
     /// takes and asks `halted` before it waits; a wait may also end for nothing.
-    pub fn wait<R: Wait>(&self, rt: &R) {
+    pub fn wait<R: Wait>(&mut self, rt: &R)
+        ensures same { (self.new.seat ≡ self.old.seat) × (self.new.letters ≡ self.old.letters) × (self.new.marks ≡ self.old.marks) × (self.new.viewer ≡ self.old.viewer) × (self.new.waiting ≡ self.old.waiting) × (self.new.taken ≡ self.old.taken) × (self.new.accepted ≡ self.old.accepted) × (self.new.mark ≡ self.old.mark) × (self.new.is_halted ≡ self.old.is_halted) }
+    {
         self.answered.park(rt);
     }
 
@@ -253,7 +256,7 @@ impl<M: Copy> Client<M> {
     pub fn view(&mut self) -> Option<&Auction>
         ensures* after { sem 𝓛 (follows_so (the_row M.row) (the_row M.row) self.entry.ghost_name none (λ _ _. ⊤) (λ n. (n.seat ≡ self.old.seat) × (n.letters ≡ self.old.letters) × (n.marks ≡ self.old.marks) × (n.waiting ≡ self.old.waiting) × (n.taken ≡ self.old.taken) × (n.accepted ≡ self.old.accepted) × (n.is_halted ≡ self.old.is_halted) × (n.viewer.book ≡ self.old.viewer.book) × (n.viewer.opened ≡ self.old.viewer.opened) × (n.viewer.seats ≡ self.old.viewer.seats) × IsPrefix self.old.viewer.list n.viewer.list × (n.mark ≡ max self.old.mark (auction_of n.viewer).count) × IfSome result (λ a. a.now ≡ auction_of n.viewer))) }
     {
-        if self.look() {
+        if self.refresh() {
             Some(self.viewer.auction())
         } else {
             None

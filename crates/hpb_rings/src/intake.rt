@@ -1,3 +1,4 @@
+//! The committer's side of all rings.
 ghost use Rattle.std.specs.Prelude.{◌≡◌, ℕ, ◌<◌, ◌≤◌, ◌∷◌, ◌++◌, length, map, All, vec_len, true, IsTrue, ◌↔◌};
 ghost use Rattle.rtrb.specs.Ring.{sent, received};
 ghost use Rattle.hpb_rings.specs.Slips.{commands, ends};
@@ -41,6 +42,17 @@ impl<M: Copy> Intake<M> {
         }
         self.first = self.first.wrapping_add(1);
         letters
+    }
+
+    /// How many letters are seen to wait in the rings; more may come at any time. Nothing is taken.
+    pub fn waiting(&mut self) -> usize
+        ensures same { (gathered self.new.rings.items ≡ gathered self.old.rings.items) × (marks self.new.rings.items ≡ marks self.old.rings.items) × (vec_len self.new.rings ≡ vec_len self.old.rings) }
+    {
+        let mut count = 0usize;
+        for i in 0..self.rings.len() {
+            count = count.saturating_add(self.rings[i].waiting());
+        }
+        count
     }
 
     /// Sends a mark to each seat that has none yet, and rings the bell of each.

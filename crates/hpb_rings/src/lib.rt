@@ -11,8 +11,6 @@ mod intake;
 mod report;
 mod ring;
 mod slip;
-#[cfg(test)]
-mod tests;
 mod viewing;
 mod waiting;
 

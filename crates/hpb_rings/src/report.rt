@@ -1,3 +1,4 @@
+//! What a client leaves that has finished.
 ghost use Rattle.std.specs.Prelude.{◌≡◌, ◌≤◌, [], ◌∷◌, ◌++◌, length, take, false};
 ghost use mathlib.Core.List.{IsPrefix};
 ghost use Rattle.rtrb.specs.Ring.{sent};
@@ -16,7 +17,9 @@ use rtrb::Producer;
 /// stand between them that it took no answer for.
 #[derive(Drop)]
 pub struct Report {
+    /// The seat of its letters, from 0.
     pub seat: u8,
+    /// What it saw last.
     pub viewer: Viewer,
     /// The client's end of its letter ring.
     pub letters: Producer<Slip>,

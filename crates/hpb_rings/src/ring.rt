@@ -1,3 +1,4 @@
+//! The rings of one seat, by both of their ends.
 ghost use Rattle.std.specs.Prelude.{◌≡◌, ◌<◌, [], ◌∷◌, ◌++◌, length, true, false, if◌then◌else◌, MatchOption, IfOk};
 ghost use Rattle.rtrb.specs.Ring.{sent, received, known_free, known_items, IsPair};
 ghost use Rattle.hpb_rings.specs.Slips.{commands, ends};
@@ -77,6 +78,13 @@ impl<M: Copy> Ring<M> {
             }
             Err(_) => None,
         }
+    }
+
+    /// How many letters are seen to wait, the end mark too.
+    pub(crate) fn waiting(&mut self) -> usize
+        ensures same { (received self.new.letters ≡ received self.old.letters) × (self.new.marks ≡ self.old.marks) × (self.new.has_ended ≡ self.old.has_ended) × (self.new.is_told ≡ self.old.is_told) }
+    {
+        self.letters.slots()
     }
 
     /// Sends a mark, where none was sent yet, and rings the bell of the seat.

@@ -1,3 +1,4 @@
+//! What a ring of letters carries.
 ghost use Rattle.std.specs.Prelude.{◌≡◌};
 ghost use Rattle.hpb_rings.specs.declared.slip.Slip.TheVariants.{Letter as Post};
 

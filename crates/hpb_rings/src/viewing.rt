@@ -1,3 +1,4 @@
+//! A view once more.
 ghost use Rattle.std.specs.Prelude.{◌≡◌, ℕ};
 ghost use mathlib.Core.List.{IsPrefix};
 ghost use Rattle.hpb_board.specs.Publication.{answers_of};

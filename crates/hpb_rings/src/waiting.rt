@@ -1,3 +1,4 @@
+//! Letters that have no answer yet.
 ghost use Rattle.std.specs.Prelude.{◌≡◌, ◌≤◌, ◌↔◌, IsTrue};
 ghost use Rattle.hpb_rings.specs.Marks.{greatest};
 
@@ -6,6 +7,7 @@ use hpb_rules::{Answer, Blank, Letter, Reply};
 /// A letter that waits for its answer.
 #[derive(Clone, Copy)]
 pub struct Waiting {
+    /// As it was posted.
     pub letter: Letter,
     /// The client's mark when the letter was posted, at most `MOST_COMMANDS`.
     pub mark: u32,

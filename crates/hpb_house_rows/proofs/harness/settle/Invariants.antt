@@ -1,4 +1,4 @@
-use Rattle.hpb_house_rows.specs.Boards.{SameBoard}
+use Rattle.hpb_house.specs.Boards.{SameBoard}
 use Rattle.hpb_house_rows.proofs.harness.settle.Given as goal
 
 abbrev pub invariant-loop : goal.invariant-loop

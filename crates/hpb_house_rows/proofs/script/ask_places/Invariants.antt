@@ -1,5 +1,5 @@
 use Rattle.std.proofs.Common.{◌≡◌}
-use Rattle.hpb_house_rows.specs.Boards.{SameBoard}
+use Rattle.hpb_house.specs.Boards.{SameBoard}
 use Rattle.hpb_house_rows.proofs.script.ask_places.Given as goal
 
 abbrev pub invariant-loop-place : goal.invariant-loop-place

@@ -14,6 +14,27 @@ pub returns-in-Ok-clause-shown : goal.returns-in-Ok-clause-shown
 returns-in-Ok-clause-shown g c =
     subst (λ (auction : AuctionValue). All (λ r. auction_of r.viewer ≡ auction) c.settle.new.reports) (c.committed.ensures ∙ sym c.finish-disk.ensures.committed) c.in-Ok.ensures.shown
 
+-- what is handed back is the keeper's
+pub returns-in-Ok-clause-kept : goal.returns-in-Ok-clause-kept
+returns-in-Ok-clause-kept g c = (
+  c.into_inner-keeper.result,
+  sym c.finish-disk.ensures.disk,
+  sym c.finish-disk.ensures.committed,
+  c.facts.ensures.shown ∙ sym c.finish-disk.ensures.committed,
+  sym c.has_failed-has_failed.ensures,
+  c.facts.ensures.keeps,
+)
+
+pub returns-clause-kept : goal.returns-clause-kept
+returns-clause-kept g c = (
+  c.into_inner-keeper.result,
+  sym c.finish-disk-in-Err.ensures.disk,
+  sym c.finish-disk-in-Err.ensures.committed,
+  c.facts.ensures.shown ∙ sym c.finish-disk-in-Err.ensures.committed,
+  sym c.has_failed-has_failed.ensures,
+  c.facts.ensures.keeps,
+)
+
 pub returns-in-Ok-clause-continued : goal.returns-in-Ok-clause-continued
 returns-in-Ok-clause-continued g c = λ front shows.
     subst (λ (auction : AuctionValue). All (λ r. Shows auction (front ++ history_of r.viewer)) c.settle.new.reports) (c.committed.ensures ∙ sym c.finish-disk.ensures.committed)

@@ -1,5 +1,5 @@
 use Rattle.std.proofs.Common.{◌≡◌, ◌<◌, ◌∙◌, length, map, take, drop, arith, add-one, subst, sym, ap, slice_set, ℕ}
-use Rattle.rtrb.specs.Ring.{sent}
+use Rattle.rtrb.specs.Ring.{sent, received}
 use Rattle.hpb_rings.specs.Gathering.{told_of, marks, gathered}
 use Rattle.hpb_rings.proofs.Gathering.{mapped-on, gathered-on, all-told}
 use Rattle.hpb_rings.proofs.intake.Intake.halt.Goals as goal
@@ -16,7 +16,7 @@ loop-i-preserved g c =
     let n = mapped-on (λ r. sent r.marks) (told_of c.args.mark) i rs olds y cur lt inv.0 inv.1 c.tell.ensures.told.1 c.index_mut.ensures.value in
     let J : ℕ → Type 0 = λ k. (marks (take k (slice_set rs i y)) ≡ map (told_of c.args.mark) (take k olds)) × (drop k (slice_set rs i y) ≡ drop k olds) in
     let m = subst J (sym (add-one i)) n in
-    (m.0, m.1, gathered-on rs i y cur (gathered olds) (c.tell.ensures.same.0 ∙ ap (λ r. r.letters) c.index_mut.ensures.value) inv.2, inv.3)
+    (m.0, m.1, gathered-on rs i y cur (gathered olds) (ap (λ l. received l) (c.tell.ensures.same.0 ∙ ap (λ r. r.letters) c.index_mut.ensures.value)) inv.2, inv.3)
 
 pub returns-clause-once : goal.returns-clause-once
 returns-clause-once g c =

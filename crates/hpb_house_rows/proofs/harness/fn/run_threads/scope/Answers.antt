@@ -2,7 +2,7 @@ use Rattle.std.proofs.Common.{rules, ◌≡◌, ◌∙◌, ap}
 use denote.Param.Send.{sendable}
 use Rattle.hpb_house.proofs.keeper.Halt.TheSendSync as Halt
 use Rattle.hpb_rings.proofs.intake.Intake.TheSendSync as Intake
-use Rattle.hpb_house_rows.specs.Boards.{SameBoard}
+use Rattle.hpb_house.specs.Boards.{SameBoard}
 use Rattle.hpb_house_rows.proofs.Beginning.{all_and_one, next_of, rest_of}
 use Rattle.hpb_house.proofs.Crossing.{House-sync}
 use Rattle.hpb_house_rows.proofs.harness.fn.run_threads.scope.Goals as goal

@@ -1,6 +1,6 @@
 use Rattle.std.proofs.Common.{◌≡◌, All}
 use Rattle.std.specs.Vec.Iter.{into_iter_items}
-use Rattle.hpb_house_rows.specs.Boards.{SameBoard}
+use Rattle.hpb_house.specs.Boards.{SameBoard}
 use Rattle.hpb_house_rows.proofs.harness.fn.run_threads.scope.Given as goal
 
 abbrev pub invariant-loop-client : goal.invariant-loop-client

@@ -3,7 +3,7 @@ use Rattle.hpb_rules.specs.declared.letter.Answer.{Answer}
 use Rattle.hpb_board.specs.Publication.{answers_of}
 use Rattle.hpb_rings.specs.Taking.{letters_of, posted, slips, newly}
 use Rattle.hpb_rings.proofs.Later.{taken-later, longer-later}
-use Rattle.hpb_rings.proofs.client.Client.look.Goals as goal
+use Rattle.hpb_rings.proofs.client.Client.refresh.Goals as goal
 
 pub invariant_of-self-clause-sent_is : goal.invariant_of-self-clause-sent_is
 invariant_of-self-clause-sent_is g c =
