@@ -1,0 +1,184 @@
+-- Single steps of a desk: an answer taken, a command that gets none, and a look.
+use Rattle.std.proofs.Common.{◌≡◌, ◌⊎◌, inl, inr, ℕ, suc, ◌≤◌, Bool, true, false, max, List, [], ◌∷◌, ◌++◌, get_or, length, take, Option, Some, None, refl, sym, ap, subst, ◌∙◌, arith, append_assoc}
+use Rattle.std.specs.Prelude.{◌<◌, if◌then◌else◌, Result, Ok, Err, IsOk, OnOk, ⊤}
+use Rattle.std.proofs.lemmas.Bool.{eqb-true, false≢true}
+use Rattle.hpb_rules.specs.declared.command.Command.{Command}
+use Rattle.hpb_rules.specs.declared.letter.Answer.{Answer}
+use Rattle.hpb_rules.specs.declared.limits.TheConstants.{MOST_LETTERS}
+use Rattle.hpb_rules.specs.declared.refusal.Refusal.{Refusal}
+use Rattle.hpb_rules.specs.declared.reply.Reply.{Reply}
+use Rattle.hpb_rules.specs.declared.reply.Reply.TheVariants as replies
+use Rattle.hpb_rules.specs.Answer.{history_after, is_reply_new}
+use Rattle.hpb_rules.specs.AuctionValue.{AuctionValue, Shows}
+use Rattle.hpb_rules.specs.Letters.{Fits, is_answer_new}
+use Rattle.hpb_rules.proofs.Lists.{append_nil, front_self, front_trans}
+use Rattle.hpb_board.specs.Publication.{Viewing, answers_of, auction_of}
+use Rattle.hpb_rings.specs.Marks.{greatest, with_reply}
+use Rattle.hpb_server.specs.Desk.{AsksAll}
+use Rattle.hpb_sessions.specs.declared.stop.Stop.{Stop}
+use Rattle.hpb_sessions.specs.Sessions.{DeskStands, Follows, GoesFrom, IsToldBy, RepliesAt, ShowsAt, State, count_after, over_at, seen_by, told_by}
+use Rattle.hpb_sessions.specs.Stops.{refusal_of}
+use Rattle.hpb_sessions.proofs.Seen.{fits_after, fronts_of, seen_counted, seen_front, seen_shown, take_whole, told_fits}
+
+-- what an answer tells is known by the mark after it
+pub count_known : (mark : ℕ) (given : Answer) → count_after given ≤ greatest mark given
+count_known mark given = by given.reply
+  where
+    number : (given : Answer) (n : ℕ) → (b : Bool) → is_reply_new given.at (replies.Ok n) ≡ b → (if b then suc given.at else given.at) ≤ max (max mark given.at) n
+    number given n true new = let e : n ≡ suc given.at = eqb-true n (suc given.at) new in omega (arith, e)
+    number given n false old = omega arith
+
+    by : (reply : Reply) → (if is_reply_new given.at reply then suc given.at else given.at) ≤ with_reply (max mark given.at) reply
+    by (replies.Ok n) = number given n (is_reply_new given.at (replies.Ok n)) refl
+    by (replies.Refused refusal) = omega arith
+
+-- an answer tells of no fewer than were accepted before it
+pub count_later : (given : Answer) → given.at ≤ count_after given
+count_later given = by (is_answer_new given)
+  where
+    by : (b : Bool) → given.at ≤ (if b then suc given.at else given.at)
+    by true = omega arith
+    by false = omega arith
+
+-- a session that is told of no fewer commands goes on
+pub goes : (old new : State) → new.seat ≡ old.seat → Follows old.viewing new.viewing → old.told ≤ new.told → GoesFrom old new
+goes old new seat follows more = record {
+  seat = seat;
+  viewer = follows;
+  told = λ opened. fronts_of old.told new.told (seen_by opened old.viewing) (seen_by opened new.viewing) more (seen_front opened old.viewing new.viewing follows);
+}
+
+-- it goes on to itself, and so does what goes on from what goes on
+pub goes_self : (state : State) → GoesFrom state state
+goes_self state = record {
+  seat = refl;
+  viewer = (refl, refl, refl, ([], sym (append_nil state.viewing.list)));
+  told = λ opened. front_self (told_by opened state);
+}
+
+pub goes_trans : (first second third : State) → GoesFrom first second → GoesFrom second third → GoesFrom first third
+goes_trans first second third one two = record {
+  seat = two.seat ∙ one.seat;
+  viewer = (
+    two.viewer.0 ∙ one.viewer.0,
+    two.viewer.1 ∙ one.viewer.1,
+    two.viewer.2 ∙ one.viewer.2,
+    (
+      one.viewer.3.0 ++ two.viewer.3.0,
+      sym (append_assoc first.viewing.list one.viewer.3.0 two.viewer.3.0) ∙ ap (λ list. list ++ two.viewer.3.0) one.viewer.3.1 ∙ two.viewer.3.1,
+    ),
+  );
+  told = λ opened. front_trans (told_by opened first) (told_by opened second) (told_by opened third) (one.told opened) (two.told opened);
+}
+
+module _ (seat later_seat : ℕ) (before after : Viewing) (mark later : ℕ) (stop : Option Stop) (state : State) (stands : DeskStands seat before mark stop state)
+    (same : later_seat ≡ seat) (follows : Follows before after) where
+  -- the viewer of the state is followed
+  at : Follows state.viewing after
+  at = subst (λ (v : Viewing). Follows v after) (sym stands.1) follows
+
+  seated : later_seat ≡ state.seat
+  seated = same ∙ sym stands.0
+
+  -- an answer is taken
+  pub answered : (command : Command) (given : Answer) → stop ≡ None → given.letter ≡ record { seat = seat; command = command } → mark ≤ given.at
+      → IsToldBy (answers_of later_seat after) given → greatest mark given ≤ later
+      → (next : State) × RepliesAt state command given.reply next × DeskStands later_seat after later stop next
+  answered command given serves own late told known =
+      let next : State = record { seat = later_seat; viewing = after; told = count_after given; stop = stop } in
+      let more : state.told ≤ given.at = omega (arith, stands.2, late) in (
+        next,
+        (
+          goes state next seated at (omega (arith, more, count_later given)),
+          inl (record {
+            given = given;
+            own = own ∙ ap (λ n. record { seat = n; command = command }) (sym stands.0);
+            replied = refl;
+            among = subst (λ n. IsToldBy (answers_of n after) given) seated told;
+            fits = λ opened shows.
+                let still : Shows after.opened opened = subst (λ (value : AuctionValue). Shows value opened) (sym at.1) shows in
+                let fit = told_fits opened after later_seat given still told in
+                record {
+                  fits = subst (λ (value : AuctionValue). Fits value.rules (seen_by opened after) given) at.1 fit;
+                  later = fronts_of state.told given.at (seen_by opened state.viewing) (seen_by opened after) more (seen_front opened state.viewing after at);
+                  told = sym (fits_after after.opened.rules (seen_by opened after) given fit)
+                      ∙ ap (λ (value : AuctionValue). history_after value.rules (take given.at (seen_by opened after)) given.letter.command) at.1;
+                };
+            before = stands.3 ∙ serves;
+            after = serves;
+          }),
+        ),
+        (refl, refl, omega (arith, count_known mark given, known), refl),
+      )
+
+  -- a command gets no answer
+  pub stopped : (command : Command) (why : Stop) (refusal : Refusal) → mark ≤ later → (stop ≡ None) ⊎ (stop ≡ Some why) → refusal ≡ refusal_of why
+      → (next : State) × RepliesAt state command (replies.Refused refusal) next × DeskStands later_seat after later (Some why) next
+  stopped command why refusal more was is =
+      let next : State = record { seat = later_seat; viewing = after; told = state.told; stop = Some why } in (
+        next,
+        (
+          goes state next seated at (omega arith),
+          inr (record {
+            why = why;
+            before = subst (λ (s : Option Stop). (s ≡ None) ⊎ (s ≡ Some why)) (sym stands.3) was;
+            after = refl;
+            replied = ap replies.Refused is;
+          }),
+        ),
+        (refl, refl, omega (arith, stands.2, more), refl),
+      )
+
+  -- a look at what is published
+  pub looked : (value : AuctionValue) → value ≡ auction_of after → later ≡ max mark (auction_of after).count
+      → (next : State) × ShowsAt state (Some value) next × DeskStands later_seat after later stop next
+  looked value is most =
+      let count : ℕ = (auction_of after).count in
+      let next : State = record { seat = later_seat; viewing = after; told = max state.told count; stop = stop } in (
+        next,
+        (
+          goes state next seated at (omega arith),
+          sym stands.3,
+          (
+            is,
+            λ opened shows.
+                let all : told_by opened next ≡ seen_by opened after = take_whole next.told (seen_by opened after) (omega (arith, seen_counted opened after shows)) in (
+                  all,
+                  subst (λ (v : AuctionValue). Shows v (told_by opened next)) (sym is) (subst (Shows (auction_of after)) (sym all) (seen_shown opened after shows)),
+                ),
+          ),
+        ),
+        (refl, refl, omega (arith, stands.2, most), refl),
+      )
+
+  -- a look where nothing is published any more
+  pub looked_away : later ≡ max mark (auction_of after).count → (next : State) × ShowsAt state None next × DeskStands later_seat after later stop next
+  looked_away most =
+      let next : State = record { seat = later_seat; viewing = after; told = state.told; stop = stop } in
+      (next, (goes state next seated at (omega arith), sym stands.3, tt), (refl, refl, omega (arith, stands.2, most), refl))
+
+-- ---- commands that are asked together
+-- none once the session is over
+pub asks_none : (state : State) (commands : List Command) → over_at state ≡ true → AsksAll RepliesAt over_at state commands [] state
+asks_none state [] over = (refl, refl)
+asks_none state (command ∷ commands) over = inl (over, refl, refl)
+
+-- one command
+pub asks_one : (state next : State) (items commands : List Command) (command : Command) (reply : Reply) → items ≡ commands → length commands ≤ 1 → 0 < length commands → command ≡ get_or items 0 command
+    → over_at state ≡ false → RepliesAt state command reply next → AsksAll RepliesAt over_at state commands (reply ∷ []) next
+asks_one state next items commands command reply same few some at over it = by commands few some (at ∙ ap (λ list. get_or list 0 command) same)
+  where
+    by : (commands : List Command) → length commands ≤ 1 → 0 < length commands → command ≡ get_or commands 0 command → AsksAll RepliesAt over_at state commands (reply ∷ []) next
+    by [] few some at = absurd (omega (arith, some))
+    by (first ∷ []) few some at = inr (over, reply, [], next, subst (λ (c : Command). RepliesAt state c reply next) at it, (refl, refl), refl)
+    by (first ∷ second ∷ commands) few some at = absurd (omega (arith, few))
+
+-- its reply is the only one
+pub only_reply : (result : Result ⊤ Reply) (before after : List Reply) (reply : Reply) → before ≡ [] → (length before < MOST_LETTERS → IsOk result) → OnOk result (after ≡ before ++ reply ∷ []) → after ≡ reply ∷ []
+only_reply (Ok done) before after reply none room pushed = pushed ∙ ap (λ list. list ++ reply ∷ []) none
+only_reply (Err back) before after reply none room pushed = absurd (false≢true (room (omega (arith, ap length none))))
+
+-- what isn't some reason is none
+pub none_of : (stop : Option Stop) → ((why : Stop) → stop ≡ Some why → ⊥) → stop ≡ None
+none_of None never = refl
+none_of (Some why) never = absurd (never why refl)

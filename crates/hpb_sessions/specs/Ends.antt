@@ -1,0 +1,29 @@
+-- How a session on a house ends.
+-- Source: this project's own.
+use Rattle.std.specs.Prelude.{◌≡◌, ℕ, true, false, Option, Some}
+use Rattle.hpb_board.specs.Publication.{Viewing}
+use Rattle.hpb_sessions.specs.declared.end.SessionEnd.{SessionEnd}
+use Rattle.hpb_sessions.specs.declared.end.SessionEnd.TheVariants.{Finished, Left}
+use Rattle.hpb_sessions.specs.Sessions.{State}
+use Rattle.hpb_sessions.specs.Stops.{IsInOrder, is_over}
+use Rattle.hpb_sessions.specs.declared.stop.Stop.{Stop}
+use Rattle.hpb_sessions.specs.declared.stop.Stop.TheVariants.{Halted}
+
+-- The seat of the client that had the session.
+abbrev pub seat_of : {M : Type 0} → SessionEnd M → ℕ
+seat_of (Finished report) = report.seat
+seat_of (Left client) = client.seat
+
+-- Its viewer.
+abbrev pub viewer_of : {M : Type 0} → SessionEnd M → Viewing
+viewer_of (Finished report) = report.viewer
+viewer_of (Left client) = client.viewer
+
+-- How a session ends by what stopped its commands, if something did. The client has finished, and got the mark of a halt where the session told of one; or it is handed back as it stands, since the next answer to its seat isn't the one that it waits for.
+abbrev pub EndsBy : {M : Type 0} → Option Stop → SessionEnd M → Type 0
+EndsBy stop (Finished report) = (is_over stop ≡ false) × (stop ≡ Some Halted → report.is_halted ≡ true)
+EndsBy stop (Left client) = (is_over stop ≡ true) × (IsInOrder client.seat client.viewer client.taken client.waiting.items → ⊥)
+
+-- A session ended at a state: its client's seat and viewer are that state's.
+abbrev pub EndsAt : {M : Type 0} → SessionEnd M → State → Type 0
+EndsAt end state = (state.seat ≡ seat_of end) × (state.viewing ≡ viewer_of end) × EndsBy state.stop end

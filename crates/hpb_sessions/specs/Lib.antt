@@ -1,0 +1,4 @@
+pub mod Stops
+pub mod Sessions
+pub mod Telling
+pub mod Ends
