@@ -1,0 +1,4 @@
+mod Reports
+mod Seats
+mod Turns
+mod Written

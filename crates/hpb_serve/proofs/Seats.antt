@@ -1,0 +1,29 @@
+-- What is told of a session that ended.
+use Rattle.std.proofs.Common.{◌≡◌, ◌∙◌, ℕ, sym, ap, subst}
+use Rattle.hpb_board.specs.Publication.{Viewing}
+use Rattle.hpb_house.specs.Boards.{SameBoard}
+use Rattle.hpb_house.specs.declared.keeper.Halt.{Halt}
+use Rattle.hpb_rings.specs.declared.client.Client.{Client}
+use Rattle.hpb_rings.specs.declared.report.Report.{Report}
+use Rattle.hpb_sessions.specs.Ends.{EndsBy, seat_of, viewer_of}
+use Rattle.hpb_sessions.specs.declared.end.SessionEnd.{SessionEnd}
+use Rattle.hpb_sessions.specs.declared.end.SessionEnd.TheVariants.{Finished, Left}
+use Rattle.hpb_serve.specs.Ended.{EndsAtSeat, LeavesOne}
+
+-- its report is of its seat and its board
+pub finished : (eye house : Viewing) (place : ℕ) (end : SessionEnd Halt) (report : Report) → eye ≡ house → EndsAtSeat eye place end → end ≡ Finished report
+    → (report.seat ≡ place) × SameBoard house report.viewer
+finished eye house place end report of_house ends is =
+    (sym (ap seat_of is) ∙ ends.seat, subst (λ (v : Viewing). SameBoard v report.viewer) of_house (subst (λ (e : SessionEnd Halt). SameBoard eye (viewer_of e)) is ends.board))
+
+-- or its client is left with a reason
+pub left : (eye house : Viewing) (place : ℕ) (end : SessionEnd Halt) (client : Client Halt) → eye ≡ house → EndsAtSeat eye place end → end ≡ Left client → LeavesOne house.opened
+left eye house place end client of_house ends is =
+    let board = subst (λ (e : SessionEnd Halt). SameBoard eye (viewer_of e)) is ends.board in
+    let ended = subst (λ (e : SessionEnd Halt). EndsBy ends.stop e) is ends.ended in
+    subst (λ (v : Viewing). LeavesOne v.opened) of_house (record { client = client; opened = board.1; order = ended.1 })
+
+-- one that ended on a board ended on each that is the same
+pub on_board : (house eye : Viewing) (place : ℕ) (end : SessionEnd Halt) → SameBoard house eye → EndsAtSeat eye place end → EndsAtSeat house place end
+on_board house eye place end same ends =
+    record { seat = ends.seat; board = (ends.board.0 ∙ same.0, ends.board.1 ∙ same.1); stop = ends.stop; ended = ends.ended }

@@ -1,0 +1,52 @@
+-- Lists that are gone over, one element a turn.
+use Rattle.std.proofs.Common.{◌≡◌, ◌∙◌, zero, suc, List, [], ◌∷◌, ◌++◌, length, map, arith, All, Option, Some, None, IfSome, true, refl, sym, ap, subst}
+use Rattle.std.specs.declared.vec.IntoIter.{IntoIter}
+use Rattle.std.specs.Vec.Iter.{into_iter_items, into_iter_steps}
+use Rattle.std.proofs.lemmas.List.{append-nil, append_assoc, map-append}
+use Rattle.std.specs.Option.{is_some}
+use Rattle.std.proofs.lemmas.List.Elements.{All-append}
+
+one_of : {A : Type 0} (P : A → Type 0) (x : A) → P x → All P (x ∷ [])
+one_of P x h zero d lt = h
+one_of P x h (suc i) d lt = absurd (omega arith)
+
+-- what is so of each element and of one more is so of the list with that one
+pub all_and_one : {A : Type 0} (P : A → Type 0) (xs : List A) (x : A) → All P xs → P x → All P (xs ++ x ∷ [])
+all_and_one P xs x all h = All-append P xs (x ∷ []) all (one_of P x h)
+
+-- what is so of each element that is to come is so of the next
+pub next_of : {A Z : Type 0} (P : A → Type 0) (s t : IntoIter A Z) (x : A) → All P (into_iter_items s) → into_iter_steps s (Some x) t → P x
+next_of P s t x all steps = let h : All P (x ∷ into_iter_items t) = subst (All P) steps.0 all in h zero x (omega arith)
+
+-- and of those after it
+pub rest_of : {A Z : Type 0} (P : A → Type 0) (s t : IntoIter A Z) (x : A) → All P (into_iter_items s) → into_iter_steps s (Some x) t → All P (into_iter_items t)
+rest_of P s t x all steps k d lt = let h : All P (x ∷ into_iter_items t) = subst (All P) steps.0 all in h (suc k) d (omega arith)
+
+-- what was made of the elements so far, and what is told of those to come, is one list: so it stays where one more is made of the next
+pub one_more : {A B C Z : Type 0} (f : A → C) (g : B → C) (whole : List C) (made : List A) (more : A) (s t : IntoIter B Z) (x : B)
+    → map f made ++ map g (into_iter_items s) ≡ whole → into_iter_steps s (Some x) t → f more ≡ g x
+    → map f (made ++ more ∷ []) ++ map g (into_iter_items t) ≡ whole
+one_more f g whole made more s t x is steps same =
+    ap (λ front. front ++ map g (into_iter_items t)) (map-append f made (more ∷ []))
+    ∙ append_assoc (map f made) (f more ∷ []) (map g (into_iter_items t))
+    ∙ ap (λ one. map f made ++ one ∷ map g (into_iter_items t)) same
+    ∙ ap (λ items. map f made ++ map g items) (sym steps.0)
+    ∙ is
+
+-- after the last turn it is what was made
+pub no_more : {A B C : Type 0} (f : A → C) (g : B → C) (whole : List C) (made : List A) (rest : List B) → map f made ++ map g rest ≡ whole → length rest ≡ 0 → map f made ≡ whole
+no_more f g whole made [] is none = sym (append-nil (map f made)) ∙ is
+no_more f g whole made (x ∷ rest) is none = absurd (omega arith)
+
+-- what is so while something is there
+pub while_some : {A : Type 0} (o : Option A) (P Q : Type 0) → (P → Q) → IfSome o (λ x. P) → IfSome o (λ x. Q)
+while_some None P Q f it = tt
+while_some (Some x) P Q f it = f it
+
+pub if_not_some : {A : Type 0} (o : Option A) (P : A → Type 0) → ((x : A) → o ≡ Some x → ⊥) → IfSome o P
+if_not_some None P not = tt
+if_not_some (Some x) P not = absurd (not x refl)
+
+pub is_there : {A : Type 0} (o : Option A) (P : Type 0) → is_some o ≡ true → IfSome o (λ x. P) → P
+is_there None P is it = absurd (cc)
+is_there (Some x) P is it = it

@@ -1,0 +1,28 @@
+use Rattle.std.proofs.Common.{◌≡◌, ◌∙◌, map, Err, sym, ap, subst}
+use Rattle.hpb_rules.specs.AuctionValue.{AuctionValue, Shows}
+use Rattle.hpb_serve.specs.Ended.{LeavesOne}
+use Rattle.hpb_serve.specs.declared.fault.ServeFault.TheVariants.{Order}
+use Rattle.hpb_serve.proofs.Reports.{apart, same_seats}
+use Rattle.hpb_serve.proofs.serving.serve_opened.Goals as goal
+
+pub returns-in-Err-run_threads-clause-order : goal.returns-in-Err-run_threads-clause-order
+returns-in-Err-run_threads-clause-order g c = λ is.
+    let order : c.in-Err-run_threads.fault ≡ Order = cc in
+    subst (λ (a : AuctionValue). LeavesOne a) c.in-Ok.ensures.opened.0 (c.in-Err-run_threads.ensures.order (ap Err order))
+
+pub returns-in-Ok-close-clause-ended : goal.returns-in-Ok-close-clause-ended
+returns-in-Ok-close-clause-ended g c =
+    let closed = c.in-Ok-close.ensures in
+    let numbered = ap (map (λ report. report.seat)) c.deref_mut.ensures.value ∙ c.in-Ok-run_threads.ensures.seats ∙ c.in-Ok.ensures.clients.numbered in
+    record {
+      reports = c.close.new.reports;
+      auction = c.in-Ok-close.closing.auction;
+      seats = same_seats c.close.new.reports c.deref_mut.result.now closed.said ∙ numbered;
+      shown = closed.shown;
+      counted = c.count.ensures.value;
+      continued = λ front shows. closed.continued front (subst (λ (a : AuctionValue). Shows a front) (sym c.in-Ok.ensures.opened.0) shows);
+      once = closed.once (apart c.deref_mut.result.now c.args.sessions numbered);
+      numbers = rw (c.count.ensures.value, sym (ap (λ (a : AuctionValue). a.count) c.in-Ok.ensures.opened.0)) closed.numbers;
+      disk = c.in-Ok-close.closing.disk;
+      kept = closed.kept;
+    }

@@ -1,0 +1,48 @@
+-- How the sessions of a house end.
+-- Source: this project's own.
+use Rattle.std.specs.Prelude.{◌≡◌, ℕ, ◌-◌, List, ◌++◌, All, IsPermutation, Option, flat_map, map}
+use Rattle.std.specs.List.{range_with_len}
+use Rattle.hpb_rules.specs.declared.command.Command.{Command}
+use Rattle.hpb_rules.specs.AuctionValue.{AuctionValue, Shows}
+use Rattle.hpb_board.specs.Publication.{Viewing, auction_of}
+use Rattle.hpb_closing.specs.Histories.{history_of}
+use Rattle.hpb_closing.specs.Reports.{accepted_by, total}
+use Rattle.hpb_house.specs.Boards.{SameBoard}
+use Rattle.hpb_house.specs.Closings.{AreOfKeeper}
+use Rattle.hpb_house.specs.declared.keeper.Halt.{Halt}
+use Rattle.hpb_rings.specs.declared.client.Client.{Client}
+use Rattle.hpb_rings.specs.declared.report.Report.{Report}
+use Rattle.hpb_serve.specs.declared.serving.Served.{Served}
+use Rattle.hpb_sessions.specs.declared.end.SessionEnd.{SessionEnd}
+use Rattle.hpb_sessions.specs.declared.stop.Stop.{Stop}
+use Rattle.hpb_sessions.specs.Ends.{EndsBy, seat_of, viewer_of}
+use Rattle.hpb_sessions.specs.Stops.{IsInOrder}
+
+-- A session ended with the client of this seat, on the board that this viewer follows, by what stopped its commands, if something did.
+pub record EndsAtSeat (eye : Viewing) (place : ℕ) (end : SessionEnd Halt) : Type 0 where
+  pub seat : seat_of end ≡ place
+  pub board : SameBoard eye (viewer_of end)
+  pub stop : Option Stop
+  pub ended : EndsBy stop end
+
+-- A session ended without its client, which began with this auction: the next answer to its seat isn't the one that it waits for.
+pub record LeavesOne (auction : AuctionValue) : Type 0 where
+  pub client : Client Halt
+  pub opened : client.viewer.opened ≡ auction
+  pub order : IsInOrder client.seat client.viewer client.taken client.waiting.items → ⊥
+
+-- So many sessions have ended, which began with this auction, and this is told of them.
+pub record EndsAll {D : Type 0} (seen : D → List ℕ) (may_leave : D → List ℕ → Type 0) (before : AuctionValue) (sessions : ℕ) (served : Served) : Type 0 where
+  -- There is a report of each seat, and they show one auction, whose commands are as many as is told.
+  pub reports : List Report
+  pub auction : AuctionValue
+  pub seats : map (λ (report : Report). report.seat) reports ≡ range_with_len 0 sessions
+  pub shown : All (λ report. auction_of report.viewer ≡ auction) reports
+  pub counted : served.count ≡ auction.count
+  -- The commands since the opening are those of the answers newly accepted, each once.
+  pub continued : (front : List Command) → Shows before front → All (λ report. Shows auction (front ++ history_of report.viewer)) reports
+  pub once : All (λ report. IsPermutation (flat_map accepted_by reports) (history_of report.viewer)) reports
+  pub numbers : total reports ≡ served.count - before.count
+  -- A device keeps that auction, up to the failure of one of its calls where one is told of.
+  pub disk : D
+  pub kept : AreOfKeeper seen may_leave disk auction served.has_failed

@@ -1,0 +1,15 @@
+-- How serving that ended ill is told of.
+-- Source: this project's own.
+use Rattle.hpb_rules.specs.declared.refusal.Refusal.{Refusal}
+use Rattle.hpb_rules.specs.declared.refusal.Refusal.TheVariants as refusals
+use Rattle.hpb_house.specs.Told as starts
+use Rattle.hpb_serve.specs.declared.fault.ServeFault.{ServeFault}
+use Rattle.hpb_serve.specs.declared.fault.ServeFault.TheVariants.{Memory, Writer, Start, Order, Counts}
+
+-- The refusal that it is told by.
+abbrev pub refusal_of : ServeFault → Refusal
+refusal_of Memory = refusals.Memory
+refusal_of Writer = refusals.Stream
+refusal_of (Start cause) = starts.refusal_of cause
+refusal_of Order = refusals.Order
+refusal_of Counts = refusals.Counts

@@ -1,0 +1,72 @@
+//! A session over a connection.
+ghost use Rattle.std.specs.Prelude.{◌≡◌, []};
+ghost use Rattle.hpb_serve.specs.Ended.{EndsAtSeat};
+
+use crate::looking::Looking;
+use hpb_house::Halt;
+use hpb_rings::Client;
+use hpb_sessions::{SessionEnd, finish_client, run_session};
+use std::alloc::Global;
+use std::net::{Shutdown, TcpStream};
+use std::sync::Wait;
+
+/// How often sessions look at their connections for more to read before they sleep until there is some: as many looks as this
+/// are shared by all.
+const READ_LOOKS: u32 = 100;
+
+/// How often they look for an answer of the house before they sleep until one comes: so many are shared by all.
+const ANSWER_LOOKS: u32 = 400;
+
+/// A client for which no letter is outstanding, and how many sessions there are.
+#[derive(Drop)]
+pub(crate) struct Idle {
+    pub(crate) client: Client<Halt>,
+    sessions: usize,
+    ghost idle: { client.waiting.items ≡ [] },
+}
+
+impl Idle {
+    pub(crate) fn new(client: Client<Halt>, sessions: usize) -> Idle
+        requires { client.waiting.items ≡ [] }
+        ensures { result.client ≡ client }
+    {
+        Idle { client, sessions }
+    }
+}
+
+/// The part of so many looks that one of so many sessions has.
+fn share(looks: u32, sessions: usize) -> u32 {
+    match u32::try_from(sessions) {
+        Ok(sessions) if sessions > 0 => looks / sessions,
+        _ => 0,
+    }
+}
+
+/// Runs a client's session over its connection, which is closed at the end. Without a connection the client is finished at
+/// once.
+///
+/// What ends the session early, 90 `memory` or 92 `stream`, ends nothing else.
+pub(crate) fn serve_connection<R: Wait>(
+    rt: &R,
+    alloc: Global,
+    connection: Option<TcpStream>,
+    idle: Idle,
+) -> SessionEnd<Halt>
+    ensures { EndsAtSeat idle.client.viewer idle.client.seat result }
+{
+    let Idle {
+        client,
+        sessions,
+        ..
+    } = idle;
+    let Some(stream) = connection else {
+        return SessionEnd::Finished(finish_client(rt, client));
+    };
+    let mut reader = Looking::new(&stream, share(READ_LOOKS, sessions));
+    let mut writer = reader;
+    let looks = share(ANSWER_LOOKS, sessions);
+    let session = run_session(rt, alloc, &mut reader, &mut writer, client, looks);
+    // A connection that its other side has closed is shut down.
+    let _ = stream.shutdown(Shutdown::Both);
+    session.end
+}

@@ -1,0 +1,13 @@
+//! Sessions over TCP with one auction, which a house keeps.
+#![tactic(auto)]
+
+mod announcing;
+mod connection;
+mod ends;
+mod fault;
+mod looking;
+mod serving;
+mod threads;
+
+pub use fault::ServeFault;
+pub use serving::{Served, serve_opened};

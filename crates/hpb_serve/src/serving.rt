@@ -1,0 +1,80 @@
+//! Serving an auction that was opened.
+ghost use Rattle.std.specs.Prelude.{◌≡◌, ◌≤◌, Err, IfOk};
+ghost use Rattle.hpb_serve.specs.Announcing.{Announces, listening_line};
+ghost use Rattle.hpb_serve.specs.Ended.{EndsAll, LeavesOne};
+ghost use Rattle.hpb_serve.specs.declared.fault.ServeFault.TheVariants.{Order};
+
+use crate::announcing::announce;
+use crate::fault::ServeFault;
+use crate::threads::run_threads;
+use hpb_disk::Disk;
+use hpb_house::{House, Started};
+use hpb_recover::Opened;
+use std::alloc::Global;
+use std::io::Write;
+use std::net::{Net, TcpListener, TcpStream};
+use std::sync::Wait;
+use std::thread::Threads;
+
+/// What sessions that have all ended came to.
+#[derive(Clone, Copy, Debug, PartialEq, Eq)]
+pub struct Served {
+    /// How many commands are accepted in all.
+    pub count: u32,
+    /// Whether a call of the device has failed (91).
+    pub has_failed: bool,
+}
+
+/// Serves so many sessions, from 1 to 32, with an opened auction, over connections to a listener.
+///
+/// `LISTENING` with the listener's port is written once the house is started. Then it accepts one connection for each
+/// session, with a thread of its own, and closes the listener. It waits until all sessions have ended, and closes the
+/// house. An accept that fails counts as a session that ended. What ends one session, 90 `memory` or 92 `stream`, ends no
+/// other.
+///
+/// Refused: 90 `memory` where memory or a thread is refused, 94 `place` where a session's place is, both before anything
+/// is written or, for 90, after the line; 92 `stream` where the line was not written; 95 `order` where a session ended
+/// without its client; 96 `counts` where what the sessions were answered isn't what was committed.
+pub fn serve_opened<
+    H: Net<Listener = TcpListener, Stream = TcpStream> + Threads + Wait + Sync,
+    D: Disk + Drop + Send,
+    W: Write,
+>(
+    rt: &H,
+    alloc: Global,
+    opened: Opened<D>,
+    listener: TcpListener,
+    port: u16,
+    sessions: u8,
+    output: &mut W,
+) -> Result<Served, ServeFault>
+    requires { (1 ≤ sessions) × (sessions ≤ 32) }
+    ensures written { Announces (listening_line port) (W.contents output.old) (W.contents output.new) result }
+    // All sessions have ended, and the commands that they were told of as newly accepted are those that were committed.
+    ensures ended { IfOk result (λ served. EndsAll D.seen D.may_leave opened.plan.auction sessions served) }
+    // 95 only where a session had a reason.
+    ensures order { result ≡ Err Order → LeavesOne opened.plan.auction }
+{
+    let Started {
+        house,
+        intake,
+        clients,
+    } = match House::start(rt, alloc, opened, sessions) {
+        Ok(started) => started,
+        Err(fault) => return Err(ServeFault::Start(fault.cause)),
+    };
+    if let Err(fault) = announce(alloc, port, output) {
+        return Err(fault);
+    }
+    let mut reports = match run_threads(rt, alloc, &house, intake, clients, listener) {
+        Ok(reports) => reports,
+        Err(fault) => return Err(fault),
+    };
+    match house.close(&mut reports) {
+        Ok(closing) => Ok(Served {
+            count: closing.auction.count(),
+            has_failed: closing.has_failed,
+        }),
+        Err(_) => Err(ServeFault::Counts),
+    }
+}

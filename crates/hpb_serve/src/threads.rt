@@ -1,0 +1,139 @@
+//! The threads of a house: its two workers, and one for each session.
+ghost use Rattle.std.specs.Prelude.{◌≡◌, ◌⊎◌, [], All, Err, IfErr, IfOk, map};
+ghost use Rattle.std.specs.Thread.{IsSend, IsSync};
+ghost use Rattle.hpb_house.specs.Boards.{SameBoard};
+ghost use Rattle.hpb_serve.specs.Ended.{LeavesOne};
+ghost use Rattle.hpb_serve.specs.declared.fault.ServeFault.TheVariants.{Memory, Order};
+
+use crate::connection::{Idle, serve_connection};
+use crate::ends::{OfSeat, join_sessions};
+use crate::fault::ServeFault;
+use hpb_disk::Disk;
+use hpb_house::{Halt, House, OpenGate, checkpointer, committer};
+use hpb_rings::{Client, Intake, Report};
+use hpb_sessions::{SessionEnd, finish_client};
+use std::alloc::Global;
+use std::net::{TcpListener, TcpStream};
+use std::snapshot::Snapshot;
+use std::sync::Wait;
+use std::thread;
+use std::thread::{PromisedHandle, Scope, Threads};
+
+/// Finishes clients that have no session.
+fn finish_clients<R: Wait>(rt: &R, clients: Vec<Client<Halt>>)
+    requires { All (λ client. client.waiting.items ≡ []) clients.items }
+{
+    for client in clients {
+        finish_client(rt, client);
+    }
+}
+
+/// The next connection. One that is not accepted has ended.
+fn next_connection(listener: &TcpListener) -> Option<TcpStream> {
+    match listener.accept() {
+        Ok((stream, _)) => Some(stream),
+        Err(_) => None,
+    }
+}
+
+/// Accepts a connection for each client, one after another, and starts its session in a thread of its own. Then the
+/// listener is closed.
+///
+/// 90 where a thread is refused. That session is then run by this thread, and is the last: the clients after it are finished.
+fn start_sessions<'s, E, D: Disk + Drop + Send, W: Wait + Drop + Send, R: Threads + Wait + Sync>(
+    scope: &Scope<'s, E>,
+    rt: &'s R,
+    alloc: Global,
+    house: &'s House<D, W>,
+    clients: Vec<Client<Halt>>,
+    listener: TcpListener,
+    threads: Vec<PromisedHandle<SessionEnd<Halt>, OfSeat<D, W>>>,
+) -> Result<Vec<PromisedHandle<SessionEnd<Halt>, OfSeat<D, W>>>, ServeFault>
+    requires ready { All (λ client. SameBoard house.now client.viewer × (client.waiting.items ≡ [])) clients.items }
+    requires none { threads.items ≡ [] }
+    ensures house { IfOk result (λ started. All (λ thread. thread.promise.house.value ≡ house.now) started.items) }
+    ensures seats { IfOk result (λ started. map (λ thread. thread.promise.seat) started.items ≡ map (λ client. client.seat) clients.items) }
+    ensures fault { IfErr result (λ fault. fault ≡ Memory) }
+{
+    let sessions = clients.len();
+    let mut threads = threads;
+    let mut open = Some(listener);
+    for client in clients {
+        let Some(listener) = &open else {
+            finish_client(rt, client);
+            continue;
+        };
+        let connection = next_connection(listener);
+        let promise = OfSeat {
+            house: Snapshot::of(house),
+            seat: client.seat,
+        };
+        let idle = Idle::new(client, sessions);
+        let session = move || serve_connection(rt, alloc, connection, idle);
+        match scope.spawn_with(promise, session) {
+            Ok(thread) => {
+                if threads.push(thread).is_err() {
+                    open = None;
+                }
+            }
+            Err(refused) => {
+                open = None;
+                let session = refused.value;
+                session();
+            }
+        }
+    }
+    if open.is_some() {
+        Ok(threads)
+    } else {
+        Err(ServeFault::Memory)
+    }
+}
+
+/// Runs the workers of a house and a session for each client, and waits for all of them: the clients' reports.
+///
+/// 90 where memory or a thread is refused, 95 where a session ended without its client. Each client that has no session
+/// is finished, so that the committer ends.
+pub(crate) fn run_threads<D: Disk + Drop + Send, W: Wait + Drop + Send, R: Threads + Wait + Sync>(
+    rt: &R,
+    alloc: Global,
+    house: &House<D, W>,
+    intake: Intake<Halt>,
+    clients: Vec<Client<Halt>>,
+    listener: TcpListener,
+) -> Result<Vec<Report>, ServeFault>
+    requires ready { All (λ client. SameBoard house.now client.viewer × (client.waiting.items ≡ [])) clients.items }
+    ensures board { IfOk result (λ reports. All (λ report. SameBoard house.now report.viewer) reports.items) }
+    ensures seats { IfOk result (λ reports. map (λ report. report.seat) reports.items ≡ map (λ client. client.seat) clients.items) }
+    ensures fault { IfErr result (λ fault. (fault ≡ Memory) ⊎ (fault ≡ Order)) }
+    ensures order { result ≡ Err Order → LeavesOne house.now.opened }
+{
+    thread::scope(
+        thread::scope_env(),
+        rt,
+        move |scope| -> Result<Vec<Report>, ServeFault>
+            requires cross { IsSend D.row × IsSend W.row × IsSync R.row }
+            requires ready { All (λ client. SameBoard house.now client.viewer × (client.waiting.items ≡ [])) clients.items }
+            ensures board { IfOk result (λ reports. All (λ report. SameBoard house.entry.now report.viewer) reports.items) }
+            ensures seats { IfOk result (λ reports. map (λ report. report.seat) reports.items ≡ map (λ client. client.seat) clients.items) }
+            ensures fault { IfErr result (λ fault. (fault ≡ Memory) ⊎ (fault ≡ Order)) }
+            ensures order { result ≡ Err Order → LeavesOne house.entry.now.opened }
+        {
+            let reports = Vec::with_capacity(alloc, clients.len())?;
+            let threads = Vec::with_capacity(alloc, clients.len())?;
+            let Ok(commits) = scope.spawn(move || committer(rt, house, intake, &OpenGate)) else {
+                house.dismiss();
+                return Err(ServeFault::Memory);
+            };
+            let Ok(checkpoints) = scope.spawn(move || checkpointer(rt, house, &OpenGate)) else {
+                finish_clients(rt, clients);
+                return Err(ServeFault::Memory);
+            };
+            let threads = start_sessions(scope, rt, alloc, house, clients, listener, threads)?;
+            let joined = join_sessions(rt, house, threads, reports);
+            commits.join(rt);
+            checkpoints.join(rt);
+            joined
+        },
+    )
+}
