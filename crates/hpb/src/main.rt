@@ -7,27 +7,24 @@ use std::io::IsTerminal;
 use std::process::ExitCode;
 
 fn main(rt: HostRuntime) -> ExitCode {
-    ExitCode::from(status(&rt))
-}
-
-fn status(rt: &HostRuntime) -> u8 {
     let mut errors = rt.stderr();
-    let words = match words(rt) {
+    let words = match words(&rt) {
         Ok(words) => words,
-        Err(error) => return refuse_words(&error, &mut errors),
+        Err(error) => return ExitCode::from(refuse_words(&error, &mut errors)),
     };
     let is_terminal = rt.stdin().is_terminal();
     let mut input = Noted::new(rt.stdin());
     let mut output = Noted::new(rt.stdout());
-    program(
-        rt,
+    let status = program(
+        &rt,
         rt.alloc(),
         words.as_slice(),
         &mut input,
         &mut output,
         &mut errors,
         is_terminal,
-    )
+    );
+    ExitCode::from(status)
 }
 
 /// The words that the program was started by.

@@ -36,7 +36,7 @@ known_among test words (shape ∷ shapes) known = go (test shape) (known_among t
 
 known_at : (stop : Option (Text × List Text)) → HasKnownCommand (entered (built hpb) stop)
 known_at None = tt
-known_at (Some stop) = known_among (λ s. answers_to stop.0 (label_of s)) stop.1 (built hpb).subs (inl refl, (inr (inl refl), (inr (inr refl), tt)))
+known_at (Some stop) = known_among (λ s. answers_to stop.0 (label_of s)) stop.1 (built hpb).subs (inl refl, (inr (inl refl), (inr (inr (inl refl)), (inr (inr (inr refl)), tt))))
 
 -- words name no other command than the program's
 pub known_command : (words : List Text) → HasKnownCommand (subcommand_of hpb words)

@@ -92,6 +92,10 @@ module _ (journal : ℕ) (before after : Streams) (text : List ℕ) (gives : Giv
       go (faults.Definition f) of = absurd of
       go faults.Journal of = absurd of
       go (faults.Open f) of = absurd of
+      go (faults.Port at error) of = absurd of
+      go faults.Place of = absurd of
+      go faults.Order of = absurd of
+      go faults.Counts of = absurd of
 
 -- the line of a formatted file is written in part
 pub told_short : {E : Type 0} (journal : ℕ) (before after : Streams) (text line : List ℕ) (rules : Rules) (e : E) → GivesText before.remaining after.remaining text → Answers text (Ok rules)

@@ -69,6 +69,10 @@ of_not_opened image faults.Writer not = ⊎_elim (λ e. absurd (cc)) (λ e. absu
 of_not_opened image (faults.Definition refusal) not = ⊎_elim (λ e. absurd (cc)) (λ e. absurd (cc)) not
 of_not_opened image faults.Journal not = ⊎_elim (λ e. absurd (cc)) (λ e. absurd (cc)) not
 of_not_opened image (faults.Format cause) not = ⊎_elim (λ e. absurd (cc)) (λ e. absurd (cc)) not
+of_not_opened image (faults.Port at error) not = ⊎_elim (λ e. absurd (cc)) (λ e. absurd (cc)) not
+of_not_opened image faults.Place not = ⊎_elim (λ e. absurd (cc)) (λ e. absurd (cc)) not
+of_not_opened image faults.Order not = ⊎_elim (λ e. absurd (cc)) (λ e. absurd (cc)) not
+of_not_opened image faults.Counts not = ⊎_elim (λ e. absurd (cc)) (λ e. absurd (cc)) not
 
 -- and so is one of a file that is not opened
 pub of_opening : (fault : FileFault) (made : JobFault) → made ≡ made_of_file fault → IsOfOpening made

@@ -1,5 +1,7 @@
 mod Asking
+mod Crossing
 mod Ends
 mod Kept
 mod Options
+mod Served
 mod Taking

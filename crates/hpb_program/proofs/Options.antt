@@ -33,16 +33,16 @@ text_read f id o d r empty is read = go o is ∙ ap (λ (t : Option Text). unwra
     go (Some s) is = ap (λ (s : Bor Text). s.now) is
 
 -- the number that it spells, or another
-pub number_read : {E : Type 0} (gives : Text → Result ℕ E → Type 0) (f : Found) (id : Text) (o : Option ℕ) (d n : ℕ)
-    → ((t : Text) (r : Result ℕ E) → gives t r → ParsesUnsigned 32 10 t r)
+pub number_read : {E : Type 0} (bits : ℕ) (gives : Text → Result ℕ E → Type 0) (f : Found) (id : Text) (o : Option ℕ) (d n : ℕ)
+    → ((t : Text) (r : Result ℕ E) → gives t r → ParsesUnsigned bits 10 t r)
     → (one_text f id ≡ None → o ≡ None) → ((t : Text) → one_text f id ≡ Some t → ReadsOne gives t o) → n ≡ unwrap_or o d
-    → IsNumberOr d (one_of id (rows_of f)) n
-number_read {E} gives f id o d n parses none some is = subst (λ (t : Option Text). IsNumberOr d t n) (one_text-rows f id) (go (one_text f id) none some)
+    → IsNumberOr bits d (one_of id (rows_of f)) n
+number_read {E} bits gives f id o d n parses none some is = subst (λ (t : Option Text). IsNumberOr bits d t n) (one_text-rows f id) (go (one_text f id) none some)
   where
-    read : (t : Text) (o : Option ℕ) → ReadsOne gives t o → n ≡ unwrap_or o d → IsNumberOr d (Some t) n
+    read : (t : Text) (o : Option ℕ) → ReadsOne gives t o → n ≡ unwrap_or o d → IsNumberOr bits d (Some t) n
     read t None h is = (λ spells. absurd (parses t (Err h.0) h.1 spells), λ _. is)
     read t (Some v) h is = let p = parses t (Ok v) h in (λ spells. is ∙ p.1, λ not. absurd (not p.0))
 
-    go : (t : Option Text) → (t ≡ None → o ≡ None) → ((u : Text) → t ≡ Some u → ReadsOne gives u o) → IsNumberOr d t n
+    go : (t : Option Text) → (t ≡ None → o ≡ None) → ((u : Text) → t ≡ Some u → ReadsOne gives u o) → IsNumberOr bits d t n
     go None none some = is ∙ ap (λ (x : Option ℕ). unwrap_or x d) (none refl)
     go (Some t) none some = read t o (some t refl) is

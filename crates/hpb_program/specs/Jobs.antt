@@ -22,6 +22,7 @@ use Rattle.hpb_format.specs.declared.fault.FormatCause.TheVariants as formatting
 use Rattle.hpb_format.specs.Outcomes as formats
 use Rattle.hpb_image.specs.Flaws.{HasFlaw}
 use Rattle.hpb_image.specs.Standing.{Stands}
+use Rattle.hpb_house.specs.declared.starting.StartCause.TheVariants as starting
 use Rattle.hpb_journal.specs.declared.limits.TheConstants.{LEAST_FRAMES, MOST_FRAMES}
 use Rattle.hpb_recover.specs.declared.cause.Cause.{Cause}
 use Rattle.hpb_recover.specs.declared.cause.Cause.TheVariants as opening
@@ -29,6 +30,8 @@ use Rattle.hpb_recover.specs.Causes as causes
 use Rattle.hpb_program.specs.declared.formatting.TheConstants.{FIRST_PAGES, KEPT_BYTES}
 use Rattle.hpb_program.specs.declared.job_fault.JobFault.{JobFault}
 use Rattle.hpb_program.specs.declared.job_fault.JobFault.TheVariants as faults
+use Rattle.hpb_serve.specs.declared.fault.ServeFault.{ServeFault}
+use Rattle.hpb_serve.specs.declared.fault.ServeFault.TheVariants as serving
 use Rattle.hpb_server.specs.Streams.{Streams}
 
 -- The refusal that a fault is told by.
@@ -41,6 +44,10 @@ refusal_of faults.Journal = refusals.Length
 refusal_of (faults.File fault) = refusals.Device
 refusal_of (faults.Format cause) = formats.refusal_of cause
 refusal_of (faults.Open cause) = causes.refusal_of cause
+refusal_of (faults.Port at error) = refusals.Stream
+refusal_of faults.Place = refusals.Place
+refusal_of faults.Order = refusals.Order
+refusal_of faults.Counts = refusals.Counts
 
 -- The fault of a job where its definition was refused.
 abbrev pub made_by : DefineCause → DefineFault → JobFault
@@ -60,10 +67,19 @@ abbrev pub made_of_formatting : FormatCause → JobFault
 made_of_formatting formatting.Memory = faults.Memory
 made_of_formatting cause = faults.Format cause
 
--- and where what it holds was not opened.
+-- where what it holds was not opened,
 abbrev pub made_of_opening : Cause → JobFault
 made_of_opening opening.Memory = faults.Memory
 made_of_opening cause = faults.Open cause
+
+-- and where it was not served, or not to its end.
+abbrev pub made_of_serving : ServeFault → JobFault
+made_of_serving serving.Memory = faults.Memory
+made_of_serving serving.Writer = faults.Writer
+made_of_serving (serving.Start starting.Memory) = faults.Memory
+made_of_serving (serving.Start starting.Place) = faults.Place
+made_of_serving serving.Order = faults.Order
+made_of_serving serving.Counts = faults.Counts
 
 -- A fault of a job's file, or of memory.
 abbrev pub IsOfFile : JobFault → Type 0

@@ -8,13 +8,14 @@ use Rattle.hpb_server.specs.declared.script.ScriptEnd.{ScriptEnd}
 use Rattle.hpb_server.specs.declared.script.ScriptEnd.TheVariants as ends
 use Rattle.hpb_program.specs.declared.status.TheConstants.{WELL, ILL, WRONG_WORDS}
 use Rattle.hpb_program.specs.declared.words.Job.{Job}
-use Rattle.hpb_program.specs.declared.words.Job.TheVariants.{Script, Format, Check, Run}
+use Rattle.hpb_program.specs.declared.words.Job.TheVariants.{Script, Format, Check, Run, Serve}
 use Rattle.hpb_program.specs.declared.words.WordsFault.{WordsFault}
 use Rattle.hpb_program.specs.declared.words.WordsFault.TheVariants.{Memory, Refused}
 use Rattle.hpb_program.specs.declared.job_fault.JobFault.{JobFault}
 use Rattle.hpb_program.specs.declared.job_fault.JobFault.TheVariants as faults
 use Rattle.hpb_program.specs.declared.run_end.RunEnd.{RunEnd}
 use Rattle.hpb_program.specs.Keeping.{RunsFile}
+use Rattle.hpb_program.specs.Serving.{ServesFile}
 use Rattle.hpb_program.specs.Words.{AsksFor}
 use Rattle.hpb_program.specs.Jobs.{refusal_of, Checks, Formats}
 use Rattle.hpb_server.specs.Fault as sessions
@@ -67,14 +68,15 @@ hint_text true Script = SCRIPT_HINT.now
 hint_text true (Format file journal) = FORMAT_HINT.now
 hint_text true (Check file) = []
 hint_text true (Run file batch every) = RUN_HINT.now
+hint_text true (Serve file port sessions) = []
 
--- What the errors are told of a run that had begun, and its status: by what ended it, and whether a call of the disk had failed.
+-- What the errors are told of a run or of serving that had begun, and its status: by what ended it, and whether a call of the disk had failed.
 abbrev pub TellsEnded : (errors_old errors_new : Option (List ℕ)) → Result ⊤ Fault → Bool → ℕ → Type 0
 TellsEnded errors_old errors_new (Ok done) false status = Keeps errors_old errors_new × (status ≡ WELL)
 TellsEnded errors_old errors_new (Ok done) true status = TellsOf errors_old errors_new refusals.Device × (status ≡ ILL)
 TellsEnded errors_old errors_new (Err fault) failed status = TellsOf errors_old errors_new (sessions.refusal_of fault) × (status ≡ ILL)
 
--- What both outputs are told of how a run of a file ended, and its status. Once it has begun the output is told nothing more.
+-- What both outputs are told of how a run of a file or its serving ended, and its status. Once it has begun the output is told nothing more.
 abbrev pub TellsRun : (old new errors_old errors_new : Option (List ℕ)) → Result RunEnd JobFault → ℕ → Type 0
 TellsRun old new errors_old errors_new (Ok end) status = Keeps old new × TellsEnded errors_old errors_new end.end end.failed status
 TellsRun old new errors_old errors_new (Err fault) status = TellsEnd old new errors_old errors_new (Err fault) status
@@ -98,6 +100,9 @@ RunsJob is_terminal (Check file) before after errors_old errors_new status = Run
 RunsJob is_terminal (Run file batch every) before after errors_old errors_new status =
     (done : Streams) × (end : Result RunEnd JobFault) × RunsFile before done end
     × Keeps done.remaining after.remaining × TellsRun done.contents after.contents errors_old errors_new end status
+RunsJob is_terminal (Serve file port sessions) before after errors_old errors_new status =
+    (served : Option (List ℕ)) × (end : Result RunEnd JobFault) × ServesFile port before.contents served end
+    × Keeps before.remaining after.remaining × TellsRun served after.contents errors_old errors_new end status
 
 -- What is done by what words ask for: a terminal is told what to type, and their job is done; or nothing, and the errors are told why.
 abbrev pub RunsAsked : (is_terminal : Bool) → Result Job WordsFault → (before after : Streams) (errors_old errors_new : Option (List ℕ)) → ℕ → Type 0

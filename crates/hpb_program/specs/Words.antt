@@ -11,7 +11,8 @@ use Rattle.clap.specs.declared.error.kind.ErrorKind.TheVariants.{DisplayHelp, Di
 use Rattle.hpb_rules.specs.declared.limits.TheConstants.{MOST_LETTERS}
 use Rattle.hpb_program.specs.declared.status.TheConstants.{WELL, WRONG_WORDS}
 use Rattle.hpb_program.specs.declared.words.Job.{Job}
-use Rattle.hpb_program.specs.declared.words.Job.TheVariants.{Script, Format, Check, Run}
+use Rattle.hpb_program.specs.declared.words.Job.TheVariants.{Script, Format, Check, Run, Serve}
+use Rattle.hpb_program.specs.declared.words.TheConstants.{LEAST_PORT, MOST_PORT, MOST_SESSIONS}
 use Rattle.hpb_program.specs.declared.words.WordsFault.{WordsFault}
 use Rattle.hpb_program.specs.declared.words.WordsFault.TheVariants.{Memory, Refused}
 
@@ -31,6 +32,14 @@ batch_rule = record (new_rule (codes "batch")) { long = Some (codes "batch"); va
 abbrev pub every_rule : Rule
 every_rule = record (new_rule (codes "every")) { long = Some (codes "every"); value_names = 1; defaults = codes "0" ∷ []; parser = Some (parsers.Signed (pos 0) (pos 4294967295)) }
 
+-- The option that gives a port.
+abbrev pub port_rule : Rule
+port_rule = record (new_rule (codes "port")) { long = Some (codes "port"); value_names = 1; required = true; parser = Some (parsers.Signed (pos 1024) (pos 65535)) }
+
+-- The option that gives a number of sessions.
+abbrev pub sessions_rule : Rule
+sessions_rule = record (new_rule (codes "sessions")) { long = Some (codes "sessions"); value_names = 1; required = true; parser = Some (parsers.Signed (pos 1) (pos 32)) }
+
 -- The command that makes a file.
 abbrev pub format_shape : Shape
 format_shape = (with_rule (with_rule (new_app (codes "format")) file_rule) journal_rule).top
@@ -43,13 +52,17 @@ check_shape = (with_rule (new_app (codes "check")) file_rule).top
 abbrev pub run_shape : Shape
 run_shape = (with_rule (with_rule (with_rule (new_app (codes "run")) file_rule) batch_rule) every_rule).top
 
+-- The command that serves sessions by what a file keeps.
+abbrev pub serve_shape : Shape
+serve_shape = (with_rule (with_rule (with_rule (new_app (codes "serve")) file_rule) port_rule) sessions_rule).top
+
 -- The program without its commands.
 abbrev pub hpb_alone : App
 hpb_alone = on_top (λ s. record s { has_version = true; disable_help_subcommand = true }) (new_app (codes "hpb"))
 
 -- The program with its commands.
 abbrev pub hpb : App
-hpb = with_subcommand (with_subcommand (with_subcommand hpb_alone format_shape) check_shape) run_shape
+hpb = with_subcommand (with_subcommand (with_subcommand (with_subcommand hpb_alone format_shape) check_shape) run_shape) serve_shape
 
 -- Help or the version is asked for.
 abbrev pub IsShown : ErrorKind → Type 0
@@ -63,24 +76,32 @@ EndsBy kind status = (IsShown kind × (status ≡ WELL)) ⊎ ((IsShown kind → 
 abbrev pub text_in : List Row → List ℕ → List ℕ
 text_in rows name = unwrap_or (first_of name rows) []
 
--- Digits spell a number of 32 bits.
-abbrev pub IsNumber : List ℕ → Type 0
-IsNumber digits = IsNumeral 10 digits × (digits_value 10 digits < 2 ^ 32)
+-- Digits spell a number of so many bits.
+abbrev pub IsNumber : (bits : ℕ) → List ℕ → Type 0
+IsNumber bits digits = IsNumeral 10 digits × (digits_value 10 digits < 2 ^ bits)
 
--- The number of 32 bits that a text spells, or another where it spells none.
-abbrev pub IsNumberOr : ℕ → Option (List ℕ) → ℕ → Type 0
-IsNumberOr other None number = number ≡ other
-IsNumberOr other (Some text) number =
+-- The number of so many bits that a text spells, or another where it spells none.
+abbrev pub IsNumberOr : (bits other : ℕ) → Option (List ℕ) → ℕ → Type 0
+IsNumberOr bits other None number = number ≡ other
+IsNumberOr bits other (Some text) number =
     let digits = without_leading_plus text in
-    (IsNumber digits → number ≡ digits_value 10 digits) × ((IsNumber digits → ⊥) → number ≡ other)
+    (IsNumber bits digits → number ≡ digits_value 10 digits) × ((IsNumber bits digits → ⊥) → number ≡ other)
 
--- The same, or 0.
+-- The number of 32 bits that a text spells, or 0.
 abbrev pub IsNumberOf : Option (List ℕ) → ℕ → Type 0
-IsNumberOf text number = IsNumberOr 0 text number
+IsNumberOf text number = IsNumberOr 32 0 text number
 
 -- A batch has as many commands as a text spells, or 1 where it spells no number: 1 at least, and as many as any batch may have at most.
 abbrev pub IsBatchOf : Option (List ℕ) → ℕ → Type 0
-IsBatchOf text batch = (number : ℕ) × IsNumberOr 1 text number × (batch ≡ max 1 (min number MOST_LETTERS))
+IsBatchOf text batch = (number : ℕ) × IsNumberOr 32 1 text number × (batch ≡ max 1 (min number MOST_LETTERS))
+
+-- A port is the one that a text spells, or the least where it spells no number or a lesser one.
+abbrev pub IsPortOf : Option (List ℕ) → ℕ → Type 0
+IsPortOf text port = (number : ℕ) × IsNumberOr 16 LEAST_PORT text number × (port ≡ max number LEAST_PORT)
+
+-- There are as many sessions as a text spells, or 1 where it spells no number: 1 at least, and as many as there may be at most.
+abbrev pub AreSessionsOf : Option (List ℕ) → ℕ → Type 0
+AreSessionsOf text sessions = (number : ℕ) × IsNumberOr 8 1 text number × (sessions ≡ max 1 (min number MOST_SESSIONS))
 
 -- A job is what a command and its options say.
 abbrev pub IsJobOf : Option (List ℕ × List Row) → Job → Type 0
@@ -91,15 +112,19 @@ IsJobOf (Some found) (Check file) = (found.0 ≡ codes "check") × (file.now ≡
 IsJobOf (Some found) (Run file batch every) =
     (found.0 ≡ codes "run") × (file.now ≡ text_in found.1 (codes "file"))
     × IsBatchOf (one_of (codes "batch") found.1) batch × IsNumberOf (one_of (codes "every") found.1) every
+IsJobOf (Some found) (Serve file port sessions) =
+    (found.0 ≡ codes "serve") × (file.now ≡ text_in found.1 (codes "file"))
+    × IsPortOf (one_of (codes "port") found.1) port × AreSessionsOf (one_of (codes "sessions") found.1) sessions
 
 -- The numbers of a job that are not judged later are within their range.
 abbrev pub HasRanges : Job → Type 0
 HasRanges (Run file batch every) = (1 ≤ batch) × (batch ≤ MOST_LETTERS)
+HasRanges (Serve file port sessions) = (LEAST_PORT ≤ port) × (port ≤ MOST_PORT) × (1 ≤ sessions) × (sessions ≤ MOST_SESSIONS)
 HasRanges job = Unit {0}
 
 -- The name is that of a command.
 abbrev pub IsKnownName : List ℕ → Type 0
-IsKnownName name = (name ≡ codes "format") ⊎ (name ≡ codes "check") ⊎ (name ≡ codes "run")
+IsKnownName name = (name ≡ codes "format") ⊎ (name ≡ codes "check") ⊎ (name ≡ codes "run") ⊎ (name ≡ codes "serve")
 
 -- The command is one of the program's, or there is none.
 abbrev pub HasKnownCommand : Option (List ℕ × List Row) → Type 0
@@ -124,6 +149,10 @@ options_in = option_map (λ found. (found.0, first_of (codes "file") found.1, on
 -- A command with the texts of its file and its two numbers.
 abbrev pub run_options_in : Option (List ℕ × List Row) → Option (List ℕ × Option (List ℕ) × Option (List ℕ) × Option (List ℕ))
 run_options_in = option_map (λ found. (found.0, first_of (codes "file") found.1, one_of (codes "batch") found.1, one_of (codes "every") found.1))
+
+-- A command with the texts of its file, its port and its number of sessions.
+abbrev pub serve_options_in : Option (List ℕ × List Row) → Option (List ℕ × Option (List ℕ) × Option (List ℕ) × Option (List ℕ))
+serve_options_in = option_map (λ found. (found.0, first_of (codes "file") found.1, one_of (codes "port") found.1, one_of (codes "sessions") found.1))
 
 -- What is wrong with some words behind the program's name, or asked for by them, and which command they ask for.
 pub record WordsAskFor : Type 0 where
@@ -160,3 +189,18 @@ pub record WordsAskFor : Type 0 where
   pub most_batch : (name : List ℕ) → fault_of hpb (name ∷ codes "run" ∷ codes "--file=a.hpb" ∷ codes "--batch=64" ∷ []) ≡ []
   pub below_batch : (name : List ℕ) → fault_of hpb (name ∷ codes "run" ∷ codes "--file=a.hpb" ∷ codes "--batch=0" ∷ []) ≡ ValueValidation ∷ []
   pub above_batch : (name : List ℕ) → fault_of hpb (name ∷ codes "run" ∷ codes "--file=a.hpb" ∷ codes "--batch=65" ∷ []) ≡ ValueValidation ∷ []
+  pub serve : (name : List ℕ) → fault_of hpb (name ∷ codes "serve" ∷ codes "--file" ∷ codes "a.hpb" ∷ codes "--port" ∷ codes "5000" ∷ codes "--sessions" ∷ codes "2" ∷ []) ≡ []
+  pub serves : (name : List ℕ) → serve_options_in (subcommand_of hpb (name ∷ codes "serve" ∷ codes "--file" ∷ codes "a.hpb" ∷ codes "--port" ∷ codes "5000" ∷ codes "--sessions" ∷ codes "2" ∷ []))
+      ≡ Some (codes "serve", Some (codes "a.hpb"), Some (codes "5000"), Some (codes "2"))
+  pub serve_help : (name : List ℕ) → fault_of hpb (name ∷ codes "serve" ∷ codes "--help" ∷ []) ≡ DisplayHelp ∷ []
+  pub serve_file : (name : List ℕ) → fault_of hpb (name ∷ codes "serve" ∷ codes "--port=5000" ∷ codes "--sessions=2" ∷ []) ≡ MissingRequiredArgument ∷ []
+  pub serve_port : (name : List ℕ) → fault_of hpb (name ∷ codes "serve" ∷ codes "--file=a.hpb" ∷ codes "--sessions=2" ∷ []) ≡ MissingRequiredArgument ∷ []
+  pub serve_sessions : (name : List ℕ) → fault_of hpb (name ∷ codes "serve" ∷ codes "--file=a.hpb" ∷ codes "--port=5000" ∷ []) ≡ MissingRequiredArgument ∷ []
+  pub least_port : (name : List ℕ) → fault_of hpb (name ∷ codes "serve" ∷ codes "--file=a.hpb" ∷ codes "--port=1024" ∷ codes "--sessions=2" ∷ []) ≡ []
+  pub most_port : (name : List ℕ) → fault_of hpb (name ∷ codes "serve" ∷ codes "--file=a.hpb" ∷ codes "--port=65535" ∷ codes "--sessions=2" ∷ []) ≡ []
+  pub below_port : (name : List ℕ) → fault_of hpb (name ∷ codes "serve" ∷ codes "--file=a.hpb" ∷ codes "--port=1023" ∷ codes "--sessions=2" ∷ []) ≡ ValueValidation ∷ []
+  pub above_port : (name : List ℕ) → fault_of hpb (name ∷ codes "serve" ∷ codes "--file=a.hpb" ∷ codes "--port=65536" ∷ codes "--sessions=2" ∷ []) ≡ ValueValidation ∷ []
+  pub least_sessions : (name : List ℕ) → fault_of hpb (name ∷ codes "serve" ∷ codes "--file=a.hpb" ∷ codes "--port=5000" ∷ codes "--sessions=1" ∷ []) ≡ []
+  pub most_sessions : (name : List ℕ) → fault_of hpb (name ∷ codes "serve" ∷ codes "--file=a.hpb" ∷ codes "--port=5000" ∷ codes "--sessions=32" ∷ []) ≡ []
+  pub below_sessions : (name : List ℕ) → fault_of hpb (name ∷ codes "serve" ∷ codes "--file=a.hpb" ∷ codes "--port=5000" ∷ codes "--sessions=0" ∷ []) ≡ ValueValidation ∷ []
+  pub above_sessions : (name : List ℕ) → fault_of hpb (name ∷ codes "serve" ∷ codes "--file=a.hpb" ∷ codes "--port=5000" ∷ codes "--sessions=33" ∷ []) ≡ ValueValidation ∷ []

@@ -33,5 +33,6 @@ fn hint_for(job: Job<'_>) -> &'static str
         Job::Format { .. } => FORMAT_HINT,
         Job::Check { .. } => "",
         Job::Run { .. } => RUN_HINT,
+        Job::Serve { .. } => "",
     }
 }

@@ -1,6 +1,6 @@
 //! Why a job on a file was not done, and what can be done about it.
 ghost use Rattle.std.specs.Prelude.{◌≡◌};
-ghost use Rattle.hpb_program.specs.Jobs.{made_of_definition, made_of_file, made_of_formatting, made_of_opening, refusal_of};
+ghost use Rattle.hpb_program.specs.Jobs.{made_of_definition, made_of_file, made_of_formatting, made_of_opening, made_of_serving, refusal_of};
 
 use crate::escaped::Escaped;
 use crate::noted::Failures;
@@ -8,11 +8,13 @@ use crate::stream_words::{write_reading, write_writing};
 use hpb_define::{DefineCause, DefineFault};
 use hpb_disk::FileFault;
 use hpb_format::FormatCause;
+use hpb_house::StartCause;
 use hpb_image::Flaw;
 use hpb_recover::Cause;
 use hpb_rules::Refusal;
+use hpb_serve::ServeFault;
 use std::alloc::AllocError;
-use std::fmt;
+use std::{fmt, io};
 
 /// Why a job on a file was not done.
 #[derive(Debug, Drop)]
@@ -33,6 +35,14 @@ pub enum JobFault {
     Format(FormatCause),
     /// 40, 42, 44, 45 or 91: what the file holds was not opened.
     Open(Cause),
+    /// 92: connections to this port can't be had.
+    Port { port: u16, error: io::Error },
+    /// 94: the place of a session was refused.
+    Place,
+    /// 95: an answer came that isn't the one that its session waited for.
+    Order,
+    /// 96: what the sessions were answered isn't what was kept.
+    Counts,
 }
 
 impl JobFault {
@@ -48,6 +58,10 @@ impl JobFault {
             JobFault::File(_) => Refusal::Device,
             JobFault::Format(cause) => cause.refusal(),
             JobFault::Open(cause) => cause.refusal(),
+            JobFault::Port { .. } => Refusal::Stream,
+            JobFault::Place => Refusal::Place,
+            JobFault::Order => Refusal::Order,
+            JobFault::Counts => Refusal::Counts,
         }
     }
 }
@@ -106,6 +120,20 @@ impl From<Cause> for JobFault {
     }
 }
 
+impl From<ServeFault> for JobFault {
+    ghost from_gives = { λ fault made. made ≡ made_of_serving fault };
+
+    fn from(fault: ServeFault) -> JobFault {
+        match fault {
+            ServeFault::Memory | ServeFault::Start(StartCause::Memory) => JobFault::Memory,
+            ServeFault::Writer => JobFault::Writer,
+            ServeFault::Start(StartCause::Place) => JobFault::Place,
+            ServeFault::Order => JobFault::Order,
+            ServeFault::Counts => JobFault::Counts,
+        }
+    }
+}
+
 /// What is said of a job on a file that was not done: why, and what to do.
 #[derive(Clone, Copy)]
 pub(crate) struct Advice<'a> {
@@ -129,6 +157,22 @@ impl fmt::Display for Advice<'_> {
             JobFault::File(fault) => advise_of_file(f, file, fault),
             JobFault::Format(cause) => advise_of_format(f, file, *cause),
             JobFault::Open(cause) => advise_of_open(f, file, *cause),
+            JobFault::Port { port, error } => write!(
+                f,
+                "port {port} can't be had: {error}: choose another, by --port"
+            ),
+            JobFault::Place => write!(
+                f,
+                "a session has no place in memory: free some, or give fewer to --sessions"
+            ),
+            JobFault::Order => write!(
+                f,
+                "a session was given another answer than the one that it waited for, which is a fault of hpb: see what {file} keeps by `hpb check --file {file}`, and hold it against what was answered"
+            ),
+            JobFault::Counts => write!(
+                f,
+                "what the sessions were answered isn't what {file} keeps, which is a fault of hpb: see what it keeps by `hpb check --file {file}`, and hold it against what was answered"
+            ),
         }
     }
 }

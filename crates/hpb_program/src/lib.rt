@@ -12,6 +12,8 @@ mod noted;
 mod run_end;
 mod running;
 mod script_end;
+mod served_end;
+mod serving;
 mod status;
 mod stream_words;
 mod telling;
@@ -24,6 +26,7 @@ pub use laws::words_ask_for;
 pub use noted::Noted;
 pub use run_end::RunEnd;
 pub use running::{program, refuse_words};
+pub use serving::serve_kept;
 pub use words::{Job, WordsFault, read_words};
 
 #[cfg(test)]

@@ -1,4 +1,4 @@
-//! How a run of a file ended that had begun, and what can be done about it.
+//! How a run of a file or its serving ended that had begun, and what can be done about a run.
 
 use crate::escaped::Escaped;
 use crate::noted::Failures;
@@ -7,10 +7,10 @@ use hpb_rules::Refusal;
 use hpb_server::Fault;
 use std::fmt;
 
-/// How a run of a file ended that had begun. No line tells of it.
+/// How a run of a file or its serving ended that had begun. No line tells of it.
 #[derive(Clone, Copy, Debug, PartialEq, Eq)]
 pub struct RunEnd {
-    /// What ended it, where that wasn't the end of the input.
+    /// What ended a run, where that wasn't the end of the input; or that the last line of serving could not be written.
     pub end: Result<(), Fault>,
     /// Whether a call of the file's disk has failed. From then on a command is answered by 91 or 93.
     pub failed: bool,

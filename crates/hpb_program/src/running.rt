@@ -1,8 +1,9 @@
-ghost use Rattle.std.specs.Prelude.{◌≡◌, ◌≢◌, ◌≤◌, IfErr, map};
+ghost use Rattle.std.specs.Prelude.{◌≡◌, ◌≢◌, ◌≤◌, IfErr, IfOk, map};
 ghost use Rattle.std.specs.IoError.{error_kind};
 ghost use Rattle.hpb_program.specs.Program.{HasStatus, RunsAsked, RunsJob, RunsProgram, SaysFault, TellsEnd, TellsEnded, TellsRun, TellsScript, hint_text, status_of_fault, status_of_script};
 ghost use Rattle.hpb_server.specs.Streams.{streams};
 ghost use Rattle.hpb_rules.specs.declared.refusal.Refusal.TheVariants as refusals;
+ghost use Rattle.hpb_program.specs.Words.{HasRanges};
 ghost use Rattle.hpb_server.specs.Telling.{Says, TellsOf};
 
 use crate::checking::run_check;
@@ -13,6 +14,8 @@ use crate::keeping::run_file;
 use crate::noted::{Failures, Noted};
 use crate::run_end::{RunAdvice, RunEnd};
 use crate::script_end::ScriptAdvice;
+use crate::served_end::ServedAdvice;
+use crate::serving::serve_file;
 use crate::status::{ILL, WELL, WRONG_WORDS};
 use crate::telling::{advise, tell, tell_memory};
 use crate::words::{Job, WordsFault, read_words};
@@ -21,8 +24,11 @@ use hpb_server::{Fault, ScriptEnd, run_script, say};
 use std::alloc::Global;
 use std::convert::AsStr;
 use std::fs::{File, Files};
-use std::io;
 use std::io::{ErrorKind, Read, Write};
+use std::net::{Net, TcpListener, TcpStream};
+use std::sync::Wait;
+use std::thread::Threads;
+use std::{fmt, io};
 
 /// What is said where the words can't be read.
 const NO_TEXT: &str = "hpb: an argument is not UTF-8\n";
@@ -30,8 +36,14 @@ const NO_TEXT: &str = "hpb: an argument is not UTF-8\n";
 /// The whole of the program, with its status: 0; 1 where a definition or a file is refused, memory is refused or
 /// a stream fails; 2 where the words are wrong. The first word is the program's name. Lines go to the output. The errors
 /// are told what is said of the words, help too, and why a definition or a file is refused or a stream failed; and where
-/// the input is a terminal what to type. Only jobs on files use the runtime.
-pub fn program<H: Files<File = File>, S: AsStr, R: Read, W: Write, E: Write>(
+/// the input is a terminal what to type. Only jobs on files use the runtime, and of these only serving may wait.
+pub fn program<
+    H: Files<File = File> + Net<Listener = TcpListener, Stream = TcpStream> + Threads + Wait + Sync,
+    S: AsStr,
+    R: Read,
+    W: Write,
+    E: Write,
+>(
     rt: &H,
     alloc: Global,
     words: &[S],
@@ -63,7 +75,12 @@ pub fn refuse_words<E: Write>(error: &io::Error, errors: &mut E) -> u8
 }
 
 /// Does what words ask for, and gives the program's status.
-fn run_asked<H: Files<File = File>, R: Read, W: Write, E: Write>(
+fn run_asked<
+    H: Files<File = File> + Net<Listener = TcpListener, Stream = TcpStream> + Threads + Wait + Sync,
+    R: Read,
+    W: Write,
+    E: Write,
+>(
     rt: &H,
     alloc: Global,
     asked: Result<Job<'_>, WordsFault>,
@@ -72,7 +89,8 @@ fn run_asked<H: Files<File = File>, R: Read, W: Write, E: Write>(
     errors: &mut E,
     is_terminal: bool,
 ) -> u8
-    requires { IfErr asked HasStatus }
+    requires fault { IfErr asked HasStatus }
+    requires ranges { IfOk asked HasRanges }
     ensures status { result ≤ WRONG_WORDS }
     ensures streams { RunsAsked is_terminal asked.entry (streams (R.remaining input.old.stream) (W.contents output.old.stream)) (streams (R.remaining input.new.stream) (W.contents output.new.stream))
         (E.contents errors.old) (E.contents errors.new) result }
@@ -87,7 +105,12 @@ fn run_asked<H: Files<File = File>, R: Read, W: Write, E: Write>(
 }
 
 /// Does a job, and gives the program's status.
-fn run_job<H: Files<File = File>, R: Read, W: Write, E: Write>(
+fn run_job<
+    H: Files<File = File> + Net<Listener = TcpListener, Stream = TcpStream> + Threads + Wait + Sync,
+    R: Read,
+    W: Write,
+    E: Write,
+>(
     rt: &H,
     alloc: Global,
     job: Job<'_>,
@@ -96,6 +119,7 @@ fn run_job<H: Files<File = File>, R: Read, W: Write, E: Write>(
     errors: &mut E,
     is_terminal: bool,
 ) -> u8
+    requires { HasRanges job }
     ensures status { result ≤ WRONG_WORDS }
     ensures streams { RunsJob is_terminal job.entry (streams (R.remaining input.old.stream) (W.contents output.old.stream)) (streams (R.remaining input.new.stream) (W.contents output.new.stream))
         (E.contents errors.old) (E.contents errors.new) result }
@@ -119,6 +143,15 @@ fn run_job<H: Files<File = File>, R: Read, W: Write, E: Write>(
             let end = run_file(rt, alloc, file, batch as usize, every, input, output);
             let failures = Failures::of(input, output);
             tell_run(alloc, file, end, failures, output, errors)
+        }
+        Job::Serve {
+            file,
+            port,
+            sessions,
+        } => {
+            let end = serve_file(rt, alloc, file, port, sessions, output);
+            let failures = Failures::of(input, output);
+            tell_served(alloc, file, end, failures, output, errors)
         }
     }
 }
@@ -195,18 +228,48 @@ fn tell_run<W: Write, E: Write>(
                 end,
                 failures,
             };
-            tell_ended(alloc, advice, errors)
+            tell_ended(alloc, end, advice, errors)
         }
         Err(fault) => tell_end(alloc, file, Err(fault), failures, output, errors),
     }
 }
 
-/// Tells the errors how a run ended that had begun, where it ended ill, and gives the program's status.
-fn tell_ended<E: Write>(alloc: Global, advice: RunAdvice<'_>, errors: &mut E) -> u8
+/// Tells how serving a file ended, and gives the program's status.
+fn tell_served<W: Write, E: Write>(
+    alloc: Global,
+    file: &str,
+    end: Result<RunEnd, JobFault>,
+    failures: Failures,
+    output: &mut W,
+    errors: &mut E,
+) -> u8
     ensures status { result ≤ WRONG_WORDS }
-    ensures told { TellsEnded (E.contents errors.old) (E.contents errors.new) advice.entry.end.end advice.entry.end.failed result }
+    ensures told { TellsRun (W.contents output.old) (W.contents output.new) (E.contents errors.old) (E.contents errors.new) end result }
 {
-    match (advice.end.end, advice.end.failed) {
+    match end {
+        Ok(end) => {
+            let advice = ServedAdvice {
+                file,
+                end,
+                failures,
+            };
+            tell_ended(alloc, end, advice, errors)
+        }
+        Err(fault) => tell_end(alloc, file, Err(fault), failures, output, errors),
+    }
+}
+
+/// Tells the errors how a run or serving ended that had begun, where it ended ill, and gives the program's status.
+fn tell_ended<A: fmt::Display + Copy, E: Write>(
+    alloc: Global,
+    end: RunEnd,
+    advice: A,
+    errors: &mut E,
+) -> u8
+    ensures status { result ≤ WRONG_WORDS }
+    ensures told { TellsEnded (E.contents errors.old) (E.contents errors.new) end.end end.failed result }
+{
+    match (end.end, end.failed) {
         (Ok(()), false) => return WELL,
         (Ok(()), true) => advise(alloc, Refusal::Device, advice, errors),
         (Err(fault), _) => advise(alloc, fault.refusal(), advice, errors),

@@ -1,11 +1,16 @@
 mod files;
 mod runs;
+mod serves;
 mod using;
 
 use super::*;
 use hpb_rules::Refusal;
+use std::fs::{File, Files};
 use std::io::ErrorKind;
+use std::net::{Net, TcpListener, TcpStream};
+use std::sync::Wait;
 use std::test::Fail;
+use std::thread::Threads;
 use using::{SIX_NODES, run_at, run_on};
 
 /// Bytes that are no definition.
@@ -14,7 +19,7 @@ const NO_DEFINITION: &[u8] = b"{";
 #[test]
 fn words_are_read(rt: HostRuntime) -> Result<(), Fail> {
     let alloc = rt.alloc();
-    let table: [(&[&str], u8, &str); 37] = [
+    let table: [(&[&str], u8, &str); 51] = [
         (&["hpb", "--help"], 0, "Usage: hpb"),
         (&["hpb", "--version"], 0, "hpb 0."),
         (&["hpb", "bogus"], 2, "error: "),
@@ -117,6 +122,133 @@ fn words_are_read(rt: HostRuntime) -> Result<(), Fail> {
             "error: ",
         ),
         (&["hpb", "run", "--file", "a", "b"], 2, "error: "),
+        (
+            &["hpb", "serve", "--help"],
+            0,
+            "hpb serve --file auction.hpb --port 5000 --sessions 2",
+        ),
+        (&["hpb", "serve", "--help"], 0, "Status: 0 "),
+        (&["hpb", "--help"], 0, "serve "),
+        (&["hpb", "serve"], 2, "--file <F>"),
+        (
+            &["hpb", "serve", "--file", "a", "--sessions", "2"],
+            2,
+            "--port <P>",
+        ),
+        (
+            &["hpb", "serve", "--file", "a", "--port", "5000"],
+            2,
+            "--sessions <N>",
+        ),
+        (
+            &[
+                "hpb",
+                "serve",
+                "--file",
+                "a",
+                "--port",
+                "1023",
+                "--sessions",
+                "2",
+            ],
+            2,
+            "1023 is not in 1024..=65535",
+        ),
+        (
+            &[
+                "hpb",
+                "serve",
+                "--file",
+                "a",
+                "--port",
+                "65536",
+                "--sessions",
+                "2",
+            ],
+            2,
+            "65536 is not in 1024..=65535",
+        ),
+        (
+            &[
+                "hpb",
+                "serve",
+                "--file",
+                "a",
+                "--port",
+                "5000",
+                "--sessions",
+                "0",
+            ],
+            2,
+            "0 is not in 1..=32",
+        ),
+        (
+            &[
+                "hpb",
+                "serve",
+                "--file",
+                "a",
+                "--port",
+                "5000",
+                "--sessions",
+                "33",
+            ],
+            2,
+            "33 is not in 1..=32",
+        ),
+        (
+            &[
+                "hpb",
+                "serve",
+                "--file",
+                "a",
+                "--port",
+                "http",
+                "--sessions",
+                "2",
+            ],
+            2,
+            "invalid value 'http' for '--port <P>'",
+        ),
+        (
+            &[
+                "hpb",
+                "serve",
+                "--file",
+                "a",
+                "--port=-1",
+                "--sessions",
+                "2",
+            ],
+            2,
+            "error: ",
+        ),
+        (
+            &[
+                "hpb",
+                "serve",
+                "--file",
+                "a",
+                "--port=5000",
+                "--sessions=2",
+                "--batch=4",
+            ],
+            2,
+            "error: ",
+        ),
+        (
+            &[
+                "hpb",
+                "serve",
+                "--file",
+                "a",
+                "--port=5000",
+                "--sessions=2",
+                "b",
+            ],
+            2,
+            "error: ",
+        ),
     ];
     for (words, want, said) in table {
         let (ran, left) = run_on(&rt, words, NO_DEFINITION)?;
@@ -129,7 +261,14 @@ fn words_are_read(rt: HostRuntime) -> Result<(), Fail> {
 }
 
 /// Whether the program, run by these words on bytes that are no definition, refuses them as such.
-fn refuses_no_definition(rt: &HostRuntime, words: &[&str]) -> Result<bool, Fail> {
+fn refuses_no_definition<
+    H: Files<File = File>
+        + Net<Listener = TcpListener, Stream = TcpStream>
+        + Threads
+        + Wait
+        + Sync
+        + AllocGlobal,
+>(rt: &H, words: &[&str]) -> Result<bool, Fail> {
     let (ran, left) = run_on(rt, words, NO_DEFINITION)?;
     Ok(
         ran.status == 1
@@ -235,7 +374,7 @@ fn faults_are_told(rt: HostRuntime) -> Result<(), Fail> {
 
 #[test]
 fn jobs_are_read(rt: HostRuntime) -> Result<(), Fail> {
-    let table: [(&[&str], Job<'_>); 11] = [
+    let table: [(&[&str], Job<'_>); 14] = [
         (&["hpb"], Job::Script),
         (&["hpb", "--"], Job::Script),
         (
@@ -296,6 +435,45 @@ fn jobs_are_read(rt: HostRuntime) -> Result<(), Fail> {
                 file: "run",
                 batch: 1,
                 every: u32::MAX,
+            },
+        ),
+        (
+            &[
+                "hpb",
+                "serve",
+                "--file",
+                "a",
+                "--port",
+                "5000",
+                "--sessions",
+                "2",
+            ],
+            Job::Serve {
+                file: "a",
+                port: 5_000,
+                sessions: 2,
+            },
+        ),
+        (
+            &[
+                "hpb",
+                "serve",
+                "--sessions=1",
+                "--port=1024",
+                "--file=serve",
+            ],
+            Job::Serve {
+                file: "serve",
+                port: 1_024,
+                sessions: 1,
+            },
+        ),
+        (
+            &["hpb", "serve", "--port=65535", "--file=", "--sessions=32"],
+            Job::Serve {
+                file: "",
+                port: u16::MAX,
+                sessions: 32,
             },
         ),
     ];

@@ -2,7 +2,7 @@ ghost use Rattle.std.specs.Prelude.{◌≡◌, false, Some, IfErr, IfOk, map};
 ghost use Rattle.clap.specs.Values.{kind_of};
 ghost use Rattle.clap.specs.Words.{app_of, found_of, rows_of, rule_of, shape_of, subcommand_rows_of};
 ghost use Rattle.clap.specs.declared.builder.command.Command.TheViews.{out-Command};
-ghost use Rattle.hpb_program.specs.Words.{batch_rule, check_shape, every_rule, file_rule, format_shape, hpb, journal_rule, run_shape, AsksFor, HasKnownCommand, HasRanges, IsJobOf, IsKnownName, IsTold};
+ghost use Rattle.hpb_program.specs.Words.{batch_rule, check_shape, every_rule, file_rule, format_shape, hpb, journal_rule, port_rule, run_shape, serve_shape, sessions_rule, AsksFor, HasKnownCommand, HasRanges, IsJobOf, IsKnownName, IsTold};
 ghost use Rattle.hpb_program.specs.declared.words.WordsFault.TheVariants.{Memory};
 ghost use Rattle.hpb_program.specs.Program.{HasStatus};
 
@@ -21,7 +21,8 @@ const VERSION: &str = "0.1.0\nrattle-kit-13b logic dac8208d650f15bf";
 const USAGE: &str = r#"hpb < SCRIPT
        hpb format --file F --journal J < DEFINITION
        hpb run --file F [--batch N] [--every K] < LINES
-       hpb check --file F"#;
+       hpb check --file F
+       hpb serve --file F --port P --sessions N"#;
 
 const ABOUT: &str = "Runs a simultaneous ascending auction with bids on packages.";
 
@@ -112,6 +113,34 @@ Example: up to 16 commands at a time, and a checkpoint after each 50 batches
 
 docs/OPERATIONS.md says what each refusal means."#;
 
+const SERVE_ABOUT: &str = "Serves sessions over TCP by the auction that a file keeps";
+
+const SERVE_HELP: &str =
+    r#"LISTENING P is written once port P of 127.0.0.1 can be connected to. N connections are taken, and each is a session
+of its own; the system refuses any further one. A session sends commands and questions, one a line, as a script has
+behind its definition, and each line gets its answer (hpb --help). So nc 127.0.0.1 P is a client, and needs nothing
+else. All sessions are in one auction: each is shown by its questions what the others did.
+
+A command is answered by OK once it is on the disk, where no power cut takes it back. The auction goes on where the
+file's last run ended, with all that was answered by OK. While it is served, no other program may have the file.
+
+A session ends where its client ends its lines or its connection. Once all N have ended CLOSED n is written: n commands
+are accepted in all. What can't be served gets ERR with a number and a word.
+
+Only programs on this machine can connect. Any of them may send any command: nobody is asked who he is.
+
+Status: 0 all sessions have ended; 1 the file could not be opened, the port could not be had, the file's disk failed
+(commands are answered ERR 93 failed from then on), memory was refused, writing failed, or what was answered isn't what
+was kept; 2 the words were wrong. With 1 standard error says what happened and what to do.
+
+Example: two sessions, each from a terminal of its own
+
+  hpb serve --file auction.hpb --port 5000 --sessions 2
+  nc 127.0.0.1 5000
+  nc 127.0.0.1 5000
+
+docs/OPERATIONS.md says what each refusal means; docs/PROTOCOL.md has all lines, answers and refusals."#;
+
 /// The command that makes a file.
 const FORMAT: &str = "format";
 
@@ -120,6 +149,9 @@ const CHECK: &str = "check";
 
 /// The command that runs what a file keeps.
 const RUN: &str = "run";
+
+/// The command that serves sessions by what a file keeps.
+const SERVE: &str = "serve";
 
 /// The option that names a file.
 const FILE: &str = "file";
@@ -133,8 +165,23 @@ const BATCH: &str = "batch";
 /// The option that gives the number of batches after which there is a checkpoint.
 const EVERY: &str = "every";
 
+/// The option that gives a port.
+const PORT: &str = "port";
+
+/// The option that gives a number of sessions.
+const SESSIONS: &str = "sessions";
+
 /// As many commands as a batch may have.
 const MOST_BATCH: u32 = MOST_LETTERS as u32;
+
+/// The least port that may be served at. Those below it are kept for the system's own programs.
+const LEAST_PORT: u16 = 1_024;
+
+/// The greatest port that there is.
+const MOST_PORT: u16 = u16::MAX;
+
+/// As many sessions as there may be.
+const MOST_SESSIONS: u8 = 32;
 
 /// What a command line asks for.
 #[derive(Clone, Copy, Debug, PartialEq, Eq)]
@@ -157,6 +204,13 @@ pub enum Job<'a> {
         file: &'a str,
         batch: u32,
         every: u32,
+    },
+    /// The auction that the file of this path keeps, with lines from connections: the port of 127.0.0.1, from 1,024 on,
+    /// and the number of sessions, from 1 to 32.
+    Serve {
+        file: &'a str,
+        port: u16,
+        sessions: u8,
     },
 }
 
@@ -220,6 +274,16 @@ fn job_of_command<'a>(name: &str, options: &ArgMatches<'a>) -> Job<'a>
         let batch = wanted.clamp(1, MOST_BATCH);
         let every = options.get_one::<u32>(EVERY).unwrap_or(0);
         Job::Run { file, batch, every }
+    } else if name == SERVE {
+        let asked = options.get_one::<u16>(PORT).unwrap_or(LEAST_PORT);
+        let port = asked.max(LEAST_PORT);
+        let wanted = options.get_one::<u8>(SESSIONS).unwrap_or(1);
+        let sessions = wanted.clamp(1, MOST_SESSIONS);
+        Job::Serve {
+            file,
+            port,
+            sessions,
+        }
     } else {
         Job::Check { file }
     }
@@ -284,7 +348,8 @@ fn command<'a>(alloc: Global) -> Result<Command<'a>, AllocError>
         .disable_help_subcommand(true)
         .subcommand(format_command(alloc)?)?
         .subcommand(check_command(alloc)?)?
-        .subcommand(run_command(alloc)?)
+        .subcommand(run_command(alloc)?)?
+        .subcommand(serve_command(alloc)?)
 }
 
 fn format_command<'a>(alloc: Global) -> Result<Command<'a>, AllocError>
@@ -318,6 +383,18 @@ fn run_command<'a>(alloc: Global) -> Result<Command<'a>, AllocError>
         .arg(file_option(alloc))?
         .arg(batch_option(alloc))?
         .arg(every_option(alloc))
+}
+
+fn serve_command<'a>(alloc: Global) -> Result<Command<'a>, AllocError>
+    ensures shape { IfOk result (λ command. shape_of command ≡ serve_shape) }
+    ensures local { IfOk result (λ command. (out-Command command).has_globals ≡ false) }
+{
+    Command::new(alloc, SERVE)
+        .about(SERVE_ABOUT)
+        .after_help(SERVE_HELP)
+        .arg(file_option(alloc))?
+        .arg(port_option(alloc))?
+        .arg(sessions_option(alloc))
 }
 
 fn file_option<'a>(alloc: Global) -> Arg<'a>
@@ -365,4 +442,28 @@ fn every_option<'a>(alloc: Global) -> Arg<'a>
         .default_value("0")
         .value_parser(value_parser!(u32))
         .help("The number of batches after which a checkpoint is written, or 0")
+}
+
+fn port_option<'a>(alloc: Global) -> Arg<'a>
+    ensures rule { rule_of result ≡ port_rule }
+    ensures local { result.global ≡ false }
+{
+    Arg::new(alloc, PORT)
+        .long(PORT)
+        .value_name("P")
+        .required(true)
+        .value_parser(value_parser!(u16).range(LEAST_PORT as i64..=MOST_PORT as i64))
+        .help("The port of 127.0.0.1, from 1024 to 65535")
+}
+
+fn sessions_option<'a>(alloc: Global) -> Arg<'a>
+    ensures rule { rule_of result ≡ sessions_rule }
+    ensures local { result.global ≡ false }
+{
+    Arg::new(alloc, SESSIONS)
+        .long(SESSIONS)
+        .value_name("N")
+        .required(true)
+        .value_parser(value_parser!(u8).range(1..=MOST_SESSIONS as i64))
+        .help("The number of sessions, from 1 to 32")
 }

@@ -1,7 +1,11 @@
 use crate::script::joined;
 use hpb_program::{Noted, program};
 use std::alloc::Global;
+use std::fs::{File, Files};
+use std::net::{Net, TcpListener, TcpStream};
+use std::sync::Wait;
 use std::test::Fail;
+use std::thread::Threads;
 
 const HEAD: &str = "{\"step\":10,\"percent\":10,\"stages\":[80,95],\"nodes\":[";
 
@@ -48,7 +52,14 @@ const NO_NODES: Parts = Parts {
 };
 
 /// The status of the program on a script, what it answers, and what its errors are told.
-fn answer(rt: &HostRuntime, script: &str) -> Result<(u8, String, String), Fail> {
+fn answer<
+    H: Files<File = File>
+        + Net<Listener = TcpListener, Stream = TcpStream>
+        + Threads
+        + Wait
+        + Sync
+        + AllocGlobal,
+>(rt: &H, script: &str) -> Result<(u8, String, String), Fail> {
     let alloc = rt.alloc();
     let mut input = Noted::new(script.as_bytes());
     let mut output = Noted::new(Vec::new(alloc));
@@ -123,7 +134,14 @@ fn refused_definitions(rt: HostRuntime) -> Result<(), Fail> {
 }
 
 /// The same on the definition of six nodes with one part changed.
-fn answer_to(rt: &HostRuntime, parts: Parts) -> Result<(u8, String, String), Fail> {
+fn answer_to<
+    H: Files<File = File>
+        + Net<Listener = TcpListener, Stream = TcpStream>
+        + Threads
+        + Wait
+        + Sync
+        + AllocGlobal,
+>(rt: &H, parts: Parts) -> Result<(u8, String, String), Fail> {
     let script = definition(rt.alloc(), parts)?;
     answer(rt, script.as_str())
 }

@@ -7,9 +7,12 @@ use super::using::{
 use crate::{JobFault, Noted, check_device, program};
 use hpb_disk::{FileDisk, FuseDisk, MemoryDisk};
 use hpb_recover::Cause;
-use std::fs::{self, Permissions};
+use std::fs::{self, File, Files, Permissions};
+use std::net::{Net, TcpListener, TcpStream};
 use std::os::unix::fs::PermissionsExt;
+use std::sync::Wait;
 use std::test::Fail;
+use std::thread::Threads;
 
 const PAGE: usize = 4_096;
 
@@ -144,7 +147,14 @@ fn a_definition_is_the_whole_of_the_input(rt: HostRuntime) -> Result<(), Fail> {
 }
 
 /// What is told of a new file with this byte at this place, and whether the file stayed as it was.
-fn checked_with(rt: &HostRuntime, path: &str, at: usize, byte: u8) -> Result<(Ran, bool), Fail> {
+fn checked_with<
+    H: Files<File = File>
+        + Net<Listener = TcpListener, Stream = TcpStream>
+        + Threads
+        + Wait
+        + Sync
+        + AllocGlobal,
+>(rt: &H, path: &str, at: usize, byte: u8) -> Result<(Ran, bool), Fail> {
     let mut bytes = new_file(rt, path, "4")?;
     if let Some(place) = bytes.get_mut(at) {
         *place = byte;

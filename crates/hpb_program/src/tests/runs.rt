@@ -11,8 +11,12 @@ use hpb_recover::Cause;
 use hpb_server::Fault;
 use std::alloc::{AllocError, Global};
 use std::fs;
+use std::fs::{File, Files};
+use std::net::{Net, TcpListener, TcpStream};
 use std::process::Abort;
+use std::sync::Wait;
 use std::test::Fail;
+use std::thread::Threads;
 
 const PAGE: usize = 4_096;
 
@@ -58,7 +62,14 @@ fn words_of_run<'a>(path: &'a str, batch: &'a str, every: &'a str) -> [&'a str; 
 }
 
 /// What a script in memory answers to these lines.
-fn answers_in_memory(rt: &HostRuntime, lines: &str) -> Result<String, Fail> {
+fn answers_in_memory<
+    H: Files<File = File>
+        + Net<Listener = TcpListener, Stream = TcpStream>
+        + Threads
+        + Wait
+        + Sync
+        + AllocGlobal,
+>(rt: &H, lines: &str) -> Result<String, Fail> {
     let mut script = SIX_NODES.to_vec(rt.alloc())?;
     script.extend_from_slice(lines.as_bytes())?;
     let ended = run_words(rt, &["hpb"], script.as_slice())?;

@@ -2,8 +2,12 @@
 
 use crate::{Noted, program};
 use std::alloc::{AllocError, Global};
+use std::fs::{File, Files};
 use std::io::{ErrorKind, Read, Write};
+use std::net::{Net, TcpListener, TcpStream};
+use std::sync::Wait;
 use std::test::Fail;
+use std::thread::Threads;
 use std::{fs, io};
 
 /// A definition of six nodes and four bidders, with two stages.
@@ -43,18 +47,26 @@ pub(crate) fn format_words<'a>(path: &'a str, journal: &'a str) -> [&'a str; 6] 
 }
 
 /// Runs the program, and tells how much of the input is left.
-pub(crate) fn run_on(rt: &HostRuntime, words: &[&str], text: &[u8]) -> Result<(Ran, usize), Fail> {
-    let alloc = rt.alloc();
+pub(crate) fn run_on<
+    H: Files<File = File>
+        + Net<Listener = TcpListener, Stream = TcpStream>
+        + Threads
+        + Wait
+        + Sync
+        + AllocGlobal,
+>(rt: &H, words: &[&str], text: &[u8]) -> Result<(Ran, usize), Fail> {
     run_at(rt, words, text, false)
 }
 
 /// The same where the input may be a terminal.
-pub(crate) fn run_at(
-    rt: &HostRuntime,
-    words: &[&str],
-    text: &[u8],
-    is_terminal: bool,
-) -> Result<(Ran, usize), Fail> {
+pub(crate) fn run_at<
+    H: Files<File = File>
+        + Net<Listener = TcpListener, Stream = TcpStream>
+        + Threads
+        + Wait
+        + Sync
+        + AllocGlobal,
+>(rt: &H, words: &[&str], text: &[u8], is_terminal: bool) -> Result<(Ran, usize), Fail> {
     let alloc = rt.alloc();
     let mut input = Noted::new(text);
     let mut output = Noted::new(Vec::new(alloc));
@@ -77,12 +89,16 @@ pub(crate) fn run_at(
 }
 
 /// How the program ends over streams of which some fail: its status, and what its errors are told.
-pub(crate) fn run_over<R: Read + Drop, W: Write + Drop>(
-    rt: &HostRuntime,
-    words: &[&str],
-    input: R,
-    output: W,
-) -> Result<(u8, String), Fail> {
+pub(crate) fn run_over<
+    H: Files<File = File>
+        + Net<Listener = TcpListener, Stream = TcpStream>
+        + Threads
+        + Wait
+        + Sync
+        + AllocGlobal,
+    R: Read + Drop,
+    W: Write + Drop,
+>(rt: &H, words: &[&str], input: R, output: W) -> Result<(u8, String), Fail> {
     let alloc = rt.alloc();
     let mut errors = Vec::new(alloc);
     let status = program(
@@ -97,12 +113,26 @@ pub(crate) fn run_over<R: Read + Drop, W: Write + Drop>(
     Ok((status, String::from_utf8(errors)?))
 }
 
-pub(crate) fn run_words(rt: &HostRuntime, words: &[&str], text: &[u8]) -> Result<Ran, Fail> {
+pub(crate) fn run_words<
+    H: Files<File = File>
+        + Net<Listener = TcpListener, Stream = TcpStream>
+        + Threads
+        + Wait
+        + Sync
+        + AllocGlobal,
+>(rt: &H, words: &[&str], text: &[u8]) -> Result<Ran, Fail> {
     Ok(run_on(rt, words, text)?.0)
 }
 
 /// Makes a file of six nodes, with such a journal, and gives its bytes.
-pub(crate) fn new_file(rt: &HostRuntime, path: &str, journal: &str) -> Result<Vec<u8>, Fail> {
+pub(crate) fn new_file<
+    H: Files<File = File>
+        + Net<Listener = TcpListener, Stream = TcpStream>
+        + Threads
+        + Wait
+        + Sync
+        + AllocGlobal,
+>(rt: &H, path: &str, journal: &str) -> Result<Vec<u8>, Fail> {
     let _ = fs::remove_file(rt, path);
     let made = run_words(rt, &format_words(path, journal), SIX_NODES)?;
     if made.status != 0 {

@@ -19,3 +19,10 @@ returns-in-Run-clause-streams g c =
     (streams (g.R.Read.remaining c.run_file-end.new.input.stream) (g.W.Write.contents c.tell_run.new.output.stream))
     (g.E.Write.contents c.args.errors.now) (g.E.Write.contents c.tell_run.new.errors) c.tell_run.result) (sym c.in-Run.is)
     (streams (g.R.Read.remaining c.run_file-end.new.input.stream) (g.W.Write.contents c.run_file-end.new.output.stream), c.run_file-end.result, c.run_file-end.ensures, Keeps-refl _, c.tell_run.ensures.told)
+
+pub returns-in-Serve-clause-streams : goal.returns-in-Serve-clause-streams
+returns-in-Serve-clause-streams g c =
+    subst (λ (job : Job). RunsJob c.args.is_terminal job (streams (g.R.Read.remaining c.args.input.now.stream) (g.W.Write.contents c.args.output.now.stream))
+    (streams (g.R.Read.remaining c.args.input.now.stream) (g.W.Write.contents c.tell_served.new.output.stream))
+    (g.E.Write.contents c.args.errors.now) (g.E.Write.contents c.tell_served.new.errors) c.tell_served.result) (sym c.in-Serve.is)
+    (g.W.Write.contents c.serve_file-end.new.output.stream, c.serve_file-end.result, c.serve_file-end.ensures, Keeps-refl _, c.tell_served.ensures.told)

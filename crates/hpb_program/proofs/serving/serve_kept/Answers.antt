@@ -1,0 +1,14 @@
+use Rattle.std.proofs.Common.{inl, refl}
+use Rattle.std.proofs.KnownBytes.{Keeps-refl}
+use Rattle.hpb_program.proofs.Served.{unserved}
+use Rattle.hpb_program.proofs.serving.serve_kept.Goals as goal
+
+pub returns-in-Err-with_capacity : goal.returns-in-Err-with_capacity
+returns-in-Err-with_capacity g c = inl (Keeps-refl _)
+
+pub returns-in-Err-listen : goal.returns-in-Err-listen
+returns-in-Err-listen g c = (c.in-Ok.ensures.read, Keeps-refl _, refl)
+
+pub returns-in-Err-serve_opened : goal.returns-in-Err-serve_opened
+returns-in-Err-serve_opened g c =
+    unserved (g.D.Disk.seen c.args.disk) c.args.port _ _ c.in-Err-serve_opened.fault c.from.result c.in-Ok.ensures.read c.from.ensures c.in-Err-serve_opened.ensures.written

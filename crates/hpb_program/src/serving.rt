@@ -1,0 +1,135 @@
+//! Serving sessions with the auction that a file keeps.
+ghost use Rattle.std.specs.Prelude.{◌≡◌, ◌≤◌, [], IfErr, IfOk, OnErr, string_bytes};
+ghost use Rattle.hpb_program.specs.Keeping.{IsNotOpened};
+ghost use Rattle.hpb_program.specs.Serving.{IsReadable, ServesFile, ServesKept, closed_line};
+ghost use Rattle.hpb_server.specs.Writing.{Sends};
+
+use crate::job_fault::JobFault;
+use crate::run_end::RunEnd;
+use hpb_disk::{Disk, FileDisk};
+use hpb_recover::{Opened, open};
+use hpb_serve::serve_opened;
+use hpb_server::{Fault, send_bytes};
+use std::alloc::{AllocError, Global};
+use std::fs::{File, Files};
+use std::io;
+use std::io::Write;
+use std::net::{Ipv4Addr, Net, TcpListener, TcpStream};
+use std::sync::Wait;
+use std::thread::Threads;
+
+/// As many bytes as the line of the end may have: the number of commands has 32 bits, so ten digits at most.
+const CLOSED_BYTES: usize = 18;
+
+/// Serves so many sessions with the auction that the file of a path keeps, as `serve_kept` says.
+#[tactic(auto, using(crate::proofs::Served::of_device, crate::proofs::Served::unopened_file))]
+pub(crate) fn serve_file<
+    H: Files<File = File> + Net<Listener = TcpListener, Stream = TcpStream> + Threads + Wait + Sync,
+    W: Write,
+>(
+    rt: &H,
+    alloc: Global,
+    file: &str,
+    port: u16,
+    sessions: u8,
+    output: &mut W,
+) -> Result<RunEnd, JobFault>
+    requires { (1 ≤ sessions) × (sessions ≤ 32) }
+    ensures { ServesFile port (W.contents output.old) (W.contents output.new) result }
+{
+    let disk = match FileDisk::open(rt, alloc, file) {
+        Ok(disk) => disk,
+        Err(fault) => return Err(JobFault::from(fault)),
+    };
+    serve_kept(rt, alloc, disk, port, sessions, output)
+}
+
+/// Serves so many sessions, from 1 to 32, with the auction that a device keeps, over connections to a port of 127.0.0.1.
+/// `LISTENING` with the port is written once it can be connected to, and `CLOSED` with the number of commands that are
+/// accepted in all once all sessions have ended.
+///
+/// The port is asked for only where the device was opened, and nothing is written where either was refused: 40, 42, 44, 45
+/// and 91 of the device, 92 of the port. A house that wasn't started is 90 or 94, a session that took no answer 95, and
+/// what was answered and isn't what was kept 96.
+#[tactic(auto, using(crate::proofs::Served::unopened))]
+pub fn serve_kept<
+    H: Net<Listener = TcpListener, Stream = TcpStream> + Threads + Wait + Sync,
+    D: Disk + Drop + Send,
+    W: Write,
+>(
+    rt: &H,
+    alloc: Global,
+    disk: D,
+    port: u16,
+    sessions: u8,
+    output: &mut W,
+) -> Result<RunEnd, JobFault>
+    requires { (1 ≤ sessions) × (sessions ≤ 32) }
+    ensures { ServesKept (D.seen disk) port (W.contents output.old) (W.contents output.new) result }
+{
+    let opened = match open_device(alloc, disk) {
+        Ok(opened) => opened,
+        Err(fault) => return Err(fault),
+    };
+    // The room of the last line is taken first: a disk that failed is told of even where memory is then refused.
+    let room = match String::with_capacity(alloc, CLOSED_BYTES) {
+        Ok(room) => room,
+        Err(_) => return Err(JobFault::Memory),
+    };
+    let listener = match listen(rt, port) {
+        Ok(listener) => listener,
+        Err(error) => return Err(JobFault::Port { port, error }),
+    };
+    let served = match serve_opened(rt, alloc, opened, listener, port, sessions, output) {
+        Ok(served) => served,
+        Err(fault) => return Err(JobFault::from(fault)),
+    };
+    let line = match closing_line(room, served.count) {
+        Ok(line) => line,
+        Err(_) => return Err(JobFault::Memory),
+    };
+    Ok(RunEnd {
+        end: send_line(line.as_str(), output),
+        failed: served.has_failed,
+    })
+}
+
+/// Opens a device.
+#[tactic(auto, using(crate::proofs::Kept::not_opened))]
+fn open_device<D: Disk + Drop>(alloc: Global, disk: D) -> Result<Opened<D>, JobFault>
+    ensures read { IfOk result (λ opened. IsReadable (D.seen disk)) }
+    ensures fault { IfErr result (IsNotOpened (D.seen disk)) }
+{
+    match open(alloc, disk) {
+        Ok(opened) => Ok(opened),
+        Err(fault) => Err(JobFault::from(fault.cause)),
+    }
+}
+
+/// A port of 127.0.0.1 that can be connected to.
+fn listen<H: Net<Listener = TcpListener, Stream = TcpStream>>(
+    rt: &H,
+    port: u16,
+) -> io::Result<TcpListener> {
+    TcpListener::bind(rt, (Ipv4Addr::LOCALHOST, port))
+}
+
+/// The line that tells how many commands are accepted in all, written into a text that is empty.
+fn closing_line(room: String, count: u32) -> Result<String, AllocError>
+    requires { string_bytes room ≡ [] }
+    ensures { IfOk result (λ line. string_bytes line ≡ closed_line count) }
+{
+    let mut line = room;
+    write!(line, "CLOSED {count}\n")?;
+    Ok(line)
+}
+
+/// Writes a line, and has it handed on.
+fn send_line<W: Write>(line: &str, output: &mut W) -> Result<(), Fault>
+    ensures { Sends (W.contents output.old) (W.contents output.new) line.now result }
+{
+    match send_bytes(output, line.as_bytes()) {
+        Ok(()) => Ok(()),
+        Err(_) => Err(Fault::Writer),
+    }
+}
