@@ -1,0 +1,399 @@
+/* The load of so many sessions on a server: one thread, one command outstanding in each session.
+ *
+ *     load KIND PORT SESSIONS SECONDS WARM MOST LEVELS BIDDERS
+ *
+ * KIND is hpb, redis-incr, redis-set, redis-rpush, postgres or postgres-prepared. The server listens at 127.0.0.1. Each
+ * kind is sent the same bids: those of an auction that is a full binary tree of LEVELS levels (bench/auctions.py), in
+ * which each session speaks for its share of the BIDDERS. hpb is sent them as lines, Redis each as one write, with the
+ * line as its value, and PostgreSQL each as one row. What is answered in the first WARM seconds isn't counted; after
+ * SECONDS more, or MOST answers in all, it ends. Written are the number of answers that are counted, the seconds that
+ * they took, and their 50th and 99th percentile from sending to reading, in microseconds. */
+#include <arpa/inet.h>
+#include <errno.h>
+#include <fcntl.h>
+#include <netinet/in.h>
+#include <netinet/tcp.h>
+#include <stdio.h>
+#include <stdlib.h>
+#include <string.h>
+#include <sys/epoll.h>
+#include <sys/socket.h>
+#include <time.h>
+#include <unistd.h>
+
+enum { MOST_SESSIONS = 1024, MOST_BIDDERS = 64, MOST_NODES = 127, ROOM = 8192, LINE = 128 };
+
+/* What a bid on one licence pays in the first round, and by how many percent it pays more in the next. The rules of the
+ * auction want one percent more. */
+enum { FIRST_PRICE = 1000, RAISE = 3 };
+
+struct session {
+    int socket;
+    int first_bidder, bidders;
+    int bids;       /* in this round */
+    double sent;    /* when its command was; 0 where none is outstanding */
+    size_t read;
+    char answer[ROOM];
+};
+
+struct bid {
+    int bidder, ticket, node;
+    long amount;
+};
+
+struct kind {
+    const char *name;
+    /* Reads and writes what a session begins with. */
+    void (*begin)(struct session *);
+    /* Writes a bid as a request, and gives its length. */
+    int (*write)(char *, struct bid);
+    /* The length of the whole answer that stands in front, or 0 where more has to come. */
+    size_t (*whole)(const char *, size_t);
+    /* Whether that answer says that the bid is kept. */
+    int (*is_kept)(const char *, size_t);
+    int has_rounds;
+};
+
+static struct session sessions[MOST_SESSIONS];
+static int tickets[MOST_BIDDERS];
+static int count, nodes, round_number = 1, outstanding;
+static long price = FIRST_PRICE;
+
+static void fail(const char *what) {
+    perror(what);
+    exit(1);
+}
+
+static double now(void) {
+    struct timespec time;
+    if (clock_gettime(CLOCK_MONOTONIC, &time) != 0) fail("clock_gettime");
+    return time.tv_sec + time.tv_nsec / 1e9;
+}
+
+/* hpb */
+
+static int write_line(char *text, struct bid bid) {
+    return snprintf(text, LINE, "BID b%d %d n%d %ld\n", bid.bidder, bid.ticket, bid.node, bid.amount);
+}
+
+static size_t whole_line(const char *text, size_t length) {
+    const char *end = memchr(text, '\n', length);
+    return end == NULL ? 0 : (size_t)(end - text) + 1;
+}
+
+static int is_ok(const char *text, size_t length) { return length > 3 && memcmp(text, "OK ", 3) == 0; }
+
+/* Redis */
+
+static int write_incr(char *text, struct bid bid) {
+    (void)bid;
+    return snprintf(text, ROOM, "*2\r\n$4\r\nINCR\r\n$4\r\nbids\r\n");
+}
+
+static int write_set(char *text, struct bid bid) {
+    char line[LINE], key[LINE];
+    int length = write_line(line, bid) - 1, key_length = snprintf(key, sizeof key, "b%dn%d", bid.bidder, bid.node);
+    return snprintf(text, ROOM, "*3\r\n$3\r\nSET\r\n$%d\r\n%s\r\n$%d\r\n%.*s\r\n", key_length, key, length, length, line);
+}
+
+static int write_rpush(char *text, struct bid bid) {
+    char line[LINE];
+    int length = write_line(line, bid) - 1;
+    return snprintf(text, ROOM, "*3\r\n$5\r\nRPUSH\r\n$4\r\nbids\r\n$%d\r\n%.*s\r\n", length, length, line);
+}
+
+static int is_no_error(const char *text, size_t length) { return length > 1 && (text[0] == ':' || text[0] == '+'); }
+
+/* PostgreSQL, by its protocol 3: a message is a letter, four bytes of length, and what it says. */
+
+static char *put_word(char *at, unsigned word) {
+    unsigned wire = htonl(word);
+    memcpy(at, &wire, 4);
+    return at + 4;
+}
+
+static char *put_half(char *at, unsigned half) {
+    *at++ = (char)(half >> 8);
+    *at++ = (char)half;
+    return at;
+}
+
+static char *put_text(char *at, const char *text) { return stpcpy(at, text) + 1; }
+
+/* Leaves room for the head of a message, and fills it in at the end. */
+static char *open_message(char *at, char letter) {
+    *at = letter;
+    return at + 5;
+}
+
+static char *close_message(char *message, char *end) {
+    put_word(message + 1, (unsigned)(end - message - 1));
+    return end;
+}
+
+static int write_insert(char *text, struct bid bid) {
+    char *at = open_message(text, 'Q');
+    at += sprintf(at, "INSERT INTO bids VALUES (%d, %d, %d, %ld)", bid.bidder, bid.ticket, bid.node, bid.amount) + 1;
+    return (int)(close_message(text, at) - text);
+}
+
+static char *put_number(char *at, long number) {
+    int length = sprintf(at + 4, "%ld", number);
+    return put_word(at, (unsigned)length) + length;
+}
+
+static char *put_sync(char *at) { return close_message(at, open_message(at, 'S')); }
+
+static int write_execute(char *text, struct bid bid) {
+    char *at = open_message(text, 'B');
+    at = put_text(put_text(at, ""), "bid");
+    at = put_half(put_half(at, 0), 4);
+    at = put_number(put_number(put_number(put_number(at, bid.bidder), bid.ticket), bid.node), bid.amount);
+    at = close_message(text, put_half(at, 0));
+    char *execute = at;
+    at = close_message(execute, put_word(put_text(open_message(execute, 'E'), ""), 0));
+    return (int)(put_sync(at) - text);
+}
+
+static size_t message_length(const char *message) {
+    unsigned wire;
+    memcpy(&wire, message + 1, 4);
+    return 1 + (size_t)ntohl(wire);
+}
+
+/* An answer ends with the message that says that the server is ready for the next request. */
+static size_t whole_answer(const char *text, size_t length) {
+    size_t at = 0;
+    while (at + 5 <= length && at + message_length(text + at) <= length) {
+        int is_last = text[at] == 'Z';
+        at += message_length(text + at);
+        if (is_last) return at;
+    }
+    return 0;
+}
+
+/* The row was inserted where the command is told to be complete. An error comes in its place. */
+static int is_complete(const char *text, size_t length) {
+    int found = 0;
+    for (size_t at = 0; at < length; at += message_length(text + at)) {
+        if (text[at] == 'E') return 0;
+        if (text[at] == 'C') found = 1;
+    }
+    return found;
+}
+
+static void send_all(struct session *session, const char *text, size_t length) {
+    ssize_t sent = send(session->socket, text, length, MSG_NOSIGNAL);
+    if (sent != (ssize_t)length) fail("send");
+}
+
+static void await_ready(struct session *session) {
+    while (session->read == 0 || whole_answer(session->answer, session->read) == 0) {
+        ssize_t got = recv(session->socket, session->answer + session->read, ROOM - session->read, 0);
+        if (got <= 0) fail("the server ended the connection, or refused it");
+        session->read += (size_t)got;
+        if (session->answer[0] == 'E') {
+            fprintf(stderr, "the server refused the connection\n");
+            exit(1);
+        }
+    }
+    session->read = 0;
+}
+
+static void begin_postgres(struct session *session) {
+    char text[ROOM], *at = put_word(text + 4, 3 << 16);
+    at = put_text(put_text(at, "user"), "bench");
+    at = put_text(put_text(at, "database"), "postgres");
+    *at++ = 0;
+    put_word(text, (unsigned)(at - text));
+    send_all(session, text, (size_t)(at - text));
+    await_ready(session);
+}
+
+static void begin_prepared(struct session *session) {
+    begin_postgres(session);
+    char text[ROOM], *at = open_message(text, 'P');
+    at = put_text(put_text(at, "bid"), "INSERT INTO bids VALUES ($1, $2, $3, $4)");
+    at = put_sync(close_message(text, put_half(at, 0)));
+    send_all(session, text, (size_t)(at - text));
+    await_ready(session);
+}
+
+static const struct kind kinds[] = {
+    {"hpb", NULL, write_line, whole_line, is_ok, 1},
+    {"redis-incr", NULL, write_incr, whole_line, is_no_error, 0},
+    {"redis-set", NULL, write_set, whole_line, is_no_error, 0},
+    {"redis-rpush", NULL, write_rpush, whole_line, is_no_error, 0},
+    {"postgres", begin_postgres, write_insert, whole_answer, is_complete, 0},
+    {"postgres-prepared", begin_prepared, write_execute, whole_answer, is_complete, 0},
+};
+
+/* Bids */
+
+static int licences_of(int node) {
+    int licences = (nodes + 1) / 2;
+    for (; node > 0; node = (node - 1) / 2) licences /= 2;
+    return licences;
+}
+
+/* Each bidder of a session bids on all licences, and then each on the next node: so all keep their eligibility. */
+static struct bid next_bid(struct session *session) {
+    struct bid bid;
+    bid.bidder = session->first_bidder + session->bids % session->bidders;
+    bid.node = session->bids / session->bidders;
+    bid.ticket = ++tickets[bid.bidder];
+    bid.amount = price * licences_of(bid.node);
+    session->bids++;
+    return bid;
+}
+
+static int has_bid_all(const struct session *session) { return session->bids == session->bidders * nodes; }
+
+static void send_request(struct session *session, const char *text, int length) {
+    session->sent = now();
+    outstanding++;
+    send_all(session, text, (size_t)length);
+}
+
+static void send_bid(const struct kind *kind, struct session *session) {
+    char text[ROOM];
+    send_request(session, text, kind->write(text, next_bid(session)));
+}
+
+static void send_close(struct session *session) {
+    char text[LINE];
+    send_request(session, text, snprintf(text, sizeof text, "CLOSE %d\n", round_number));
+}
+
+static void begin_round(void) {
+    round_number++;
+    price += price * RAISE / 100;
+    for (int s = 0; s < count; s++) sessions[s].bids = 0;
+}
+
+/* Sessions */
+
+static void connect_session(struct session *session, int port) {
+    struct sockaddr_in address = {.sin_family = AF_INET, .sin_port = htons((unsigned short)port)};
+    address.sin_addr.s_addr = htonl(INADDR_LOOPBACK);
+    session->socket = socket(AF_INET, SOCK_STREAM, 0);
+    if (session->socket < 0) fail("socket");
+    if (connect(session->socket, (struct sockaddr *)&address, sizeof address) != 0) fail("connect");
+    int yes = 1;
+    if (setsockopt(session->socket, IPPROTO_TCP, TCP_NODELAY, &yes, sizeof yes) != 0) fail("setsockopt");
+}
+
+static void share_bidders(int bidders) {
+    for (int s = 0; s < count; s++) {
+        sessions[s].first_bidder = bidders * s / count;
+        sessions[s].bidders = bidders * (s + 1) / count - sessions[s].first_bidder;
+    }
+}
+
+/* Whether the answer to a session's request is whole. It has to say that the request was kept. */
+static int read_answer(const struct kind *kind, struct session *session) {
+    ssize_t got = recv(session->socket, session->answer + session->read, ROOM - session->read, 0);
+    if (got < 0 && (errno == EAGAIN || errno == EINTR)) return 0;
+    if (got <= 0) fail("the server ended a session");
+    session->read += (size_t)got;
+    size_t whole = kind->whole(session->answer, session->read);
+    if (whole == 0) return 0;
+    if (whole != session->read || !kind->is_kept(session->answer, whole)) {
+        fprintf(stderr, "not kept: %.*s\n", (int)session->read, session->answer);
+        exit(1);
+    }
+    session->read = 0;
+    outstanding--;
+    return 1;
+}
+
+/* Measuring */
+
+static int by_size(const void *one, const void *other) {
+    double first = *(const double *)one, second = *(const double *)other;
+    return (first > second) - (first < second);
+}
+
+static void tell(double *times, long counted, double seconds) {
+    if (counted == 0) {
+        fprintf(stderr, "nothing was counted\n");
+        exit(1);
+    }
+    qsort(times, (size_t)counted, sizeof *times, by_size);
+    printf("%ld %.6f %.1f %.1f\n", counted, seconds, times[counted / 2] * 1e6, times[counted - 1 - counted / 100] * 1e6);
+}
+
+static void run(const struct kind *kind, int poll, double warm, double seconds, long most) {
+    struct epoll_event events[MOST_SESSIONS];
+    double *times = malloc((size_t)most * sizeof *times);
+    if (times == NULL) fail("malloc");
+    double start = now(), from = start + warm, end = from + seconds, last = from;
+    long answers = 0, counted = 0;
+    int must_close = 0, closer = -1;
+    for (int s = 0; s < count; s++) send_bid(kind, &sessions[s]);
+    while (outstanding > 0) {
+        int ready = epoll_wait(poll, events, MOST_SESSIONS, -1);
+        if (ready < 0 && errno != EINTR) fail("epoll_wait");
+        for (int e = 0; e < ready; e++) {
+            int s = (int)events[e].data.u32;
+            struct session *session = &sessions[s];
+            if (!read_answer(kind, session)) continue;
+            double at = now();
+            if (s == closer) {
+                closer = -1;
+                begin_round();
+                for (int other = 0; other < count && at < end && answers < most; other++) send_bid(kind, &sessions[other]);
+                continue;
+            }
+            answers++;
+            if (at >= from && at < end) {
+                times[counted++] = at - session->sent;
+                last = at;
+            }
+            if (at >= end || answers + outstanding >= most) continue;
+            if (has_bid_all(session)) {
+                if (kind->has_rounds) must_close = 1;
+                else session->bids = 0;
+            }
+            /* Before a round is closed all its bids are answered: an amount is right in its own round alone. */
+            if (!must_close) send_bid(kind, session);
+            else if (outstanding == 0) {
+                must_close = 0;
+                closer = s;
+                send_close(session);
+            }
+        }
+    }
+    tell(times, counted, last - from);
+    free(times);
+}
+
+int main(int words, char **word) {
+    if (words != 9) {
+        fprintf(stderr, "load KIND PORT SESSIONS SECONDS WARM MOST LEVELS BIDDERS\n");
+        return 2;
+    }
+    const struct kind *kind = NULL;
+    for (size_t k = 0; k < sizeof kinds / sizeof *kinds; k++)
+        if (strcmp(word[1], kinds[k].name) == 0) kind = &kinds[k];
+    count = atoi(word[3]);
+    int levels = atoi(word[7]), bidders = atoi(word[8]);
+    nodes = (1 << levels) - 1;
+    if (kind == NULL || levels < 1 || nodes > MOST_NODES || bidders > MOST_BIDDERS || count < 1 || count > bidders) {
+        fprintf(stderr, "no such kind, or levels, bidders or sessions out of range\n");
+        return 2;
+    }
+    int poll = epoll_create1(0);
+    if (poll < 0) fail("epoll_create1");
+    share_bidders(bidders);
+    for (int s = 0; s < count; s++) {
+        connect_session(&sessions[s], atoi(word[2]));
+        if (kind->begin != NULL) kind->begin(&sessions[s]);
+        if (fcntl(sessions[s].socket, F_SETFL, O_NONBLOCK) != 0) fail("fcntl");
+        struct epoll_event event = {.events = EPOLLIN, .data.u32 = (unsigned)s};
+        if (epoll_ctl(poll, EPOLL_CTL_ADD, sessions[s].socket, &event) != 0) fail("epoll_ctl");
+    }
+    run(kind, poll, atof(word[5]), atof(word[4]), atol(word[6]));
+    for (int s = 0; s < count; s++) close(sessions[s].socket);
+    return 0;
+}

@@ -1,0 +1,252 @@
+"""Servers for the benchmarks: hpb, Redis and PostgreSQL at a free port of 127.0.0.1, each with its data in a folder of its
+own; and the load that is put on them."""
+import os
+import pathlib
+import pwd
+import shutil
+import signal
+import socket
+import subprocess
+import sys
+import time
+
+sys.dont_write_bytecode = True
+from auctions import Auction
+
+HERE = pathlib.Path(__file__).resolve().parent
+ADDRESS = "127.0.0.1"
+PATIENCE = 60
+PAGES = 13
+# An auction accepts no more than 1,000,000 commands; some are closes.
+MOST_ANSWERS = 950_000
+TICKS = os.sysconf("SC_CLK_TCK")
+REDIS_KINDS = ["redis-incr", "redis-set", "redis-rpush"]
+POSTGRES_KINDS = ["postgres", "postgres-prepared"]
+# Neither of the two may, or wants to, be run by root.
+UNPRIVILEGED = ["postgres", "nobody"]
+
+
+class Fails(Exception):
+    """A server didn't start, or didn't end as it should."""
+
+
+def build(name, folder):
+    """The program of a C file that stands here."""
+    program = os.path.join(folder, name)
+    subprocess.run([os.environ.get("CC", "cc"), "-O2", "-o", program, HERE / f"{name}.c"], check=True)
+    return program
+
+
+def free_port():
+    with socket.socket() as probe:
+        probe.bind((ADDRESS, 0))
+        return probe.getsockname()[1]
+
+
+def await_port(process, port):
+    """Waits until the port can be connected to."""
+    end = time.monotonic() + PATIENCE
+    while time.monotonic() < end and process.poll() is None:
+        try:
+            socket.create_connection((ADDRESS, port)).close()
+            return
+        except OSError:
+            time.sleep(0.05)
+    raise Fails(f"{process.args[0]} can't be connected to at port {port}")
+
+
+def seconds_used(process):
+    """The processor's time that a process has used, by all its threads."""
+    fields = pathlib.Path(f"/proc/{process.pid}/stat").read_text().rsplit(")", 1)[1].split()
+    return (int(fields[11]) + int(fields[12])) / TICKS
+
+
+def format_file(program, auction, file, journal):
+    """A new file that keeps an auction before its first command."""
+    words = [program, "format", "--file", file, "--journal", str(journal)]
+    made = subprocess.run(words, input=auction.definition(), capture_output=True, text=True)
+    if (made.stdout, made.returncode) != (f"FORMATTED {PAGES + journal}\n", 0):
+        raise Fails(f"format ended with {made.returncode}: {made.stdout}{made.stderr}")
+
+
+class Hpb:
+    """`hpb serve` of a file, to so many sessions."""
+
+    def __init__(self, program, file, sessions):
+        self.port = free_port()
+        words = [program, "serve", "--file", file, "--port", str(self.port), "--sessions", str(sessions)]
+        self.process = subprocess.Popen(words, stdin=subprocess.DEVNULL, stdout=subprocess.PIPE, stderr=subprocess.PIPE, text=True)
+
+    def listens(self):
+        """Waits for its first line. `False` where it was killed before."""
+        line = self.process.stdout.readline()
+        if line not in ("", f"LISTENING {self.port}\n"):
+            raise Fails(f"serve began with {line!r} {self.stop()}")
+        return line != ""
+
+    def end(self):
+        """How many commands are accepted in all, once all sessions have ended."""
+        written, said = self.process.communicate(timeout=PATIENCE)
+        if self.process.returncode != 0 or not written.startswith("CLOSED ") or said:
+            raise Fails(f"serve ended with {self.process.returncode}: {written}{said}")
+        return int(written.split()[1])
+
+    def stop(self):
+        """Kills it if it still runs. What it has said."""
+        if self.process.returncode is not None:
+            return ""
+        self.process.kill()
+        return "".join(self.process.communicate())
+
+
+class Redis:
+    """A Redis that answers a write once it is on the disk."""
+
+    def __init__(self, folder):
+        self.port = free_port()
+        rules = ["appendonly yes", "appendfsync always", "save ''", "auto-aof-rewrite-percentage 0", f"dir {folder}"]
+        rules += [f"bind {ADDRESS}", f"port {self.port}", "logfile redis.log"]
+        path = os.path.join(folder, "redis.conf")
+        pathlib.Path(path).write_text("\n".join(rules) + "\n", encoding="utf-8")
+        self.process = subprocess.Popen(["redis-server", path], stdout=subprocess.DEVNULL)
+
+    def begin(self):
+        await_port(self.process, self.port)
+
+    def stop(self):
+        self.process.send_signal(signal.SIGTERM)
+        self.process.wait(PATIENCE)
+
+
+def postgres_tool(name):
+    """The newest of these programs, on the path or where Debian has it."""
+    places = sorted(pathlib.Path("/usr/lib/postgresql").glob(f"*/bin/{name}"), key=lambda place: int(place.parts[4]))
+    return shutil.which(name) or (str(places[-1]) if places else None)
+
+
+def unprivileged():
+    """Whom PostgreSQL is run by where this is run by root."""
+    if os.getuid() != 0:
+        return {}
+    user = next(found for name in UNPRIVILEGED for found in pwd.getpwall() if found.pw_name == name)
+    return {"user": user.pw_uid, "group": user.pw_gid, "extra_groups": []}
+
+
+class Postgres:
+    """A PostgreSQL that answers an insert once it is on the disk. Else it is as it comes."""
+
+    def __init__(self, folder):
+        self.port = free_port()
+        self.how = {"stdout": subprocess.DEVNULL, "stderr": subprocess.DEVNULL, "cwd": folder, **unprivileged()}
+        if "user" in self.how:
+            os.chown(folder, self.how["user"], self.how["group"])
+        data = os.path.join(folder, "data")
+        subprocess.run([postgres_tool("initdb"), "-D", data, "-U", "bench", "-A", "trust"], check=True, **self.how)
+        rules = {"fsync": "on", "synchronous_commit": "on", "listen_addresses": ADDRESS, "unix_socket_directories": ""}
+        words = [word for name, value in rules.items() for word in ("-c", f"{name}={value}")]
+        self.process = subprocess.Popen([postgres_tool("postgres"), "-D", data, "-p", str(self.port), *words], **self.how)
+
+    def begin(self):
+        await_port(self.process, self.port)
+        words = [postgres_tool("psql"), "-h", ADDRESS, "-p", str(self.port), "-U", "bench", "-d", "postgres"]
+        words += ["-c", "CREATE TABLE bids (bidder int, ticket int, node int, amount bigint)"]
+        end = time.monotonic() + PATIENCE
+        while subprocess.run(words, **self.how).returncode != 0:
+            # It listens before it is ready.
+            if time.monotonic() > end:
+                raise Fails("PostgreSQL makes no table")
+            time.sleep(0.1)
+
+    def stop(self):
+        # Open connections are ended, and all is written.
+        self.process.send_signal(signal.SIGINT)
+        self.process.wait(PATIENCE)
+
+
+class Figures:
+    """What one run came to."""
+
+    def __init__(self, text):
+        answers, seconds, middle, late = text.split()
+        self.rate = int(answers) / float(seconds)
+        self.middle, self.late = float(middle), float(late)
+
+
+class Load:
+    """Puts the same bids on servers of each kind, on new data in this folder each time."""
+
+    def __init__(self, given, folder):
+        self.given, self.folder = given, folder
+        self.auction = Auction(given.levels, given.bidders)
+        self.load, self.calls = build("load", folder), build("device", folder)
+
+    def new_folder(self):
+        path = os.path.join(self.folder, "data")
+        shutil.rmtree(path, ignore_errors=True)
+        os.mkdir(path)
+        return path
+
+    def measure(self, kind, port, sessions):
+        given = self.given
+        words = [kind, port, sessions, given.seconds, given.warm, MOST_ANSWERS, given.levels, given.bidders]
+        run = subprocess.run([self.load, *map(str, words)], capture_output=True, text=True)
+        if run.returncode != 0:
+            raise Fails(f"the load of {kind} ended with {run.returncode}: {run.stderr}")
+        return Figures(run.stdout)
+
+    def new_file(self):
+        file = os.path.join(self.new_folder(), "auction")
+        format_file(self.given.program, self.auction, file, self.given.journal)
+        return file
+
+    def serve(self, sessions):
+        """hpb with a new file, that can be connected to."""
+        server = Hpb(self.given.program, self.new_file(), sessions)
+        if not server.listens():
+            raise Fails(f"serve ended: {server.stop()}")
+        return server
+
+    def of_hpb(self, sessions):
+        server = self.serve(sessions)
+        try:
+            figures = self.measure("hpb", server.port, sessions)
+            server.end()
+        finally:
+            server.stop()
+        return figures
+
+    def of_redis(self, kind, sessions):
+        return self.of_peer(Redis, kind, sessions)
+
+    def of_postgres(self, kind, sessions):
+        return self.of_peer(Postgres, kind, sessions)
+
+    def of_peer(self, peer, kind, sessions):
+        server = peer(self.new_folder())
+        try:
+            server.begin()
+            return self.measure(kind, server.port, sessions)
+        finally:
+            server.stop()
+
+    def limit(self):
+        """How many batches a second the calls of the device alone allow, two syncs each, and nothing else."""
+        batches, seconds = 100, 0
+        while seconds < self.given.seconds / 2:
+            batches = batches * 4 if seconds < self.given.seconds / 16 else int(batches * self.given.seconds / seconds)
+            words = [self.calls, self.new_file(), str(self.given.journal), str(batches), "-1"]
+            seconds = float(subprocess.run(words, stdout=subprocess.PIPE, check=True).stdout.split()[1])
+        return batches / seconds
+
+
+def add_options(words):
+    """What all these benchmarks are told."""
+    words.add_argument("program", type=os.path.abspath, help="the built program")
+    words.add_argument("--sessions", type=int, nargs="+", default=[1, 4, 8, 32], help="1 to 32 each (default 1 4 8 32)")
+    words.add_argument("--runs", type=int, default=5, help="of each; the median is shown (default 5)")
+    words.add_argument("--seconds", type=float, default=3, help="how long a run is counted (default 3)")
+    words.add_argument("--warm", type=float, default=0.5, help="how long it runs before (default 0.5)")
+    words.add_argument("--folder", default=".", help="where the data are (default: the current one)")
+    words.add_argument("--journal", type=int, default=1_024, help="pages of the journal (default 1024)")
+    words.add_argument("--levels", type=int, default=7, help="of the auction's nodes (default 7: 127 nodes)")
+    words.add_argument("--bidders", type=int, default=64, help="of the auction (default 64)")
