@@ -1,0 +1,55 @@
+//! What is opened for a house: six nodes, four bidders and four frames.
+
+use anyhow::Error;
+use hpb_disk::{FileDisk, MemoryDisk, OnceDisk};
+use hpb_engine_rows::devices::{bytes_of, new_device, new_engine, opened};
+use hpb_recover::Opened;
+use std::alloc::Global;
+use std::fs;
+use std::fs::{File, Files};
+use std::test::Fail;
+
+/// A new device in memory, opened.
+pub(crate) fn new_opened(alloc: Global) -> Result<Opened<MemoryDisk>, Fail> {
+    match opened(alloc, new_device(alloc)?) {
+        Ok(opened) => Ok(opened),
+        Err(fault) => Err(Fail::from(Error::from(fault.cause))),
+    }
+}
+
+/// The same, of which one call fails: so many after it was opened, from 1.
+pub(crate) fn faulty_opened(
+    alloc: Global,
+    call: u64,
+) -> Result<Opened<OnceDisk<MemoryDisk>>, Fail> {
+    let opening = new_engine(alloc)?.finish().calls() as u64;
+    let disk = OnceDisk::new(new_device(alloc)?, opening.saturating_add(call));
+    match opened(alloc, disk) {
+        Ok(opened) => Ok(opened),
+        Err(fault) => Err(Fail::from(Error::from(fault.cause))),
+    }
+}
+
+/// Makes a file of a new device.
+pub(crate) fn make_file<H: Files<File = File>>(
+    rt: &H,
+    alloc: Global,
+    path: &str,
+) -> Result<(), Fail> {
+    let bytes = bytes_of(alloc, new_device(alloc)?)?;
+    fs::write(rt, path, bytes.as_slice())?;
+    Ok(())
+}
+
+/// The device in a file, opened.
+pub(crate) fn file_opened<H: Files<File = File>>(
+    rt: &H,
+    alloc: Global,
+    path: &str,
+) -> Result<Opened<FileDisk>, Fail> {
+    let disk = FileDisk::open(rt, alloc, path)?;
+    match opened(alloc, disk) {
+        Ok(opened) => Ok(opened),
+        Err(fault) => Err(Fail::from(Error::from(fault.cause))),
+    }
+}

@@ -1,0 +1,150 @@
+//! A house with its two workers, and a session with its only client.
+ghost use Rattle.std.specs.Prelude.{◌≡◌, [], IfOk, IfSome};
+ghost use Rattle.std.specs.Thread.{IsSend, IsSync};
+ghost use Rattle.hpb_house.specs.Boards.{SameBoard};
+ghost use Rattle.hpb_house.specs.Starts.{AreBegun};
+ghost use Rattle.hpb_sessions.specs.Ends.{viewer_of};
+
+use crate::devices::{faulty_opened, new_opened};
+use hpb_disk::Disk;
+use hpb_house::{Halt, House, OpenGate, Started, checkpointer, committer};
+use hpb_recover::Opened;
+use hpb_rings::{Client, Intake};
+use hpb_server::Fault;
+use hpb_sessions::{Session, SessionEnd, run_session};
+use std::alloc::{AllocError, Global};
+use std::io::Write;
+use std::sync::Wait;
+use std::test::Fail;
+use std::thread;
+use std::thread::Threads;
+
+/// How often the session looks for an answer before it sleeps.
+const LOOKS: u32 = 0;
+
+/// What came of a session, and of its house when that was closed.
+#[derive(Clone, Copy, Debug, PartialEq, Eq)]
+pub(crate) struct Outcome {
+    /// What ended the session before the end of its input.
+    pub(crate) fault: Result<(), Fault>,
+    /// How many answers its client took.
+    pub(crate) taken: u64,
+    /// How many commands are accepted in all.
+    pub(crate) count: u32,
+    /// Whether a call of the device has failed.
+    pub(crate) has_failed: bool,
+}
+
+/// Runs a session on these lines beside the two workers of its house, all to their ends.
+fn run_threads<D: Disk + Drop + Send, W: Wait + Drop + Send, R: Threads + Wait + Sync, O: Write>(
+    rt: &R,
+    alloc: Global,
+    house: &House<D, W>,
+    intake: Intake<Halt>,
+    client: Client<Halt>,
+    lines: &str,
+    output: &mut O,
+) -> Result<Session<Halt>, AllocError>
+    requires idle { client.waiting.items ≡ [] }
+    requires same { SameBoard house.now client.viewer }
+    ensures { IfOk result (λ session. SameBoard house.now (viewer_of session.end)) }
+{
+    thread::scope(
+        thread::scope_env(),
+        rt,
+        move |scope| -> Result<Session<Halt>, AllocError>
+            requires cross { IsSend D.row × IsSend W.row × IsSync R.row }
+            requires idle { client.waiting.items ≡ [] }
+            requires same { SameBoard house.now client.viewer }
+            ensures { IfOk result (λ session. SameBoard house.entry.now (viewer_of session.end)) }
+        {
+            let commits = scope.spawn(move || committer(rt, house, intake, &OpenGate))?;
+            let checkpoints = scope.spawn(move || checkpointer(rt, house, &OpenGate))?;
+            let mut input = lines.as_bytes();
+            let session = run_session(rt, alloc, &mut input, output, client, LOOKS);
+            commits.join(rt);
+            checkpoints.join(rt);
+            Ok(session)
+        },
+    )
+}
+
+/// The last of the clients that a house was started with.
+fn last_client<D: Disk + Drop, W: Wait + Drop>(
+    _house: &House<D, W>,
+    clients: Vec<Client<Halt>>,
+) -> Option<Client<Halt>>
+    requires { AreBegun _house.now clients.items 1 }
+    ensures idle { IfSome result (λ client. client.waiting.items ≡ []) }
+    ensures same { IfSome result (λ client. SameBoard _house.now client.viewer) }
+{
+    let mut clients = clients;
+    clients.pop()
+}
+
+/// Closes a house whose only session has ended.
+fn close_house<D: Disk + Drop, W: Wait + Drop>(
+    house: House<D, W>,
+    session: Session<Halt>,
+) -> Result<Outcome, Fail>
+    requires { SameBoard house (viewer_of session.end) }
+{
+    let Session { end, fault } = session;
+    let SessionEnd::Finished(report) = end else {
+        return Err(Fail::new("the client has not finished"));
+    };
+    let taken = report.taken;
+    match house.close(&mut [report]) {
+        Ok(closing) => Ok(Outcome {
+            fault,
+            taken,
+            count: closing.auction.count(),
+            has_failed: closing.has_failed,
+        }),
+        Err(_) => Err(Fail::new("what the client took isn't what was committed")),
+    }
+}
+
+/// Starts a house over what was opened, runs a session on these lines with its only client, and closes it.
+fn run_on_house<D: Disk + Drop + Send, R: Threads + Wait + Sync, O: Write>(
+    rt: &R,
+    alloc: Global,
+    opened: Opened<D>,
+    lines: &str,
+    output: &mut O,
+) -> Result<Outcome, Fail> {
+    let Ok(started) = House::start(rt, alloc, opened, 1) else {
+        return Err(Fail::new("the house was not started"));
+    };
+    let Started {
+        house,
+        intake,
+        clients,
+    } = started;
+    let Some(client) = last_client(&house, clients) else {
+        return Err(Fail::new("the house has no client"));
+    };
+    let session = run_threads(rt, alloc, &house, intake, client, lines, output)?;
+    close_house(house, session)
+}
+
+/// Runs a session on a house over a new device in memory.
+pub(crate) fn run_on_new_device<R: Threads + Wait + Sync, O: Write>(
+    rt: &R,
+    alloc: Global,
+    lines: &str,
+    output: &mut O,
+) -> Result<Outcome, Fail> {
+    run_on_house(rt, alloc, new_opened(alloc)?, lines, output)
+}
+
+/// The same over a device of which one call fails: so many after it was opened, from 1.
+pub(crate) fn run_on_faulty_device<R: Threads + Wait + Sync, O: Write>(
+    rt: &R,
+    alloc: Global,
+    call: u64,
+    lines: &str,
+    output: &mut O,
+) -> Result<Outcome, Fail> {
+    run_on_house(rt, alloc, faulty_opened(alloc, call)?, lines, output)
+}

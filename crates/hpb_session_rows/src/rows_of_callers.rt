@@ -1,0 +1,159 @@
+//! Callers that don't do their part, beside one that does.
+
+use crate::caller::Caller;
+use crate::serving::{Serving, serve_new_device, well};
+use std::alloc::Global;
+use std::io;
+use std::io::{ErrorKind, Write};
+use std::net::{Net, TcpListener, TcpStream};
+use std::sync::Wait;
+use std::test::*;
+use std::thread::Threads;
+use std::time::Duration;
+
+/// Two sessions: an odd caller, and another one.
+struct Two {
+    serving: Serving<Vec<u8>>,
+    odd: Caller,
+    other: Caller,
+}
+
+/// Serves two sessions, and connects two callers.
+fn call_two<
+    H: Net<Listener = TcpListener, Stream = TcpStream>
+        + Threads
+        + Wait
+        + Sync
+        + Send
+        + Copy
+        + 'static,
+>(rt: &H, alloc: Global) -> Result<Two, Fail> {
+    let serving = serve_new_device(rt, alloc, 2, Vec::new(alloc))?;
+    let odd = Caller::connect(rt, alloc, serving.port)?;
+    let other = Caller::connect(rt, alloc, serving.port)?;
+    Ok(Two {
+        serving,
+        odd,
+        other,
+    })
+}
+
+/// What the other caller asks, and what it is answered where it alone has bid.
+const BIDS: [&str; 4] = ["BID y 1 b 150", "SHOW", "BID w 1 c 100", "WHO w"];
+
+const ANSWERS: &str =
+    "OK 1\nROUND 1 STAGE 1 OPEN REVENUE 0 COUNT 1\nOK 2\nWHO w ELIGIBILITY 25 ACTIVITY 20 TICKET 1\n";
+
+/// The most lines that are sent until no more are taken, in thousands.
+const MOST_THOUSANDS: u32 = 40_000;
+
+/// For how many milliseconds nothing is taken of a caller, until its session is held to be stuck.
+const STUCK: u64 = 500;
+
+/// Sends `SHOW` lines and reads nothing, until no more are taken: `false` where the most are.
+fn fill(caller: &Caller) -> io::Result<bool> {
+    let mut stream = caller.stream();
+    stream.set_write_timeout(Some(Duration::from_millis(STUCK)))?;
+    let lines = [*b"SHOW\n"; 1_000];
+    for _ in 0..MOST_THOUSANDS {
+        match stream.write(lines.as_flattened()) {
+            Ok(_) => {}
+            Err(error) if error.kind() == ErrorKind::WouldBlock => return Ok(true),
+            Err(error) => return Err(error),
+        }
+    }
+    Ok(false)
+}
+
+#[test]
+fn client_that_never_reads(rt: HostRuntime) -> Result<(), Fail> {
+    let Two {
+        serving,
+        odd,
+        mut other,
+    } = call_two(&rt, rt.alloc())?;
+    assert!(rt; fill(&odd)?);
+    assert_eq!(rt; other.ask(&BIDS)?.as_str(), ANSWERS);
+    assert_eq!(rt; other.end()?.as_str(), "");
+    drop(odd);
+    assert_eq!(rt; serving.ended(&rt)?.served, well(2));
+    Ok(())
+}
+
+#[test]
+fn half_a_line_that_stays(rt: HostRuntime) -> Result<(), Fail> {
+    let Two {
+        serving,
+        mut odd,
+        mut other,
+    } = call_two(&rt, rt.alloc())?;
+    odd.send(b"BID x 1 a")?;
+    assert_eq!(rt; other.ask(&BIDS)?.as_str(), ANSWERS);
+    odd.send(b" 100\nBID x 2 a")?;
+    assert_eq!(rt; odd.answer()?.as_str(), "OK 3\n");
+    assert_eq!(rt; odd.end()?.as_str(), "ERR 10 line\n");
+    assert_eq!(rt;
+        other.ask(&["SHOW"])?.as_str(),
+        "ROUND 1 STAGE 1 OPEN REVENUE 0 COUNT 3\n"
+    );
+    assert_eq!(rt; other.end()?.as_str(), "");
+    assert_eq!(rt; serving.ended(&rt)?.served, well(3));
+    Ok(())
+}
+
+/// Half of a million bytes.
+const HALF: usize = 500_000;
+
+#[test]
+fn million_bytes_without_line_feed(rt: HostRuntime) -> Result<(), Fail> {
+    let Two {
+        serving,
+        mut odd,
+        mut other,
+    } = call_two(&rt, rt.alloc())?;
+    let half = vec![in rt.alloc(); b'a'; HALF]?;
+    odd.send(&half)?;
+    assert_eq!(rt; other.ask(&BIDS)?.as_str(), ANSWERS);
+    odd.send(&half)?;
+    odd.send(b"\nBID x 1 a 100\n")?;
+    assert_eq!(rt; odd.answer()?.as_str(), "ERR 10 line\n");
+    assert_eq!(rt; odd.answer()?.as_str(), "OK 3\n");
+    assert_eq!(rt; odd.end()?.as_str(), "");
+    assert_eq!(rt; other.end()?.as_str(), "");
+    assert_eq!(rt; serving.ended(&rt)?.served, well(3));
+    Ok(())
+}
+
+#[test]
+fn client_that_resets(rt: HostRuntime) -> Result<(), Fail> {
+    let Two {
+        serving,
+        odd,
+        mut other,
+    } = call_two(&rt, rt.alloc())?;
+    odd.send(b"BID x 1 a 100\nSHOW\n")?;
+    assert_eq!(rt; odd.stream().peek(&mut [0; 1])?, 1);
+    // What it was answered is not read: so its connection is reset.
+    drop(odd);
+    assert_eq!(rt;
+        other.ask(&["SHOW", "BID y 1 b 150"])?.as_str(),
+        "ROUND 1 STAGE 1 OPEN REVENUE 0 COUNT 1\nOK 2\n"
+    );
+    assert_eq!(rt; other.end()?.as_str(), "");
+    assert_eq!(rt; serving.ended(&rt)?.served, well(2));
+    Ok(())
+}
+
+#[test]
+fn client_that_says_nothing(rt: HostRuntime) -> Result<(), Fail> {
+    let Two {
+        serving,
+        odd,
+        mut other,
+    } = call_two(&rt, rt.alloc())?;
+    assert_eq!(rt; other.ask(&BIDS)?.as_str(), ANSWERS);
+    assert_eq!(rt; other.end()?.as_str(), "");
+    assert_eq!(rt; odd.end()?.as_str(), "");
+    assert_eq!(rt; serving.ended(&rt)?.served, well(2));
+    Ok(())
+}

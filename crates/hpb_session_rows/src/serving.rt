@@ -1,0 +1,157 @@
+//! Sessions over connections, served by a thread of its own.
+ghost use Rattle.std.specs.Prelude.{◌≤◌};
+ghost use Rattle.std.specs.Thread.{IsSend, IsSync};
+
+use crate::devices::{faulty_opened, file_opened, new_opened};
+use hpb_disk::Disk;
+use hpb_recover::Opened;
+use hpb_serve::{ServeFault, Served, serve_opened};
+use std::alloc::Global;
+use std::fs::{File, Files};
+use std::io::Write;
+use std::net::{Ipv4Addr, Net, TcpListener, TcpStream};
+use std::sync::atomic::{AtomicBool, Ordering};
+use std::sync::{Arc, Wait};
+use std::test::Fail;
+use std::thread;
+use std::thread::{JoinHandle, Threads};
+use std::time::{Clock, Duration};
+
+/// How often a flag is looked at at most, and how many milliseconds lie between two looks.
+const TRIES: u32 = 2_000;
+
+const PAUSE: u64 = 10;
+
+/// Waits until a flag is up: `false` where it isn't after the most tries.
+pub(crate) fn goes_up<H: Clock>(rt: &H, flag: &AtomicBool) -> bool {
+    for _ in 0..TRIES {
+        if flag.load(Ordering::SeqCst) {
+            return true;
+        }
+        thread::sleep(rt, Duration::from_millis(PAUSE));
+    }
+    false
+}
+
+/// What serving came to, and its output.
+#[derive(Drop)]
+pub(crate) struct Ended<W: Drop> {
+    pub(crate) served: Result<Served, ServeFault>,
+    pub(crate) output: W,
+}
+
+/// What it comes to where so many commands are accepted in all, and no call of the device has failed.
+pub(crate) fn well(count: u32) -> Result<Served, ServeFault> {
+    Ok(Served {
+        count,
+        has_failed: false,
+    })
+}
+
+/// Sessions that are served.
+#[derive(Drop)]
+pub(crate) struct Serving<W: Drop> {
+    pub(crate) port: u16,
+    thread: JoinHandle<Ended<W>>,
+    has_ended: Arc<AtomicBool, Global>,
+}
+
+impl<W: Drop> Serving<W> {
+    /// What it came to, once all sessions have ended. Fails where they haven't after the most tries.
+    pub(crate) fn ended<H: Threads + Clock>(self, rt: &H) -> Result<Ended<W>, Fail> {
+        let Serving {
+            thread,
+            has_ended,
+            ..
+        } = self;
+        if goes_up(rt, &has_ended) {
+            Ok(thread.join(rt))
+        } else {
+            Err(Fail::new("the sessions have not ended"))
+        }
+    }
+}
+
+/// Serves so many sessions with what was opened, at a port that nobody else has.
+fn serve_over<
+    H: Net<Listener = TcpListener, Stream = TcpStream>
+        + Threads
+        + Wait
+        + Sync
+        + Send
+        + Copy
+        + 'static,
+    D: Disk + Drop + Send + 'static,
+    W: Write + Drop + Send + 'static,
+>(rt: &H, alloc: Global, opened: Opened<D>, sessions: u8, output: W) -> Result<Serving<W>, Fail>
+    requires { (1 ≤ sessions) × (sessions ≤ 32) }
+{
+    let listener = TcpListener::bind(rt, (Ipv4Addr::LOCALHOST, 0))?;
+    let port = listener.local_addr()?.port();
+    let has_ended = Arc::new(alloc, AtomicBool::new(false))?;
+    let is_over = Arc::try_clone(&has_ended)?;
+    let own = *rt;
+    let thread = thread::spawn(
+        rt,
+        move || -> Ended<W>
+            requires cross { IsSend D.row × IsSync H.row }
+            requires sessions { (1 ≤ sessions) × (sessions ≤ 32) }
+        {
+            let mut output = output;
+            let served = serve_opened(&own, alloc, opened, listener, port, sessions, &mut output);
+            is_over.store(true, Ordering::SeqCst);
+            Ended { served, output }
+        },
+    )?;
+    Ok(Serving {
+        port,
+        thread,
+        has_ended,
+    })
+}
+
+/// Serves so many sessions with a new device in memory.
+pub(crate) fn serve_new_device<
+    H: Net<Listener = TcpListener, Stream = TcpStream>
+        + Threads
+        + Wait
+        + Sync
+        + Send
+        + Copy
+        + 'static,
+    W: Write + Drop + Send + 'static,
+>(rt: &H, alloc: Global, sessions: u8, output: W) -> Result<Serving<W>, Fail>
+    requires { (1 ≤ sessions) × (sessions ≤ 32) }
+{
+    serve_over(rt, alloc, new_opened(alloc)?, sessions, output)
+}
+
+/// Serves two sessions with a new device in memory of which one call fails: so many after it was opened, from 1.
+pub(crate) fn serve_faulty_device<
+    H: Net<Listener = TcpListener, Stream = TcpStream>
+        + Threads
+        + Wait
+        + Sync
+        + Send
+        + Copy
+        + 'static,
+>(rt: &H, alloc: Global, call: u64) -> Result<Serving<Vec<u8>>, Fail> {
+    serve_over(rt, alloc, faulty_opened(alloc, call)?, 2, Vec::new(alloc))
+}
+
+/// Serves so many sessions with the device in a file.
+pub(crate) fn serve_file<
+    H: Files<File = File>
+        + Net<Listener = TcpListener, Stream = TcpStream>
+        + Threads
+        + Wait
+        + Sync
+        + Send
+        + Copy
+        + 'static,
+>(rt: &H, alloc: Global, path: &str, sessions: u8) -> Result<Serving<Vec<u8>>, Fail>
+    requires { (1 ≤ sessions) × (sessions ≤ 32) }
+{
+    let opened = file_opened(rt, alloc, path)?;
+    serve_over(rt, alloc, opened, sessions, Vec::new(alloc))
+}
