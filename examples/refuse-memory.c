@@ -6,6 +6,8 @@
 #include <stddef.h>
 #include <stdio.h>
 #include <stdlib.h>
+#include <sys/syscall.h>
+#include <unistd.h>
 
 static long requests;
 
@@ -44,4 +46,10 @@ __attribute__((destructor)) static void tell(void) {
         fprintf(file, "%ld\n", made);
         fclose(file);
     }
+}
+
+/* A program that may start threads ends by this call, and then nothing else is called at its end. */
+void _exit(int status) {
+    tell();
+    for (;;) syscall(SYS_exit_group, status);
 }
