@@ -32,3 +32,6 @@ multiple_least a r s q some e below h =
 
 pub share_law : (d k i r : ℕ) → i < k → r ≡ share d k i → (xs : List ℕ) → IsShares d k xs → r ≡ get_or xs i 0
 share_law d k i r h e xs a = e ∙ sym (ap (λ ys. get_or ys i 0) ((shares_are_one d k (omega arith)).1 xs a) ∙ share_at d k i h)
+
+pub share_most : (d k i : ℕ) → i < k → share d k i ≤ d
+share_most d k i h = grind (arith, div-add-mod' d k, mul-le-mul (le_refl (d / k)) (let some : 1 ≤ k = omega arith in some))

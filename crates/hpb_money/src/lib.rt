@@ -4,6 +4,10 @@
 ghost use Rattle.std.specs.Prelude.{◌≡◌, ℕ, ◌+◌, ◌*◌, ◌^◌, ◌<◌, ◌≤◌, List, slice_index};
 ghost use Rattle.hpb_rules.specs.Prices.{IsShares, share};
 
+mod shares;
+
+pub use shares::Shares;
+
 /// An amount in whole dollars: 0 to `MOST_DOLLARS` in an auction. The type itself holds all numbers of 64 bits.
 pub type Dollars = u64;
 
@@ -32,7 +36,11 @@ pub fn round_up(amount: Dollars, step: u64) -> Dollars
     ensures least { (q : ℕ) → amount ≤ q * step → result ≤ q * step }
     ensures most { result < amount + step }
 {
-    amount.next_multiple_of(step)
+    if step == 1 {
+        amount
+    } else {
+        amount.next_multiple_of(step)
+    }
 }
 
 /// What falls to one of `count` when dollars are shared out as evenly as whole dollars allow: the first
@@ -43,11 +51,7 @@ pub fn share(dollars: Dollars, count: u64, place: u64) -> Dollars
     ensures law { (xs : List ℕ) → IsShares dollars count xs → result ≡ slice_index xs place }
     ensures most { result ≤ dollars }
 {
-    if place < dollars % count {
-        dollars / count + 1
-    } else {
-        dollars / count
-    }
+    Shares::of(dollars, count).at(place)
 }
 
 #[cfg(test)]

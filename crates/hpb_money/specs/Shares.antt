@@ -1,0 +1,15 @@
+-- Dollars that are shared out.
+use Rattle.std.specs.Prelude.{ℕ, ◌+◌, ◌/◌, ◌%◌, cond, nat_lt}
+
+-- What each gets, and how many get one more.
+pub record SharesView : Type 0 where
+  pub each : ℕ
+  pub more : ℕ
+
+-- Dollars shared out among so many.
+abbrev pub shared : ℕ → ℕ → SharesView
+shared dollars count = record { each = dollars / count; more = dollars % count }
+
+-- What falls to the one at a place: the first get one more.
+abbrev pub part : SharesView → ℕ → ℕ
+part shares place = shares.each + cond (nat_lt place shares.more) 1 0

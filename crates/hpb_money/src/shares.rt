@@ -1,0 +1,64 @@
+ghost use Rattle.std.specs.Prelude.{◌≡◌, ◌<◌};
+ghost use Rattle.hpb_money.specs.Shares.{part, shared};
+
+use crate::Dollars;
+use std::marker::Model;
+
+/// Dollars that are shared out: each gets so much, and the first few get one dollar more.
+#[derive(Clone, Copy, Debug)]
+pub struct Shares {
+    each: Dollars,
+    /// How many get one more.
+    more: u64,
+}
+
+impl Model for Shares {
+    ghost use Rattle.hpb_money.specs.Shares.{SharesView};
+
+    ghost Value = { SharesView };
+
+    ghost use Rattle.hpb_money.specs.Inside.{shares_inside, shares_view, HasRoom};
+
+    ghost view = { shares_view };
+
+    ghost invariant = { HasRoom };
+
+    ghost inverse = { shares_inside };
+}
+
+impl Shares {
+    /// Nothing is shared out.
+    pub fn none() -> Shares
+        ensures { result ≡ record { each = 0; more = 0 } }
+    {
+        Shares { each: 0, more: 0 }
+    }
+
+    /// Dollars shared out among so many as evenly as whole dollars allow. Fewer dollars than that need no division.
+    pub fn of(dollars: Dollars, count: u64) -> Shares
+        requires { 0 < count }
+        ensures { result ≡ shared dollars count }
+    {
+        if dollars < count {
+            return Shares {
+                each: 0,
+                more: dollars,
+            };
+        }
+        Shares {
+            each: dollars / count,
+            more: dollars % count,
+        }
+    }
+
+    /// What falls to the one at a place, from 0.
+    pub fn at(self, place: u64) -> Dollars
+        ensures { result ≡ part self place }
+    {
+        if place < self.more {
+            self.each + 1
+        } else {
+            self.each
+        }
+    }
+}
