@@ -1,5 +1,5 @@
 -- What follows for rules that are not refused.
-use Rattle.std.proofs.Common.{zero, suc, ◌≡◌, ℕ, ◌<◌, ◌≤◌, Bool, true, false, not, List, [], ◌∷◌, length, get_or, Option, Some, None, refl, ap, ◌∙◌, arith}
+use Rattle.std.proofs.Common.{zero, suc, ◌≡◌, ℕ, ◌<◌, ◌≤◌, Bool, true, false, not, List, [], ◌∷◌, map, length, get_or, Option, Some, None, refl, ap, ◌∙◌, arith}
 use Rattle.std.specs.List.{list_any, slice_get}
 use Rattle.std.proofs.lemmas.Bool.{or_parts, not-false, and_parts, leb-true, ltb-false, both_ways, false_from_ne_true}
 use Rattle.std.proofs.lemmas.List.{length-map, get_or-map}
@@ -17,10 +17,13 @@ use Rattle.hpb_tree.specs.declared.tree.TreeNode.{TreeNode}
 use Rattle.hpb_tree.specs.declared.draft.Draft.{Draft}
 use Rattle.hpb_tree.specs.declared.draft.BidderDraft.{BidderDraft}
 use Rattle.hpb_tree.specs.Draft.{rules_of, bidder_said, bidders_said}
+use Rattle.hpb_tree.specs.Keys.{key_of}
+use Rattle.hpb_tree.specs.declared.key.NameKey.{NameKey}
 use Rattle.hpb_tree.specs.Licences.{licence_count}
 use Rattle.hpb_tree.specs.Inside.{nodes_inside, IsSummed, IsChecked}
 use Rattle.hpb_tree.specs.Sound.{AreSound}
 use Rattle.hpb_tree.proofs.ByPlace.{count_is, any_over_terms}
+use Rattle.hpb_tree.proofs.Keys.{AreBytes, found_by_key}
 use Rattle.hpb_tree.proofs.Twice.{found_at}
 use Rattle.hpb_tree.proofs.Sound.{is_tree}
 use Rattle.hpb_tree.proofs.Views.{length-nodes_inside}
@@ -163,3 +166,12 @@ module _ (d : Rules) (a : Accepted d) where
   bidder_found k h =
       let b : Bidder = record { name = []; units = 0 } in
       ap (bidder_named d) (named_bidder d.bidders k b h) ∙ found_at (λ (c : Bidder). c.name) d.bidders k b (or_parts _ _ a.duplicate).1 h
+
+  -- the one whose key stands at a place is found there
+  pub node_by_key : (keys : List NameKey) (place : ℕ) (name : List ℕ) → keys ≡ map (λ (n : Node). key_of n.name) d.nodes → AreBytes name
+      → slice_get keys place ≡ Some (key_of name) → (node_named d name ≡ Some place) × (place < length d.nodes)
+  node_by_key keys place name e = found_by_key (λ (n : Node). n.name) d.nodes keys place name e (λ k n h. not-false _ (all_fail (λ (m : Node). not (is_name m.name)) d.nodes (or_parts _ _ a.name).0 k n h)) (or_parts _ _ a.duplicate).0
+
+  pub bidder_by_key : (keys : List NameKey) (place : ℕ) (name : List ℕ) → keys ≡ map (λ (b : Bidder). key_of b.name) d.bidders → AreBytes name
+      → slice_get keys place ≡ Some (key_of name) → (bidder_named d name ≡ Some place) × (place < length d.bidders)
+  bidder_by_key keys place name e = found_by_key (λ (b : Bidder). b.name) d.bidders keys place name e (λ k b h. not-false _ (all_fail (λ (c : Bidder). not (is_name c.name)) d.bidders (or_parts _ _ a.name).1 k b h)) (or_parts _ _ a.duplicate).1

@@ -2,6 +2,7 @@
 use Rattle.std.specs.Prelude.{◌≡◌, List, map, None, string_bytes}
 use Rattle.hpb_rules.specs.Drafts.{draft_refusal}
 use Rattle.hpb_rules.specs.Tree.{Rules, Bidder}
+use Rattle.hpb_tree.specs.Keys.{key_of}
 use Rattle.hpb_tree.specs.declared.definition.Bidder.{Bidder as Entry}
 use Rattle.hpb_tree.specs.declared.definition.Definition.TheInside.{Inside}
 
@@ -23,6 +24,8 @@ rules_view d = record {
   bidders = bidders_view d.bidders.items;
 }
 
--- A definition isn't refused.
-abbrev pub IsDefined : Inside → Type 0
-IsDefined d = draft_refusal (rules_view d) ≡ None
+-- A definition isn't refused, and the keys are those of its names, in their order.
+pub record IsDefined (d : Inside) : Type 0 where
+  pub accepted : draft_refusal (rules_view d) ≡ None
+  pub node_keys : d.node_hints.keys.items ≡ map (λ node. key_of node.name) (rules_view d).nodes
+  pub bidder_keys : d.bidder_hints.keys.items ≡ map (λ bidder. key_of bidder.name) (rules_view d).bidders

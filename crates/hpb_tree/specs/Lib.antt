@@ -1,3 +1,4 @@
+pub mod Keys
 pub mod Licences
 pub mod Inside
 pub mod Definition

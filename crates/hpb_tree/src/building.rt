@@ -11,6 +11,7 @@ ghost use Rattle.hpb_tree.specs.Sound.{AreSound};
 
 use crate::definition::{Bidder, Definition};
 use crate::draft::{BidderDraft, Draft, NodeDraft};
+use crate::hints::Hints;
 use crate::outline::{children_before, parent_at, terms_at};
 use crate::summing::{licences, sums};
 use crate::tree::{Tree, TreeNode};
@@ -25,10 +26,14 @@ pub(crate) fn build(alloc: Global, draft: &Draft) -> Result<Definition, AllocErr
     let tree = build_tree(alloc, draft)?;
     let stages = build_stages(alloc, draft.stages.as_slice())?;
     let bidders = build_bidders(alloc, draft.bidders.as_slice())?;
+    let node_hints = Hints::new(alloc, draft.nodes.as_slice())?;
+    let bidder_hints = Hints::new(alloc, draft.bidders.as_slice())?;
     Ok(Definition {
         tree,
         stages,
         bidders,
+        node_hints,
+        bidder_hints,
     })
 }
 

@@ -6,6 +6,7 @@ ghost use Rattle.hpb_rules.specs.Lines.{node_named, bidder_named};
 ghost use Rattle.hpb_rules.specs.Units.{bidder_units};
 ghost use Rattle.hpb_tree.specs.Definition.{bidders_view};
 
+use crate::hints::Hints;
 use crate::named::place_named;
 use crate::tree::Tree;
 use hpb_rules::{
@@ -28,6 +29,8 @@ pub struct Definition {
     pub(crate) tree: Tree,
     pub(crate) stages: Vec<u8>,
     pub(crate) bidders: Vec<Bidder>,
+    pub(crate) node_hints: Hints,
+    pub(crate) bidder_hints: Hints,
 }
 
 impl Model for Definition {
@@ -50,10 +53,14 @@ impl Definition {
         let tree = self.tree.copy(alloc)?;
         let stages = self.stages.as_slice().to_vec(alloc)?;
         let bidders = copy_bidders(alloc, self.bidders.as_slice())?;
+        let node_hints = self.node_hints.copy(alloc)?;
+        let bidder_hints = self.bidder_hints.copy(alloc)?;
         Ok(Definition {
             tree,
             stages,
             bidders,
+            node_hints,
+            bidder_hints,
         })
     }
 
@@ -163,15 +170,31 @@ impl Definition {
     }
 
     /// The node with a name, if one has it.
+    #[inline(always)]
     pub fn find_node(&self, name: &[u8]) -> Option<NodeId>
         ensures value { result ≡ node_named self.now name.now }
         ensures within { IfSome result (λ n. n < length self.now.nodes) }
     {
-        self.tree.find_node(name)
+        match self.node_hints.find(name) {
+            Some(place) => Some(NodeId::new(place)),
+            None => self.tree.find_node(name),
+        }
     }
 
     /// The bidder with a name, if one has it.
+    #[inline(always)]
     pub fn find_bidder(&self, name: &[u8]) -> Option<BidderId>
+        ensures value { result ≡ bidder_named self.now name.now }
+        ensures within { IfSome result (λ b. b < length self.now.bidders) }
+    {
+        match self.bidder_hints.find(name) {
+            Some(place) => Some(BidderId::new(place)),
+            None => self.search_bidder(name),
+        }
+    }
+
+    /// The bidder with a name, if one has it, sought from the first on.
+    fn search_bidder(&self, name: &[u8]) -> Option<BidderId>
         ensures value { result ≡ bidder_named self.now name.now }
         ensures within { IfSome result (λ b. b < length self.now.bidders) }
     {

@@ -6,6 +6,8 @@ mod checking;
 mod definition;
 mod draft;
 mod fault;
+mod hints;
+mod key;
 mod named;
 mod outline;
 mod summing;

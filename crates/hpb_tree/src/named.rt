@@ -55,7 +55,9 @@ impl Named for Bidder {
     }
 }
 
-/// The place of the first item with a name, if one has it.
+/// The place of the first item with a name, if one has it. Names are sought so where no hint leads to them.
+#[cold]
+#[inline(never)]
 pub(crate) fn place_named<T: Named>(items: &[T], name: &[u8]) -> Option<usize>
     ensures value { result ≡ position (λ item. bytes_eq (T.named item) name.now) items.now }
     ensures within { IfSome result (λ place. place < length items.now) }

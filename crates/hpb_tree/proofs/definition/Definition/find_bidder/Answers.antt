@@ -1,25 +1,15 @@
-use Rattle.std.proofs.Common.{length, sym, ap, ◌∙◌, Some, arith}
-use Rattle.std.specs.List.{position}
-use Rattle.std.specs.Str.{bytes_eq}
-use Rattle.hpb_rules.specs.Tree.{Rules, Bidder}
-use Rattle.hpb_tree.proofs.Kept.{Kept, kept}
-use Rattle.hpb_tree.proofs.Found.{bidder_position}
+use Rattle.std.proofs.Common.{Some, ap, ◌∙◌, sym, arith}
+use Rattle.hpb_tree.proofs.Accepted.{most_bidders}
+use Rattle.hpb_tree.proofs.Kept.{accepted_value, bidder_hinted}
 use Rattle.hpb_tree.proofs.definition.Definition.find_bidder.Goals as goal
-
-pub returns-in-Some-clause-value : goal.returns-in-Some-clause-value
-returns-in-Some-clause-value c =
-    ap Some c.new.ensures
-    ∙ rw c.as_slice.ensures.value at c.in-Some.ensures.value
-    ∙ sym (bidder_position c.self.inside.bidders.items c.args.name.now)
-    ∙ ap (λ (r : Rules). position (λ (x : Bidder). bytes_eq x.name c.args.name.now) r.bidders) c.self.view_is
-
-pub returns-in-None-clause-value : goal.returns-in-None-clause-value
-returns-in-None-clause-value c =
-    rw c.as_slice.ensures.value at c.in-None.ensures.value
-    ∙ sym (bidder_position c.self.inside.bidders.items c.args.name.now)
-    ∙ ap (λ (r : Rules). position (λ (x : Bidder). bytes_eq x.name c.args.name.now) r.bidders) c.self.view_is
 
 pub new-requires : goal.new-requires
 new-requires c =
-    let facts : Kept c.self.inside = kept c.self.inside c.self.invariant in
-    omega (arith, c.in-Some.ensures.within, ap length c.as_slice.ensures.value)
+    let rules = c.args.self.now in
+    let found = bidder_hinted c.self.inside rules c.self.invariant c.self.view_is c.in-Some.place c.args.name.now (λ i. omega (arith, c.type_inv.name i)) c.in-Some.ensures in
+    omega (arith, found.1, most_bidders rules (accepted_value c.self.inside rules c.self.invariant c.self.view_is))
+
+pub returns-in-Some : goal.returns-in-Some
+returns-in-Some c =
+    let found = bidder_hinted c.self.inside c.args.self.now c.self.invariant c.self.view_is c.in-Some.place c.args.name.now (λ i. omega (arith, c.type_inv.name i)) c.in-Some.ensures in
+    record { value = ap Some c.new.ensures ∙ sym found.0; within = omega (arith, c.new.ensures, found.1) }

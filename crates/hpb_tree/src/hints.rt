@@ -1,0 +1,74 @@
+ghost use Rattle.std.specs.Prelude.{◌≡◌, ◌<◌, ◌≤◌, All, IfOk, IfSome, Some, length, map, slice_get};
+ghost use Rattle.hpb_rules.specs.declared.limits.TheConstants.{MOST_NODES};
+ghost use Rattle.hpb_tree.specs.Keys.{key_of};
+ghost use Rattle.hpb_tree.specs.declared.hints.TheConstants.{HINTS};
+
+use crate::key::NameKey;
+use crate::named::Named;
+use std::alloc::{AllocError, Global};
+
+/// How many hints there are: many more than names, so that few names share one.
+const HINTS: usize = 4096;
+
+/// An odd number with mixed bits: the highest bits of a product with it depend on each bit of a key. Under this one
+/// names that end in numbers seldom share a hint.
+const MIXED: u64 = 0xd0e1_ee28_c676_6bfd;
+
+/// For each name a place where it may stand, and for each place the key of the name that stands there.
+#[derive(Debug, Drop)]
+pub(crate) struct Hints {
+    places: Vec<u8>,
+    pub(crate) keys: Vec<NameKey>,
+    ghost size: { length places.items ≡ HINTS },
+    ghost within: { All (λ place. place < length keys.items) places.items },
+}
+
+impl Hints {
+    /// Hints at the places of items. Where two names share a hint, it is the later one's.
+    pub(crate) fn new<T: Named>(alloc: Global, items: &[T]) -> Result<Hints, AllocError>
+        requires some { 0 < length items.now }
+        requires most { length items.now ≤ MOST_NODES }
+        ensures { IfOk result (λ hints. hints.keys.items ≡ map (λ item. key_of (T.named item)) items.now) }
+    {
+        let mut places = vec![in alloc; 0; HINTS]?;
+        let mut keys = Vec::with_capacity(alloc, items.len())?;
+        for (place, item) in items.iter().enumerate() {
+            let key = NameKey::of(item.name().as_bytes());
+            places[hint_of(key)] = place as u8;
+            keys.push(key)?;
+        }
+        Ok(Hints { places, keys })
+    }
+
+    /// The same hints once more.
+    pub(crate) fn copy(&self, alloc: Global) -> Result<Hints, AllocError>
+        ensures { IfOk result (λ hints. hints.keys.items ≡ self.now.keys.items) }
+    {
+        let places = self.places.as_slice().to_vec(alloc)?;
+        let keys = self.keys.as_slice().to_vec(alloc)?;
+        Ok(Hints { places, keys })
+    }
+
+    /// The place that is hinted at, if the name that stands there is the one sought.
+    #[inline(always)]
+    pub(crate) fn find(&self, name: &[u8]) -> Option<usize>
+        ensures { IfSome result (λ place. slice_get self.now.keys.items place ≡ Some (key_of name.now)) }
+    {
+        let key = NameKey::of(name);
+        let place = usize::from(self.places[hint_of(key)]);
+        if self.keys[place] == key {
+            Some(place)
+        } else {
+            None
+        }
+    }
+}
+
+/// Which of the hints is a key's: the highest 12 bits of a product.
+#[inline(always)]
+fn hint_of(key: NameKey) -> usize
+    ensures { result < HINTS }
+{
+    let folded = key.first.wrapping_add(key.rest.wrapping_mul(MIXED));
+    (folded.wrapping_mul(MIXED) >> 52) as usize
+}
