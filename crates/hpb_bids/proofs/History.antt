@@ -43,7 +43,7 @@ folded_are_books {old = old} {new = new} sized e past t h = subst (λ v. AreBook
   bids = λ b n k l. no_bit _ n (zero_left old.bids b);
 })
 
-bit_more : (x n m : ℕ) → (bit_at (bit_or x (2 ^ n)) m == 1) ≡ ((n == m) || (bit_at x m == 1))
+pub bit_more : (x n m : ℕ) → (bit_at (bit_or x (2 ^ n)) m == 1) ≡ ((n == m) || (bit_at x m == 1))
 bit_more x n m = ⊎_elim
     (λ e. subst (λ k. (bit_at (bit_or x (2 ^ n)) k == 1) ≡ ((n == k) || (bit_at x k == 1))) e
     (eq-eqb (bit_at (bit_or x (2 ^ n)) n) 1 (omega (arith, bit_at_or x (2 ^ n) n, bit_at-pow_same n, bit_at-lt x n)) ∙ sym (ap (λ b. b || (bit_at x n == 1)) (eq-eqb n n refl))))

@@ -1,8 +1,8 @@
 -- The books of the code as definitions see them.
-use Rattle.std.specs.Prelude.{◌≡◌, ℕ, ◌≤◌, List, map, length, Some, None, IfSome, All}
+use Rattle.std.specs.Prelude.{◌≡◌, ℕ, ◌≤◌, Bool, nat_lt, List, map, length, Some, None, IfSome, All}
 use Rattle.hpb_rules.specs.declared.limits.TheConstants.{MOST_BIDDERS, MOST_NODES, MOST_AMOUNT}
 use Rattle.hpb_rules.specs.declared.command.Offer.{Offer}
-use Rattle.hpb_rules.specs.History.{greater}
+use Rattle.hpb_rules.specs.History.{amount_of, greater}
 use Rattle.hpb_bids.specs.View.{BooksView}
 use Rattle.hpb_bids.specs.declared.books.NodeBids.{NodeBids}
 use Rattle.hpb_bids.specs.declared.books.Books.TheInside.{Inside}
@@ -37,3 +37,7 @@ received n o = record { standing = n.standing; incoming = greater n.incoming (So
 -- The bids on a node after a close.
 abbrev pub closed : NodeBids → NodeBids
 closed n = record { standing = greater n.standing n.incoming; incoming = None }
+
+-- Whether the best bid of the open round is more than the high bid.
+abbrev pub is_raised : NodeBids → Bool
+is_raised n = nat_lt (amount_of n.standing) (amount_of n.incoming)

@@ -1,9 +1,10 @@
 -- What the books stand for.
-use Rattle.std.specs.Prelude.{length, ◌≤◌, ◌≡◌, ℕ, ◌^◌, Bool, ◌==◌, List, [], ◌∷◌, map, Option, Some, None, IfSome, slice_index, slice_index_or, slice_set, bit_or}
+use Rattle.std.specs.Prelude.{length, ◌≤◌, ◌≡◌, ◌≢◌, ℕ, ◌^◌, Bool, true, false, ◌==◌, List, [], ◌∷◌, map, Option, Some, None, IfSome, slice_index, slice_index_or, slice_set, bit_or}
 use Rattle.std.specs.Int.{bit_at}
 use Rattle.hpb_rules.specs.declared.command.Offer.{Offer}
 use Rattle.hpb_rules.specs.declared.limits.TheConstants.{MOST_BIDDERS, MOST_NODES, MOST_AMOUNT}
 use Rattle.hpb_rules.specs.History.{amount_of, greater}
+use Rattle.hpb_rules.specs.Saved.{has_bit}
 
 -- Of each node the high bid of closed rounds and the greatest of the open round, and of each bidder the nodes on which it bid in the open round: bit n of its number is for node n.
 pub record BooksView : Type 0 where
@@ -57,6 +58,11 @@ folded books = record {
   incoming = map (λ _. None) books.incoming;
   bids = map (λ _. 0) books.bids;
 }
+
+-- The bits of a mask are for exactly the nodes whose high bid is another than it was.
+pub record AreChanged (old new : BooksView) (mask : ℕ) : Type 0 where
+  pub changed : (n : ℕ) → has_bit mask n ≡ true → offer_at new.standing n ≢ offer_at old.standing n
+  pub same : (n : ℕ) → has_bit mask n ≡ false → offer_at new.standing n ≡ offer_at old.standing n
 
 -- Nobody bid in the open round.
 abbrev pub IsQuiet : BooksView → Type 0

@@ -2,7 +2,7 @@ ghost use Rattle.std.specs.Prelude.{ℕ, List, [], ◌∷◌, ◌≡◌, ◌≤�
 ghost use Rattle.hpb_rules.specs.declared.command.Command.{Command};
 ghost use Rattle.hpb_rules.specs.declared.command.Command.TheVariants.{Bid, Close};
 ghost use Rattle.hpb_rules.specs.History.{amount_of, greater};
-ghost use Rattle.hpb_bids.specs.View.{offer_at, bid_of, no_bid, has_bid, placed, folded, IsBooks, IsQuiet, IsEmpty};
+ghost use Rattle.hpb_bids.specs.View.{offer_at, bid_of, no_bid, has_bid, placed, folded, AreChanged, IsBooks, IsQuiet, IsEmpty};
 ghost use Rattle.hpb_bids.specs.Past.{AreBooksOf};
 
 use hpb_rules::{BidderId, MOST_AMOUNT, MOST_BIDDERS, MOST_NODES, NodeId, Offer};
@@ -26,7 +26,7 @@ pub struct Books {
 }
 
 impl NodeBids {
-    ghost use Rattle.hpb_bids.specs.Inside.{received, closed};
+    ghost use Rattle.hpb_bids.specs.Inside.{received, closed, is_raised};
 
     /// Takes a bid in the open round: it becomes the best where it is more than that.
     fn receive(&mut self, offer: Offer)
@@ -45,6 +45,13 @@ impl NodeBids {
         if amount_or_zero(&self.standing) < amount_or_zero(&incoming) {
             self.standing = incoming;
         }
+    }
+
+    /// Whether the round's best bid is more than what stands: a close then changes the high bid.
+    fn is_raised(&self) -> bool
+        ensures { result ≡ is_raised self.now }
+    {
+        amount_or_zero(&self.standing) < amount_or_zero(&self.incoming)
     }
 }
 
@@ -150,18 +157,25 @@ impl Books {
         self.bids[bidder.place()] |= 1 << index;
     }
 
-    /// Closes the round: what was bid in it counts from now on, and the next round has no bid.
-    pub fn fold_round(&mut self)
+    /// Closes the round: what was bid in it counts from now on, and the next round has no bid. Answers the
+    /// nodes whose high bid changed: bit n is for node n.
+    pub fn fold_round(&mut self) -> u128
+        ensures changed { AreChanged self.old self.new result }
         ensures value { self.new ≡ folded self.old }
         ensures standing { (n : ℕ) → offer_at self.new.standing n ≡ greater (offer_at self.old.standing n) (offer_at self.old.incoming n) }
         ensures incoming { (n : ℕ) → offer_at self.new.incoming n ≡ None }
         ensures quiet { IsQuiet self.new }
         ensures history { (past : List Command) (t : ℕ) → AreBooksOf self.old past → AreBooksOf self.new (Close t ∷ past) }
     {
-        for bids in self.nodes.iter_mut() {
+        let mut changed = 0;
+        for (place, bids) in self.nodes.iter_mut().enumerate() {
+            if bids.is_raised() {
+                changed |= 1 << place;
+            }
             bids.close();
         }
         self.bids.fill(0);
+        changed
     }
 
     /// Sets the bids on a node, and nothing else.
