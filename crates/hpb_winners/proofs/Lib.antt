@@ -1,4 +1,10 @@
+pub mod Tables
+pub mod Totals
+pub mod Renewing
+pub mod Winning
 pub mod NoBid
-pub mod Summing
-pub mod Marking
-pub mod Results
+pub mod Along
+pub mod All
+pub mod Masks
+pub mod GreatestBit
+pub mod Walking

@@ -1,2 +1,4 @@
 pub mod View
 pub mod Inside
+pub mod Along
+pub mod Places

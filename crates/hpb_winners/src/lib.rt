@@ -1,8 +1,11 @@
 //! The winners: of all choices of high bids the one of greatest revenue, found from the bottom up.
 #![tactic(auto)]
 
+mod forming;
 mod outcome;
+mod places;
 mod winners;
 
 pub use outcome::{MOST_VALUE, Outcome};
-pub use winners::upward;
+pub use places::{first_bits, take_greatest};
+pub use winners::{upward, upward_along};

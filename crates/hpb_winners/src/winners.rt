@@ -1,82 +1,75 @@
-ghost use Rattle.std.specs.Prelude.{◌≡◌, ℕ, ◌<◌, ◌≤◌, length, slice_index, max, take};
-ghost use Rattle.hpb_rules.specs.Choices.{IsWinners, best, revenue, winners};
+ghost use Rattle.std.specs.Prelude.{◌≡◌, ℕ, ◌<◌, ◌≤◌, ◌+◌, Some, length, slice_index, slice_set, max, take};
+ghost use Rattle.hpb_rules.specs.Choices.{IsWinners};
+ghost use Rattle.hpb_rules.specs.Tree.{parent_of};
 ghost use Rattle.hpb_bids.specs.View.{bid_of};
 ghost use Rattle.hpb_winners.specs.View.{IsOutcome};
+ghost use Rattle.hpb_winners.specs.Along.{WasOutcome, AreSums, AreSmall, IsOthersSum, reached_count};
 
-use crate::outcome::{MOST_VALUE, Outcome};
+use crate::outcome::Outcome;
+use crate::places::{first_bits, take_greatest};
 use hpb_bids::Books;
 use hpb_rules::{MOST_AMOUNT, MOST_NODES, NodeId};
 use hpb_tree::Tree;
 
 /// Finds the outcome of the high bids: the winners are the choice of greatest revenue, and on a tie the
-/// parts of a package win.
+/// parts of a package win. The value of each node is formed.
 pub fn upward(tree: &Tree, books: &Books, outcome: &mut Outcome)
     ensures outcome { IsOutcome tree.now.nodes (bid_of books.now) outcome.new }
     ensures winners { IsWinners tree.now.nodes (bid_of books.now) (take (length tree.now.nodes) outcome.new.wins) }
-{
-    outcome.revenue = sum_up(tree, books, &mut outcome.inside, &mut outcome.values);
-    mark_winners(
-        tree,
-        books,
-        &outcome.inside,
-        &mut outcome.free,
-        &mut outcome.wins,
-    );
-}
-
-/// Sums the values from the last node to the first, and returns the sum over the top nodes.
-fn sum_up(tree: &Tree, books: &Books, inside: &mut [u64], values: &mut [u64]) -> u64
-    requires inside { length inside.old ≡ MOST_NODES }
-    requires values { length values.old ≡ MOST_NODES }
-    requires small_inside { (n : ℕ) → slice_index inside.old n ≤ MOST_VALUE }
-    requires small_values { (n : ℕ) → slice_index values.old n ≤ MOST_VALUE }
-    ensures inside { (n : ℕ) → n < length tree.now.nodes → slice_index inside.new n ≡ best tree.now.nodes (bid_of books.now) n }
-    ensures values { (n : ℕ) → n < length tree.now.nodes → slice_index values.new n ≡ max (bid_of books.now n) (best tree.now.nodes (bid_of books.now) n) }
-    ensures revenue { result ≡ revenue (bid_of books.now) (winners tree.now.nodes (bid_of books.now)) }
-    ensures most_inside { (n : ℕ) → slice_index inside.new n ≤ MOST_VALUE }
-    ensures most_value { (n : ℕ) → slice_index values.new n ≤ MOST_VALUE }
-    ensures most_revenue { result ≤ MOST_VALUE }
+    ensures formed { outcome.new.formed ≡ length tree.now.nodes }
 {
     tree.facts();
+    outcome.restart(tree);
+    upward_along(tree, books, u128::MAX, outcome);
+}
+
+/// Finds the outcome of the high bids from that of earlier ones, which were the same but on the nodes of a mask:
+/// bit n is for node n. Only the values of these nodes and of those above them are formed.
+pub fn upward_along(tree: &Tree, books: &Books, changed: u128, outcome: &mut Outcome)
+    requires { WasOutcome tree.now.nodes (bid_of books.now) changed outcome.old }
+    ensures outcome { IsOutcome tree.now.nodes (bid_of books.now) outcome.new }
+    ensures winners { IsWinners tree.now.nodes (bid_of books.now) (take (length tree.now.nodes) outcome.new.wins) }
+    ensures formed { outcome.new.formed ≡ reached_count tree.now.nodes changed }
+{
+    tree.facts();
+    outcome.facts();
+    outcome.begin();
     let nodes = tree.nodes();
-    let inside = &mut inside[..nodes.len()];
-    let values = &mut values[..nodes.len()];
-    inside.fill(0);
-    let mut revenue = 0;
-    for place in (0..nodes.len()).rev() {
-        let node = nodes[place];
-        let value = high_bid(books, node).max(inside[place]);
-        values[place] = value;
-        match tree.parent(node) {
-            Some(parent) => inside[parent.place()] += value,
-            None => revenue += value,
+    let mut pending = first_bits(changed, nodes.len());
+    while let Some(place) = take_greatest(&mut pending) {
+        if let Some(parent) = renew(tree, books, nodes[place], outcome) {
+            pending |= 1 << parent.place();
         }
     }
-    revenue
+    outcome.facts();
 }
 
-/// Marks the winners from the first node to the last: below a winner nothing else wins.
-fn mark_winners(tree: &Tree, books: &Books, inside: &[u64], free: &mut [bool], wins: &mut [bool])
-    requires inside_length { length inside.now ≡ MOST_NODES }
-    requires inside { (n : ℕ) → n < length tree.now.nodes → slice_index inside.now n ≡ best tree.now.nodes (bid_of books.now) n }
-    requires free { length free.old ≡ MOST_NODES }
-    requires wins { length wins.old ≡ MOST_NODES }
-    ensures winners { IsWinners tree.now.nodes (bid_of books.now) (take (length tree.now.nodes) wins.new) }
-    ensures wins { take (length tree.now.nodes) wins.new ≡ winners tree.now.nodes (bid_of books.now) }
+/// Forms the value of a node by its high bid and its children's values, and puts it in the place of its earlier
+/// value in the sum over its parent's children, or in the revenue. Returns its parent.
+fn renew(tree: &Tree, books: &Books, node: NodeId, outcome: &mut Outcome) -> Option<NodeId>
+    requires node { node < length tree.now.nodes }
+    requires few { outcome.old.formed < MOST_NODES }
+    requires sums { AreSums tree.now.nodes outcome.old }
+    requires small { AreSmall tree.now.nodes outcome.old }
+    ensures parent { result ≡ parent_of tree.now.nodes node }
+    ensures within { node < MOST_NODES }
+    ensures value { outcome.new.values ≡ slice_set outcome.old.values node (max (bid_of books.now node) (slice_index outcome.old.inside node)) }
+    ensures others { IsOthersSum tree.now.nodes node outcome.old.inside outcome.new.inside }
+    ensures sums { AreSums tree.now.nodes outcome.new }
+    ensures small { AreSmall tree.now.nodes outcome.new }
+    ensures formed { outcome.new.formed ≡ outcome.old.formed + 1 }
+    ensures parents { outcome.new.parents ≡ outcome.old.parents }
 {
     tree.facts();
-    let nodes = tree.nodes();
-    let free = &mut free[..nodes.len()];
-    let wins = &mut wins[..nodes.len()];
-    for (place, &node) in nodes.iter().enumerate() {
-        let open = match tree.parent(node) {
-            Some(parent) => free[parent.place()],
-            None => true,
-        };
-        let won = open && inside[place] < high_bid(books, node);
-        wins[place] = won;
-        free[place] = open && !won;
+    let older = outcome.value(node);
+    let newer = high_bid(books, node).max(outcome.inside(node));
+    outcome.form(node, newer);
+    let above = tree.parent(node);
+    match above {
+        Some(parent) => outcome.replace_inside(parent, older, newer),
+        None => outcome.replace_revenue(older, newer),
     }
+    above
 }
 
 /// The high bid of a node, or 0 where it has none.

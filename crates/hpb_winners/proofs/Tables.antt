@@ -1,0 +1,45 @@
+-- The tables of the code.
+use Rattle.std.proofs.Common.{◌≡◌, ℕ, zero, suc, ◌<◌, ◌≤◌, List, [], ◌∷◌, length, get_or, set, replicate, ap, sym, ◌∙◌, subst, Option, arith}
+use Rattle.std.proofs.lemmas.List.{length-replicate}
+use Rattle.hpb_rules.specs.declared.limits.TheConstants.{MOST_NODES}
+use Rattle.hpb_rules.proofs.Lists.{get_or-replicate_same}
+use Rattle.hpb_winners.specs.declared.outcome.TheConstants.{MOST_VALUE}
+use Rattle.hpb_winners.specs.declared.outcome.Outcome.TheInside.{Inside}
+use Rattle.hpb_winners.specs.View.{OutcomeView, AreBefore, wins_of}
+use Rattle.hpb_winners.specs.Inside.{IsKept}
+
+-- what is read within a table does not depend on what stands past it
+pub within_read : {A : Type 0} (xs : List A) (n : ℕ) (x d : A) → n < length xs → x ≡ get_or xs n x → get_or xs n d ≡ x
+within_read [] n x d h e = absurd (omega arith)
+within_read (y ∷ ys) zero x d h e = sym e
+within_read (y ∷ ys) (suc n) x d h e = within_read ys n x d (omega arith) e
+
+-- one small number in a table of small numbers
+pub set_small : (most : ℕ) (xs : List ℕ) (i x : ℕ) → x ≤ most → ((p : ℕ) → get_or xs p 0 ≤ most) → (p : ℕ) → get_or (set xs i x) p 0 ≤ most
+set_small most [] i x h k p = k p
+set_small most (y ∷ ys) zero x h k zero = h
+set_small most (y ∷ ys) zero x h k (suc p) = k (suc p)
+set_small most (y ∷ ys) (suc i) x h k zero = k zero
+set_small most (y ∷ ys) (suc i) x h k (suc p) = set_small most ys i x h (λ q. k (suc q)) p
+
+pub zeros_small : {items : List ℕ} → items ≡ replicate MOST_NODES 0 → (n : ℕ) → get_or items n 0 ≤ MOST_VALUE
+zeros_small zeros n = omega (arith, ap (λ (xs : List ℕ). get_or xs n 0) zeros ∙ get_or-replicate_same MOST_NODES n 0)
+
+pub sized : {A : Type 0} {items : List A} {item : A} → items ≡ replicate MOST_NODES item → length items ≡ MOST_NODES
+sized {item = item} same = ap length same ∙ length-replicate MOST_NODES item
+
+-- the same tables stand for the same outcome
+pub same_outcome : {p q : List (Option ℕ)} {i j v w : List ℕ} {f g r s : ℕ} → p ≡ q → i ≡ j → v ≡ w → f ≡ g → r ≡ s
+    → ◌≡◌ {A = OutcomeView} (record { parents = p; inside = i; values = v; wins = wins_of p i v; revenue = r; formed = f }) (record { parents = q; inside = j; values = w; wins = wins_of q j w; revenue = s; formed = g })
+same_outcome a b c d e = cc
+
+pub same_kept : (one other : Inside) → other.parents.items ≡ one.parents.items → other.inside.items ≡ one.inside.items → other.values.values.items ≡ one.values.values.items → other.revenue ≡ one.revenue → IsKept other → IsKept one
+same_kept one other p i v r k = record {
+  parents = ap length (sym p) ∙ k.parents;
+  inside = ap length (sym i) ∙ k.inside;
+  values = ap length (sym v) ∙ k.values;
+  before = subst AreBefore p k.before;
+  most_inside = λ n. omega (arith, ap (λ xs. get_or xs n 0) i, k.most_inside n);
+  most_value = λ n. omega (arith, ap (λ xs. get_or xs n 0) v, k.most_value n);
+  most_revenue = omega (arith, r, k.most_revenue);
+}
