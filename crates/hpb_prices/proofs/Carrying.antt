@@ -1,5 +1,5 @@
 -- What is carried down, from the first node to the last.
-use Rattle.std.proofs.Common.{◌≡◌, ℕ, ◌+◌, ◌-◌, ◌*◌, ◌<◌, ◌≤◌, List, Some, None, length, get_or, set, max, sym, ap, ◌∙◌, ⊎_elim, arith}
+use Rattle.std.proofs.Common.{◌≡◌, ℕ, ◌+◌, ◌-◌, ◌<◌, ◌≤◌, List, Some, None, length, get_or, set, max, sym, ap, ◌∙◌, ⊎_elim, arith}
 use Rattle.std.specs.List.{range_with_len}
 use Rattle.std.proofs.lemmas.Bool.{cases_lt}
 use Rattle.std.proofs.lemmas.Grind.{get_or-set_at}
@@ -9,62 +9,71 @@ use Rattle.hpb_rules.specs.Tree.{Node, parent_of, places, IsTree}
 use Rattle.hpb_rules.specs.Choices.{best}
 use Rattle.hpb_rules.specs.Prices.{share, children_among, of_package, surplus, carried as carried_of, price}
 use Rattle.hpb_rules.proofs.TreeLaws.{price_is_value}
-use Rattle.hpb_rules.proofs.Loops.{carried_child, carried_top, passed_bound}
-use Rattle.hpb_prices.specs.Inside.{IsCarried}
+use Rattle.hpb_rules.proofs.Loops.{carried_child, carried_top, passed_bound, rank_lt}
+use Rattle.hpb_money.specs.Shares.{SharesView, shared, part}
+use Rattle.hpb_prices.specs.Shares.{passed_on, ArePassedOn, IsPassedDown}
 use Rattle.hpb_winners.specs.declared.outcome.TheConstants.{MOST_VALUE}
 
 module _ (nodes : List Node) (bid : ℕ → ℕ) where
-  -- what stands before the node at place i is looked at
-  pub record Passed (i : ℕ) (carried prices : List ℕ) : Type 0 where
-    pub so_far : IsCarried nodes bid i carried
-    pub prices_count : length prices ≡ MOST_NODES
-    pub prices_are : (n : ℕ) → n < i → get_or prices n 0 ≡ price nodes bid n
-    pub small : (n : ℕ) → n < i → get_or prices n 0 ≤ 2 * MOST_VALUE
-
   module _ (tree : IsTree nodes) where
     -- what a parent passes on
-    module _ {node parent p inside extra : ℕ} {carried : List ℕ} (so_far : IsCarried nodes bid node carried) (up : Some parent ≡ parent_of nodes node) (same : p ≡ parent)
-        (inside_is : inside ≡ best nodes bid parent) (extra_is : extra ≡ bid parent - inside) where
+    module _ {node parent p : ℕ} {shares : List SharesView} (other : SharesView) (so_far : IsPassedDown nodes bid node shares) (up : Some parent ≡ parent_of nodes node) (same : p ≡ parent) where
       before : parent < node
       before = tree.parents node parent (sym up)
 
-      carried_is : get_or carried p 0 ≡ carried_of nodes bid parent
-      carried_is = so_far.values p (omega (arith, before)) ∙ ap (carried_of nodes bid) same
+      part_is : get_or shares p other ≡ passed_on nodes bid parent
+      part_is = ap (λ n. get_or shares n other) same ∙ so_far.values parent other before node (sym up)
 
-      surplus_is : extra ≡ surplus nodes bid parent
-      surplus_is = extra_is ∙ ap (λ x. bid parent - x) inside_is ∙ sym (ap (λ t. of_package t (bid parent - best nodes bid parent)) (tree.packages node parent (sym up)))
-
-      pub passed_small : ((n : ℕ) → bid n ≤ MOST_AMOUNT) → node < length nodes → get_or carried p 0 + extra ≤ length nodes * MOST_AMOUNT
-      passed_small amounts within = omega (arith, carried_is, surplus_is, passed_bound nodes bid tree MOST_AMOUNT parent amounts (omega (arith, before)))
-
-      pub carried_part : {children rank : ℕ} → children ≡ children_among nodes parent (places nodes) → rank ≡ children_among nodes parent (range_with_len 0 node) → share (get_or carried p 0 + extra) children rank ≡ carried_of nodes bid node
-      carried_part {children = children} {rank = rank} c r =
-          ap (λ x. share (x + extra) children rank) carried_is
-          ∙ ap (λ x. share (carried_of nodes bid parent + x) children rank) surplus_is
-          ∙ ap (λ x. share (carried_of nodes bid parent + surplus nodes bid parent) x rank) c
+      pub carried_part : {rank : ℕ} → rank ≡ children_among nodes parent (range_with_len 0 node) → part (get_or shares p other) rank ≡ carried_of nodes bid node
+      carried_part {rank = rank} r =
+          ap (λ x. part x rank) part_is
           ∙ ap (share (carried_of nodes bid parent + surplus nodes bid parent) (children_among nodes parent (places nodes))) r
           ∙ sym (carried_child nodes bid tree node parent (sym up))
 
     pub carried_none : (node : ℕ) → None ≡ parent_of nodes node → 0 ≡ carried_of nodes bid node
     carried_none node top = sym (carried_top nodes bid tree node (sym top))
 
-    pub passed_more : {i node from_above value : ℕ} {carried prices : List ℕ} → Passed i carried prices → node ≡ i → i < length nodes → length nodes ≤ MOST_NODES → from_above ≡ carried_of nodes bid node → from_above ≤ MOST_VALUE → value ≡ max (bid node) (best nodes bid node) → value ≤ MOST_VALUE
-        → Passed (i + 1) (set carried i from_above) (set prices i (value + from_above))
-    passed_more {i = i} {from_above = from_above} {value = value} {carried = carried} {prices = prices} s at h most received small_received is small_value = let c : from_above ≡ carried_of nodes bid i = received ∙ ap (carried_of nodes bid) at in let v : value ≡ max (bid i) (best nodes bid i) = is ∙ ap (λ n. max (bid n) (best nodes bid n)) at in record {
-      so_far = record {
-        count = length-set carried i from_above ∙ s.so_far.count;
-        values = λ n l. ⊎_elim
-            (λ earlier. get_or-set_other carried i n from_above 0 (λ e. omega (arith, e)) ∙ s.so_far.values n earlier)
-            (λ le. let same : n ≡ i = omega arith in get_or-set_at carried i n from_above 0 same (omega (arith, s.so_far.count)) ∙ c ∙ ap (carried_of nodes bid) (sym same))
-            (cases_lt n i);
-      };
-      prices_count = length-set prices i (value + from_above) ∙ s.prices_count;
-      prices_are = λ n l. ⊎_elim
-          (λ earlier. get_or-set_other prices i n (value + from_above) 0 (λ e. omega (arith, e)) ∙ s.prices_are n earlier)
-          (λ le. let same : n ≡ i = omega arith in get_or-set_at prices i n (value + from_above) 0 same (omega (arith, s.prices_count)) ∙ ap (λ x. x + from_above) v ∙ ap (λ x. max (bid i) (best nodes bid i) + x) c ∙ sym (price_is_value nodes bid i tree h) ∙ ap (price nodes bid) (sym same))
-          (cases_lt n i);
-      small = λ n l. ⊎_elim
-          (λ earlier. omega (arith, get_or-set_other prices i n (value + from_above) 0 (λ e. omega (arith, e)), s.small n earlier))
-          (λ le. let same : n ≡ i = omega arith in omega (arith, get_or-set_at prices i n (value + from_above) 0 same (omega (arith, s.prices_count))))
-          (cases_lt n i);
+    pub carried_small : (node : ℕ) → ((n : ℕ) → bid n ≤ MOST_AMOUNT) → node < length nodes → length nodes ≤ MOST_NODES → carried_of nodes bid node ≤ MOST_VALUE
+    carried_small node amounts within most = omega (arith, passed_bound nodes bid tree MOST_AMOUNT node amounts within)
+
+    -- a node with children passes on what it must
+    parts_are : {node inside value p children : ℕ} → inside ≡ best nodes bid node → value ≡ max (bid node) (best nodes bid node) → p ≡ value + carried_of nodes bid node → children ≡ children_among nodes node (places nodes)
+        → ArePassedOn nodes bid node (shared (p - inside) children)
+    parts_are {node = node} {inside = inside} {p = p} {children = children} i v e k child up =
+        let extra : surplus nodes bid node ≡ bid node - best nodes bid node = ap (λ t. of_package t (bid node - best nodes bid node)) (tree.packages child node up) in
+        let all : p - inside ≡ carried_of nodes bid node + surplus nodes bid node = omega (arith, extra, i, v, e) in
+        ap (λ x. shared x children) all ∙ ap (shared (carried_of nodes bid node + surplus nodes bid node)) k
+
+    pub parts_set : {node place inside value p children : ℕ} {parts : SharesView} {shares : List SharesView} → place ≡ node → node < MOST_NODES
+        → parts ≡ shared (p - inside) children → inside ≡ best nodes bid node → value ≡ max (bid node) (best nodes bid node) → p ≡ value + carried_of nodes bid node → children ≡ children_among nodes node (places nodes)
+        → IsPassedDown nodes bid node shares → IsPassedDown nodes bid (node + 1) (set shares place parts)
+    parts_set {node = node} {place = place} {parts = parts} {shares = shares} at few is i v e k s = record {
+      count = length-set shares place parts ∙ s.count;
+      values = λ n other l child up. ⊎_elim
+          (λ earlier. get_or-set_other shares place n parts other (λ e. omega (arith, e)) ∙ s.values n other earlier child up)
+          (λ le. let same : n ≡ node = omega arith in
+          get_or-set_at shares place n parts other (same ∙ sym at) (omega (arith, s.count)) ∙ is
+          ∙ parts_are i v e k child (up ∙ ap Some same) ∙ ap (passed_on nodes bid) (sym same))
+          (cases_lt n node);
     }
+
+    -- and one without children passes nothing on
+    pub no_parts : {node children : ℕ} {shares : List SharesView} → children ≡ children_among nodes node (places nodes) → children ≡ 0 → IsPassedDown nodes bid node shares → IsPassedDown nodes bid (node + 1) shares
+    no_parts {node = node} k none s = record {
+      count = s.count;
+      values = λ n other l child up. ⊎_elim
+          (λ earlier. s.values n other earlier child up)
+          (λ le. let same : n ≡ node = omega arith in absurd (omega (arith, rank_lt nodes node child (up ∙ ap Some same), k, none)))
+          (cases_lt n node);
+    }
+
+    -- the price of one more node is set
+    pub price_set : (prices : List ℕ) {i node p carried value : ℕ} {new : List ℕ} → node ≡ i → i < length nodes → i < length prices
+        → new ≡ set prices node p → p ≡ value + carried → carried ≡ carried_of nodes bid node → value ≡ max (bid node) (best nodes bid node)
+        → ((n : ℕ) → n < i → get_or prices n 0 ≡ price nodes bid n) → (n : ℕ) → n < i + 1 → get_or new n 0 ≡ price nodes bid n
+    price_set prices {i = i} {node = node} {p = p} {carried = carried} {value = value} at h room is sum c v so_far n l = ap (λ xs. get_or xs n 0) is ∙ ⊎_elim
+        (λ earlier. get_or-set_other prices node n p 0 (λ e. omega (arith, e)) ∙ so_far n earlier)
+        (λ le. let same : n ≡ node = omega arith in
+        get_or-set_at prices node n p 0 same (omega arith) ∙ sum
+        ∙ ap (λ x. x + carried) v ∙ ap (λ x. max (bid node) (best nodes bid node) + x) c ∙ sym (price_is_value nodes bid node tree (omega arith)) ∙ ap (price nodes bid) (sym same))
+        (cases_lt n i)

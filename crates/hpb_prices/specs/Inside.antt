@@ -1,8 +1,6 @@
 -- The prices of the code as definitions see them.
-use Rattle.std.specs.Prelude.{◌≡◌, ℕ, ◌<◌, List, length, slice_index}
+use Rattle.std.specs.Prelude.{◌≡◌, length}
 use Rattle.hpb_rules.specs.declared.limits.TheConstants.{MOST_NODES}
-use Rattle.hpb_rules.specs.Tree.{Node}
-use Rattle.hpb_rules.specs.Prices.{carried as carried_to}
 use Rattle.hpb_prices.specs.View.{PricesView}
 use Rattle.hpb_prices.specs.declared.prices.Prices.TheInside.{Inside}
 
@@ -14,9 +12,4 @@ prices_view p = record { prices = p.prices.items; minima = p.minima.items }
 pub record IsKept (p : Inside) : Type 0 where
   pub prices : length p.prices.items ≡ MOST_NODES
   pub minima : length p.minima.items ≡ MOST_NODES
-  pub carried : length p.carried.items ≡ MOST_NODES
-
--- The table has its size, and says of the nodes before one what is carried down to them.
-pub record IsCarried (nodes : List Node) (bid : ℕ → ℕ) (place : ℕ) (carried : List ℕ) : Type 0 where
-  pub count : length carried ≡ MOST_NODES
-  pub values : (node : ℕ) → node < place → slice_index carried node ≡ carried_to nodes bid node
+  pub shares : length p.shares.items ≡ MOST_NODES

@@ -8,5 +8,5 @@ mod passing;
 mod prices;
 
 pub use certificate::check_certificate;
-pub use passing::downward;
+pub use passing::{downward, downward_along};
 pub use prices::Prices;

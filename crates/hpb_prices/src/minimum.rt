@@ -3,23 +3,29 @@ ghost use Rattle.hpb_rules.specs.Tree.{opening as opening_of};
 ghost use Rattle.hpb_rules.specs.Prices.{IsMinimum, minimum_of};
 
 use hpb_money::{Dollars, MOST_DOLLARS, ceil_percent, round_up};
-use hpb_rules::{MOST_NODES, MOST_STEP};
+use hpb_rules::{MOST_NODES, MOST_STEP, NodeId};
 use hpb_tree::Tree;
 
-/// Sets the least bid on each node, by the prices of the nodes.
-pub(crate) fn set_minima(tree: &Tree, prices: &[Dollars], minima: &mut [Dollars])
-    requires prices_length { length prices.now ≡ MOST_NODES }
-    requires prices { (n : ℕ) → n < length tree.now.nodes → slice_index prices.now n ≤ MOST_DOLLARS }
-    requires minima { length minima.old ≡ MOST_NODES }
-    ensures { (n : ℕ) → n < length tree.now.nodes → slice_index minima.new n ≡ minimum_of tree.now.step tree.now.percent (opening_of tree.now.nodes n) (slice_index prices.now n) }
+/// Sets the least bid on each node of a tree without a bid: at a price of 0.
+pub(crate) fn set_first_minima(tree: &Tree, minima: &mut [Dollars])
+    requires { length minima.old ≡ MOST_NODES }
+    ensures { (n : ℕ) → n < length tree.now.nodes → slice_index minima.new n ≡ minimum_of tree.now.step tree.now.percent (opening_of tree.now.nodes n) 0 }
+{
+    tree.facts();
+    for (place, &node) in tree.nodes().iter().enumerate() {
+        minima[place] = least_bid(tree, node, 0);
+    }
+}
+
+/// The least bid on a node at a price.
+pub(crate) fn least_bid(tree: &Tree, node: NodeId, price: Dollars) -> Dollars
+    requires node { node < length tree.now.nodes }
+    requires price { price ≤ MOST_DOLLARS }
+    ensures { result ≡ minimum_of tree.now.step tree.now.percent (opening_of tree.now.nodes node) price }
 {
     let step = u64::from(tree.step());
     let percent = u64::from(tree.percent());
-    tree.facts();
-    for (place, &node) in tree.nodes().iter().enumerate() {
-        let opening = tree.opening(node);
-        minima[place] = minimum_bid(step, percent, opening, prices[place]);
-    }
+    minimum_bid(step, percent, tree.opening(node), price)
 }
 
 /// The least bid: the least multiple of the step that is at least the opening, and at least the price

@@ -1,16 +1,16 @@
-ghost use Rattle.std.specs.Prelude.{◌≡◌, ℕ, ◌-◌, ◌+◌, ◌<◌, ◌≤◌, ◌*◌, length, slice_index};
-ghost use Rattle.hpb_rules.specs.Tree.{IsTree};
+ghost use Rattle.std.specs.Prelude.{◌≡◌, ℕ, ◌+◌, ◌<◌, ◌≤◌, length, slice_index, slice_set};
 ghost use Rattle.hpb_rules.specs.Choices.{winners};
 ghost use Rattle.hpb_rules.specs.Prices.{carried as carried_of, price, IsCertificate};
 ghost use Rattle.hpb_bids.specs.View.{bid_of};
 ghost use Rattle.hpb_winners.specs.View.{IsOutcome};
-ghost use Rattle.hpb_prices.specs.Inside.{IsCarried};
+ghost use Rattle.hpb_prices.specs.Along.{WasPriced, AreMinima};
+ghost use Rattle.hpb_prices.specs.Shares.{IsPassedDown};
 ghost use Rattle.hpb_prices.specs.View.{HasMinima, HasPrices};
 
-use crate::minimum::set_minima;
+use crate::minimum::least_bid;
 use crate::prices::Prices;
 use hpb_bids::Books;
-use hpb_money::{Dollars, share};
+use hpb_money::{Dollars, MOST_DOLLARS, Shares};
 use hpb_rules::{MOST_NODES, NodeId};
 use hpb_tree::Tree;
 use hpb_winners::{MOST_VALUE, Outcome};
@@ -24,52 +24,60 @@ pub fn downward(tree: &Tree, books: &Books, outcome: &Outcome, prices: &mut Pric
     ensures minima { HasMinima tree.now (bid_of books.now) prices.new }
     ensures certificate { IsCertificate tree.now.nodes (bid_of books.now) (λ node. slice_index prices.new.prices node) (winners tree.now.nodes (bid_of books.now)) }
 {
+    prices.restart(tree);
+    downward_along(tree, books, outcome, prices);
+}
+
+/// Sets the prices and the least bids from those of earlier high bids. Only where the price of a node changes is
+/// its least bid found anew.
+pub fn downward_along(tree: &Tree, books: &Books, outcome: &Outcome, prices: &mut Prices)
+    requires outcome { IsOutcome tree.now.nodes (bid_of books.now) outcome.now }
+    requires prices { WasPriced tree.now prices.old }
+    ensures prices { HasPrices tree.now.nodes (bid_of books.now) prices.new }
+    ensures minima { HasMinima tree.now (bid_of books.now) prices.new }
+    ensures certificate { IsCertificate tree.now.nodes (bid_of books.now) (λ node. slice_index prices.new.prices node) (winners tree.now.nodes (bid_of books.now)) }
+{
     tree.facts();
     pass_down(
         tree,
         books,
         outcome,
-        &mut prices.carried,
+        &mut prices.shares,
         &mut prices.prices,
+        &mut prices.minima,
     );
-    set_minima(tree, &prices.prices, &mut prices.minima);
 }
 
-/// Finds from the first node to the last what is carried down to each node, and its price: its value and
+/// Finds from the first node to the last what is carried down to each node, and sets its price: its value and
 /// what is carried down to it.
 fn pass_down(
     tree: &Tree,
     books: &Books,
     outcome: &Outcome,
-    carried: &mut [Dollars],
+    shares: &mut [Shares],
     prices: &mut [Dollars],
+    minima: &mut [Dollars],
 )
     requires outcome { IsOutcome tree.now.nodes (bid_of books.now) outcome.now }
-    requires carried { length carried.old ≡ MOST_NODES }
+    requires shares { length shares.old ≡ MOST_NODES }
     requires prices { length prices.old ≡ MOST_NODES }
+    requires count { length minima.old ≡ MOST_NODES }
+    requires minima { AreMinima tree.now prices.old minima.old }
     ensures prices { (n : ℕ) → n < length tree.now.nodes → slice_index prices.new n ≡ price tree.now.nodes (bid_of books.now) n }
-    ensures most { (n : ℕ) → n < length tree.now.nodes → slice_index prices.new n ≤ 2 * MOST_VALUE }
+    ensures minima { AreMinima tree.now prices.new minima.new }
 {
     tree.facts();
     outcome.facts();
-    for (place, &node) in tree.nodes().iter().enumerate() {
-        let from_above = carried_to(tree, books, outcome, carried, node);
-        carried[place] = from_above;
-        prices[place] = outcome.value(node) + from_above;
+    for &node in tree.nodes() {
+        let price = outcome.value(node) + carried_to(tree, books, shares, node);
+        set_price(tree, node, price, prices, minima);
+        pass_on(tree, outcome, node, price, shares);
     }
 }
 
-/// What is carried down to a node: its share of what was carried to its parent and of its parent's
-/// surplus, and nothing at the top.
-fn carried_to(
-    tree: &Tree,
-    books: &Books,
-    outcome: &Outcome,
-    carried: &[Dollars],
-    node: NodeId,
-) -> Dollars
-    requires outcome { IsOutcome tree.now.nodes (bid_of books.now) outcome.now }
-    requires carried { IsCarried tree.now.nodes (bid_of books.now) node carried.now }
+/// What is carried down to a node: its share of what its parent passes on, and nothing at the top.
+fn carried_to(tree: &Tree, books: &Books, shares: &[Shares], node: NodeId) -> Dollars
+    requires shares { IsPassedDown tree.now.nodes (bid_of books.now) node shares.now }
     requires node { node < length tree.now.nodes }
     ensures value { result ≡ carried_of tree.now.nodes (bid_of books.now) node }
     ensures most { result ≤ MOST_VALUE }
@@ -77,18 +85,49 @@ fn carried_to(
     tree.facts();
     books.facts();
     match tree.parent(node) {
-        Some(parent) => {
-            let passed = carried[parent.place()] + surplus(books, outcome, parent);
-            share(passed, tree.children(parent), tree.rank(node))
-        }
+        Some(parent) => shares[parent.place()].at(tree.rank(node)),
         None => 0,
     }
 }
 
-/// What a package's high bid is more than the best inside it.
-fn surplus(books: &Books, outcome: &Outcome, node: NodeId) -> Dollars
-    ensures { result ≡ bid_of books.now node - slice_index outcome.now.inside node }
+/// Notes what a package passes on to its children: what is carried down to it and its surplus, together what its
+/// price is more than the best inside it. A licence passes nothing on.
+fn pass_on(tree: &Tree, outcome: &Outcome, node: NodeId, price: Dollars, shares: &mut [Shares])
+    requires node { node < length tree.now.nodes }
+    requires price { slice_index outcome.now.inside node ≤ price }
+    requires shares { length shares.old ≡ MOST_NODES }
+    ensures { (bid : ℕ → ℕ) → IsOutcome tree.now.nodes bid outcome.now → price ≡ slice_index outcome.now.values node + carried_of tree.now.nodes bid node
+        → IsPassedDown tree.now.nodes bid node shares.old → IsPassedDown tree.now.nodes bid (node + 1) shares.new }
 {
-    let high = books.standing(node).map_or(0, |offer| offer.amount);
-    high.saturating_sub(outcome.inside(node))
+    tree.facts();
+    let children = tree.children(node);
+    if children == 0 {
+        return;
+    }
+    shares[node.place()] = Shares::of(price - outcome.inside(node), children);
+}
+
+/// Sets the price of a node, and its least bid where the price changes.
+fn set_price(
+    tree: &Tree,
+    node: NodeId,
+    price: Dollars,
+    prices: &mut [Dollars],
+    minima: &mut [Dollars],
+)
+    requires node { node < length tree.now.nodes }
+    requires price { price ≤ MOST_DOLLARS }
+    requires prices { length prices.old ≡ MOST_NODES }
+    requires count { length minima.old ≡ MOST_NODES }
+    requires minima { AreMinima tree.now prices.old minima.old }
+    ensures prices { prices.new ≡ slice_set prices.old node price }
+    ensures count { length minima.new ≡ MOST_NODES }
+    ensures minima { AreMinima tree.now prices.new minima.new }
+{
+    tree.facts();
+    let place = node.place();
+    if prices[place] != price {
+        prices[place] = price;
+        minima[place] = least_bid(tree, node, price);
+    }
 }

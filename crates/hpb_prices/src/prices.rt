@@ -1,9 +1,10 @@
 ghost use Rattle.std.specs.Prelude.{◌≡◌, IfOk, slice_index};
 ghost use Rattle.hpb_winners.specs.View.{no_bid};
+ghost use Rattle.hpb_prices.specs.Along.{WasPriced};
 ghost use Rattle.hpb_prices.specs.View.{HasMinima, HasPrices};
 
-use crate::minimum::set_minima;
-use hpb_money::Dollars;
+use crate::minimum::set_first_minima;
+use hpb_money::{Dollars, Shares};
 use hpb_rules::{MOST_NODES, NodeId};
 use hpb_tree::Tree;
 use std::alloc::{AllocError, Global};
@@ -15,8 +16,8 @@ use std::marker::Model;
 pub struct Prices {
     pub(crate) prices: Vec<Dollars>,
     pub(crate) minima: Vec<Dollars>,
-    /// What is carried down to each node, while prices are found.
-    pub(crate) carried: Vec<Dollars>,
+    /// What each package passes on to its children, while prices are found.
+    pub(crate) shares: Vec<Shares>,
 }
 
 impl Model for Prices {
@@ -41,12 +42,21 @@ impl Prices {
         tree.facts();
         let prices = vec![in alloc; 0; MOST_NODES]?;
         let mut minima = vec![in alloc; 0; MOST_NODES]?;
-        set_minima(tree, &prices, &mut minima);
+        set_first_minima(tree, &mut minima);
         Ok(Prices {
             prices,
             minima,
-            carried: vec![in alloc; 0; MOST_NODES]?,
+            shares: vec![in alloc; Shares::none(); MOST_NODES]?,
         })
+    }
+
+    /// Becomes the prices of a tree without a bid.
+    pub(crate) fn restart(&mut self, tree: &Tree)
+        ensures { WasPriced tree.now self.new }
+    {
+        tree.facts();
+        self.prices.fill(0);
+        set_first_minima(tree, &mut self.minima);
     }
 
     /// The price of a node: of a package the sum over its licences.
@@ -80,7 +90,7 @@ impl Prices {
         Ok(Prices {
             prices: self.prices.to_vec(alloc)?,
             minima: self.minima.to_vec(alloc)?,
-            carried: self.carried.to_vec(alloc)?,
+            shares: self.shares.to_vec(alloc)?,
         })
     }
 }
