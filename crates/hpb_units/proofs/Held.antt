@@ -1,8 +1,8 @@
 -- The licences that a bidder holds, as a mask, and their units.
-use Rattle.std.proofs.Common.{◌≡◌, ℕ, zero, suc, ◌+◌, ◌*◌, ◌<◌, ◌≤◌, min, Bool, true, false, cond, ◌&&◌, ◌||◌, eqb, List, [], ◌∷◌, Option, Some, None, bit_and, bit_or, get_or, length, refl, sym, ap, ◌∙◌, arith, subst}
+use Rattle.std.proofs.Common.{◌≡◌, ℕ, zero, suc, ◌+◌, ◌*◌, ◌<◌, ◌≤◌, min, Bool, true, false, cond, ◌&&◌, ◌||◌, eqb, List, [], ◌∷◌, bit_and, bit_or, get_or, length, refl, sym, ap, ◌∙◌, arith, subst}
 use Rattle.std.specs.Option.{IsSome, is_some}
 use Rattle.std.specs.Int.{bit_at}
-use Rattle.std.specs.List.{sum_by, list_any, range_with_len}
+use Rattle.std.specs.List.{sum_by, list_any}
 use Rattle.std.proofs.lemmas.List.Sums.{sum_by-cons}
 use Rattle.std.proofs.lemmas.Nat.Bits.{bit_at_and, bit_at-lt, bit_at-zero}
 use Rattle.hpb_rules.specs.declared.limits.TheConstants.{MOST_LICENCE_UNITS}
@@ -15,8 +15,8 @@ use Rattle.hpb_units.specs.Activity.{is_marked, is_won_by, is_active_on, held}
 use Rattle.std.specs.Prelude.{slice_index}
 use Rattle.std.proofs.lemmas.Bool.{both_ways, eqb-true, eq-eqb}
 use Rattle.std.proofs.Math.Bool.{or-false}
-use Rattle.hpb_units.specs.Holdings.{HoldingsView, holds, is_bidder, IsNothing, AreSmall, AreSummed, AreHoldings, HoldsMore}
-use Rattle.hpb_units.proofs.Marks.{marked_or, marked_node, any_more}
+use Rattle.hpb_units.specs.Holdings.{HoldingsView, holds, IsNothing, AreSmall, AreSummed, HoldsMore}
+use Rattle.hpb_units.proofs.Marks.{marked_or, marked_node}
 use Rattle.hpb_units.proofs.Counting.{part_some, part_none, sum_none, sum_over_same}
 
 module _ (nodes : List Node) where
@@ -81,11 +81,6 @@ module _ (nodes : List Node) where
     -- else the units are those of both masks
     pub sum_both : sum_over nodes (is_marked nodes (bit_or own more)) (units_at nodes) ≡ sum_over nodes (λ l. is_marked nodes own l || at_or_under nodes n l) (units_at nodes)
     sum_both = sum_over_same nodes (is_marked nodes (bit_or own more)) (λ l. is_marked nodes own l || at_or_under nodes n l) (units_at nodes) either_marked
-
-  -- where there is no bidder
-  pub no_bidder : (winner : Option ℕ) → ((w : ℕ) → winner ≡ Some w → ⊥) → winner ≡ None
-  no_bidder None none = refl
-  no_bidder (Some w) none = absurd (none w refl)
 
   -- where nobody bid, what is held was won
   pub held_won : (books : BooksView) (outcome : OutcomeView) → IsQuiet books → (b l : ℕ) → list_any (λ n. at_or_under nodes n l && is_won_by books outcome b n) (places nodes) ≡ held nodes books outcome b l
@@ -188,47 +183,3 @@ module _ (nodes : List Node) where
               licences = λ l some. ap (λ m. is_marked nodes m l) (set.other_licences b another) ∙ old_one.licences l some;
               units = set.other_units b another ∙ old_one.units ∙ ap units_marked (sym (set.other_licences b another));
             }
-
-    -- whether a bidder won a node before place i that has the licence
-    abbrev won_before : ℕ → ℕ → ℕ → Bool
-    won_before i b l = list_any (λ n. at_or_under nodes n l && is_won_by books outcome b n) (range_with_len 0 i)
-
-    -- what was won before place i is held
-    pub record AreWon (holdings : HoldingsView) (i : ℕ) : Type 0 where
-      pub licences : (b l : ℕ) → IsSome (terms_of nodes l) → holds nodes holdings b l ≡ won_before i b l
-      pub summed : AreSummed nodes holdings
-
-    won_next : (i b l : ℕ) → won_before (i + 1) b l ≡ (won_before i b l || (at_or_under nodes i l && is_won_by books outcome b i))
-    won_next i b l = any_more (λ n. at_or_under nodes n l && is_won_by books outcome b n) i
-
-    -- one node more that somebody won
-    pub won_more : {old new : HoldingsView} {i n : ℕ} (winner : ℕ) → n ≡ i → ((b : ℕ) → is_won_by books outcome b n ≡ is_bidder (Some winner) b) → HoldsMore nodes old new winner n → AreSummed nodes new → AreWon old i → AreWon new (i + 1)
-    won_more {i = i} {n = n} winner at who more summed before = record {
-      licences = λ b l some. more b l some ∙ both _ _ (eqb winner b) _ (at_or_under nodes n l) (at_or_under nodes i l) (before.licences b l some) (sym (who b) ∙ ap (is_won_by books outcome b) at) (ap (λ k. at_or_under nodes k l) at) ∙ sym (won_next i b l);
-      summed = summed;
-    }
-      where
-        both : (x y v w t u : Bool) → x ≡ y → v ≡ w → t ≡ u → (x || (v && t)) ≡ (y || (u && w))
-        both x y true w true u e f g = cc
-        both x y true w false u e f g = cc
-        both x y false w t true e f g = cc
-        both x y false w t false e f g = cc
-
-    -- and one that nobody won
-    pub won_same : {old : HoldingsView} {i n : ℕ} → n ≡ i → ((b : ℕ) → is_won_by books outcome b n ≡ is_bidder None b) → AreWon old i → AreWon old (i + 1)
-    won_same {i = i} at who before = record {
-      licences = λ b l some. before.licences b l some ∙ none _ (at_or_under nodes i l) (is_won_by books outcome b i) (ap (is_won_by books outcome b) (sym at) ∙ who b) ∙ sym (won_next i b l);
-      summed = before.summed;
-    }
-      where
-        none : (x w t : Bool) → t ≡ false → x ≡ (x || (w && t))
-        none true w t h = refl
-        none false true t h = sym h
-        none false false t h = refl
-
-    -- once all nodes are seen, and nobody has bid since
-    pub won_all : {holdings : HoldingsView} {i : ℕ} → IsQuiet books → i ≡ length nodes → AreWon holdings i → AreHoldings nodes books outcome holdings
-    won_all quiet all won = record {
-      licences = λ b l within some. won.licences b l some ∙ ap (λ k. won_before k b l) all ∙ held_won books outcome quiet b l;
-      summed = won.summed;
-    }

@@ -1,3 +1,4 @@
 pub mod Marks
 pub mod Counting
 pub mod Held
+pub mod Won

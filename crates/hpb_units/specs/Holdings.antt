@@ -1,5 +1,5 @@
 -- The licences that each bidder holds, and its activity.
-use Rattle.std.specs.Prelude.{◌≡◌, ℕ, ◌<◌, ◌≤◌, Bool, false, ◌==◌, ◌&&◌, ◌||◌, List, Option, Some, None, IsSome, slice_index}
+use Rattle.std.specs.Prelude.{◌≡◌, ℕ, ◌<◌, ◌≤◌, Bool, ◌==◌, ◌&&◌, ◌||◌, List, IsSome, slice_index}
 use Rattle.hpb_rules.specs.declared.limits.TheConstants.{MOST_BIDDERS, MOST_LICENCE_UNITS}
 use Rattle.hpb_rules.specs.Tree.{Node, terms_of, sum_over, at_or_under, units_at}
 use Rattle.hpb_bids.specs.View.{BooksView}
@@ -37,8 +37,3 @@ pub record AreHoldings (nodes : List Node) (books : BooksView) (outcome : Outcom
 abbrev pub HoldsMore : List Node → HoldingsView → HoldingsView → ℕ → ℕ → Type 0
 HoldsMore nodes old new bidder node =
     (other licence : ℕ) → IsSome (terms_of nodes licence) → holds nodes new other licence ≡ (holds nodes old other licence || ((bidder == other) && at_or_under nodes node licence))
-
--- Whether a bidder is another, if there is one.
-abbrev pub is_bidder : Option ℕ → ℕ → Bool
-is_bidder None other = false
-is_bidder (Some bidder) other = bidder == other

@@ -1,15 +1,15 @@
-ghost use Rattle.std.specs.Prelude.{◌≡◌, ◌≤◌, ◌<◌, ◌↔◌, ◌||◌, ℕ, IfOk, IsTrue, length, slice_index};
+ghost use Rattle.std.specs.Prelude.{◌≡◌, ◌≤◌, ◌<◌, ◌↔◌, ◌||◌, ◌&&◌, ℕ, IfOk, IsTrue, length, slice_index};
 ghost use Rattle.hpb_rules.specs.Tree.{sum_over, at_or_under, units_at};
 ghost use Rattle.hpb_bids.specs.View.{BooksView, IsQuiet};
 ghost use Rattle.hpb_winners.specs.View.{OutcomeView};
-ghost use Rattle.hpb_units.specs.Activity.{activity_with, is_won_by};
-ghost use Rattle.hpb_units.specs.Holdings.{holds, IsNothing, AreSummed, AreSmall, AreHoldings, HoldsMore, is_bidder};
+ghost use Rattle.hpb_units.specs.Activity.{activity_with};
+ghost use Rattle.hpb_units.specs.Holdings.{holds, IsNothing, AreSummed, AreSmall, AreHoldings, HoldsMore};
 
 use crate::units::{licences_held, units_of};
 use hpb_bids::Books;
 use hpb_rules::{BidderId, MOST_BIDDERS, NodeId};
 use hpb_tree::Tree;
-use hpb_winners::Outcome;
+use hpb_winners::{Outcome, first_bits, take_greatest};
 use std::alloc::{AllocError, Global};
 use std::marker::Model;
 
@@ -105,10 +105,14 @@ impl Holdings {
         requires small { AreSmall tree.now.nodes }
         ensures { AreHoldings tree.now.nodes books.now outcome.now self.new }
     {
+        tree.facts();
+        let nodes = tree.nodes();
+        let mut winners = first_bits(outcome.winners(), nodes.len());
         self.clear();
-        for &node in tree.nodes() {
-            if let Some(winner) = winner_of(books, outcome, node) {
-                self.add(tree, winner, node);
+        while let Some(place) = take_greatest(&mut winners) {
+            let node = nodes[place];
+            if let Some(offer) = books.standing(node) {
+                self.add(tree, offer.bidder, node);
             }
         }
     }
@@ -174,14 +178,4 @@ impl Holdings {
         self.licences.fill(0);
         self.units.fill(0);
     }
-}
-
-/// The bidder whose bid on a node won, if it did.
-fn winner_of(books: &Books, outcome: &Outcome, node: NodeId) -> Option<BidderId>
-    ensures { (bidder : ℕ) → is_won_by books.now outcome.now bidder node ≡ is_bidder result bidder }
-{
-    if !outcome.wins(node) {
-        return None;
-    }
-    books.standing(node).map(|offer| offer.bidder)
 }

@@ -1,23 +1,43 @@
-use Rattle.std.proofs.Common.{◌≡◌, ap, ◌∙◌, arith}
-use Rattle.hpb_units.specs.Holdings.{is_bidder}
-use Rattle.hpb_units.proofs.Held.{nothing_holds, nothing_summed, won_more, won_same, won_all, no_bidder}
-use Rattle.hpb_units.proofs.holdings.Holdings.find_won.Goals.{in-Some, in_default}
+use Rattle.std.proofs.Common.{◌≡◌, ◌^◌, ◌<◌, Some, length, refl, sym, ap, ◌∙◌, arith, subst}
+use Rattle.hpb_rules.specs.History.{is_of}
+use Rattle.hpb_winners.specs.Places.{IsGreatestTaken}
+use Rattle.hpb_units.proofs.Won.{won_start, won_within, won_more, won_none, won_all}
+use Rattle.hpb_units.proofs.holdings.Holdings.find_won.Goals.{In-Some, After-standing}
 use Rattle.hpb_units.proofs.holdings.Holdings.find_won.Goals as goal
 
-pub loop-node-init : goal.loop-node-init
-loop-node-init c = record {
-  licences = λ b l some. nothing_holds c.args.tree.now.nodes c.clear.new.self c.clear.ensures b l;
-  summed = nothing_summed c.args.tree.now.nodes c.clear.new.self c.clear.ensures;
-}
+taken : (c : In-Some) → IsGreatestTaken c.loop-place.winners (Some c.in-Some.place) c.take_greatest.new.mask
+taken c = subst (λ place. IsGreatestTaken c.loop-place.winners place c.take_greatest.new.mask) c.in-Some.is c.take_greatest.ensures
 
-pub loop-node-preserved : goal.loop-node-preserved
-loop-node-preserved c =
-    let nodes = c.args.tree.now.nodes in
-    let here : c.node-item.result ≡ c.loop-node.node-index = c.node-item.is ∙ c.nodes-node-items.ensures.each c.loop-node.node-index c.node-item.result (omega arith) in
-    elim c.match-winner_of.branch [
-      | in-Some w ↦ rw w.self-is (won_more nodes c.args.books.now c.args.outcome.now w.in-Some.winner here (λ b. c.winner_of.ensures b ∙ ap (λ o. is_bidder o b) w.in-Some.is) w.add.ensures.more w.add.ensures.summed c.loop-node.invariant)
-      | in_default w ↦ rw w.self-is (won_same nodes c.args.books.now c.args.outcome.now here (λ b. c.winner_of.ensures b ∙ ap (λ o. is_bidder o b) (no_bidder nodes c.winner_of.result w.in_default.not-Some)) c.loop-node.invariant)
-    ]
+within : (c : In-Some) → c.in-Some.place < length c.args.tree.now.nodes
+within c = won_within c.args.tree.now.nodes c.args.books.now c.args.outcome.now c.loop-place.invariant (taken c) refl
+
+pub loop-place-init : goal.loop-place-init
+loop-place-init c =
+    won_start c.args.tree.now.nodes c.args.books.now c.args.outcome.now c.clear.new.self c.first_bits-winners.result c.clear.ensures
+    (λ n h. c.first_bits-winners.ensures.bits n (omega (arith, h, c.nodes-nodes.ensures.count)) ∙ c.winners.ensures n)
+    (subst (λ k. c.first_bits-winners.result < 2 ^ k) c.nodes-nodes.ensures.count c.first_bits-winners.ensures.within)
+
+pub bounds-nodes-place : goal.bounds-nodes-place
+bounds-nodes-place c = omega (arith, within (goal.at.bounds-nodes-place c).In-Some, c.nodes-nodes.ensures.count)
+
+-- the node at the place
+here : (c : After-standing) → c.index-nodes-place.result ≡ c.in-Some.place
+here c = c.index-nodes-place.is ∙ c.nodes-nodes.ensures.each c.in-Some.place c.index-nodes-place.result (within (goal.at.After-standing c).In-Some)
+
+pub add-requires-clause-node : goal.add-requires-clause-node
+add-requires-clause-node c = omega (arith, within (goal.at.add-requires-clause-node c).In-Some, here (goal.at.add-requires-clause-node c).After-standing)
+
+pub loop-place-preserved-in-Some-standing : goal.loop-place-preserved-in-Some-standing
+loop-place-preserved-in-Some-standing c =
+    won_more c.args.tree.now.nodes c.args.books.now c.args.outcome.now c.loop-place.invariant (taken (goal.at.loop-place-preserved-in-Some-standing c).In-Some) (here (goal.at.loop-place-preserved-in-Some-standing c).After-standing)
+    c.in-Some-standing.offer.bidder (λ b. ap (is_of b) (sym c.standing.ensures.value ∙ c.in-Some-standing.is)) c.add.ensures.more c.add.ensures.summed
+
+pub loop-place-preserved : goal.loop-place-preserved
+loop-place-preserved c =
+    won_none c.args.tree.now.nodes c.args.books.now c.args.outcome.now c.loop-place.invariant (taken (goal.at.loop-place-preserved c).In-Some) (here (goal.at.loop-place-preserved c).After-standing)
+    (sym c.standing.ensures.value ∙ c.in_default-standing.is)
 
 pub returns : goal.returns
-returns c = won_all c.args.tree.now.nodes c.args.books.now c.args.outcome.now c.requires.quiet (omega arith) c.loop-node.invariant
+returns c =
+    won_all c.args.tree.now.nodes c.args.books.now c.args.outcome.now c.requires.quiet
+    (subst (λ place. IsGreatestTaken c.loop-place.winners place c.take_greatest.new.mask) c.in_default.is c.take_greatest.ensures) c.loop-place.invariant
