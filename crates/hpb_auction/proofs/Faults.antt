@@ -49,8 +49,8 @@ above x y true e = le-ltb x y (e.0 refl)
 above x y false e = lt-ltb x y (⊎_elim (λ less. less) (λ more. absurd (both_ways false refl (e.1 more))) (cases_lt x y))
 
 -- a multiple of the step, by the step that was read
-pub stepped_at : (a : Inside) (q : AuctionValue) → value_inside a ≡ q → (amount step read : ℕ) → read ≡ step → step ≡ a.definition.step → amount % read ≡ 0 → (amount % q.rules.step == 0) ≡ true
-stepped_at a q seen amount step read e f g = eq-eqb (amount % q.rules.step) 0 (ap (λ (q : AuctionValue). amount % q.rules.step) (sym seen) ∙ ap (λ n. amount % n) (sym (e ∙ f)) ∙ g)
+pub stepped_at : (a : Inside) (q : AuctionValue) → value_inside a ≡ q → (amount step : ℕ) (is_multiple : Bool) → is_multiple ≡ (amount % step == 0) → step ≡ a.definition.step → is_multiple ≡ true → (amount % q.rules.step == 0) ≡ true
+stepped_at a q seen amount step is_multiple e f g = ap (λ (q : AuctionValue). amount % q.rules.step == 0) (sym seen) ∙ ap (λ n. amount % n == 0) (sym f) ∙ sym e ∙ g
 
 -- whether the bid is over the eligibility that was read
 pub over : (a : Inside) → IsKept a → (q : AuctionValue) → value_inside a ≡ q → (b n amount place : ℕ) → b < length q.rules.bidders → n < length q.rules.nodes

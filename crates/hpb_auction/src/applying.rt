@@ -11,9 +11,9 @@ ghost use Rattle.hpb_auction.specs.Acceptable.{CanTake, IsKnown};
 use crate::auction::Auction;
 use crate::sender::renew_eligibility;
 use crate::verdict::Verdict;
-use hpb_prices::downward;
+use hpb_prices::downward_along;
 use hpb_rules::{Accepted, BidderId, Command, NodeId, Reply};
-use hpb_winners::upward;
+use hpb_winners::upward_along;
 
 impl Auction {
     /// Answers the command, and takes it in where it is newly accepted. Its sender's last command once more
@@ -125,12 +125,14 @@ impl Auction {
         self.round += u32::from(!quiet);
 
         // 3. Incoming bids become high bids where they are greater; who bid where is forgotten.
-        self.books.fold_round();
+        self.books.facts();
+        let changed = self.books.fold_round();
 
-        // 4. Winners from the bottom up and what they hold, then prices and minima from the top down.
+        // 4. Winners from the changed nodes upward and what they hold, then prices from the top down, and minima
+        //    where prices change.
         let tree = self.definition.tree();
-        upward(tree, &self.books, &mut self.outcome);
+        upward_along(tree, &self.books, changed, &mut self.outcome);
         self.holdings.find_won(tree, &self.books, &self.outcome);
-        downward(tree, &self.books, &self.outcome, &mut self.prices);
+        downward_along(tree, &self.books, &self.outcome, &mut self.prices);
     }
 }

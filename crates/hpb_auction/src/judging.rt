@@ -1,4 +1,4 @@
-ghost use Rattle.std.specs.Prelude.{◌≡◌, ℕ, ◌+◌, ◌<◌, ◌≤◌, List, length, Ok, None, IfOk, IfErr};
+ghost use Rattle.std.specs.Prelude.{◌≡◌, ℕ, ◌+◌, ◌%◌, ◌==◌, ◌<◌, ◌≤◌, List, length, Ok, None, IfOk, IfErr};
 ghost use Rattle.hpb_rules.specs.declared.command.Command.TheVariants.{Bid, Stage};
 ghost use Rattle.hpb_rules.specs.declared.limits.TheConstants.{MOST_AMOUNT, MOST_COMMANDS, MOST_STAGES};
 ghost use Rattle.hpb_rules.specs.Answer.{answer, unknown};
@@ -113,7 +113,7 @@ impl Auction {
         ensures value { (ticket : ℕ) → result ≡ fault_in self.now (Bid bidder ticket node amount) }
         ensures none { result ≡ None → amount ≤ MOST_AMOUNT }
     {
-        if amount % u64::from(self.definition.step()) != 0 {
+        if !is_multiple(amount, self.definition.step()) {
             return Some(Refusal::Step);
         }
         if amount < self.prices.minimum(node) {
@@ -144,4 +144,12 @@ impl Auction {
             Some(Refusal::Stage)
         }
     }
+}
+
+/// Whether an amount is a multiple of the step. Each is one of 1, which needs no division.
+fn is_multiple(amount: u64, step: u32) -> bool
+    requires { 0 < step }
+    ensures { result ≡ (amount % step == 0) }
+{
+    step == 1 || amount % u64::from(step) == 0
 }

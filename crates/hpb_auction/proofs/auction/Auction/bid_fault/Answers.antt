@@ -10,14 +10,14 @@ use Rattle.hpb_auction.proofs.auction.Auction.bid_fault.Goals as goal
 pub returns-then-amount-minimum-clause-value : goal.returns-then-amount-minimum-clause-value
 returns-then-amount-minimum-clause-value c =
     fault_is c.args.self.now c.args.bidder c.args.node c.args.amount true true _ _ _
-    (stepped_at c.self.inside c.args.self.now c.self.view_is c.args.amount c.step.result c.from.result c.from.ensures c.step.ensures.value (omega (arith, c.if-amount-from-ne0.false)))
+    (stepped_at c.self.inside c.args.self.now c.self.view_is c.args.amount c.step.result c.is_multiple.result c.is_multiple.ensures c.step.ensures.value c.if-not-is_multiple.false)
     (low_found c.self.inside c.self.invariant c.args.self.now c.self.view_is c.args.bidder c.args.node c.args.amount c.requires.bidder c.requires.node c.minimum.result c.minimum.ensures ∙ lt-ltb c.args.amount c.minimum.result (omega (arith, c.if-amount-minimum.true)))
     refl refl refl
 
 pub returns-then-amount-gt-MOST_AMOUNT-clause-value : goal.returns-then-amount-gt-MOST_AMOUNT-clause-value
 returns-then-amount-gt-MOST_AMOUNT-clause-value c =
     fault_is c.args.self.now c.args.bidder c.args.node c.args.amount true false true _ _
-    (stepped_at c.self.inside c.args.self.now c.self.view_is c.args.amount c.step.result c.from.result c.from.ensures c.step.ensures.value (omega (arith, c.if-amount-from-ne0.false)))
+    (stepped_at c.self.inside c.args.self.now c.self.view_is c.args.amount c.step.result c.is_multiple.result c.is_multiple.ensures c.step.ensures.value c.if-not-is_multiple.false)
     (low_found c.self.inside c.self.invariant c.args.self.now c.self.view_is c.args.bidder c.args.node c.args.amount c.requires.bidder c.requires.node c.minimum.result c.minimum.ensures ∙ le-ltb c.args.amount c.minimum.result (omega (arith, c.if-amount-minimum.false)))
     (lt-ltb MOST_AMOUNT c.args.amount (omega (arith, c.if-amount-gt-MOST_AMOUNT.true)))
     refl refl
@@ -25,7 +25,7 @@ returns-then-amount-gt-MOST_AMOUNT-clause-value c =
 pub returns-then-has_bid_on-clause-value : goal.returns-then-has_bid_on-clause-value
 returns-then-has_bid_on-clause-value c =
     fault_is c.args.self.now c.args.bidder c.args.node c.args.amount true false false true _
-    (stepped_at c.self.inside c.args.self.now c.self.view_is c.args.amount c.step.result c.from.result c.from.ensures c.step.ensures.value (omega (arith, c.if-amount-from-ne0.false)))
+    (stepped_at c.self.inside c.args.self.now c.self.view_is c.args.amount c.step.result c.is_multiple.result c.is_multiple.ensures c.step.ensures.value c.if-not-is_multiple.false)
     (low_found c.self.inside c.self.invariant c.args.self.now c.self.view_is c.args.bidder c.args.node c.args.amount c.requires.bidder c.requires.node c.minimum.result c.minimum.ensures ∙ le-ltb c.args.amount c.minimum.result (omega (arith, c.if-amount-minimum.false)))
     (le-ltb MOST_AMOUNT c.args.amount (omega (arith, c.if-amount-gt-MOST_AMOUNT.false)))
     (again_found c.self.inside c.self.invariant c.args.self.now c.self.view_is c.args.bidder c.args.node c.args.amount c.requires.bidder c.requires.node ∙ sym c.has_bid_on.ensures ∙ c.if-has_bid_on.true)
@@ -34,7 +34,7 @@ returns-then-has_bid_on-clause-value c =
 pub returns-then-not-fits-clause-value : goal.returns-then-not-fits-clause-value
 returns-then-not-fits-clause-value c =
     fault_is c.args.self.now c.args.bidder c.args.node c.args.amount true false false false true
-    (stepped_at c.self.inside c.args.self.now c.self.view_is c.args.amount c.step.result c.from.result c.from.ensures c.step.ensures.value (omega (arith, c.if-amount-from-ne0.false)))
+    (stepped_at c.self.inside c.args.self.now c.self.view_is c.args.amount c.step.result c.is_multiple.result c.is_multiple.ensures c.step.ensures.value c.if-not-is_multiple.false)
     (low_found c.self.inside c.self.invariant c.args.self.now c.self.view_is c.args.bidder c.args.node c.args.amount c.requires.bidder c.requires.node c.minimum.result c.minimum.ensures ∙ le-ltb c.args.amount c.minimum.result (omega (arith, c.if-amount-minimum.false)))
     (le-ltb MOST_AMOUNT c.args.amount (omega (arith, c.if-amount-gt-MOST_AMOUNT.false)))
     (again_found c.self.inside c.self.invariant c.args.self.now c.self.view_is c.args.bidder c.args.node c.args.amount c.requires.bidder c.requires.node ∙ sym c.has_bid_on.ensures ∙ c.if-has_bid_on.false)
@@ -45,7 +45,7 @@ returns-then-not-fits-clause-value c =
 pub returns-clause-value : goal.returns-clause-value
 returns-clause-value c =
     fault_is c.args.self.now c.args.bidder c.args.node c.args.amount true false false false false
-    (stepped_at c.self.inside c.args.self.now c.self.view_is c.args.amount c.step.result c.from.result c.from.ensures c.step.ensures.value (omega (arith, c.if-amount-from-ne0.false)))
+    (stepped_at c.self.inside c.args.self.now c.self.view_is c.args.amount c.step.result c.is_multiple.result c.is_multiple.ensures c.step.ensures.value c.if-not-is_multiple.false)
     (low_found c.self.inside c.self.invariant c.args.self.now c.self.view_is c.args.bidder c.args.node c.args.amount c.requires.bidder c.requires.node c.minimum.result c.minimum.ensures ∙ le-ltb c.args.amount c.minimum.result (omega (arith, c.if-amount-minimum.false)))
     (le-ltb MOST_AMOUNT c.args.amount (omega (arith, c.if-amount-gt-MOST_AMOUNT.false)))
     (again_found c.self.inside c.self.invariant c.args.self.now c.self.view_is c.args.bidder c.args.node c.args.amount c.requires.bidder c.requires.node ∙ sym c.has_bid_on.ensures ∙ c.if-has_bid_on.false)

@@ -9,7 +9,10 @@ use Rattle.hpb_rules.proofs.ProperValues.{closed_proper}
 use Rattle.hpb_rules.specs.AuctionValue.{AuctionValue}
 use Rattle.hpb_bids.specs.View.{bid_of}
 use Rattle.hpb_winners.specs.View.{IsOutcome}
+use Rattle.hpb_winners.specs.Along.{WasOutcome}
+use Rattle.hpb_rules.specs.History.{amount_of}
 use Rattle.hpb_prices.specs.View.{HasPrices, HasMinima}
+use Rattle.hpb_prices.specs.Along.{WasPriced}
 use Rattle.hpb_auction.specs.declared.sender.BidderRow.{BidderRow}
 use Rattle.hpb_rules.specs.Values.{has_open_bid, closed_value}
 use Rattle.std.specs.Prelude.{slice_index}
@@ -21,21 +24,21 @@ use Rattle.hpb_auction.specs.Inside.{value_inside, booked, state_at, bidder_plac
 use Rattle.hpb_auction.proofs.Quiet.{quiet_seen}
 use Rattle.hpb_auction.proofs.CloseTables.{folded_kept, IsRenewed, nodes_closed, bidders_closed, more_or_same}
 use Rattle.hpb_auction.proofs.auction.Auction.close_round.Goals as goal
-use Rattle.hpb_auction.proofs.auction.Auction.close_round.Goals.{After-downward}
+use Rattle.hpb_auction.proofs.auction.Auction.close_round.Goals.{After-downward_along}
 
-abbrev kept : (c : After-downward) → List BidderRow
+abbrev kept : (c : After-downward_along) → List BidderRow
 kept c = take c.self.inside.bidders.len (c.renew_eligibility.new.rows ++ drop (length c.renew_eligibility.new.rows) c.self.inside.bidders.items)
 
-seen : (c : After-downward) → c.deref_mut.result.now ≡ c.self.inside.bidders.items
+seen : (c : After-downward_along) → c.deref_mut.result.now ≡ c.self.inside.bidders.items
 seen c = c.deref_mut.ensures.value
 
 -- the rows are those that the renewal left
-whole : (c : After-downward) → kept c ≡ c.renew_eligibility.new.rows
+whole : (c : After-downward_along) → kept c ≡ c.renew_eligibility.new.rows
 whole c =
     ap (λ n. take n (c.renew_eligibility.new.rows ++ drop (length c.renew_eligibility.new.rows) c.self.inside.bidders.items)) (c.self.inside.bidders.ok.0 ∙ sym (c.renew_eligibility.ensures.length ∙ ap length (seen c)))
     ∙ take-append_seam c.renew_eligibility.new.rows (drop (length c.renew_eligibility.new.rows) c.self.inside.bidders.items)
 
-renewed_rows : (c : After-downward) → (b : ℕ) → b < length c.self.inside.bidders.items
+renewed_rows : (c : After-downward_along) → (b : ℕ) → b < length c.self.inside.bidders.items
     → row_at (kept c) b ≡ renewed (activity_of c.self.inside.definition.nodes c.self.inside.books c.self.inside.outcome b) c.percentage-percentage.result (row_at c.self.inside.bidders.items b)
 renewed_rows c b h =
     let a = c.self.inside in
@@ -45,26 +48,26 @@ renewed_rows c b h =
     ∙ ap (λ used. renewed used c.percentage-percentage.result (row_at a.bidders.items b)) (activity_held a.definition.nodes a.books a.outcome a.holdings c.self.invariant.holdings b (omega (arith, h, c.self.invariant.most_rows)))
 
 -- the rows are as many as before
-rows_stay : (c : After-downward) → length (kept c) ≡ length c.self.inside.bidders.items
+rows_stay : (c : After-downward_along) → length (kept c) ≡ length c.self.inside.bidders.items
 rows_stay c = ap length (whole c) ∙ c.renew_eligibility.ensures.length ∙ ap length (seen c)
 
 -- the parts of the value that the tables then have
-abbrev closed_parts : After-downward → Parts
+abbrev closed_parts : After-downward_along → Parts
 closed_parts c = record {
-  nodes = map (booked c.fold_round.new.self) (places c.self.inside.definition.nodes);
-  bidders = map (state_at c.self.inside.definition c.fold_round.new.self (kept c)) (bidder_places c.self.inside.definition);
+  nodes = map (booked c.fold_round-changed.new.self) (places c.self.inside.definition.nodes);
+  bidders = map (state_at c.self.inside.definition c.fold_round-changed.new.self (kept c)) (bidder_places c.self.inside.definition);
   auctioneer = restored_last c.self.inside.auctioneer;
   round = c.self.inside.round + c.from.result;
   stage = c.self.inside.stage;
   over = c.self.inside.closed || c.is_quiet-quiet.result;
 }
 
-seen_closed : (c : After-downward) → value_with c.self.inside.definition c.self.inside.count (closed_parts c) ≡ closed_value (value_inside c.self.inside)
+seen_closed : (c : After-downward_along) → value_with c.self.inside.definition c.self.inside.count (closed_parts c) ≡ closed_value (value_inside c.self.inside)
 seen_closed c =
     let a = c.self.inside in
     let quiet : Bool = c.is_quiet-quiet.result in
-    let new : IsRenewed a c.fold_round.new.self (kept c) c.percentage-percentage.result = record {
-      folded = record { standing = c.fold_round.ensures.standing; incoming = c.fold_round.ensures.incoming; quiet = c.fold_round.ensures.quiet };
+    let new : IsRenewed a c.fold_round-changed.new.self (kept c) c.percentage-percentage.result = record {
+      folded = record { standing = c.fold_round-changed.ensures.standing; incoming = c.fold_round-changed.ensures.incoming; quiet = c.fold_round-changed.ensures.quiet };
       in_force = c.percentage-percentage.ensures.value;
       rows = renewed_rows c;
     } in
@@ -80,8 +83,8 @@ seen_closed c =
       over = (closed_value (value_inside a)).over;
     })
     (record {
-      nodes = nodes_closed a c.self.invariant c.fold_round.new.self (kept c) c.percentage-percentage.result new;
-      bidders = bidders_closed a c.self.invariant c.fold_round.new.self (kept c) c.percentage-percentage.result new;
+      nodes = nodes_closed a c.self.invariant c.fold_round-changed.new.self (kept c) c.percentage-percentage.result new;
+      bidders = bidders_closed a c.self.invariant c.fold_round-changed.new.self (kept c) c.percentage-percentage.result new;
       auctioneer = refl;
       round = more_or_same a.round (not quiet) c.from.result (c.from.ensures ∙ one (not quiet)) (has_open_bid (value_inside a)) loud;
       stage = refl;
@@ -109,13 +112,13 @@ invariant_of-self c =
       tree = old.tree;
       rows = rows_stay c ∙ old.rows;
       most_rows = omega (arith, rows_stay c, old.most_rows);
-      bids = folded_kept a.definition a.books c.fold_round.new.self old.bids (record { standing = c.fold_round.ensures.standing; incoming = c.fold_round.ensures.incoming; quiet = c.fold_round.ensures.quiet });
+      bids = folded_kept a.definition a.books c.fold_round-changed.new.self old.bids (record { standing = c.fold_round-changed.ensures.standing; incoming = c.fold_round-changed.ensures.incoming; quiet = c.fold_round-changed.ensures.quiet });
       tables = record {
-        reached = subst (λ (t : TreeRules). IsOutcome t.nodes (bid_of c.fold_round.new.self) c.upward.new.outcome) c.tree-tree.ensures c.upward.ensures.outcome;
-        prices = subst (λ (t : TreeRules). HasPrices t.nodes (bid_of c.fold_round.new.self) c.downward.new.prices) c.tree-tree.ensures c.downward.ensures.prices;
-        minima = subst (λ (t : TreeRules). HasMinima t (bid_of c.fold_round.new.self) c.downward.new.prices) c.tree-tree.ensures c.downward.ensures.minima;
+        reached = subst (λ (t : TreeRules). IsOutcome t.nodes (bid_of c.fold_round-changed.new.self) c.upward_along.new.outcome) c.tree-tree.ensures c.upward_along.ensures.outcome;
+        prices = subst (λ (t : TreeRules). HasPrices t.nodes (bid_of c.fold_round-changed.new.self) c.downward_along.new.prices) c.tree-tree.ensures c.downward_along.ensures.prices;
+        minima = subst (λ (t : TreeRules). HasMinima t (bid_of c.fold_round-changed.new.self) c.downward_along.new.prices) c.tree-tree.ensures c.downward_along.ensures.minima;
       };
-      holdings = subst (λ (t : TreeRules). AreHoldings t.nodes c.fold_round.new.self c.upward.new.outcome c.find_won.new.self) c.tree-tree.ensures c.find_won.ensures;
+      holdings = subst (λ (t : TreeRules). AreHoldings t.nodes c.fold_round-changed.new.self c.upward_along.new.outcome c.find_won.new.self) c.tree-tree.ensures c.find_won.ensures;
     }
 
 pub returns : goal.returns
@@ -123,3 +126,22 @@ returns c = seen_closed c ∙ ap closed_value c.self.view_is
 
 pub find_won-requires-clause-small : goal.find_won-requires-clause-small
 find_won-requires-clause-small c = subst (λ (t : TreeRules). AreSmall t.nodes) (sym c.tree-tree.ensures) (small c.self.inside.definition c.self.invariant.accepted)
+
+pub upward_along-requires : goal.upward_along-requires
+upward_along-requires c =
+    let a = c.self.inside in
+    subst (λ (t : TreeRules). WasOutcome t.nodes (bid_of c.fold_round-changed.new.self) c.fold_round-changed.result a.outcome) (sym c.tree-tree.ensures) (record {
+      was = bid_of a.books;
+      outcome = c.self.invariant.tables.reached;
+      most = c.facts.ensures.amounts;
+      same = λ n h off. ap amount_of (sym (c.fold_round-changed.ensures.changed.same n off));
+    })
+
+pub downward_along-requires-clause-prices : goal.downward_along-requires-clause-prices
+downward_along-requires-clause-prices c =
+    let a = c.self.inside in
+    subst (λ (t : TreeRules). WasPriced t a.prices) (sym c.tree-tree.ensures) (record {
+      was = bid_of a.books;
+      prices = c.self.invariant.tables.prices;
+      minima = c.self.invariant.tables.minima;
+    })
