@@ -1,10 +1,14 @@
 -- Why a device isn't opened.
-use Rattle.std.proofs.Common.{ℕ, List}
+use Rattle.std.proofs.Common.{◌≡◌, ℕ, ◌<◌, List, sym, subst}
+use Rattle.std.specs.Prelude.{Result, Ok, Err, IfErr}
+use Rattle.std.specs.Result.{IsErrAnd}
+use Rattle.hpb_rules.specs.Tree.{Rules}
 use Rattle.hpb_image.specs.declared.flaw.Flaw.{Flaw}
 use Rattle.hpb_image.specs.Flaws.{HasFlaw}
 use Rattle.hpb_image.specs.Laws.{FlawIsOne, ReadIsFlawless}
 use Rattle.hpb_image.specs.Readings.{Found, Reads}
 use Rattle.hpb_recover.specs.Causes.{IsCauseAt, IsMachine, IsUnlessMachine}
+use Rattle.hpb_recover.specs.Checkpoints.{IsUnlessWithout}
 use Rattle.hpb_recover.specs.declared.cause.Cause.{Cause}
 use Rattle.hpb_recover.specs.declared.cause.Cause.TheVariants.{Flawed, Memory, Device}
 
@@ -17,3 +21,8 @@ pub exact_cause : FlawIsOne → (flaw : Flaw) (image : List ℕ) → HasFlaw fla
 exact_cause one flaw image has failures later (Flawed other) is = one other flaw image is has
 exact_cause one flaw image has failures later Memory is = tt
 exact_cause one flaw image has failures later Device is = tt
+
+-- a failed device tells that it failed, where it counted that
+pub device_failed : {T : Type 0} (result : Result T Cause) (rules : Rules) (image : List ℕ) (failures later : ℕ) → IsErrAnd result (λ cause. cause ≡ Device) → failures < later → IfErr result (IsUnlessWithout rules image failures later)
+device_failed (Ok done) rules image failures later bad counted = absurd bad
+device_failed (Err cause) rules image failures later is counted = subst (IsUnlessWithout rules image failures later) (sym is) counted

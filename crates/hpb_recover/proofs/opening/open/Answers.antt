@@ -1,5 +1,6 @@
 use Rattle.std.proofs.Common.{sym, ◌∙◌, subst, arith}
 use Rattle.hpb_rules.specs.AuctionValue.{AuctionValue, Shows}
+use Rattle.hpb_image.specs.Flaws.{HasFlaw}
 use Rattle.hpb_image.specs.Standing.{Stands}
 use Rattle.hpb_recover.specs.Plans.{IsPlan}
 use Rattle.hpb_recover.proofs.Faulting.{machine_only}
@@ -12,6 +13,13 @@ returns-in-Ok-read_plan-clause-shows g c history stands =
     let here = subst (Stands history) (sym c.settle.ensures.quiet.same) stands in
     let found = c.in-Ok-read_plan.ensures.found in
     subst (λ (value : AuctionValue). Shows value history) (sym found.2.auction) (c.read_is_shown.ensures history found.0 image here found.1)
+
+-- what is read has no flaw
+pub returns-in-Ok-read_plan-clause-exact : goal.returns-in-Ok-read_plan-clause-exact
+returns-in-Ok-read_plan-clause-exact g c flaw has =
+    let image = g.D.Disk.seen c.settle.new.disk in
+    let found = c.in-Ok-read_plan.ensures.found in
+    c.read_is_flawless.ensures found.0 flaw image found.1 (subst (HasFlaw flaw) (sym c.settle.ensures.quiet.same) has)
 
 pub returns-in-Err-read_plan-clause-stands : goal.returns-in-Err-read_plan-clause-stands
 returns-in-Err-read_plan-clause-stands g c history stands =
