@@ -5,6 +5,7 @@ use Rattle.std.specs.Str.Parse.{digits_value}
 use Rattle.std.proofs.lemmas.Bool.{lt-ltb, le-leb, lt-leb, leb-true}
 use Rattle.hpb_rules.specs.Lines.{number_up_to}
 use Rattle.hpb_wire.specs.Numbers.{has_front_zero, number_of_digits}
+use Rattle.hpb_wire.proofs.Digits.{beyond}
 
 -- some digits
 abbrev are_digits : List ℕ → Bool
@@ -43,6 +44,17 @@ pub too_large : (most n : ℕ) (word : List ℕ) → number_of_digits word ≡ S
 too_large most n word h large =
     let over : leb (digits_value 10 word) most ≡ false = lt-leb _ _ (omega (arith, (digits_below (are_digits word) _ _ n h).1)) in
     rw over (not_within (are_digits word) (has_front_zero word) (digits_value 10 word))
+
+-- a word of more than 20 digits is none up to a bound below 2^64
+pub too_long : (most : ℕ) (word : List ℕ) → 20 < length word → most < 2 ^ 64 → number_up_to most word ≡ None
+too_long most word long small = by (has_front_zero word) (all_ascii_digits word) refl refl
+  where
+    by : (front digits : Bool) → has_front_zero word ≡ front → all_ascii_digits word ≡ digits → number_up_to most word ≡ None
+    by true digits h k = fronted most word h
+    by false false h k = rw k refl
+    by false true h k =
+        let over : leb (digits_value 10 word) most ≡ false = lt-leb _ _ (omega (arith, beyond word k h long)) in
+        rw over (not_within (are_digits word) (has_front_zero word) (digits_value 10 word))
 
 pub canonical : (most n : ℕ) (word : List ℕ) → number_of_digits word ≡ Some n → n ≤ most → has_front_zero word ≡ false → number_up_to most word ≡ Some n
 canonical most n word h small plain =

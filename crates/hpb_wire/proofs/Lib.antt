@@ -1,3 +1,5 @@
-mod Numerals
+mod Digits
 mod Cutting
+mod Places
 mod Canonical
+mod Parts

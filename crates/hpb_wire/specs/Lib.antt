@@ -1,3 +1,5 @@
+pub mod Marks
 pub mod Numbers
 pub mod Requests
 pub mod Responses
+pub mod Writing

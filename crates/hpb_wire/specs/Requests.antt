@@ -1,5 +1,5 @@
 -- What the code makes of lines, as the rules see it.
-use Rattle.std.specs.Prelude.{ℕ, ◌<◌, List, [], length, Option, Some, None, ⊤}
+use Rattle.std.specs.Prelude.{◌≡◌, ℕ, ◌<◌, false, List, [], length, slice_index, take, Option, Some, None, All, ⊤}
 use Rattle.std.specs.Borrow.{Bor}
 use Rattle.hpb_rules.specs.declared.command.Command.{Command}
 use Rattle.hpb_rules.specs.declared.command.Command.TheVariants.{Bid, Close, Stage}
@@ -7,6 +7,7 @@ use Rattle.hpb_rules.specs.Lines as lines
 use Rattle.hpb_rules.specs.Tree.{Rules}
 use Rattle.hpb_rules.specs.declared.request.Request.{Request}
 use Rattle.hpb_rules.specs.declared.request.Request.TheVariants as requests
+use Rattle.hpb_wire.specs.declared.cut.Words.{Words}
 use Rattle.hpb_wire.specs.declared.named.NamedRequest.{NamedRequest}
 use Rattle.hpb_wire.specs.declared.named.NamedRequest.TheVariants as names
 
@@ -30,9 +31,9 @@ name_as None = None
 name_as (Some word) = Some word.now
 
 -- The words of what is left of a line, if anything is.
-abbrev pub words_left : Option (Bor (List ℕ)) → List (List ℕ)
+abbrev pub words_left : Option Words → List (List ℕ)
 words_left None = []
-words_left (Some rest) = lines.line_words rest.now
+words_left (Some rest) = lines.line_words rest.line.now
 
 -- A command's bidder and node are the definition's.
 abbrev pub IsCommandOf : Rules → Command → Type 0
@@ -46,3 +47,7 @@ IsRequestOf rules (requests.Command command) = IsCommandOf rules command
 IsRequestOf rules requests.Show = ⊤
 IsRequestOf rules (requests.Node place) = place < length rules.nodes
 IsRequestOf rules (requests.Who from) = from < length rules.bidders
+
+-- The first line of some bytes has so many, and its end stands behind it.
+abbrev pub IsFrontLine : List ℕ → ℕ → Type 0
+IsFrontLine bytes size = (size < length bytes) × (slice_index bytes size ≡ lines.line_feed) × All (λ byte. lines.is_line_feed byte ≡ false) (take size bytes)

@@ -3,13 +3,15 @@
 
 mod cut;
 mod line;
+mod marks;
 mod named;
 mod number;
 mod response;
 mod text;
 mod views;
+mod writing;
 
-pub use line::parse_line;
+pub use line::{FrontRequest, parse_front, parse_line};
 pub use response::Response;
 pub use text::{RESPONSE_BYTES, ResponseText};
 pub use views::{node, show, who};

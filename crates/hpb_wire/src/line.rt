@@ -1,10 +1,11 @@
-ghost use Rattle.std.specs.Prelude.{◌≡◌, ◌<◌, length, IfOk, Some};
+ghost use Rattle.std.specs.Prelude.{◌≡◌, ◌<◌, length, take, IfOk, IfSome, Some};
 ghost use Rattle.std.specs.Option.{ok_or};
 ghost use Rattle.hpb_rules.specs.declared.refusal.Refusal.TheVariants as refusals;
 ghost use Rattle.hpb_rules.specs.Lines.{request_of, looked_up, bidder_named, node_named};
-ghost use Rattle.hpb_wire.specs.Requests.{spelled_view, IsRequestOf};
+ghost use Rattle.hpb_wire.specs.Requests.{spelled_as, spelled_view, IsFrontLine, IsRequestOf};
 
-use crate::named::{NamedRequest, read_line};
+use crate::cut::front_line;
+use crate::named::{NamedRequest, read_line, read_spaced};
 use hpb_rules::{BidderId, Command, NodeId, Refusal, Request};
 use hpb_tree::Definition;
 
@@ -15,17 +16,52 @@ use hpb_tree::Definition;
 ///
 /// Refusals: 10 `line` for any other line or one of more than 128 bytes, then
 /// 11 `bidder` and 12 `node` for a name that the definition hasn't.
+#[inline(never)]
 pub fn parse_line(line: &[u8], definition: &Definition) -> Result<Request, Refusal>
     ensures value { result ≡ request_of definition.now line.now }
     ensures known { IfOk result (IsRequestOf definition.now) }
 {
-    match read_line(line) {
+    requested(read_line(line), definition)
+}
+
+/// What the first line of some bytes asks for.
+#[derive(Clone, Copy, Debug)]
+pub struct FrontRequest {
+    /// How many bytes the line has without its end.
+    pub size: usize,
+    /// What it asks for, or its refusal.
+    pub request: Result<Request, Refusal>,
+}
+
+/// What the first line of some bytes asks for, as `parse_line` answers it, where the end of the line is among the first
+/// 32 bytes. `None` says nothing of the line. No memory is taken.
+#[inline(always)]
+pub fn parse_front(bytes: &[u8], definition: &Definition) -> Option<FrontRequest>
+    ensures line { IfSome result (λ front. IsFrontLine bytes.now front.size) }
+    ensures value { IfSome result (λ front. front.request ≡ request_of definition.now (take front.size bytes.now)) }
+    ensures known { IfSome result (λ front. IfOk front.request (IsRequestOf definition.now)) }
+{
+    let words = front_line(bytes)?;
+    Some(FrontRequest {
+        size: words.len(),
+        request: requested(read_spaced(words), definition),
+    })
+}
+
+/// The request that was spelled, if any was.
+#[inline(always)]
+fn requested(spelled: Option<NamedRequest<'_>>, definition: &Definition) -> Result<Request, Refusal>
+    ensures value { result ≡ looked_up definition.now (spelled_as spelled.entry) }
+    ensures known { IfOk result (IsRequestOf definition.now) }
+{
+    match spelled {
         Some(spelled) => look_up(spelled, definition),
         None => Err(Refusal::Line),
     }
 }
 
 /// The request that a line spells: the bidder is looked up first, then the node.
+#[inline(always)]
 fn look_up(spelled: NamedRequest<'_>, definition: &Definition) -> Result<Request, Refusal>
     ensures value { result ≡ looked_up definition.now (Some (spelled_view spelled.entry)) }
     ensures known { IfOk result (IsRequestOf definition.now) }
@@ -54,6 +90,7 @@ fn look_up(spelled: NamedRequest<'_>, definition: &Definition) -> Result<Request
     }
 }
 
+#[inline(always)]
 fn find_bidder(name: &[u8], definition: &Definition) -> Result<BidderId, Refusal>
     ensures value { result ≡ ok_or (bidder_named definition.now name.now) refusals.Bidder }
     ensures known { IfOk result (λ b. b < length definition.now.bidders) }
@@ -61,6 +98,7 @@ fn find_bidder(name: &[u8], definition: &Definition) -> Result<BidderId, Refusal
     definition.find_bidder(name).ok_or(Refusal::Bidder)
 }
 
+#[inline(always)]
 fn find_node(name: &[u8], definition: &Definition) -> Result<NodeId, Refusal>
     ensures value { result ≡ ok_or (node_named definition.now name.now) refusals.Node }
     ensures known { IfOk result (λ n. n < length definition.now.nodes) }

@@ -1,8 +1,9 @@
 ghost use Rattle.std.specs.Prelude.{◌≡◌};
 ghost use Rattle.hpb_rules.specs.Lines.{spelled, spelled_by, spelled_alone, spelled_with, spelled_bid, line_words, name_in, ticket_in, amount_in};
+ghost use Rattle.hpb_wire.specs.Marks.{IsMarked};
 ghost use Rattle.hpb_wire.specs.Requests.{spelled_as, name_as};
 
-use crate::cut::cut;
+use crate::cut::{Words, cut, unmarked};
 use crate::number::number;
 use hpb_rules::MOST_LINE_BYTES;
 
@@ -29,14 +30,17 @@ pub(crate) fn read_line(line: &[u8]) -> Option<NamedRequest<'_>>
     if line.len() > MOST_LINE_BYTES || line.contains(&b'\n') {
         return None;
     }
-    read_spaced(line)
+    read_spaced(unmarked(line))
 }
 
+/// What the words of a line spell.
+#[inline(always)]
 #[tactic(auto, using(crate::proofs::Cutting::too_many))]
-fn read_spaced(line: &[u8]) -> Option<NamedRequest<'_>>
-    ensures { spelled_as result ≡ spelled_by (line_words line.now) }
+pub(crate) fn read_spaced(words: Words<'_>) -> Option<NamedRequest<'_>>
+    requires { IsMarked words }
+    ensures { spelled_as result ≡ spelled_by (line_words words.entry.line.now) }
 {
-    let (keyword, rest) = cut(line);
+    let (keyword, rest) = cut(words);
     let Some(rest) = rest else {
         return read_alone(keyword);
     };
@@ -54,6 +58,7 @@ fn read_spaced(line: &[u8]) -> Option<NamedRequest<'_>>
     }
 }
 
+#[inline(always)]
 fn read_alone(keyword: &[u8]) -> Option<NamedRequest<'_>>
     ensures { spelled_as result ≡ spelled_alone keyword.now }
 {
@@ -64,6 +69,7 @@ fn read_alone(keyword: &[u8]) -> Option<NamedRequest<'_>>
     }
 }
 
+#[inline(always)]
 fn read_pair<'a>(keyword: &[u8], word: &'a [u8]) -> Option<NamedRequest<'a>>
     ensures { spelled_as result ≡ spelled_with keyword.now word.now }
 {
@@ -80,6 +86,7 @@ fn read_pair<'a>(keyword: &[u8], word: &'a [u8]) -> Option<NamedRequest<'a>>
     }
 }
 
+#[inline(always)]
 fn read_bid<'a>(
     from: &'a [u8],
     ticket_word: &[u8],
@@ -101,12 +108,14 @@ fn read_bid<'a>(
 }
 
 /// A name is a word of one or more bytes.
+#[inline(always)]
 fn name(word: &[u8]) -> Option<&[u8]>
     ensures { name_as result ≡ name_in word.now }
 {
     if word.is_empty() { None } else { Some(word) }
 }
 
+#[inline(always)]
 fn ticket(word: &[u8]) -> Option<u32>
     ensures { result ≡ ticket_in word.now }
 {
@@ -116,6 +125,7 @@ fn ticket(word: &[u8]) -> Option<u32>
     }
 }
 
+#[inline(always)]
 fn amount(word: &[u8]) -> Option<u64>
     ensures { result ≡ amount_in word.now }
 {

@@ -1,14 +1,17 @@
-ghost use Rattle.std.specs.Prelude.{◌≡◌, ◌≤◌, IfSome};
+ghost use Rattle.std.specs.Prelude.{◌≡◌, ◌^◌, ◌≤◌, ◌<◌, length, IfSome};
 ghost use Rattle.hpb_rules.specs.Lines.{number_up_to};
-ghost use Rattle.hpb_wire.specs.Numbers.{number_of_digits, has_front_zero};
+ghost use Rattle.hpb_wire.specs.Numbers.{number_of_digits, digits_number, digit_number, has_front_zero};
+
+/// How many digits the greatest number of 64 bits has.
+const MOST_DIGITS: usize = 20;
 
 /// The number up to `most` that a word spells in decimal, with no sign and no zero before another digit.
-#[tactic(auto, using(crate::proofs::Canonical::fronted, crate::proofs::Canonical::no_number))]
+#[tactic(auto, using(crate::proofs::Canonical::fronted, crate::proofs::Canonical::no_number, crate::proofs::Canonical::too_long))]
 pub(crate) fn number(word: &[u8], most: u64) -> Option<u64>
     ensures value { result ≡ number_up_to most word.now }
     ensures bound { IfSome result (λ n. n ≤ most) }
 {
-    if has_front_zero(word) {
+    if word.len() > MOST_DIGITS || has_front_zero(word) {
         return None;
     }
     let number = number_of_word(word)?;
@@ -24,22 +27,41 @@ fn has_front_zero(word: &[u8]) -> bool
     word.len() > 1 && word[0] == b'0'
 }
 
-#[tactic(auto, using(crate::proofs::Numerals::not_text))]
+/// The number of 64 bits that a word's digits spell. Only the last of 20 can make it too large.
+#[tactic(auto, using(crate::proofs::Digits::pushed, crate::proofs::Digits::few))]
 fn number_of_word(word: &[u8]) -> Option<u64>
+    requires { length word.now ≤ 20 }
     ensures { result ≡ number_of_digits word.now }
 {
-    match str::from_utf8(word) {
-        Ok(text) => number_of_text(text),
-        Err(_) => None,
+    if !word.is_empty() && word.len() < MOST_DIGITS {
+        return number_of_front(word);
     }
+    let (last, front) = word.split_last()?;
+    let (tens, ones) = (number_of_front(front)?, digit(*last)?);
+    tens.checked_mul(10)?.checked_add(ones)
 }
 
-#[tactic(auto, using(crate::proofs::Numerals::signed, crate::proofs::Numerals::parsed_plain))]
-fn number_of_text(text: &str) -> Option<u64>
-    ensures { result ≡ number_of_digits text.now }
+/// The number that fewer than 20 digits spell, 0 where there are none.
+#[tactic(auto, using(crate::proofs::Digits::room))]
+fn number_of_front(digits: &[u8]) -> Option<u64>
+    requires { length digits.now < 20 }
+    ensures value { result ≡ digits_number digits.now }
+    ensures bound { IfSome result (λ n. n < 10 ^ length digits.now) }
 {
-    if text.as_bytes().first() == Some(&b'+') {
-        return None;
+    let mut number = 0;
+    for byte in digits {
+        number = number * 10 + digit(*byte)?;
     }
-    text.parse::<u64>().ok()
+    Some(number)
+}
+
+/// What a byte is worth, if it is a digit.
+fn digit(byte: u8) -> Option<u64>
+    ensures value { result ≡ digit_number byte }
+    ensures bound { IfSome result (λ digit. digit < 10) }
+{
+    match byte {
+        b'0'..=b'9' => Some((byte - b'0') as u64),
+        _ => None,
+    }
 }

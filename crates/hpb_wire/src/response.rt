@@ -137,13 +137,13 @@ impl fmt::Display for High<'_> {
     }
 }
 
-fn open_or_closed(closed: bool) -> &'static str
+pub(crate) fn open_or_closed(closed: bool) -> &'static str
     ensures { result.now ≡ closed_text closed }
 {
     if closed { "CLOSED" } else { "OPEN" }
 }
 
-fn yes_or_no(yes: bool) -> &'static str
+pub(crate) fn yes_or_no(yes: bool) -> &'static str
     ensures { result.now ≡ wins_text yes }
 {
     if yes { "yes" } else { "no" }

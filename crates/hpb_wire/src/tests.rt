@@ -187,7 +187,7 @@ fn responses_are_written(rt: HostRuntime) -> Result<(), Fail> {
         text.render(&response)?;
         assert_eq!(rt; text.as_bytes(), line.as_bytes());
     }
-    text.render(&Response::Reply(Reply::Ok(1)))?;
+    text.render_reply(Reply::Ok(1))?;
     assert_eq!(rt;
         text.as_bytes(),
         b"WHO w ELIGIBILITY 21 ACTIVITY 20 TICKET 2\nOK 1\n".as_slice()

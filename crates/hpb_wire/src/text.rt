@@ -1,7 +1,10 @@
 ghost use Rattle.std.specs.Prelude.{◌≡◌, [], length, IfOk};
+ghost use Rattle.hpb_rules.specs.Rendering.{reply_text};
 ghost use Rattle.hpb_wire.specs.Responses.{Adds, text_of};
 
 use crate::response::Response;
+use crate::writing::{write_line, write_reply};
+use hpb_rules::Reply;
 use std::alloc::{AllocError, Global};
 use std::marker::Model;
 
@@ -11,17 +14,15 @@ pub const RESPONSE_BYTES: usize = 256;
 /// Responses one after another, a line each. A text that is used again takes no memory once it has grown.
 #[derive(Drop)]
 pub struct ResponseText {
-    lines: String,
-    /// The newest line, whole or in part.
-    newest: String,
+    lines: Vec<u8>,
 }
 
 impl Model for ResponseText {
-    ghost use Rattle.std.specs.Prelude.{ℕ, List, string_bytes};
+    ghost use Rattle.std.specs.Prelude.{ℕ, List};
 
     ghost Value = { List ℕ };
 
-    ghost view = { λ t. string_bytes t.lines };
+    ghost view = { λ t. t.lines.items };
 }
 
 impl ResponseText {
@@ -30,22 +31,28 @@ impl ResponseText {
         ensures { IfOk result (λ t. t ≡ []) }
     {
         Ok(ResponseText {
-            lines: String::with_capacity(alloc, bytes)?,
-            newest: String::with_capacity(alloc, RESPONSE_BYTES)?,
+            lines: Vec::with_capacity(alloc, bytes)?,
         })
     }
 
     /// Adds the line of a response, with its end. Where memory is refused, the text stays as it is.
+    #[inline(always)]
     pub fn render(&mut self, response: &Response<'_>) -> Result<(), AllocError>
         ensures { Adds self.old self.new (text_of response.now) result }
     {
-        self.newest.clear();
-        write!(self.newest, "{response}\n")?;
-        self.lines.push_str(self.newest.as_str())?;
-        Ok(())
+        write_line(&mut self.lines, response)
+    }
+
+    /// Adds the line of a reply, with its end. Where memory is refused, the text stays as it is.
+    #[inline(always)]
+    pub fn render_reply(&mut self, reply: Reply) -> Result<(), AllocError>
+        ensures { Adds self.old self.new (reply_text reply) result }
+    {
+        write_reply(&mut self.lines, reply)
     }
 
     /// How many bytes it has.
+    #[inline(always)]
     pub fn len(&self) -> usize
         ensures { result ≡ length self.now }
     {
@@ -56,7 +63,7 @@ impl ResponseText {
     pub fn as_bytes(&self) -> &[u8]
         ensures { result.now ≡ self.now }
     {
-        self.lines.as_bytes()
+        self.lines.as_slice()
     }
 
     /// Takes all responses out, and keeps the room.

@@ -8,6 +8,7 @@ use hpb_rules::{BidderId, NodeId, Offer};
 use hpb_tree::Definition;
 
 /// What `SHOW` is answered.
+#[inline(always)]
 pub fn show(auction: &Auction) -> Response<'static>
     ensures { text_of result ≡ shown_in auction.now }
 {
@@ -21,6 +22,7 @@ pub fn show(auction: &Auction) -> Response<'static>
 }
 
 /// What `NODE` is answered of a node: how it stands by closed rounds.
+#[inline(always)]
 pub fn node(auction: &Auction, node: NodeId) -> Response<'_>
     requires { node < length auction.now.rules.nodes }
     ensures { text_of result ≡ node_shown_in auction.now node }
@@ -37,6 +39,7 @@ pub fn node(auction: &Auction, node: NodeId) -> Response<'_>
 }
 
 /// What `WHO` is answered of a bidder.
+#[inline(always)]
 pub fn who(auction: &Auction, bidder: BidderId) -> Response<'_>
     requires { bidder < length auction.now.rules.bidders }
     ensures { text_of result ≡ bidder_shown_in auction.now bidder }
@@ -51,6 +54,7 @@ pub fn who(auction: &Auction, bidder: BidderId) -> Response<'_>
 }
 
 /// A high bid with its bidder's name.
+#[inline(always)]
 fn high_bid(definition: &Definition, high: Option<Offer>) -> Option<HighBid<'_>>
     requires { IfSome high (λ offer. offer.bidder < length definition.now.bidders) }
     ensures { high_of result ≡ high_in definition.now high }

@@ -1,0 +1,20 @@
+use Rattle.std.proofs.Common.{◌<◌, length, take, arith, subst, sym}
+use Rattle.std.specs.Prelude.{IfSome, Some}
+use lib.Count.{count_trailing_zeros}
+use Rattle.hpb_rules.specs.Lines.{line_feed}
+use Rattle.hpb_wire.specs.Marks.{marks_of}
+use Rattle.hpb_wire.specs.Requests.{IsFrontLine}
+use Rattle.hpb_wire.proofs.Places.{front_ends}
+use Rattle.hpb_wire.proofs.cut.front_size.Goals as goal
+
+pub returns-clause-front : goal.returns-clause-front
+returns-clause-front c =
+    let bytes = c.args.bytes.now in
+    let ends = front_ends 32 bytes (omega arith) c.requires (omega (arith, c.marks-ends.ensures, c.if-ends-eq0.false)) in
+    subst (λ m. IsFrontLine bytes (count_trailing_zeros 64 m)) (sym c.marks-ends.ensures) ends.0
+
+pub returns-clause-short : goal.returns-clause-short
+returns-clause-short c =
+    let bytes = c.args.bytes.now in
+    let ends = front_ends 32 bytes (omega arith) c.requires (omega (arith, c.marks-ends.ensures, c.if-ends-eq0.false)) in
+    subst (λ m. count_trailing_zeros 64 m < 32) (sym c.marks-ends.ensures) ends.1
