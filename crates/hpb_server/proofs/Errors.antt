@@ -11,3 +11,8 @@ ok_case (Err error) p = tt
 pub err_case : {T E : Type 0} {Q : E → Type 0} (P : Result T E → Type 0) (r : Result T E) → IsErrAnd r Q → ((error : E) → Q error → P (Err error)) → P r
 err_case P (Ok done) bad h = absurd bad
 err_case P (Err error) bad h = h error bad
+
+-- of an error nothing is asked that is asked of a good end
+pub err_only : {T E : Type 0} (P : Type 0) (Q : E → Type 0) (r : Result T E) → IsErrAnd r Q → OnOk r P
+err_only P Q (Ok done) bad = absurd bad
+err_only P Q (Err error) bad = tt

@@ -1,5 +1,6 @@
 -- The bytes of a line that are kept.
-use Rattle.std.proofs.Common.{◌≡◌, ℕ, ◌+◌, ◌-◌, ◌≤◌, List, ◌++◌, length, take, sym, ap, ◌∙◌, arith}
+use Rattle.std.proofs.Common.{◌≡◌, ℕ, ◌+◌, ◌-◌, ◌≤◌, ◌==◌, true, List, [], ◌∷◌, ◌++◌, refl, length, take, sym, ap, ◌∙◌, arith}
+use Rattle.std.proofs.lemmas.Bool.{eqb-true}
 use Rattle.std.proofs.lemmas.List.{length-take-le}
 use Rattle.std.proofs.lemmas.Slice.{take-put_mid}
 use Rattle.std.proofs.Math.Seq.{take-append-add}
@@ -23,3 +24,8 @@ pub kept_within : (most : ℕ) (old part : List ℕ) → length old ≤ most →
 kept_within most old part within =
     let whole : length old + (most - length old) ≡ most = omega arith in
     ap (λ i. take i (old ++ part)) (sym whole) ∙ take-append-add old part (most - length old)
+
+-- of no bytes none are kept
+pub none_kept : (xs : List ℕ) → (length xs == 0) ≡ true → xs ≡ []
+none_kept [] h = refl
+none_kept (x ∷ xs) h = absurd (omega (arith, eqb-true (length (x ∷ xs)) 0 h))

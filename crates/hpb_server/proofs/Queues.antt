@@ -278,12 +278,12 @@ module _ {State : Type 0} {rules : State → Rules} {over : State → Bool} {ask
   module _ {start : List ℕ} {old now : State} {writer_old writer_now : Option (List ℕ)} {output_old output line : List ℕ} {queue : List Command} where
     -- the line ends, and waits like the others
     pub queues_line : {before after : Pending} {taken : List ℕ} → Queues rules over asks looks most takes_memory start old now writer_old writer_now output_old line queue before.unread output
-        → TakesToEnd KEPT_BYTES before after line taken → (given : List ℕ) → given ≡ taken → (read_by : Rules) → rules now ≡ read_by
-        → Waits rules over asks looks most takes_memory start old now writer_old writer_now output_old (asked_for queue ++ request_of read_by given ∷ []) after.unread output
-    queues_line {after = after} q part given same read_by are =
-        let kept = same ∙ part.kept ∙ ap (λ xs. take KEPT_BYTES (xs ++ part.bytes)) q.kept ∙ take-take-append KEPT_BYTES q.rest part.bytes in
+        → TakesToEnd KEPT_BYTES before after line taken → (read_by : Rules) → rules now ≡ read_by → (request : Result Request Refusal) → request ≡ request_of read_by taken
+        → Waits rules over asks looks most takes_memory start old now writer_old writer_now output_old (asked_for queue ++ request ∷ []) after.unread output
+    queues_line {after = after} {taken = taken} q part read_by are request heard =
+        let kept = part.kept ∙ ap (λ xs. take KEPT_BYTES (xs ++ part.bytes)) q.kept ∙ take-take-append KEPT_BYTES q.rest part.bytes in
         waits_more q.waits (q.rest ++ part.bytes) after.unread (All-append (λ b. is_line_feed b ≡ false) q.rest part.bytes q.no_end part.no_end)
-        (sym (request_of_front (rules now) (q.rest ++ part.bytes)) ∙ ap (request_of (rules now)) (sym kept) ∙ ap (λ (r : Rules). request_of r given) are)
+        (sym (request_of_front (rules now) (q.rest ++ part.bytes)) ∙ ap (request_of (rules now)) (sym kept) ∙ ap (λ (r : Rules). request_of r taken) are ∙ sym heard)
         (ap (λ xs. q.rest ++ xs) part.parts ∙ sym (append_assoc q.rest part.bytes (LINE_FEED ∷ after.unread)))
 
     -- it does not end

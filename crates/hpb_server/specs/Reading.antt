@@ -4,6 +4,7 @@ use Rattle.std.specs.List.{All}
 use Rattle.std.specs.Io.KnownBytes.{Consumes, IsAtEnd}
 use Rattle.hpb_rules.specs.declared.limits.TheConstants.{MOST_DEFINITION_BYTES}
 use Rattle.hpb_rules.specs.Lines.{is_line_feed}
+use Rattle.hpb_wire.specs.declared.line.FrontRequest.{FrontRequest}
 use Rattle.hpb_server.specs.declared.fault.Fault.{Fault}
 use Rattle.hpb_server.specs.declared.fault.Fault.TheVariants.{Reader, Writer}
 use Rattle.hpb_server.specs.declared.input.TheConstants.{LINE_FEED, KEPT_DEFINITION_BYTES}
@@ -22,6 +23,16 @@ HasNoEnd bytes = All (λ b. is_line_feed b ≡ false) bytes
 abbrev pub FindsEnd : List ℕ → Option ℕ → Type 0
 FindsEnd bytes None = HasNoEnd bytes
 FindsEnd bytes (Some n) = (n < length bytes) × (slice_index bytes n ≡ LINE_FEED) × HasNoEnd (take n bytes)
+
+-- How many bytes the next line has, if there is one.
+abbrev pub size_of : Option FrontRequest → Option ℕ
+size_of None = None
+size_of (Some next) = Some next.size
+
+-- A line of this length and its end were taken, and nothing more was read.
+pub record SkipsLine (count : ℕ) (before after : Pending) : Type 0 where
+  pub parts : before.unread ≡ take count before.unread ++ LINE_FEED ∷ after.unread
+  pub nothing_read : after.budget ≡ before.budget
 
 -- How many bytes are taken of a reader at most where so many may be read: one more shows that there is more.
 abbrev pub most_taken : ℕ → ℕ

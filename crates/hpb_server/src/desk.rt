@@ -1,9 +1,9 @@
-ghost use Rattle.std.specs.Prelude.{◌≡◌, ◌<◌, ◌≤◌, true, length, IfOk, IfSome, OnErr};
+ghost use Rattle.std.specs.Prelude.{◌≡◌, ◌<◌, ◌≤◌, true, false, length, IfOk, IfSome, OnErr};
 ghost use Rattle.std.specs.Borrow.{sem};
 ghost use Rattle.std.specs.Io.BufRead.{Rests};
 
 use hpb_auction::Auction;
-use hpb_rules::{Commands, Replies};
+use hpb_rules::{Command, Commands, Refusal, Replies, Reply};
 use hpb_tree::Definition;
 use std::alloc::{AllocError, Global};
 use std::marker::Model;
@@ -78,6 +78,22 @@ pub trait Desk {
         ensures kept { (state : State) → is_at self.old state → OnErr result (is_at self.new state) }
         ensures refused { OnErr result (takes_memory ≡ true) }
         ensures rules { rules self.new ≡ rules self.old };
+
+    /// Asks for one command, and gives what it is answered. Where memory is refused, it is not asked.
+    ///
+    /// A desk that is asked for one at a time has a body of its own, without lists.
+    fn ask_one(&mut self, alloc: Global, command: &Command) -> Result<Reply, AllocError>
+        requires goes_on { over self.old ≡ false }
+        ensures asked { (state : State) → is_at self.old state → IfOk result (λ reply. (next : State) × asks state command.now reply next × is_at self.new next) }
+        ensures kept { (state : State) → is_at self.old state → OnErr result (is_at self.new state) }
+        ensures refused { OnErr result (takes_memory ≡ true) }
+        ensures rules { rules self.new ≡ rules self.old }
+    {
+        let mut commands = Commands::new();
+        let _ = commands.push(*command);
+        let replies = self.ask(alloc, &commands)?;
+        Ok(replies.get(0).unwrap_or(Reply::Refused(Refusal::Failed)))
+    }
 
     /// Does what could wait until the answers had left.
     fn rest(&mut self, alloc: Global) -> Result<(), AllocError>
@@ -199,6 +215,10 @@ impl Desk for ScriptDesk {
             let _ = replies.push(self.auction.apply(command));
         }
         Ok(replies)
+    }
+
+    fn ask_one(&mut self, _alloc: Global, command: &Command) -> Result<Reply, AllocError> {
+        Ok(self.auction.apply(command))
     }
 
     fn rest(&mut self, _alloc: Global) -> Result<(), AllocError> {

@@ -1,13 +1,14 @@
-ghost use Rattle.std.specs.Prelude.{◌≡◌, ◌<◌, ◌≤◌, [], ◌++◌, take, length, vec_len, IfErr, IfOk, OnOk, OnErr};
+ghost use Rattle.std.specs.Prelude.{◌≡◌, ◌<◌, ◌≤◌, [], ◌++◌, take, length, vec_len, Some, IfErr, IfOk, OnOk, OnErr};
 ghost use Rattle.std.specs.Io.{ReadsAtMost};
 ghost use Rattle.std.specs.Io.KnownBytes.{Consumes, IsAtEnd, Keeps};
 ghost use Rattle.hpb_server.specs.Fault.{IsFailure};
-ghost use Rattle.hpb_server.specs.Reading.{Fills, FindsEnd, GivesDefinition, ReadsWithin, StopsReading, TakesPart};
+ghost use Rattle.hpb_server.specs.Reading.{Fills, FindsEnd, GivesDefinition, HasNoEnd, ReadsWithin, SkipsLine, StopsReading, TakesAll, TakesPart};
 
 use crate::fault::Fault;
 use crate::line::{KEPT_BYTES, Line};
 use crate::signal::is_interrupted;
 use hpb_rules::MOST_DEFINITION_BYTES;
+use memchr::memchr;
 use std::alloc::{AllocError, Global};
 use std::io;
 use std::io::{ErrorKind, Read};
@@ -134,23 +135,44 @@ impl Input {
         }
     }
 
-    /// Adds what was read to a line, up to its end. `false` says that all is taken and the line goes on.
-    pub(crate) fn take_line(&mut self, line: &mut Line) -> bool
-        ensures { TakesPart KEPT_BYTES self.old self.new line.old line.new result }
+    /// What is unread, as it lies.
+    pub(crate) fn unread(&self) -> &[u8]
+        ensures { result.now ≡ self.now.unread }
     {
-        let unread = &self.chunk[self.start..self.end];
-        match find_end(unread) {
-            Some(length) => {
-                line.extend(&unread[..length]);
-                self.start += length + 1;
-                true
-            }
-            None => {
-                line.extend(unread);
-                self.start = self.end;
-                false
-            }
-        }
+        &self.chunk[self.start..self.end]
+    }
+
+    /// How many bytes the next line has, where its end was read.
+    pub(crate) fn find_line(&self) -> Option<usize>
+        ensures { FindsEnd self.now.unread result }
+    {
+        find_end(self.unread())
+    }
+
+    /// So many bytes of what is unread, as they lie.
+    pub(crate) fn front(&self, size: usize) -> &[u8]
+        requires { size ≤ length self.now.unread }
+        ensures { result.now ≡ take size self.now.unread }
+    {
+        &self.chunk[self.start..self.start + size]
+    }
+
+    /// Takes the next line, which has so many bytes, and its end.
+    pub(crate) fn skip_line(&mut self, size: usize)
+        requires { FindsEnd self.old.unread (Some size) }
+        ensures { SkipsLine size self.old self.new }
+    {
+        let end = self.start + size;
+        self.start = end + 1;
+    }
+
+    /// Adds all that is unread to a line that goes on.
+    pub(crate) fn keep_rest(&mut self, line: &mut Line)
+        requires { HasNoEnd self.old.unread }
+        ensures { TakesAll KEPT_BYTES self.old self.new line.old line.new }
+    {
+        line.extend(&self.chunk[self.start..self.end]);
+        self.start = self.end;
     }
 }
 
@@ -168,7 +190,7 @@ fn keep(bytes: &mut Vec<u8>, part: &[u8]) -> Result<(), AllocError>
 fn find_end(bytes: &[u8]) -> Option<usize>
     ensures { FindsEnd bytes.now result }
 {
-    bytes.iter().position(|byte| *byte == LINE_FEED)
+    memchr(LINE_FEED, bytes)
 }
 
 /// One read of at most so many bytes into the front of a buffer, tried again where a signal came first.

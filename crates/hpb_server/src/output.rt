@@ -1,6 +1,6 @@
 ghost use Rattle.std.specs.Prelude.{◌≡◌, ◌<◌, [], length, IfErr, IfOk};
 ghost use Rattle.std.specs.Io.KnownBytes.{Keeps};
-ghost use Rattle.hpb_rules.specs.Rendering.{refusal_text};
+ghost use Rattle.hpb_rules.specs.Rendering.{refusal_text, reply_text};
 ghost use Rattle.hpb_wire.specs.Responses.{Adds, text_of};
 ghost use Rattle.hpb_server.specs.Fault.{IsFailure};
 ghost use Rattle.hpb_server.specs.Writing.{Puts, Sends, Writes};
@@ -41,20 +41,31 @@ impl Output {
     }
 
     /// Adds a response, or nothing where memory is refused.
+    #[inline(always)]
     pub(crate) fn add(&mut self, response: &Response<'_>) -> Result<(), AllocError>
         ensures { Adds self.old self.new (text_of response.now) result }
     {
         self.waiting.render(response)
     }
 
+    /// Adds a reply, or nothing where memory is refused.
+    #[inline(always)]
+    pub(crate) fn reply(&mut self, reply: Reply) -> Result<(), AllocError>
+        ensures { Adds self.old self.new (reply_text reply) result }
+    {
+        self.waiting.render_reply(reply)
+    }
+
     /// Adds the line of a refusal, or nothing where memory is refused.
+    #[inline(always)]
     pub(crate) fn refuse(&mut self, refusal: Refusal) -> Result<(), AllocError>
         ensures { Adds self.old self.new (refusal_text refusal) result }
     {
-        self.add(&Response::Reply(Reply::Refused(refusal)))
+        self.reply(Reply::Refused(refusal))
     }
 
     /// Whether room may be missing for one more response.
+    #[inline(always)]
     pub(crate) fn is_nearly_full(&self) -> bool {
         self.waiting.len() > OUTPUT_BYTES - RESPONSE_BYTES
     }

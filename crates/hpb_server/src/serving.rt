@@ -1,4 +1,4 @@
-ghost use Rattle.std.specs.Prelude.{◌≡◌, ◌<◌, ◌≤◌, ℕ, true, false, List, [], ◌∷◌, ◌++◌, take, Ok, IfOk, OnOk, length};
+ghost use Rattle.std.specs.Prelude.{◌≡◌, ◌<◌, ◌≤◌, ℕ, true, false, List, [], ◌∷◌, ◌++◌, take, None, Ok, IfOk, IfSome, OnOk, length};
 ghost use Rattle.hpb_rules.specs.declared.command.Command.{Command};
 ghost use Rattle.hpb_rules.specs.Lines.{request_of};
 ghost use Rattle.hpb_rules.specs.Text.{line_of};
@@ -8,7 +8,7 @@ ghost use Rattle.hpb_wire.specs.Requests.{IsRequestOf};
 ghost use Rattle.hpb_wire.specs.Responses.{Adds};
 ghost use Rattle.hpb_server.specs.Desk.{Moves};
 ghost use Rattle.hpb_server.specs.DeskLaws.{GoesOn};
-ghost use Rattle.hpb_server.specs.Reading.{HasNoEnd};
+ghost use Rattle.hpb_server.specs.Reading.{size_of, FindsEnd, HasNoEnd};
 ghost use Rattle.hpb_server.specs.Serving.{Serves};
 ghost use Rattle.hpb_server.specs.Streams.{streams};
 ghost use Rattle.hpb_server.specs.Session.{asked_for, replies_text, AddsAnswer, AddsLook, Ends, IsQuestion, Passes, PassesLine, PassesRequests, Proceeds};
@@ -19,7 +19,8 @@ use crate::input::Input;
 use crate::line::{KEPT_BYTES, Line};
 use crate::output::Output;
 use hpb_rules::{BidderId, Command, Commands, MOST_READ_BYTES, NodeId, Refusal, Replies, Request};
-use hpb_wire::{Response, parse_line};
+use hpb_tree::Definition;
+use hpb_wire::{FrontRequest, parse_front, parse_line};
 use std::alloc::{AllocError, Global};
 use std::io::{Read, Write};
 
@@ -114,40 +115,76 @@ fn answer_unread<W: Write, D: Desk>(
 {
     let mut queue = Commands::new();
     'lines: while !desk.is_over() {
-        if !input.take_line(line) {
+        let Some(next) = next_request(input, line, desk.definition()) else {
+            input.keep_rest(line);
             return ask_queue(alloc, writer, desk, &mut queue, output);
-        }
-        pass_line(alloc, writer, desk, line.as_slice(), &mut queue, output)?;
+        };
+        pass_request(alloc, writer, desk, next.request, &mut queue, output)?;
+        input.skip_line(next.size);
         line.clear();
     }
     Ok(())
 }
 
-/// Passes a line: its command to the queue, and any other to its answer, once all that waits is asked.
-fn pass_line<W: Write, D: Desk>(
+/// What the next line asks for, where its end was read. What is kept of its start stands in `line`.
+#[inline(always)]
+fn next_request(input: &Input, line: &mut Line, definition: &Definition) -> Option<FrontRequest>
+    ensures line { FindsEnd input.now.unread (size_of result) }
+    ensures value { IfSome result (λ next. next.request ≡ request_of definition.now (take KEPT_BYTES (line.old ++ take next.size input.now.unread))) }
+    ensures known { IfSome result (λ next. IfOk next.request (IsRequestOf definition.now)) }
+    ensures kept { result ≡ None → line.new ≡ line.old }
+{
+    if line.is_empty() {
+        if let Some(next) = parse_front(input.unread(), definition) {
+            return Some(next);
+        }
+    }
+    let size = input.find_line()?;
+    let request = parse_part(input.front(size), line, definition);
+    Some(FrontRequest { size, request })
+}
+
+/// What a line asks for whose last part is given: as it lies where that is all of it, else with what is kept of its
+/// start.
+fn parse_part(part: &[u8], line: &mut Line, definition: &Definition) -> Result<Request, Refusal>
+    ensures value { result ≡ request_of definition.now (take KEPT_BYTES (line.old ++ part.now)) }
+    ensures known { IfOk result (IsRequestOf definition.now) }
+{
+    if line.is_empty() {
+        return parse_line(part, definition);
+    }
+    line.extend(part);
+    parse_line(line.as_slice(), definition)
+}
+
+/// Passes what a line asks for: a command to the queue, and any other to its answer, once all that waits is asked.
+#[inline(always)]
+fn pass_request<W: Write, D: Desk>(
     alloc: Global,
     writer: &mut W,
     desk: &mut D,
-    line: &[u8],
+    request: Result<Request, Refusal>,
     queue: &mut Commands,
     output: &mut Output,
 ) -> Result<(), Fault>
     requires goes_on { D.over desk.old ≡ false }
     requires room { length queue.old < D.most }
+    requires known { IfOk request (IsRequestOf (D.rules desk.old)) }
     ensures passed { Moves D.is_at desk.old desk.new (λ state next. PassesRequests D.rules_at D.over_at D.asks D.looks D.most D.takes_memory state
-        (asked_for queue.old ++ request_of (D.rules desk.old) line.now ∷ []) next
+        (asked_for queue.old ++ request ∷ []) next
         (W.contents writer.old) (W.contents writer.new) output.old output.new queue.new result) }
     ensures rules { D.rules desk.new ≡ D.rules desk.old }
     ensures room { OnOk result (length queue.new < D.most) }
     ensures over { OnOk result (D.over desk.new ≡ true → queue.new ≡ []) }
 {
-    match parse_line(line, desk.definition()) {
+    match request {
         Ok(Request::Command(command)) => enqueue(alloc, writer, desk, command, queue, output),
         question => pass_question(alloc, writer, desk, question, queue, output),
     }
 }
 
 /// Puts a command into the queue, and asks for all that waits once it is as much as is asked together.
+#[inline(always)]
 fn enqueue<W: Write, D: Desk>(
     alloc: Global,
     writer: &mut W,
@@ -165,6 +202,9 @@ fn enqueue<W: Write, D: Desk>(
     ensures room { OnOk result (length queue.new < D.most) }
     ensures over { OnOk result (D.over desk.new ≡ true → queue.new ≡ []) }
 {
+    if queue.len() == 0 && desk.most_asked() == 1 {
+        return ask_alone(alloc, writer, desk, &command, output);
+    }
     let _ = queue.push(command);
     if queue.len() < desk.most_asked() {
         return Ok(());
@@ -172,7 +212,35 @@ fn enqueue<W: Write, D: Desk>(
     ask_queue(alloc, writer, desk, queue, output)
 }
 
+/// Asks for one command by itself, and adds its answer.
+#[inline(always)]
+fn ask_alone<W: Write, D: Desk>(
+    alloc: Global,
+    writer: &mut W,
+    desk: &mut D,
+    command: &Command,
+    output: &mut Output,
+) -> Result<(), Fault>
+    requires goes_on { D.over desk.old ≡ false }
+    ensures passed { Moves D.is_at desk.old desk.new (λ state next. PassesRequests D.rules_at D.over_at D.asks D.looks D.most D.takes_memory state
+        (Ok (requests.Command command.now) ∷ []) next
+        (W.contents writer.old) (W.contents writer.new) output.old output.new [] result) }
+    ensures rules { D.rules desk.new ≡ D.rules desk.old }
+{
+    match desk.ask_one(alloc, command) {
+        Ok(reply) => {
+            let added = output.reply(reply);
+            pass_added(writer, added, output)
+        }
+        Err(error) => {
+            output.send(writer)?;
+            Err(error.into())
+        }
+    }
+}
+
 /// Asks for all that waits, and answers what is no command, unless the session is over.
+#[inline(always)]
 fn pass_question<W: Write, D: Desk>(
     alloc: Global,
     writer: &mut W,
@@ -238,7 +306,7 @@ fn pass_replies<W: Write>(
         (output.old ++ replies_text replies.now) output.new result }
 {
     for reply in replies.as_slice() {
-        let added = output.add(&Response::Reply(*reply));
+        let added = output.reply(*reply);
         pass_added(writer, added, output)?;
     }
     Ok(())
@@ -246,6 +314,7 @@ fn pass_replies<W: Write>(
 
 /// Goes on from an answer that was added, or was not. All that is answered is written where room for one answer
 /// more may be missing, and where memory is refused.
+#[inline(always)]
 fn pass_added<W: Write>(
     writer: &mut W,
     added: Result<(), AllocError>,
@@ -270,6 +339,7 @@ fn pass_added<W: Write>(
 }
 
 /// Adds the answer to a question, or to a line that is refused.
+#[inline(always)]
 fn answer_question<D: Desk>(
     desk: &mut D,
     question: Result<Request, Refusal>,
@@ -288,6 +358,7 @@ fn answer_question<D: Desk>(
 }
 
 /// Adds the answer to a question.
+#[inline(always)]
 fn answer_request<D: Desk>(
     desk: &mut D,
     request: Request,
@@ -308,6 +379,7 @@ fn answer_request<D: Desk>(
 }
 
 /// Adds the answer to `SHOW`.
+#[inline(always)]
 fn answer_show<D: Desk>(desk: &mut D, output: &mut Output) -> Result<(), AllocError>
     ensures answer { Moves D.is_at desk.old desk.new (λ state next. AddsLook D.looks shown_in state next
         output.old output.new result) }
@@ -320,6 +392,7 @@ fn answer_show<D: Desk>(desk: &mut D, output: &mut Output) -> Result<(), AllocEr
 }
 
 /// Adds the answer to `NODE`.
+#[inline(always)]
 fn answer_node<D: Desk>(desk: &mut D, node: NodeId, output: &mut Output) -> Result<(), AllocError>
     requires { node < length (D.rules desk.old).nodes }
     ensures answer { Moves D.is_at desk.old desk.new (λ state next. AddsLook D.looks (λ value. node_shown_in value node) state next
@@ -333,6 +406,7 @@ fn answer_node<D: Desk>(desk: &mut D, node: NodeId, output: &mut Output) -> Resu
 }
 
 /// Adds the answer to `WHO`.
+#[inline(always)]
 fn answer_who<D: Desk>(
     desk: &mut D,
     bidder: BidderId,

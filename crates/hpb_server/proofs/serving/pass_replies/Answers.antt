@@ -10,7 +10,7 @@ returns-in_err-pass_added g c =
     let items = c.as_slice-reply-items.result.now in
     let reply = get_or items c.loop-reply.reply-index (replies.Ok 0) in
     reply_broken items c.args.replies.now c.as_slice-reply-items.ensures.value c.loop-reply.reply-index (replies.Ok 0) c.loop-reply-test.true (g.W.Write.contents c.args.writer.now) (g.W.Write.contents c.loop-reply.writer) (g.W.Write.contents c.pass_added.new.writer)
-    c.args.output.now c.loop-reply.output inv.0 inv.1 inv.2 c.pass_added.new.output c.in_err-pass_added.field-0.0 c.from_residual.result c.from_residual.ensures.1 (c.in_err-pass_added.ensures c.loop-reply.output (reply_text reply) c.add-added.ensures)
+    c.args.output.now c.loop-reply.output inv.0 inv.1 inv.2 c.pass_added.new.output c.in_err-pass_added.field-0.0 c.from_residual.result c.from_residual.ensures.1 (c.in_err-pass_added.ensures c.loop-reply.output (reply_text reply) c.reply-added.ensures)
 
 pub loop-reply-preserved : goal.loop-reply-preserved
 loop-reply-preserved g c =
@@ -18,4 +18,4 @@ loop-reply-preserved g c =
     let items = c.as_slice-reply-items.result.now in
     let reply = get_or items c.loop-reply.reply-index (replies.Ok 0) in
     reply_passed items c.args.replies.now c.as_slice-reply-items.ensures.value c.loop-reply.reply-index (replies.Ok 0) c.loop-reply-test.true (g.W.Write.contents c.args.writer.now) (g.W.Write.contents c.loop-reply.writer) (g.W.Write.contents c.pass_added.new.writer)
-    c.args.output.now c.loop-reply.output inv.0 inv.1 inv.2 c.pass_added.new.output (c.in_ok-pass_added.ensures c.loop-reply.output (reply_text reply) c.add-added.ensures)
+    c.args.output.now c.loop-reply.output inv.0 inv.1 inv.2 c.pass_added.new.output (c.in_ok-pass_added.ensures c.loop-reply.output (reply_text reply) c.reply-added.ensures)
