@@ -16,4 +16,6 @@ mod rows_of_sums;
 #[cfg(test)]
 mod rows_of_units;
 #[cfg(test)]
+mod rows_of_winners;
+#[cfg(test)]
 mod script;
