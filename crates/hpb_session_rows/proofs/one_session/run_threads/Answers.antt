@@ -1,0 +1,10 @@
+use denote.Param.Send.{sendable}
+use Rattle.hpb_session_rows.proofs.one_session.run_threads.Goals as goal
+
+-- a device and a wait may go to a thread, and the threads be shared; the client waits for nothing, and both know the same board
+pub scoped-requires : goal.scoped-requires
+scoped-requires g c =
+    let device = c.type_bounds.send-D in
+    let wait = c.type_bounds.send-W in
+    let threads = c.type_bounds.sync-R in
+    record { at = λ scope. ((search sendable depth 20, search sendable depth 20, search sendable depth 20), (c.requires.idle, (c.requires.same, (search sendable depth 20, search sendable depth 20, search sendable depth 20)))) }
