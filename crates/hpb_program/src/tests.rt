@@ -1,3 +1,4 @@
+mod definitions;
 mod files;
 mod runs;
 mod serves;

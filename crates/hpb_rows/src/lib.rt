@@ -4,8 +4,6 @@
 #[cfg(test)]
 mod memory;
 #[cfg(test)]
-mod rows_of_definitions;
-#[cfg(test)]
 mod rows_of_lines;
 #[cfg(test)]
 mod rows_of_rounds;

@@ -5,7 +5,6 @@ use hpb_auction::{Auction, run_commands};
 use hpb_bids::Books;
 use hpb_define::read_definition;
 use hpb_prices::{Prices, downward};
-use hpb_program::{Job, Noted, program, read_words};
 use hpb_rules::{BidderId, Command, NodeId, Offer, Refusal, Reply};
 use hpb_server::{ScriptDesk, ScriptEnd, run_script, serve};
 use hpb_tree::{BidderDraft, Definition, Draft, NodeDraft, TermsDraft, Tree};
@@ -231,28 +230,5 @@ fn a_script_is_run(rt: HostRuntime) -> Result<(), Fail> {
         output.as_slice(),
         b"OK 1\nOK 2\nOK 3\nOK 4\nOK 5\n".as_slice()
     );
-    Ok(())
-}
-
-#[test]
-fn words_are_read_and_the_program_runs(rt: HostRuntime) -> Result<(), Fail> {
-    let alloc = rt.alloc();
-    let words = ["hpb"];
-    assert_eq!(rt; read_words(alloc, &words)?, Job::Script);
-    let mut input = Noted::new(SIX_NODES.as_bytes());
-    let mut output = Noted::new(Vec::new(alloc));
-    let mut errors = Vec::new(alloc);
-    let status = program(
-        &rt,
-        alloc,
-        &words,
-        &mut input,
-        &mut output,
-        &mut errors,
-        false,
-    );
-    assert_eq!(rt; status, 0);
-    assert!(rt; output.stream.is_empty());
-    assert!(rt; errors.is_empty());
     Ok(())
 }

@@ -1,5 +1,6 @@
-use crate::script::joined;
-use hpb_program::{Noted, program};
+//! Definitions that the program refuses, as it answers and tells them.
+
+use super::using::{Ran, run_words};
 use std::alloc::Global;
 use std::fs::{File, Files};
 use std::net::{Net, TcpListener, TcpStream};
@@ -51,35 +52,6 @@ const NO_NODES: Parts = Parts {
     d: "",
 };
 
-/// The status of the program on a script, what it answers, and what its errors are told.
-fn answer<
-    H: Files<File = File>
-        + Net<Listener = TcpListener, Stream = TcpStream>
-        + Threads
-        + Wait
-        + Sync
-        + AllocGlobal,
->(rt: &H, script: &str) -> Result<(u8, String, String), Fail> {
-    let alloc = rt.alloc();
-    let mut input = Noted::new(script.as_bytes());
-    let mut output = Noted::new(Vec::new(alloc));
-    let mut errors = Vec::new(alloc);
-    let status = program(
-        rt,
-        alloc,
-        &["hpb"],
-        &mut input,
-        &mut output,
-        &mut errors,
-        false,
-    );
-    Ok((
-        status,
-        String::from_utf8(output.stream)?,
-        String::from_utf8(errors)?,
-    ))
-}
-
 /// Whether people are told of the refusal that is answered.
 fn is_told(told: &str, answer: &str) -> bool {
     match (
@@ -92,9 +64,19 @@ fn is_told(told: &str, answer: &str) -> bool {
 }
 
 fn definition(alloc: Global, parts: Parts) -> Result<String, Fail> {
-    let front = joined(alloc, parts.head, parts.packages, parts.a)?;
-    let back = joined(alloc, parts.b, parts.c, parts.d)?;
-    joined(alloc, front.as_str(), back.as_str(), BIDDERS)
+    let mut text = String::new(alloc);
+    for part in [
+        parts.head,
+        parts.packages,
+        parts.a,
+        parts.b,
+        parts.c,
+        parts.d,
+        BIDDERS,
+    ] {
+        text.push_str(part)?;
+    }
+    Ok(text)
 }
 
 #[test]
@@ -125,15 +107,15 @@ fn refused_definitions(rt: HostRuntime) -> Result<(), Fail> {
         (without_d.as_str(), "ERR 54 children\n"),
     ];
     for (script, wanted) in table {
-        let (status, output, told) = answer(&rt, script)?;
-        assert_eq!(rt; output.as_str(), wanted, "{script}");
-        assert_eq!(rt; status, 1, "{script}");
-        assert!(rt; is_told(told.as_str(), wanted), "{script}");
+        let ran = run_words(&rt, &["hpb"], script.as_bytes())?;
+        assert_eq!(rt; ran.output.as_str(), wanted, "{script}");
+        assert_eq!(rt; ran.status, 1, "{script}");
+        assert!(rt; is_told(ran.errors.as_str(), wanted), "{script}");
     }
     Ok(())
 }
 
-/// The same on the definition of six nodes with one part changed.
+/// How the program ends on the definition of six nodes with one part changed.
 fn answer_to<
     H: Files<File = File>
         + Net<Listener = TcpListener, Stream = TcpStream>
@@ -141,9 +123,9 @@ fn answer_to<
         + Wait
         + Sync
         + AllocGlobal,
->(rt: &H, parts: Parts) -> Result<(u8, String, String), Fail> {
+>(rt: &H, parts: Parts) -> Result<Ran, Fail> {
     let script = definition(rt.alloc(), parts)?;
-    answer(rt, script.as_str())
+    run_words(rt, &["hpb"], script.as_bytes())
 }
 
 #[test]
@@ -179,10 +161,10 @@ fn refused_definitions_one_change(rt: HostRuntime) -> Result<(), Fail> {
         ),
     ];
     for (head, wanted) in table {
-        let (status, output, told) = answer_to(&rt, Parts { head, ..SIX_NODES })?;
-        assert_eq!(rt; output.as_str(), wanted, "{head}");
-        assert_eq!(rt; status, 1, "{head}");
-        assert!(rt; is_told(told.as_str(), wanted), "{head}");
+        let ran = answer_to(&rt, Parts { head, ..SIX_NODES })?;
+        assert_eq!(rt; ran.output.as_str(), wanted, "{head}");
+        assert_eq!(rt; ran.status, 1, "{head}");
+        assert!(rt; is_told(ran.errors.as_str(), wanted), "{head}");
     }
     Ok(())
 }
@@ -243,10 +225,10 @@ fn refused_nodes_one_change(rt: HostRuntime) -> Result<(), Fail> {
         ),
     ];
     for (parts, wanted) in table {
-        let (status, output, told) = answer_to(&rt, parts)?;
-        assert_eq!(rt; output.as_str(), wanted, "{parts:?}");
-        assert_eq!(rt; status, 1, "{parts:?}");
-        assert!(rt; is_told(told.as_str(), wanted), "{parts:?}");
+        let ran = answer_to(&rt, parts)?;
+        assert_eq!(rt; ran.output.as_str(), wanted, "{parts:?}");
+        assert_eq!(rt; ran.status, 1, "{parts:?}");
+        assert!(rt; is_told(ran.errors.as_str(), wanted), "{parts:?}");
     }
     Ok(())
 }
