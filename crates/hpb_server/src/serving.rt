@@ -266,7 +266,8 @@ fn pass_question<W: Write, D: Desk>(
     pass_added(writer, added, output)
 }
 
-/// Asks for all that waits, and passes the replies.
+/// Asks for all that waits, if anything does, and passes the replies.
+#[inline(always)]
 fn ask_queue<W: Write, D: Desk>(
     alloc: Global,
     writer: &mut W,
@@ -284,6 +285,26 @@ fn ask_queue<W: Write, D: Desk>(
     if queue.len() == 0 {
         return Ok(());
     }
+    ask_waiting(alloc, writer, desk, queue, output)
+}
+
+/// Asks for all that waits, and passes the replies.
+#[inline(never)]
+fn ask_waiting<W: Write, D: Desk>(
+    alloc: Global,
+    writer: &mut W,
+    desk: &mut D,
+    queue: &mut Commands,
+    output: &mut Output,
+) -> Result<(), Fault>
+    requires some { 0 < length queue.old }
+    requires most { length queue.old ≤ D.most }
+    ensures passed { Moves D.is_at desk.old desk.new (λ state next. PassesRequests D.rules_at D.over_at D.asks D.looks D.most D.takes_memory state
+        (asked_for queue.old) next
+        (W.contents writer.old) (W.contents writer.new) output.old output.new queue.new result) }
+    ensures rules { D.rules desk.new ≡ D.rules desk.old }
+    ensures asked { OnOk result (queue.new ≡ []) }
+{
     match desk.ask(alloc, queue) {
         Ok(replies) => {
             queue.clear();

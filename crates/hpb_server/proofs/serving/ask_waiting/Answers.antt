@@ -4,7 +4,7 @@ use Rattle.hpb_server.specs.Session.{asked_for, replies_text}
 use Rattle.hpb_server.proofs.Errors.{ok_case}
 use Rattle.hpb_server.proofs.Passing.{front_passes, lines_refused, passes_weaker}
 use Rattle.hpb_server.proofs.Queues.{fewer_replies, queue_answered}
-use Rattle.hpb_server.proofs.serving.ask_queue.Goals as goal
+use Rattle.hpb_server.proofs.serving.ask_waiting.Goals as goal
 
 pub returns-in-Ok-clause-passed : goal.returns-in-Ok-clause-passed
 returns-in-Ok-clause-passed g c = λ state at.
@@ -19,7 +19,7 @@ returns-in-Ok-clause-passed g c = λ state at.
         text = replies_text replies;
         parts = sym (append-nil (asked_for commands));
         answers = queue_answered g.D.Desk.rules_at g.D.Desk.over_at g.D.Desk.asks g.D.Desk.looks g.met.D.Desk.rules_stay state asked.0 commands replies asked.1;
-        passes = passes_weaker g.D.Desk.takes_memory _ _ _ _ c.pass_replies.result (omega (arith, fewer, c.requires)) c.pass_replies.ensures;
+        passes = passes_weaker g.D.Desk.takes_memory _ _ _ _ c.pass_replies.result (omega (arith, fewer, c.requires.most)) c.pass_replies.ensures;
         queued = ok_case c.pass_replies.result (sym (ap asked_for c.clear.ensures));
       },
       asked.2,
