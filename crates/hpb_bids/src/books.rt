@@ -53,6 +53,19 @@ impl NodeBids {
     {
         amount_or_zero(&self.standing) < amount_or_zero(&self.incoming)
     }
+
+    /// Closes the round, and answers whether the high bid changed. A node without a bid in the round is left alone.
+    fn fold(&mut self) -> bool
+        ensures closed { self.new ≡ closed self.old }
+        ensures raised { result ≡ is_raised self.old }
+    {
+        if self.incoming.is_none() {
+            return false;
+        }
+        let raised = self.is_raised();
+        self.close();
+        raised
+    }
 }
 
 impl Model for Books {
@@ -169,10 +182,9 @@ impl Books {
     {
         let mut changed = 0;
         for (place, bids) in self.nodes.iter_mut().enumerate() {
-            if bids.is_raised() {
+            if bids.fold() {
                 changed |= 1 << place;
             }
-            bids.close();
         }
         self.bids.fill(0);
         changed

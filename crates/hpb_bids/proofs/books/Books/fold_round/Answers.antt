@@ -7,7 +7,7 @@ use Rattle.hpb_bids.specs.declared.books.NodeBids.{NodeBids}
 use Rattle.hpb_bids.proofs.History.{folded_are_books, folded_standing, folded_incoming, folded_quiet}
 use Rattle.hpb_bids.proofs.Tables.{kept_view, whole, folded_view, small_all_closed}
 use Rattle.hpb_bids.proofs.Masks.{AreRaised, none_raised, raised_at, raised_row, row_kept, raised_more, raised_no_more, raised_all}
-use Rattle.hpb_bids.proofs.books.Books.fold_round.Goals.{then-is_raised, else-is_raised}
+use Rattle.hpb_bids.proofs.books.Books.fold_round.Goals.{then-fold, else-fold}
 use Rattle.hpb_bids.proofs.books.Books.fold_round.Goals as goal
 
 pub loop-place-init : goal.loop-place-init
@@ -20,10 +20,10 @@ loop-place-preserved c =
     let found : c.bids-item.result ≡ get_or nodes c.loop-place.place c.bids-item.result = row_kept nodes c.loop-place.place c.loop-place.bids-items c.bids-item.result c.loop-place-test.true c.loop-place.invariant.rows c.bids-item.is in
     let row : raised_at nodes c.loop-place.place ≡ is_raised c.bids-item.result = raised_row nodes c.loop-place.place c.bids-item.result c.loop-place-test.true found in
     record {
-      rows = rw (c.close.ensures, ← c.bids-item.is) (map_over_more closed nodes c.loop-place.bids-items c.loop-place.place c.bids-item.result c.loop-place-test.true c.loop-place.invariant.rows c.bids-item.is);
-      raised = elim c.if-is_raised.branch [
-        | then-is_raised w ↦ raised_more nodes c.loop-place.place c.loop-place.changed c.loop-place.invariant.raised (omega arith) (row ∙ ap is_raised c.bids-item.is ∙ sym c.is_raised.ensures ∙ w.if-is_raised.true) w.changed-is
-        | else-is_raised w ↦ raised_no_more nodes c.loop-place.place c.loop-place.changed c.loop-place.invariant.raised (row ∙ ap is_raised c.bids-item.is ∙ sym c.is_raised.ensures ∙ w.if-is_raised.false) w.changed-is
+      rows = rw (c.fold.ensures.closed, ← c.bids-item.is) (map_over_more closed nodes c.loop-place.bids-items c.loop-place.place c.bids-item.result c.loop-place-test.true c.loop-place.invariant.rows c.bids-item.is);
+      raised = elim c.if-fold.branch [
+        | then-fold w ↦ raised_more nodes c.loop-place.place c.loop-place.changed c.loop-place.invariant.raised (omega arith) (row ∙ ap is_raised c.bids-item.is ∙ sym c.fold.ensures.raised ∙ w.if-fold.true) w.changed-is
+        | else-fold w ↦ raised_no_more nodes c.loop-place.place c.loop-place.changed c.loop-place.invariant.raised (row ∙ ap is_raised c.bids-item.is ∙ sym c.fold.ensures.raised ∙ w.if-fold.false) w.changed-is
       ];
     }
 
