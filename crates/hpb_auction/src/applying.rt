@@ -82,7 +82,8 @@ impl Auction {
         self.bidders[bidder.place()].last = Some(accepted);
     }
 
-    /// Takes in a close.
+    /// Takes in a close. Few commands are, so the others do without its room on the stack.
+    #[inline(never)]
     fn accept_close(&mut self, accepted: Accepted)
         requires command { accepted.command ≡ Close (ticket_of accepted.command) }
         requires count { accepted.number ≡ self.old.count + 1 }
@@ -96,6 +97,7 @@ impl Auction {
     }
 
     /// Takes in the step to the next stage.
+    #[inline(never)]
     fn accept_stage(&mut self, accepted: Accepted)
         requires command { accepted.command ≡ Stage (ticket_of accepted.command) }
         requires count { accepted.number ≡ self.old.count + 1 }

@@ -1,6 +1,7 @@
 -- Names that have one key are one.
-use Rattle.std.proofs.Common.{◌≡◌, ℕ, zero, suc, ◌+◌, ◌*◌, ◌^◌, ◌<◌, ◌≤◌, true, List, [], ◌∷◌, ◌++◌, map, take, drop, length, get_or, min, inl, inr, ◌⊎◌, Option, option_map, false, Some, None, refl, sym, ap, ◌∙◌, arith}
-use Rattle.std.proofs.Math.Nat.{pow-succ', pow-le-pow_right}
+use Rattle.std.proofs.Common.{◌≡◌, ℕ, zero, suc, ◌+◌, ◌*◌, ◌/◌, ◌^◌, ◌<◌, ◌≤◌, true, List, [], ◌∷◌, ◌++◌, map, take, drop, length, get_or, min, inl, inr, ◌⊎◌, Option, option_map, false, Some, None, refl, sym, ap, ◌∙◌, arith}
+use Rattle.std.proofs.Math.Nat.{pow-succ', pow-le-pow_right, div-div-eq-div-mul}
+use Rattle.std.proofs.lemmas.Nat.{div-mul-add, pow-add}
 use Rattle.std.proofs.Math.Numerals.{add-one}
 use Rattle.std.specs.List.{list_all, position, slice_get}
 use Rattle.std.specs.Str.{bytes_eq}
@@ -42,6 +43,45 @@ bound_fits n i h s =
     let most : 256 ^ i ≤ 256 ^ 8 = pow-le-pow_right (omega arith) s in
     omega (arith, most)
 
+-- the number of the front is that of more bytes, without what the last of them add
+pub number_front : (bytes : List ℕ) (len more all : ℕ) → AreBytes bytes → all ≡ len + more → all ≤ length bytes → number (take all bytes) / 256 ^ more ≡ number (take len bytes)
+number_front bytes len zero all a e h = let same : all ≡ len = omega arith in rw same (omega arith)
+number_front bytes len (suc more) all a e h =
+    let fewer : number (take (len + more) bytes) / 256 ^ more ≡ number (take len bytes) = number_front bytes len more (len + more) a refl (omega arith) in
+    let last : get_or bytes (len + more) 0 < 256 = a (len + more) in
+    let one : all ≡ len + more + 1 = omega arith in
+    let step : number (take all bytes) ≡ number (take (len + more) bytes) * 256 + get_or bytes (len + more) 0 =
+    ap (λ (k : ℕ). number (take k bytes)) one ∙ number_more bytes (len + more) (omega arith) in
+    let power : 256 ^ suc more ≡ 256 * 256 ^ more = pow-succ' 256 more in
+    ap (λ (n : ℕ). n / 256 ^ suc more) step
+    ∙ ap (λ (n : ℕ). (number (take (len + more) bytes) * 256 + get_or bytes (len + more) 0) / n) power
+    ∙ sym (div-div-eq-div-mul (number (take (len + more) bytes) * 256 + get_or bytes (len + more) 0) 256 (256 ^ more))
+    ∙ ap (λ (n : ℕ). n / 256 ^ more) (div-mul-add (number (take (len + more) bytes)) 256 (get_or bytes (len + more) 0) last)
+    ∙ fewer
+
+-- bits by bytes
+pub byte_bits : (k : ℕ) → 2 ^ (8 * k) ≡ 256 ^ k
+byte_bits zero = refl
+byte_bits (suc k) =
+    let more : 8 * suc k ≡ 8 + 8 * k = omega arith in
+    ap (λ (n : ℕ). 2 ^ n) more ∙ pow-add 2 8 (8 * k) ∙ ap (λ (n : ℕ). 256 * n) (byte_bits k) ∙ sym (pow-succ' 256 k)
+
+-- the number of eight bytes
+pub number_eight : (bytes : List ℕ) → 8 ≤ length bytes → number (take 8 bytes)
+    ≡ ((((((get_or bytes 0 0 * 256 + get_or bytes 1 0) * 256 + get_or bytes 2 0) * 256 + get_or bytes 3 0) * 256 + get_or bytes 4 0) * 256 + get_or bytes 5 0) * 256 + get_or bytes 6 0) * 256 + get_or bytes 7 0
+number_eight bytes h = omega (
+  arith,
+  number_none,
+  number_more bytes 0 (omega arith),
+  number_more bytes 1 (omega arith),
+  number_more bytes 2 (omega arith),
+  number_more bytes 3 (omega arith),
+  number_more bytes 4 (omega arith),
+  number_more bytes 5 (omega arith),
+  number_more bytes 6 (omega arith),
+  number_more bytes 7 (omega arith),
+)
+
 -- bytes that spell one number behind numbers are the same
 same_bytes : (m n : ℕ) (xs ys : List ℕ) → length xs ≡ length ys → AreBytes xs → AreBytes ys → number_from m xs ≡ number_from n ys → (m ≡ n) × (xs ≡ ys)
 unfolding number_from
@@ -56,7 +96,7 @@ same_bytes m n (x ∷ xs) (y ∷ ys) l a b e =
     (omega (arith, behind.0), ap (λ z. z ∷ xs) same ∙ ap (λ zs. y ∷ zs) behind.1)
 
 -- so are those that some of them are
-bytes_taken : (n : ℕ) (xs : List ℕ) → AreBytes xs → AreBytes (take n xs)
+pub bytes_taken : (n : ℕ) (xs : List ℕ) → AreBytes xs → AreBytes (take n xs)
 bytes_taken zero xs a i = omega arith
 bytes_taken (suc n) [] a i = omega arith
 bytes_taken (suc n) (x ∷ xs) a zero = a 0
@@ -74,6 +114,12 @@ key_short name h =
     let first : take 8 name ≡ name = take_all 8 name h in
     let rest : take 8 (drop 8 name) ≡ [] = ap (take 8) (drop_all 8 name h) in
     rw (first, rest, number_none) refl
+
+-- the key of such a name that so many first bytes are
+pub key_front : (bytes : List ℕ) (len : ℕ) → len ≤ length bytes → len ≤ 8 → record { len = len; first = number (take len bytes); rest = 0 } ≡ key_of (take len bytes)
+key_front bytes len h short =
+    let size : length (take len bytes) ≡ len = omega (arith, length-take len bytes) in
+    ap (λ (n : ℕ). record { len = n; first = number (take len bytes); rest = 0 }) (sym size) ∙ key_short (take len bytes) (omega arith)
 
 -- the key of a longer one
 pub key_long : (name front behind : List ℕ) → front ≡ take 8 name → behind ≡ drop 8 name → record { len = length name; first = number front; rest = number (take 8 behind) } ≡ key_of name

@@ -1,4 +1,4 @@
-ghost use Rattle.std.specs.Prelude.{◌≡◌, ◌-◌, ◌<◌, ◌≤◌, length, slice_index, IfSome, Some, All, IfOk, IsTrue, None};
+ghost use Rattle.std.specs.Prelude.{◌≡◌, ◌-◌, ◌<◌, ◌≤◌, length, slice_index, take, IfSome, Some, All, IfOk, IsTrue, None};
 ghost use Rattle.hpb_rules.specs.Drafts.{is_name, draft_refusal};
 ghost use Rattle.hpb_rules.specs.Tree.{tree_of};
 ghost use Rattle.hpb_rules.specs.Text.{node_name, bidder_name};
@@ -181,6 +181,19 @@ impl Definition {
         }
     }
 
+    /// The node whose name so many first bytes are, if one has it. Bytes behind a short name may be read with it.
+    #[inline(always)]
+    pub fn find_node_at_front(&self, bytes: &[u8], len: usize) -> Option<NodeId>
+        requires { len ≤ length bytes.now }
+        ensures value { result ≡ node_named self.now (take len bytes.now) }
+        ensures within { IfSome result (λ n. n < length self.now.nodes) }
+    {
+        match self.node_hints.find_front(bytes, len) {
+            Some(place) => Some(NodeId::new(place)),
+            None => self.tree.find_node(&bytes[..len]),
+        }
+    }
+
     /// The bidder with a name, if one has it.
     #[inline(always)]
     pub fn find_bidder(&self, name: &[u8]) -> Option<BidderId>
@@ -190,6 +203,19 @@ impl Definition {
         match self.bidder_hints.find(name) {
             Some(place) => Some(BidderId::new(place)),
             None => self.search_bidder(name),
+        }
+    }
+
+    /// The bidder whose name so many first bytes are, if one has it. Bytes behind a short name may be read with it.
+    #[inline(always)]
+    pub fn find_bidder_at_front(&self, bytes: &[u8], len: usize) -> Option<BidderId>
+        requires { len ≤ length bytes.now }
+        ensures value { result ≡ bidder_named self.now (take len bytes.now) }
+        ensures within { IfSome result (λ b. b < length self.now.bidders) }
+    {
+        match self.bidder_hints.find_front(bytes, len) {
+            Some(place) => Some(BidderId::new(place)),
+            None => self.search_bidder(&bytes[..len]),
         }
     }
 

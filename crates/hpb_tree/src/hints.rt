@@ -1,4 +1,4 @@
-ghost use Rattle.std.specs.Prelude.{◌≡◌, ◌<◌, ◌≤◌, All, IfOk, IfSome, Some, length, map, slice_get};
+ghost use Rattle.std.specs.Prelude.{◌≡◌, ◌<◌, ◌≤◌, All, IfOk, IfSome, Some, length, map, slice_get, take};
 ghost use Rattle.hpb_rules.specs.declared.limits.TheConstants.{MOST_NODES};
 ghost use Rattle.hpb_tree.specs.Keys.{key_of};
 ghost use Rattle.hpb_tree.specs.declared.hints.TheConstants.{HINTS};
@@ -54,7 +54,23 @@ impl Hints {
     pub(crate) fn find(&self, name: &[u8]) -> Option<usize>
         ensures { IfSome result (λ place. slice_get self.now.keys.items place ≡ Some (key_of name.now)) }
     {
-        let key = NameKey::of(name);
+        self.find_key(NameKey::of(name))
+    }
+
+    /// The place that is hinted at, if the name that stands there is the one that so many first bytes are.
+    #[inline(always)]
+    pub(crate) fn find_front(&self, bytes: &[u8], len: usize) -> Option<usize>
+        requires { len ≤ length bytes.now }
+        ensures { IfSome result (λ place. slice_get self.now.keys.items place ≡ Some (key_of (take len bytes.now))) }
+    {
+        self.find_key(NameKey::of_front(bytes, len))
+    }
+
+    /// The place that is hinted at, if the name that stands there has the key.
+    #[inline(always)]
+    fn find_key(&self, key: NameKey) -> Option<usize>
+        ensures { IfSome result (λ place. slice_get self.now.keys.items place ≡ Some key) }
+    {
         let place = usize::from(self.places[hint_of(key)]);
         if self.keys[place] == key {
             Some(place)

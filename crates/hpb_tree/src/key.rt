@@ -1,4 +1,4 @@
-ghost use Rattle.std.specs.Prelude.{◌≡◌, ◌≤◌, length, take};
+ghost use Rattle.std.specs.Prelude.{◌≡◌, ◌<◌, ◌≤◌, length, take};
 ghost use Rattle.hpb_tree.specs.Keys.{number, key_of};
 
 /// How many bytes of a name one number takes.
@@ -35,6 +35,52 @@ impl NameKey {
             rest: front_number(behind),
         }
     }
+
+    /// The key of the name that so many first bytes are. A short one is read at once, with what lies behind it.
+    #[inline(always)]
+    pub(crate) fn of_front(bytes: &[u8], len: usize) -> NameKey
+        requires { len ≤ length bytes.now }
+        ensures { result ≡ key_of (take len bytes.now) }
+    {
+        if len == 0 || len > WORD || bytes.len() < WORD {
+            return NameKey::of_part(&bytes[..len]);
+        }
+        NameKey {
+            len,
+            first: word_front(bytes, len),
+            rest: 0,
+        }
+    }
+
+    #[cold]
+    #[inline(never)]
+    fn of_part(name: &[u8]) -> NameKey
+        ensures { result ≡ key_of name.now }
+    {
+        NameKey::of(name)
+    }
+}
+
+/// The number that so many first bytes spell, out of the number of the first eight.
+#[inline(always)]
+fn word_front(bytes: &[u8], len: usize) -> u64
+    requires some { 0 < len }
+    requires most { len ≤ WORD }
+    requires word { WORD ≤ length bytes.now }
+    ensures { result ≡ number (take len bytes.now) }
+{
+    word(bytes) >> (8 * (WORD - len))
+}
+
+/// The number that the first eight bytes spell.
+#[inline(always)]
+fn word(bytes: &[u8]) -> u64
+    requires { WORD ≤ length bytes.now }
+    ensures { result ≡ number (take WORD bytes.now) }
+{
+    u64::from_be_bytes([
+        bytes[0], bytes[1], bytes[2], bytes[3], bytes[4], bytes[5], bytes[6], bytes[7],
+    ])
 }
 
 /// The number that the first bytes spell, as many as one number takes.
