@@ -1,7 +1,7 @@
 -- What is wrong with a command, by the tables.
 use Rattle.std.proofs.Common.{◌≡◌, ℕ, ◌%◌, ◌<◌, ◌≤◌, Bool, true, false, not, length, get_or, Option, Some, None, slice_index_or, refl, sym, ap, ◌∙◌, ⊎_elim, arith, subst}
 use Rattle.std.specs.Prelude.{if◌then◌else◌, ◌==◌, ◌↔◌, IsTrue, nat_lt, slice_index}
-use Rattle.std.proofs.lemmas.Bool.{eq-eqb, lt-ltb, le-ltb, both_ways, cases_lt}
+use Rattle.std.proofs.lemmas.Bool.{lt-ltb, le-ltb, both_ways, cases_lt}
 use Rattle.hpb_rules.specs.declared.command.Command.TheVariants.{Bid}
 use Rattle.hpb_rules.specs.declared.limits.TheConstants.{MOST_AMOUNT}
 use Rattle.hpb_rules.specs.declared.refusal.Refusal.{Refusal}

@@ -7,12 +7,11 @@ use Rattle.hpb_rules.specs.declared.command.Offer.{Offer}
 use Rattle.hpb_rules.specs.declared.licence.Terms.{Terms}
 use Rattle.hpb_rules.specs.declared.limits.TheConstants.{MOST_BIDDERS, MOST_LICENCE_UNITS}
 use Rattle.hpb_rules.specs.Choices.{is_in}
-use Rattle.hpb_rules.specs.Definitions.{IsDefinition}
 use Rattle.hpb_rules.specs.Drafts.{draft_refusal}
 use Rattle.hpb_rules.specs.History.{is_of}
 use Rattle.hpb_rules.specs.Tree.{Rules, Node, terms_of, places, at_or_under, of_terms, units_at}
 use Rattle.hpb_rules.proofs.TreeLaws.{accepted_is_definition}
-use Rattle.hpb_bids.specs.View.{BooksView, offer_at, has_bid}
+use Rattle.hpb_bids.specs.View.{BooksView, has_bid}
 use Rattle.hpb_winners.specs.View.{OutcomeView}
 use Rattle.hpb_units.specs.Activity.{is_active_on, held, activity_of}
 use Rattle.hpb_units.specs.Holdings.{HoldingsView, holds, AreSmall, AreSummed, AreHoldings, HoldsMore}

@@ -1,7 +1,7 @@
 -- The words of a line from its first space on.
 use Rattle.std.proofs.Common.{◌≡◌, ℕ, suc, ◌+◌, ◌≤◌, Bool, true, false, cond, eqb, ltb, List, [], ◌∷◌, length, take, drop, Some, None, refl, ap, ◌∙◌, arith}
 use Rattle.std.proofs.Math.Bool.{not, ◌||◌}
-use Rattle.std.specs.List.{All, list_any, position, position_or_len, slice_split, onto_first}
+use Rattle.std.specs.List.{All, position, position_or_len, slice_split, onto_first}
 use Rattle.std.proofs.lemmas.Option.{cond_some}
 use Rattle.std.proofs.lemmas.Bool.{le-ltb, ltb-true}
 use Rattle.std.proofs.lemmas.List.Folds.{list_any_none}

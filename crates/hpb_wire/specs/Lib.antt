@@ -3,3 +3,4 @@ pub mod Numbers
 pub mod Requests
 pub mod Responses
 pub mod Writing
+pub mod Words

@@ -1,8 +1,9 @@
 -- Where a byte stands in a line, as a number.
-use Rattle.std.specs.Prelude.{◌≡◌, ℕ, ◌≤◌, ◌==◌, true, List, length, map, if◌then◌else◌}
+use Rattle.std.specs.Prelude.{◌≡◌, ℕ, ◌≤◌, ◌==◌, true, List, map, if◌then◌else◌}
 use Rattle.std.specs.Simd.Lanes.{mask_l}
 use Rattle.hpb_rules.specs.Lines.{space}
 use Rattle.hpb_wire.specs.declared.cut.Words.{Words}
+use Rattle.hpb_wire.specs.Words.{bytes_of}
 
 -- Bit i is set where byte i is the given one.
 abbrev pub marks_of : ℕ → List ℕ → ℕ
@@ -10,5 +11,5 @@ marks_of byte line = mask_l (map (λ b. b == byte) line)
 
 -- The marks are those of the spaces of the line, which is short, or none where it has none.
 pub record IsMarked (words : Words) : Type 0 where
-  pub short : words.is_marked ≡ true → length words.line.now ≤ 32
-  pub spaces : words.spaces ≡ (if words.is_marked then marks_of space words.line.now else 0)
+  pub short : words.is_marked ≡ true → words.line.size ≤ 32
+  pub spaces : words.spaces ≡ (if words.is_marked then marks_of space (bytes_of words.line) else 0)

@@ -3,33 +3,39 @@ ghost use Rattle.std.specs.List.{position};
 ghost use Rattle.hpb_rules.specs.Lines.{line_words, is_space};
 ghost use Rattle.hpb_wire.specs.Marks.{IsMarked};
 ghost use Rattle.hpb_wire.specs.Requests.{words_left, IsFrontLine};
+ghost use Rattle.hpb_wire.specs.Words.{bytes_of};
 
 use crate::marks::{MARKED_BYTES, marks};
+use crate::word::Word;
+
+impl<'a> Word<'a> {
+    /// Its own bytes.
+    #[inline(always)]
+    pub(crate) fn text(self) -> &'a [u8]
+        ensures { result.now ≡ bytes_of self.entry }
+    {
+        &self.bytes[..self.size]
+    }
+}
 
 /// What is left of a line. Where it is marked, bit i of `spaces` is set where byte i is a space.
 #[derive(Clone, Copy)]
 pub(crate) struct Words<'a> {
-    line: &'a [u8],
+    pub(crate) line: Word<'a>,
     spaces: u64,
     is_marked: bool,
 }
 
-impl<'a> Words<'a> {
-    /// How many bytes are left.
-    pub(crate) fn len(self) -> usize
-        ensures { result ≡ length self.entry.line.now }
-    {
-        self.line.len()
-    }
-}
-
 /// A line whose spaces are found one by one.
 pub(crate) fn unmarked(line: &[u8]) -> Words<'_>
-    ensures line { result.line.now ≡ line.now }
+    ensures line { bytes_of result.line ≡ line.now }
     ensures marked { IsMarked result }
 {
     Words {
-        line,
+        line: Word {
+            bytes: line,
+            size: line.len(),
+        },
         spaces: 0,
         is_marked: false,
     }
@@ -38,9 +44,9 @@ pub(crate) fn unmarked(line: &[u8]) -> Words<'_>
 /// The first line of some bytes, where its end is among the first 32: its end and its spaces are found at once.
 #[inline(always)]
 pub(crate) fn front_line(bytes: &[u8]) -> Option<Words<'_>>
-    ensures front { IfSome result (λ words. IsFrontLine bytes.now (length words.line.now)) }
-    ensures line { IfSome result (λ words. words.line.now ≡ take (length words.line.now) bytes.now) }
-    ensures short { IfSome result (λ words. length words.line.now < 32) }
+    ensures front { IfSome result (λ words. IsFrontLine bytes.now words.line.size) }
+    ensures line { IfSome result (λ words. words.line.bytes.now ≡ bytes.now) }
+    ensures short { IfSome result (λ words. words.line.size < 32) }
     ensures marked { IfSome result IsMarked }
 {
     if bytes.len() < MARKED_BYTES {
@@ -48,7 +54,7 @@ pub(crate) fn front_line(bytes: &[u8]) -> Option<Words<'_>>
     }
     let size = front_size(bytes)?;
     Some(Words {
-        line: &bytes[..size],
+        line: Word { bytes, size },
         spaces: marks(bytes, b' ') % (1 << size),
         is_marked: true,
     })
@@ -70,9 +76,9 @@ fn front_size(bytes: &[u8]) -> Option<usize>
 
 /// The first word of a line, and what stands behind the space after it, where there is one.
 #[inline(always)]
-pub(crate) fn cut(words: Words<'_>) -> (&[u8], Option<Words<'_>>)
+pub(crate) fn cut(words: Words<'_>) -> (Word<'_>, Option<Words<'_>>)
     requires { IsMarked words }
-    ensures words { line_words words.entry.line.now ≡ result.0.now ∷ words_left result.1 }
+    ensures words { line_words (bytes_of words.entry.line) ≡ bytes_of result.0 ∷ words_left result.1 }
     ensures marked { IfSome result.1 IsMarked }
 {
     let line = words.line;
@@ -83,8 +89,7 @@ pub(crate) fn cut(words: Words<'_>) -> (&[u8], Option<Words<'_>>)
             cut_unmarked(line)
         };
     }
-    let place = first_marked(words);
-    (&line[..place], Some(behind(words, place)))
+    cut_at(words, first_marked(words))
 }
 
 /// Where the first space is.
@@ -92,42 +97,76 @@ pub(crate) fn cut(words: Words<'_>) -> (&[u8], Option<Words<'_>>)
 fn first_marked(words: Words<'_>) -> usize
     requires marked { IsMarked words }
     requires any { words.spaces ≢ 0 }
-    ensures found { position is_space words.entry.line.now ≡ Some result }
+    ensures found { position is_space (bytes_of words.entry.line) ≡ Some result }
     ensures short { result < 32 }
+    ensures within { result < words.entry.line.size }
 {
     words.spaces.trailing_zeros() as usize
+}
+
+/// The word before the space at a place, and what stands behind it.
+#[inline(always)]
+fn cut_at(words: Words<'_>, place: usize) -> (Word<'_>, Option<Words<'_>>)
+    requires marked { IsMarked words }
+    requires found { position is_space (bytes_of words.line) ≡ Some place }
+    requires short { place < 32 }
+    requires within { place < words.line.size }
+    ensures words { line_words (bytes_of words.entry.line) ≡ bytes_of result.0 ∷ words_left result.1 }
+    ensures marked { IfSome result.1 IsMarked }
+{
+    let word = Word {
+        bytes: words.line.bytes,
+        size: place,
+    };
+    (word, Some(behind(words, place)))
 }
 
 /// What stands behind the space at a place.
 #[inline(always)]
 fn behind(words: Words<'_>, place: usize) -> Words<'_>
     requires marked { IsMarked words }
-    requires within { place < length words.line.now }
+    requires within { place < words.line.size }
     requires short { place < 32 }
-    ensures line { result.line.now ≡ drop (place + 1) words.entry.line.now }
+    ensures line { bytes_of result.line ≡ drop (place + 1) (bytes_of words.entry.line) }
     ensures marked { IsMarked result }
 {
     Words {
-        line: &words.line[place + 1..],
+        line: rest(words.line, place + 1),
         spaces: words.spaces >> (place + 1),
         is_marked: words.is_marked,
     }
 }
 
+/// What is left of a part of a line behind so many bytes.
+#[inline(always)]
+fn rest(line: Word<'_>, count: usize) -> Word<'_>
+    requires { count ≤ line.size }
+    ensures line { bytes_of result ≡ drop count (bytes_of line.entry) }
+    ensures size { result.size + count ≡ line.entry.size }
+{
+    Word {
+        bytes: &line.bytes[count..],
+        size: line.size - count,
+    }
+}
+
 #[inline(never)]
-#[tactic(auto, using(crate::proofs::Cutting::words_found, crate::proofs::Cutting::words_none))]
-fn cut_unmarked(line: &[u8]) -> (&[u8], Option<Words<'_>>)
-    ensures words { line_words line.now ≡ result.0.now ∷ words_left result.1 }
+fn cut_unmarked(line: Word<'_>) -> (Word<'_>, Option<Words<'_>>)
+    ensures words { line_words (bytes_of line.entry) ≡ bytes_of result.0 ∷ words_left result.1 }
     ensures marked { IfSome result.1 IsMarked }
 {
-    match space(line) {
+    match space(line.text()) {
         Some(place) => {
-            let rest = Words {
-                line: &line[place + 1..],
+            let word = Word {
+                bytes: line.bytes,
+                size: place,
+            };
+            let behind = Words {
+                line: rest(line, place + 1),
                 spaces: 0,
                 is_marked: false,
             };
-            (&line[..place], Some(rest))
+            (word, Some(behind))
         }
         None => (line, None),
     }

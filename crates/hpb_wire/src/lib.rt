@@ -9,6 +9,7 @@ mod number;
 mod response;
 mod text;
 mod views;
+mod word;
 mod writing;
 
 pub use line::{FrontRequest, parse_front, parse_line};

@@ -3,9 +3,11 @@ ghost use Rattle.std.specs.Option.{ok_or};
 ghost use Rattle.hpb_rules.specs.declared.refusal.Refusal.TheVariants as refusals;
 ghost use Rattle.hpb_rules.specs.Lines.{request_of, looked_up, bidder_named, node_named};
 ghost use Rattle.hpb_wire.specs.Requests.{spelled_as, spelled_view, IsFrontLine, IsRequestOf};
+ghost use Rattle.hpb_wire.specs.Words.{bytes_of};
 
 use crate::cut::front_line;
 use crate::named::{NamedRequest, read_line, read_spaced};
+use crate::word::Word;
 use hpb_rules::{BidderId, Command, NodeId, Refusal, Request};
 use hpb_tree::Definition;
 
@@ -43,7 +45,7 @@ pub fn parse_front(bytes: &[u8], definition: &Definition) -> Option<FrontRequest
 {
     let words = front_line(bytes)?;
     Some(FrontRequest {
-        size: words.len(),
+        size: words.line.size,
         request: requested(read_spaced(words), definition),
     })
 }
@@ -91,17 +93,21 @@ fn look_up(spelled: NamedRequest<'_>, definition: &Definition) -> Result<Request
 }
 
 #[inline(always)]
-fn find_bidder(name: &[u8], definition: &Definition) -> Result<BidderId, Refusal>
-    ensures value { result ≡ ok_or (bidder_named definition.now name.now) refusals.Bidder }
+fn find_bidder(name: Word<'_>, definition: &Definition) -> Result<BidderId, Refusal>
+    ensures value { result ≡ ok_or (bidder_named definition.now (bytes_of name.entry)) refusals.Bidder }
     ensures known { IfOk result (λ b. b < length definition.now.bidders) }
 {
-    definition.find_bidder(name).ok_or(Refusal::Bidder)
+    definition
+        .find_bidder_at_front(name.bytes, name.size)
+        .ok_or(Refusal::Bidder)
 }
 
 #[inline(always)]
-fn find_node(name: &[u8], definition: &Definition) -> Result<NodeId, Refusal>
-    ensures value { result ≡ ok_or (node_named definition.now name.now) refusals.Node }
+fn find_node(name: Word<'_>, definition: &Definition) -> Result<NodeId, Refusal>
+    ensures value { result ≡ ok_or (node_named definition.now (bytes_of name.entry)) refusals.Node }
     ensures known { IfOk result (λ n. n < length definition.now.nodes) }
 {
-    definition.find_node(name).ok_or(Refusal::Node)
+    definition
+        .find_node_at_front(name.bytes, name.size)
+        .ok_or(Refusal::Node)
 }

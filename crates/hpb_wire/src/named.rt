@@ -2,25 +2,27 @@ ghost use Rattle.std.specs.Prelude.{◌≡◌};
 ghost use Rattle.hpb_rules.specs.Lines.{spelled, spelled_by, spelled_alone, spelled_with, spelled_bid, line_words, name_in, ticket_in, amount_in};
 ghost use Rattle.hpb_wire.specs.Marks.{IsMarked};
 ghost use Rattle.hpb_wire.specs.Requests.{spelled_as, name_as};
+ghost use Rattle.hpb_wire.specs.Words.{bytes_of};
 
 use crate::cut::{Words, cut, unmarked};
 use crate::number::number;
+use crate::word::Word;
 use hpb_rules::MOST_LINE_BYTES;
 
 /// What a line spells, before its names are looked up.
 #[derive(Clone, Copy)]
 pub(crate) enum NamedRequest<'a> {
     Bid {
-        bidder: &'a [u8],
+        bidder: Word<'a>,
         ticket: u32,
-        node: &'a [u8],
+        node: Word<'a>,
         amount: u64,
     },
     Close(u32),
     Stage(u32),
     Show,
-    Node(&'a [u8]),
-    Who(&'a [u8]),
+    Node(Word<'a>),
+    Who(Word<'a>),
 }
 
 /// What a line, given without its end, spells.
@@ -38,7 +40,7 @@ pub(crate) fn read_line(line: &[u8]) -> Option<NamedRequest<'_>>
 #[tactic(auto, using(crate::proofs::Cutting::too_many))]
 pub(crate) fn read_spaced(words: Words<'_>) -> Option<NamedRequest<'_>>
     requires { IsMarked words }
-    ensures { spelled_as result ≡ spelled_by (line_words words.entry.line.now) }
+    ensures { spelled_as result ≡ spelled_by (line_words (bytes_of words.entry.line)) }
 {
     let (keyword, rest) = cut(words);
     let Some(rest) = rest else {
@@ -51,7 +53,7 @@ pub(crate) fn read_spaced(words: Words<'_>) -> Option<NamedRequest<'_>>
     let (third, rest) = cut(rest);
     let (fourth, rest) = cut(rest?);
     let (fifth, rest) = cut(rest?);
-    if rest.is_none() && keyword == b"BID".as_slice() {
+    if rest.is_none() && keyword.text() == b"BID".as_slice() {
         read_bid(second, third, fourth, fifth)
     } else {
         None
@@ -59,10 +61,10 @@ pub(crate) fn read_spaced(words: Words<'_>) -> Option<NamedRequest<'_>>
 }
 
 #[inline(always)]
-fn read_alone(keyword: &[u8]) -> Option<NamedRequest<'_>>
-    ensures { spelled_as result ≡ spelled_alone keyword.now }
+fn read_alone(keyword: Word<'_>) -> Option<NamedRequest<'_>>
+    ensures { spelled_as result ≡ spelled_alone (bytes_of keyword.entry) }
 {
-    if keyword == b"SHOW".as_slice() {
+    if keyword.text() == b"SHOW".as_slice() {
         Some(NamedRequest::Show)
     } else {
         None
@@ -70,9 +72,10 @@ fn read_alone(keyword: &[u8]) -> Option<NamedRequest<'_>>
 }
 
 #[inline(always)]
-fn read_pair<'a>(keyword: &[u8], word: &'a [u8]) -> Option<NamedRequest<'a>>
-    ensures { spelled_as result ≡ spelled_with keyword.now word.now }
+fn read_pair<'a>(keyword: Word<'a>, word: Word<'a>) -> Option<NamedRequest<'a>>
+    ensures { spelled_as result ≡ spelled_with (bytes_of keyword.entry) (bytes_of word.entry) }
 {
+    let keyword = keyword.text();
     if keyword == b"CLOSE".as_slice() {
         Some(NamedRequest::Close(ticket(word)?))
     } else if keyword == b"STAGE".as_slice() {
@@ -88,12 +91,12 @@ fn read_pair<'a>(keyword: &[u8], word: &'a [u8]) -> Option<NamedRequest<'a>>
 
 #[inline(always)]
 fn read_bid<'a>(
-    from: &'a [u8],
-    ticket_word: &[u8],
-    on: &'a [u8],
-    amount_word: &[u8],
+    from: Word<'a>,
+    ticket_word: Word<'a>,
+    on: Word<'a>,
+    amount_word: Word<'a>,
 ) -> Option<NamedRequest<'a>>
-    ensures { spelled_as result ≡ spelled_bid from.now ticket_word.now on.now amount_word.now }
+    ensures { spelled_as result ≡ spelled_bid (bytes_of from.entry) (bytes_of ticket_word.entry) (bytes_of on.entry) (bytes_of amount_word.entry) }
 {
     let bidder = name(from)?;
     let ticket = ticket(ticket_word)?;
@@ -109,15 +112,15 @@ fn read_bid<'a>(
 
 /// A name is a word of one or more bytes.
 #[inline(always)]
-fn name(word: &[u8]) -> Option<&[u8]>
-    ensures { name_as result ≡ name_in word.now }
+fn name(word: Word<'_>) -> Option<Word<'_>>
+    ensures { name_as result ≡ name_in (bytes_of word.entry) }
 {
-    if word.is_empty() { None } else { Some(word) }
+    if word.size == 0 { None } else { Some(word) }
 }
 
 #[inline(always)]
-fn ticket(word: &[u8]) -> Option<u32>
-    ensures { result ≡ ticket_in word.now }
+fn ticket(word: Word<'_>) -> Option<u32>
+    ensures { result ≡ ticket_in (bytes_of word.entry) }
 {
     match number(word, u32::MAX as u64) {
         Some(ticket) => Some(ticket as u32),
@@ -126,8 +129,8 @@ fn ticket(word: &[u8]) -> Option<u32>
 }
 
 #[inline(always)]
-fn amount(word: &[u8]) -> Option<u64>
-    ensures { result ≡ amount_in word.now }
+fn amount(word: Word<'_>) -> Option<u64>
+    ensures { result ≡ amount_in (bytes_of word.entry) }
 {
     number(word, u64::MAX)
 }

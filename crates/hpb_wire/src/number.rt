@@ -1,13 +1,37 @@
 ghost use Rattle.std.specs.Prelude.{◌≡◌, ◌^◌, ◌≤◌, ◌<◌, length, IfSome};
 ghost use Rattle.hpb_rules.specs.Lines.{number_up_to};
+ghost use Rattle.hpb_wire.specs.Words.{bytes_of};
 ghost use Rattle.hpb_wire.specs.Numbers.{number_of_digits, digits_number, digit_number, has_front_zero};
+
+use crate::word::Word;
+use core::dec2flt::read_digits;
 
 /// How many digits the greatest number of 64 bits has.
 const MOST_DIGITS: usize = 20;
 
-/// The number up to `most` that a word spells in decimal, with no sign and no zero before another digit.
+/// The number up to `most` that a word spells in decimal, with no sign and no zero before another digit. Of fewer than
+/// 20 digits eight are read at a time.
+#[inline(always)]
+pub(crate) fn number(word: Word<'_>, most: u64) -> Option<u64>
+    ensures value { result ≡ number_up_to most (bytes_of word.entry) }
+    ensures bound { IfSome result (λ n. n ≤ most) }
+{
+    let text = word.text();
+    let (end, number) = read_digits(word.bytes, 0, 0);
+    if end == 0 || end >= MOST_DIGITS || end != word.size {
+        return number_of_text(text, most);
+    }
+    if has_front_zero(text) || number > most {
+        return number_of_text(text, most);
+    }
+    Some(number)
+}
+
+/// The same, digit by digit.
+#[cold]
+#[inline(never)]
 #[tactic(auto, using(crate::proofs::Canonical::fronted, crate::proofs::Canonical::no_number, crate::proofs::Canonical::too_long))]
-pub(crate) fn number(word: &[u8], most: u64) -> Option<u64>
+fn number_of_text(word: &[u8], most: u64) -> Option<u64>
     ensures value { result ≡ number_up_to most word.now }
     ensures bound { IfSome result (λ n. n ≤ most) }
 {

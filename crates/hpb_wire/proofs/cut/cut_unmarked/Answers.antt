@@ -1,11 +1,18 @@
-use Rattle.std.proofs.Common.{◌∷◌, ◌+◌, ◌-◌, length, take, drop, sym, ap, ◌∙◌, arith, take_all, length-drop}
-use Rattle.hpb_rules.specs.Lines.{line_words}
-use Rattle.hpb_wire.proofs.Cutting.{words_found}
+use Rattle.std.proofs.Common.{◌∷◌, ◌+◌, take, drop, sym, ap, ◌∙◌, arith}
+use Rattle.std.proofs.lemmas.List.{take-take}
+use Rattle.std.specs.List.{position}
+use Rattle.hpb_rules.specs.Lines.{line_words, is_space}
+use Rattle.hpb_wire.specs.Words.{bytes_of}
+use Rattle.hpb_wire.proofs.Cutting.{words_found, words_none}
 use Rattle.hpb_wire.proofs.cut.cut_unmarked.Goals as goal
 
 pub returns-in-Some-clause-words : goal.returns-in-Some-clause-words
 returns-in-Some-clause-words c =
-    let line = c.args.line.now in
-    let next = c.in-Some.place + 1 in
-    words_found line c.in-Some.place (sym c.space.ensures ∙ c.in-Some.is)
-    ∙ ap (λ rest. take c.in-Some.place line ∷ line_words rest) (sym (take_all (length line - next) (drop next line) (omega (arith, length-drop next line))))
+    let line = c.args.line in
+    let place = c.in-Some.place in
+    words_found (bytes_of line) place (sym (ap (position is_space) c.text.ensures) ∙ (sym c.space.ensures ∙ c.in-Some.is))
+    ∙ ap (λ word. word ∷ line_words (drop (place + 1) (bytes_of line))) (take-take place line.size line.bytes.now (omega (arith, c.rest.ensures.size)))
+    ∙ ap (λ rest. take place line.bytes.now ∷ line_words rest) (sym c.rest.ensures.line)
+
+pub returns-in-None-clause-words : goal.returns-in-None-clause-words
+returns-in-None-clause-words c = words_none (bytes_of c.args.line) (sym (ap (position is_space) c.text.ensures) ∙ (sym c.space.ensures ∙ c.in-None.is))

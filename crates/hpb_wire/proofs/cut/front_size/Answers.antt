@@ -1,8 +1,5 @@
-use Rattle.std.proofs.Common.{◌<◌, length, take, arith, subst, sym}
-use Rattle.std.specs.Prelude.{IfSome, Some}
+use Rattle.std.proofs.Common.{◌<◌, arith, subst, sym}
 use lib.Count.{count_trailing_zeros}
-use Rattle.hpb_rules.specs.Lines.{line_feed}
-use Rattle.hpb_wire.specs.Marks.{marks_of}
 use Rattle.hpb_wire.specs.Requests.{IsFrontLine}
 use Rattle.hpb_wire.proofs.Places.{front_ends}
 use Rattle.hpb_wire.proofs.cut.front_size.Goals as goal

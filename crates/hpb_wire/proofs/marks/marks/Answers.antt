@@ -1,4 +1,4 @@
-use Rattle.std.proofs.Common.{◌≡◌, ◌+◌, ◌*◌, ◌^◌, length, take, drop, ap, ◌∙◌, arith}
+use Rattle.std.proofs.Common.{◌≡◌, take, drop, ap, arith}
 use Rattle.std.proofs.lemmas.List.{drop-take, take-take}
 use Rattle.hpb_wire.specs.Marks.{marks_of}
 use Rattle.hpb_wire.proofs.Places.{marks_joined}

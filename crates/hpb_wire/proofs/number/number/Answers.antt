@@ -1,9 +1,12 @@
-use Rattle.std.proofs.Common.{sym}
-use Rattle.hpb_wire.proofs.Canonical.{too_large, canonical}
+use Rattle.std.proofs.Common.{sym, ap, ◌∙◌, arith}
+use Rattle.hpb_wire.specs.Numbers.{has_front_zero}
+use Rattle.hpb_wire.specs.Words.{bytes_of}
+use Rattle.hpb_wire.proofs.Canonical.{canonical}
+use Rattle.hpb_wire.proofs.Digits.{read_whole}
 use Rattle.hpb_wire.proofs.number.number.Goals as goal
 
-pub returns-then-number-most-clause-value : goal.returns-then-number-most-clause-value
-returns-then-number-most-clause-value c = sym (too_large c.args.most _ c.args.word.now (sym c.in_ok-number.ensures) c.if-number-most.true)
-
 pub returns-clause-value : goal.returns-clause-value
-returns-clause-value c = sym (canonical c.args.most _ c.args.word.now (sym c.in_ok-number.ensures) c.if-number-most.false (sym c.if-has_front_zero.ensures))
+returns-clause-value c =
+    let word = c.args.word in
+    let read = read_whole word.bytes.now word.size c.read_digits-end.result.0 c.read_digits-end.result.1 (omega arith) (omega arith) word.within (omega arith) c.read_digits-end.ensures.end c.read_digits-end.ensures.value in
+    sym (canonical c.args.most c.read_digits-end.result.1 (bytes_of word) read c.if-number-most.false (sym (ap has_front_zero c.text-text.ensures) ∙ (sym c.has_front_zero.ensures ∙ c.if-has_front_zero.false)))
