@@ -1,32 +1,44 @@
 -- The greatest bit of a mask and the others, and its first bits.
-use Rattle.std.proofs.Common.{◌≡◌, ℕ, suc, ◌+◌, ◌-◌, ◌*◌, ◌%◌, ◌^◌, ◌<◌, ◌≤◌, true, false, Some, sym, ap, ◌∙◌, arith, subst, ⊎_elim}
+use Rattle.std.proofs.Common.{◌≡◌, ℕ, suc, ◌+◌, ◌-◌, ◌*◌, ◌/◌, ◌%◌, ◌^◌, ◌<◌, ◌≤◌, true, false, Some, sym, ap, ◌∙◌, arith, subst, ⊎_elim}
 use Rattle.std.specs.Prelude.{◌==◌, bit_and, min}
 use Rattle.std.specs.Int.{bit_at}
 use Rattle.std.specs.Int.Count.{count_leading_zeros}
 use Rattle.std.proofs.Math.Pow.{pow-lt}
 use Rattle.std.proofs.lemmas.Bool.{cases_lt, both_ways}
-use Rattle.std.proofs.lemmas.Nat.{leading_top, one_shl, and_mask, mod_below, pow_pos}
+use Rattle.std.proofs.lemmas.Nat.{leading_top, one_shl, and_mask, mod_below, pow_pos, div-add-mod', pow-add}
 use Rattle.std.proofs.lemmas.Nat.Bits.{bit_at_and, bit_at_ones, bit_at-lt, bit_at_lowest, bit_at_cat_low, bit_at_cat_high, bit_at_above}
 use Rattle.hpb_rules.specs.Saved.{has_bit}
-use Rattle.hpb_winners.specs.Places.{IsGreatestTaken}
+use Rattle.hpb_winners.specs.Places.{IsGreatestTaken, IsTopPlace}
 
--- a number of 128 bits has its greatest one at this place
-pub record IsTop (a place : ℕ) : Type 0 where
-  pub within : place < 128
-  pub least : 2 ^ place ≤ a
-  pub most : a - 2 ^ place < 2 ^ place
-  pub shifted : 1 * 2 ^ place % 2 ^ 128 ≡ 2 ^ place
-
-pub greatest_bit : (a : ℕ) → 0 < a → a < 2 ^ 128 → IsTop a (127 - count_leading_zeros 128 a)
+-- a word of 64 bits has its greatest one at this place
+pub greatest_bit : (a : ℕ) → 0 < a → a < 2 ^ 64 → IsTopPlace a (63 - count_leading_zeros 64 a)
 greatest_bit a some most =
-    let top : (j : ℕ) × (count_leading_zeros 128 a + suc j ≡ 128) × (2 ^ j ≤ a) × (a < 2 ^ suc j) = leading_top 128 a some most in
-    let here : top.0 ≡ 127 - count_leading_zeros 128 a = omega (arith, top.1) in
-    subst (IsTop a) here (record {
+    let top : (j : ℕ) × (count_leading_zeros 64 a + suc j ≡ 64) × (2 ^ j ≤ a) × (a < 2 ^ suc j) = leading_top 64 a some most in
+    let here : top.0 ≡ 63 - count_leading_zeros 64 a = omega (arith, top.1) in
+    subst (IsTopPlace a) here (record {
       within = omega (arith, top.1);
       least = top.2;
-      most = omega (arith, top.2, top.3);
-      shifted = one_shl top.0 128 (omega (arith, top.1));
+      most = omega (arith, top.3);
     })
+
+-- a bit of the low word
+pub low_bit : (place : ℕ) → place < 64 → 1 * 2 ^ place % 2 ^ 64 ≡ 2 ^ place
+low_bit place within = one_shl place 64 within
+
+-- a bit of the high word
+pub high_bit : (place : ℕ) → place < 64 → (1 * 2 ^ place % 2 ^ 64) * 2 ^ 64 % 2 ^ 128 ≡ 2 ^ (place + 64)
+high_bit place within =
+    ap (λ k. k * 2 ^ 64 % 2 ^ 128) (one_shl place 64 within)
+    ∙ ap (λ k. k % 2 ^ 128) (let e : 2 ^ place * 2 ^ 64 ≡ 1 * 2 ^ (place + 64) = omega (arith, pow-add 2 place 64) in e)
+    ∙ one_shl (place + 64) 128 (omega arith)
+
+-- what the high word says of the whole number
+pub high_top : (a place : ℕ) → IsTopPlace (a / 2 ^ 64) place → (2 ^ (place + 64) ≤ a) × (a < 2 ^ (place + 64) + 2 ^ (place + 64))
+high_top a place top =
+    let parts : a / 2 ^ 64 * 2 ^ 64 + a % 2 ^ 64 ≡ a = div-add-mod' a (2 ^ 64) in
+    let rest : a % 2 ^ 64 < 2 ^ 64 = mod_below a (2 ^ 64) (omega arith) in
+    let whole : 2 ^ place * 2 ^ 64 ≡ 2 ^ (place + 64) = omega (arith, pow-add 2 place 64) in
+    (omega (arith, parts, rest, whole, top.least), omega (arith, parts, rest, whole, top.most))
 
 module _ {old rest : ℕ} (place : ℕ) (taken : IsGreatestTaken old (Some place) rest) where
   together : old ≡ 1 * 2 ^ place + rest

@@ -1,19 +1,34 @@
 ghost use Rattle.std.specs.Prelude.{◌≡◌, ℕ, ◌<◌, ◌≤◌, ◌^◌};
 ghost use Rattle.hpb_rules.specs.declared.limits.TheConstants.{MOST_NODES};
 ghost use Rattle.hpb_rules.specs.Saved.{has_bit};
-ghost use Rattle.hpb_winners.specs.Places.{IsGreatestTaken};
+ghost use Rattle.hpb_winners.specs.Places.{IsGreatestTaken, IsTopPlace};
 
 /// Takes the greatest place out of a mask at which a bit is set, if there is one. So the set bits are walked, from
 /// the greatest down, and the others cost nothing.
 pub fn take_greatest(mask: &mut u128) -> Option<usize>
     ensures { IsGreatestTaken mask.old result mask.new }
 {
-    if *mask == 0 {
+    let high = (*mask >> 64) as u64;
+    if high > 0 {
+        let place = greatest_place(high);
+        *mask -= u128::from(1u64 << place) << 64;
+        return Some(place + 64);
+    }
+    let low = *mask as u64;
+    if low == 0 {
         return None;
     }
-    let place = 127 - mask.leading_zeros();
-    *mask -= 1 << place;
-    Some(place as usize)
+    let place = greatest_place(low);
+    *mask -= u128::from(1u64 << place);
+    Some(place)
+}
+
+/// The greatest place at which a word has a bit.
+fn greatest_place(word: u64) -> usize
+    requires { 0 < word }
+    ensures { IsTopPlace word result }
+{
+    (63 - word.leading_zeros()) as usize
 }
 
 /// A mask that has the bits of another at so many first places, and no others.
