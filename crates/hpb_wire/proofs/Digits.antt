@@ -1,5 +1,5 @@
 -- Digits read from the left.
-use Rattle.std.proofs.Common.{◌≡◌, ℕ, ◌+◌, ◌*◌, ◌^◌, ◌<◌, ◌≤◌, Bool, true, false, cond, eqb, ltb, ◌&&◌, zero, suc, ◌-◌, ◌%◌, List, [], ◌∷◌, ◌++◌, length, take, drop, Option, Some, None, refl, sym, ap, ◌∙◌, arith, length-append, mod-eq_of_lt}
+use Rattle.std.proofs.Common.{◌≡◌, ℕ, ◌+◌, ◌*◌, ◌^◌, ◌<◌, ◌≤◌, Bool, true, false, cond, eqb, ltb, ◌&&◌, zero, suc, ◌-◌, ◌%◌, List, [], ◌∷◌, ◌++◌, length, take, Option, Some, None, refl, sym, ap, ◌∙◌, arith, length-append, mod-eq_of_lt}
 use Rattle.std.proofs.Math.Nat.{pow-suc, pow-le-pow_right, mul-le-mul_right}
 use Rattle.std.proofs.Math.Dec.{lit<}
 use Rattle.std.specs.List.{slice_range}
@@ -95,8 +95,8 @@ after_below number (byte ∷ digits) h =
     omega (arith, after_below (number * 10 + digit_value byte) digits parts.1, mul-le-mul_right (10 ^ length digits) most, ap (λ x. (number + 1) * x) (pow-suc 10 (length digits)))
 
 -- a word of fewer than 20 bytes, all of them digits, is read whole
-pub read_whole : (bytes : List ℕ) (size end number : ℕ) → 0 < size → size < 20 → size ≤ length bytes → end ≡ size → end ≡ 0 + digits_len (drop 0 bytes)
-    → number ≡ (0 * 10 ^ (end - 0) + digits_value 10 (slice_range bytes 0 end)) % 2 ^ 64 → number_of_digits (take size bytes) ≡ Some number
+pub read_whole : (bytes : List ℕ) (size end number : ℕ) → 0 < size → size < 20 → size ≤ length bytes → end ≡ size → end ≡ digits_len bytes
+    → number ≡ digits_value 10 (take end bytes) % 2 ^ 64 → number_of_digits (take size bytes) ≡ Some number
 read_whole bytes size end number filled short within whole digits value =
     let word = take size bytes in
     let count : length word ≡ size = length-take-le size bytes within in
@@ -106,7 +106,12 @@ read_whole bytes size end number filled short within whole digits value =
     let fits : digits_value 10 word < 2 ^ 64 = omega (arith, below, power) in
     let some : ltb 0 (length word) ≡ true = lt-ltb 0 (length word) (omega arith) in
     let small : ltb (digits_value 10 word) (2 ^ 64) ≡ true = lt-ltb (digits_value 10 word) (2 ^ 64) fits in
-    let count_is : end - 0 ≡ size = omega arith in
-    let plain : 0 * 10 ^ (end - 0) + digits_value 10 (take (end - 0) bytes) ≡ digits_value 10 (take (end - 0) bytes) = omega arith in
-    let same : number ≡ digits_value 10 word = value ∙ ap (λ n. n % 2 ^ 64) (plain ∙ ap (λ n. digits_value 10 (take n bytes)) count_is) ∙ mod-eq_of_lt fits in
+    let same : number ≡ digits_value 10 word = value ∙ ap (λ n. digits_value 10 (take n bytes) % 2 ^ 64) whole ∙ mod-eq_of_lt fits in
     rw (all, some, small) (ap Some (sym same))
+
+-- what is read from the front on
+pub read_front : (bytes : List ℕ) (end number : ℕ) → number ≡ (0 * 10 ^ (end - 0) + digits_value 10 (slice_range bytes 0 end)) % 2 ^ 64 → number ≡ digits_value 10 (take end bytes) % 2 ^ 64
+read_front bytes end number value =
+    let count : end - 0 ≡ end = omega arith in
+    let plain : 0 * 10 ^ (end - 0) + digits_value 10 (take (end - 0) bytes) ≡ digits_value 10 (take (end - 0) bytes) = omega arith in
+    value ∙ ap (λ n. n % 2 ^ 64) (plain ∙ ap (λ n. digits_value 10 (take n bytes)) count)

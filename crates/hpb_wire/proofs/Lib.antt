@@ -3,3 +3,5 @@ mod Cutting
 mod Places
 mod Canonical
 mod Parts
+mod Decimals
+mod Overlaps

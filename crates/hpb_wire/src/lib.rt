@@ -2,11 +2,15 @@
 #![tactic(auto)]
 
 mod cut;
+mod decimal;
 mod line;
 mod marks;
 mod named;
 mod number;
+mod pieces;
+mod refusals;
 mod response;
+mod room;
 mod text;
 mod views;
 mod word;

@@ -1,4 +1,6 @@
-ghost use Rattle.std.specs.Prelude.{◌≡◌, ◌^◌, ◌≤◌, ◌<◌, length, IfSome};
+ghost use Rattle.std.specs.Prelude.{◌≡◌, ◌%◌, ◌^◌, ◌≤◌, ◌<◌, length, take, IfSome};
+ghost use Rattle.std.specs.Float.Numeral.{digits_len};
+ghost use Rattle.std.specs.Str.Parse.{digits_value};
 ghost use Rattle.hpb_rules.specs.Lines.{number_up_to};
 ghost use Rattle.hpb_wire.specs.Words.{bytes_of};
 ghost use Rattle.hpb_wire.specs.Numbers.{number_of_digits, digits_number, digit_number, has_front_zero};
@@ -17,7 +19,7 @@ pub(crate) fn number(word: Word<'_>, most: u64) -> Option<u64>
     ensures bound { IfSome result (λ n. n ≤ most) }
 {
     let text = word.text();
-    let (end, number) = read_digits(word.bytes, 0, 0);
+    let (end, number) = first_digits(word.bytes);
     if end == 0 || end >= MOST_DIGITS || end != word.size {
         return number_of_text(text, most);
     }
@@ -25,6 +27,15 @@ pub(crate) fn number(word: Word<'_>, most: u64) -> Option<u64>
         return number_of_text(text, most);
     }
     Some(number)
+}
+
+/// How many digits stand first, and what they spell, by 64 bits of it.
+#[inline(never)]
+fn first_digits(bytes: &[u8]) -> (usize, u64)
+    ensures count { result.0 ≡ digits_len bytes.now }
+    ensures value { result.1 ≡ digits_value 10 (take result.0 bytes.now) % 2 ^ 64 }
+{
+    read_digits(bytes, 0, 0)
 }
 
 /// The same, digit by digit.

@@ -1,9 +1,13 @@
-ghost use Rattle.std.specs.Prelude.{◌≡◌, [], length, IfOk};
-ghost use Rattle.hpb_rules.specs.Rendering.{reply_text};
-ghost use Rattle.hpb_wire.specs.Responses.{Adds, text_of};
+ghost use Rattle.std.specs.Prelude.{◌≡◌, [], Some, None, length, IfOk};
+ghost use Rattle.hpb_rules.specs.Rendering.{node_text, reply_text};
+ghost use Rattle.hpb_wire.specs.Responses.{Adds, text_of, text_of_round, text_of_node, text_of_bidder};
 
-use crate::response::Response;
-use crate::writing::{write_line, write_reply};
+use crate::response::{BidderLine, HighBid, NodeLine, Response, RoundLine};
+use crate::room::make_room;
+use crate::writing::{
+    BIDDER_BYTES, NODE_BYTES, REPLY_BYTES, ROUND_BYTES, put_bidder, put_free, put_reply, put_round,
+    put_standing,
+};
 use hpb_rules::Reply;
 use std::alloc::{AllocError, Global};
 use std::marker::Model;
@@ -14,15 +18,19 @@ pub const RESPONSE_BYTES: usize = 256;
 /// Responses one after another, a line each. A text that is used again takes no memory once it has grown.
 #[derive(Drop)]
 pub struct ResponseText {
-    lines: Vec<u8>,
+    bytes: Vec<u8>,
+    /// How many of the bytes count.
+    length: usize,
 }
 
 impl Model for ResponseText {
-    ghost use Rattle.std.specs.Prelude.{ℕ, List};
+    ghost use Rattle.std.specs.Prelude.{ℕ, List, take, vec_len, ◌≤◌};
 
     ghost Value = { List ℕ };
 
-    ghost view = { λ t. t.lines.items };
+    ghost view = { λ t. take t.length t.bytes.items };
+
+    ghost invariant = { λ t. t.length ≤ vec_len t.bytes };
 }
 
 impl ResponseText {
@@ -31,7 +39,8 @@ impl ResponseText {
         ensures { IfOk result (λ t. t ≡ []) }
     {
         Ok(ResponseText {
-            lines: Vec::with_capacity(alloc, bytes)?,
+            bytes: vec![in alloc; 0; bytes]?,
+            length: 0,
         })
     }
 
@@ -40,7 +49,12 @@ impl ResponseText {
     pub fn render(&mut self, response: &Response<'_>) -> Result<(), AllocError>
         ensures { Adds self.old self.new (text_of response.now) result }
     {
-        write_line(&mut self.lines, response)
+        match response {
+            Response::Reply(reply) => self.render_reply(*reply),
+            Response::Show(line) => self.render_round(line),
+            Response::Node(line) => self.render_node(line),
+            Response::Who(line) => self.render_bidder(line),
+        }
     }
 
     /// Adds the line of a reply, with its end. Where memory is refused, the text stays as it is.
@@ -48,7 +62,59 @@ impl ResponseText {
     pub fn render_reply(&mut self, reply: Reply) -> Result<(), AllocError>
         ensures { Adds self.old self.new (reply_text reply) result }
     {
-        write_reply(&mut self.lines, reply)
+        make_room(&mut self.bytes, self.length, REPLY_BYTES)?;
+        self.length = put_reply(self.bytes.as_mut_slice(), self.length, reply);
+        Ok(())
+    }
+
+    #[inline(always)]
+    fn render_round(&mut self, line: &RoundLine) -> Result<(), AllocError>
+        ensures { Adds self.old self.new (text_of_round line.now) result }
+    {
+        make_room(&mut self.bytes, self.length, ROUND_BYTES)?;
+        self.length = put_round(self.bytes.as_mut_slice(), self.length, line);
+        Ok(())
+    }
+
+    #[inline(always)]
+    fn render_node(&mut self, line: &NodeLine<'_>) -> Result<(), AllocError>
+        ensures { Adds self.old self.new (text_of_node line.now) result }
+    {
+        match line.high {
+            Some(bid) => self.render_standing(line, &bid),
+            None => self.render_free(line),
+        }
+    }
+
+    /// Adds the line of a node with a high bid.
+    #[inline(always)]
+    fn render_standing(&mut self, line: &NodeLine<'_>, bid: &HighBid<'_>) -> Result<(), AllocError>
+        ensures { Adds self.old self.new (node_text line.now.name.now (Some (bid.now.amount, bid.now.bidder.now)) line.now.price line.now.minimum line.now.wins) result }
+    {
+        let around = bid.bidder.len() + NODE_BYTES;
+        let more = around.checked_add(line.name.len()).ok_or(AllocError)?;
+        make_room(&mut self.bytes, self.length, more)?;
+        self.length = put_standing(self.bytes.as_mut_slice(), self.length, line, bid);
+        Ok(())
+    }
+
+    /// Adds the line of a node without a high bid.
+    #[inline(always)]
+    fn render_free(&mut self, line: &NodeLine<'_>) -> Result<(), AllocError>
+        ensures { Adds self.old self.new (node_text line.now.name.now None line.now.price line.now.minimum line.now.wins) result }
+    {
+        make_room(&mut self.bytes, self.length, line.name.len() + NODE_BYTES)?;
+        self.length = put_free(self.bytes.as_mut_slice(), self.length, line);
+        Ok(())
+    }
+
+    #[inline(always)]
+    fn render_bidder(&mut self, line: &BidderLine<'_>) -> Result<(), AllocError>
+        ensures { Adds self.old self.new (text_of_bidder line.now) result }
+    {
+        make_room(&mut self.bytes, self.length, line.name.len() + BIDDER_BYTES)?;
+        self.length = put_bidder(self.bytes.as_mut_slice(), self.length, line);
+        Ok(())
     }
 
     /// How many bytes it has.
@@ -56,20 +122,20 @@ impl ResponseText {
     pub fn len(&self) -> usize
         ensures { result ≡ length self.now }
     {
-        self.lines.len()
+        self.length
     }
 
     /// Its bytes.
     pub fn as_bytes(&self) -> &[u8]
         ensures { result.now ≡ self.now }
     {
-        self.lines.as_slice()
+        &self.bytes[..self.length]
     }
 
     /// Takes all responses out, and keeps the room.
     pub fn clear(&mut self)
         ensures { self.new ≡ [] }
     {
-        self.lines.clear();
+        self.length = 0;
     }
 }

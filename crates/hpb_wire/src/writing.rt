@@ -1,154 +1,153 @@
-ghost use Rattle.std.specs.Prelude.{◌≡◌, ◌++◌, ℕ, List, Some, decimal, length};
+//! Writes the lines of responses. Each writer answers the place behind the line.
+ghost use Rattle.std.specs.Prelude.{◌≡◌, ◌≤◌, ◌+◌, ◌++◌, Some, None, codes, decimal, length, take};
 ghost use Rattle.hpb_rules.specs.declared.reply.Reply.TheVariants as replies;
-ghost use Rattle.hpb_rules.specs.Rendering.{reply_text, refusal_text, node_text};
+ghost use Rattle.hpb_rules.specs.Rendering.{closed_text, node_text, reply_text, wins_text};
 ghost use Rattle.hpb_rules.specs.Text.{line_of};
-ghost use Rattle.hpb_wire.specs.Responses.{Adds, text_of, text_of_round, text_of_node, text_of_bidder};
-ghost use Rattle.hpb_wire.specs.Writing.{Grows};
+ghost use Rattle.hpb_wire.specs.Responses.{text_of_round, text_of_bidder};
 
-use crate::response::{BidderLine, NodeLine, Response, RoundLine, open_or_closed, yes_or_no};
-use hpb_rules::{Refusal, Reply};
-use itoa::Buffer;
-use std::alloc::AllocError;
+use crate::decimal::put_number;
+use crate::pieces::{put_name, put_piece};
+use crate::refusals::put_refusal;
+use crate::response::{BidderLine, HighBid, NodeLine, RoundLine};
+use hpb_rules::Reply;
 
-/// Adds the line of a response, with its end. Where memory is refused, the text is cut back to what it was.
+/// At least as many bytes as the line of a reply has.
+pub(crate) const REPLY_BYTES: usize = 24;
+
+/// At least as many bytes as the line of a round has.
+pub(crate) const ROUND_BYTES: usize = 117;
+
+/// At least as many bytes as the line of a node has beside its names.
+pub(crate) const NODE_BYTES: usize = 93;
+
+/// At least as many bytes as the line of a bidder has beside its name.
+pub(crate) const BIDDER_BYTES: usize = 96;
+
+/// Writes the line of a reply.
 #[inline(always)]
-pub(crate) fn write_line(text: &mut Vec<u8>, response: &Response<'_>) -> Result<(), AllocError>
-    ensures { Adds text.old.items text.new.items (text_of response.now) result }
-{
-    match response {
-        Response::Reply(reply) => write_reply(text, *reply),
-        Response::Show(line) => write_round(text, line),
-        Response::Node(line) => write_node(text, line),
-        Response::Who(line) => write_bidder(text, line),
-    }
-}
-
-/// Adds the line of a reply.
-#[inline(always)]
-pub(crate) fn write_reply(text: &mut Vec<u8>, reply: Reply) -> Result<(), AllocError>
-    ensures { Adds text.old.items text.new.items (reply_text reply) result }
+pub(crate) fn put_reply(bytes: &mut [u8], at: usize, reply: Reply) -> usize
+    requires { at + REPLY_BYTES ≤ length bytes.old }
+    ensures written { take result bytes.new ≡ take at bytes.old ++ line_of (reply_text reply) }
+    ensures within { result ≤ length bytes.old }
 {
     match reply {
-        Reply::Ok(count) => write_accepted(text, count),
-        Reply::Refused(refusal) => write_refusal(text, refusal),
+        Reply::Ok(count) => put_accepted(bytes, at, count),
+        Reply::Refused(refusal) => put_refusal(bytes, at, refusal),
     }
 }
 
-fn write_accepted(text: &mut Vec<u8>, count: u32) -> Result<(), AllocError>
-    ensures { Adds text.old.items text.new.items (reply_text (replies.Ok count)) result }
+#[inline(always)]
+fn put_accepted(bytes: &mut [u8], at: usize, count: u32) -> usize
+    requires { at + REPLY_BYTES ≤ length bytes.old }
+    ensures written { take result bytes.new ≡ take at bytes.old ++ line_of (reply_text (replies.Ok count)) }
+    ensures within { result ≤ length bytes.old }
 {
-    let before = text.len();
-    let ok = put(text, true, "OK ");
-    let number = put_number(text, ok, u64::from(count));
-    let end = put(text, number, "\n");
-    finish(text, before, end)
+    let ok = put_piece(bytes, at, b"OK ");
+    let number = put_number(bytes, ok, u64::from(count));
+    put_piece(bytes, number, b"\n")
 }
 
-fn write_refusal(text: &mut Vec<u8>, refusal: Refusal) -> Result<(), AllocError>
-    ensures { Adds text.old.items text.new.items (refusal_text refusal) result }
+#[inline(always)]
+pub(crate) fn put_round(bytes: &mut [u8], at: usize, line: &RoundLine) -> usize
+    requires { at + ROUND_BYTES ≤ length bytes.old }
+    ensures written { take result bytes.new ≡ take at bytes.old ++ line_of (text_of_round line.now) }
+    ensures within { result ≤ length bytes.old }
 {
-    let before = text.len();
-    let err = put(text, true, "ERR ");
-    let number = put_number(text, err, u64::from(refusal.number()));
-    let space = put(text, number, " ");
-    let word = put(text, space, refusal.word());
-    let end = put(text, word, "\n");
-    finish(text, before, end)
+    let to_round = put_piece(bytes, at, b"ROUND ");
+    let round = put_number(bytes, to_round, u64::from(line.round));
+    let to_stage = put_piece(bytes, round, b" STAGE ");
+    let stage = put_number(bytes, to_stage, u64::from(line.stage));
+    let to_revenue = put_closed(bytes, stage, line.closed);
+    let revenue = put_number(bytes, to_revenue, line.revenue);
+    let to_count = put_piece(bytes, revenue, b" COUNT ");
+    let count = put_number(bytes, to_count, u64::from(line.count));
+    put_piece(bytes, count, b"\n")
 }
 
-fn write_round(text: &mut Vec<u8>, line: &RoundLine) -> Result<(), AllocError>
-    ensures { Adds text.old.items text.new.items (text_of_round line.now) result }
+#[inline(always)]
+fn put_closed(bytes: &mut [u8], at: usize, closed: bool) -> usize
+    requires { at + 16 ≤ length bytes.old }
+    ensures written { take result bytes.new ≡ take at bytes.old ++ codes " " ++ closed_text closed ++ codes " REVENUE " }
+    ensures most { result ≤ at + 16 }
 {
-    let before = text.len();
-    let to_round = put(text, true, "ROUND ");
-    let round = put_number(text, to_round, u64::from(line.round));
-    let to_stage = put(text, round, " STAGE ");
-    let stage = put_number(text, to_stage, u64::from(line.stage));
-    let to_open = put(text, stage, " ");
-    let open = put(text, to_open, open_or_closed(line.closed));
-    let to_revenue = put(text, open, " REVENUE ");
-    let revenue = put_number(text, to_revenue, line.revenue);
-    let to_count = put(text, revenue, " COUNT ");
-    let count = put_number(text, to_count, u64::from(line.count));
-    let end = put(text, count, "\n");
-    finish(text, before, end)
-}
-
-fn write_node(text: &mut Vec<u8>, line: &NodeLine<'_>) -> Result<(), AllocError>
-    ensures { Adds text.old.items text.new.items (text_of_node line.now) result }
-{
-    match line.high {
-        Some(bid) => write_high(text, line, bid.amount, bid.bidder),
-        None => write_high(text, line, 0, "-"),
+    if closed {
+        put_piece(bytes, at, b" CLOSED REVENUE ")
+    } else {
+        put_piece(bytes, at, b" OPEN REVENUE ")
     }
 }
 
-/// Adds the line of a node with a high bid.
-fn write_high<'a>(
-    text: &mut Vec<u8>,
-    line: &NodeLine<'a>,
-    amount: u64,
-    bidder: &'a str,
-) -> Result<(), AllocError>
-    ensures { Adds text.old.items text.new.items (node_text line.now.name.now (Some (amount, bidder.now)) line.now.price line.now.minimum line.now.wins) result }
-{
-    let before = text.len();
-    let to_name = put(text, true, "NODE ");
-    let name = put(text, to_name, line.name);
-    let to_high = put(text, name, " HIGH ");
-    let high = put_number(text, to_high, amount);
-    let to_bidder = put(text, high, " ");
-    let bidder = put(text, to_bidder, bidder);
-    let to_price = put(text, bidder, " PRICE ");
-    let price = put_number(text, to_price, line.price);
-    let to_minimum = put(text, price, " MIN ");
-    let minimum = put_number(text, to_minimum, line.minimum);
-    let to_win = put(text, minimum, " WIN ");
-    let win = put(text, to_win, yes_or_no(line.wins));
-    let end = put(text, win, "\n");
-    finish(text, before, end)
-}
-
-fn write_bidder(text: &mut Vec<u8>, line: &BidderLine<'_>) -> Result<(), AllocError>
-    ensures { Adds text.old.items text.new.items (text_of_bidder line.now) result }
-{
-    let before = text.len();
-    let to_name = put(text, true, "WHO ");
-    let name = put(text, to_name, line.name);
-    let to_eligibility = put(text, name, " ELIGIBILITY ");
-    let eligibility = put_number(text, to_eligibility, u64::from(line.eligibility));
-    let to_activity = put(text, eligibility, " ACTIVITY ");
-    let activity = put_number(text, to_activity, u64::from(line.activity));
-    let to_ticket = put(text, activity, " TICKET ");
-    let ticket = put_number(text, to_ticket, u64::from(line.ticket));
-    let end = put(text, ticket, "\n");
-    finish(text, before, end)
-}
-
-/// Adds one part more, and answers whether all parts so far are there.
 #[inline(always)]
-fn put(text: &mut Vec<u8>, whole: bool, part: &str) -> bool
-    ensures { (before line : List ℕ) → Grows before text.old.items line whole → Grows before text.new.items (line ++ part.now) result }
+pub(crate) fn put_standing(
+    bytes: &mut [u8],
+    at: usize,
+    line: &NodeLine<'_>,
+    bid: &HighBid<'_>,
+) -> usize
+    requires { at + length line.now.name.now + length bid.now.bidder.now + NODE_BYTES ≤ length bytes.old }
+    ensures written { take result bytes.new ≡ take at bytes.old ++ line_of (node_text line.now.name.now (Some (bid.now.amount, bid.now.bidder.now)) line.now.price line.now.minimum line.now.wins) }
+    ensures within { result ≤ length bytes.old }
 {
-    text.extend_from_slice(part.as_bytes()).is_ok() && whole
+    let to_name = put_piece(bytes, at, b"NODE ");
+    let name = put_name(bytes, to_name, line.name);
+    let to_amount = put_piece(bytes, name, b" HIGH ");
+    let amount = put_number(bytes, to_amount, bid.amount);
+    let to_bidder = put_piece(bytes, amount, b" ");
+    let bidder = put_name(bytes, to_bidder, bid.bidder);
+    let to_price = put_piece(bytes, bidder, b" PRICE ");
+    put_prices(bytes, to_price, line)
 }
 
-/// Adds a number in decimal.
 #[inline(always)]
-fn put_number(text: &mut Vec<u8>, whole: bool, number: u64) -> bool
-    ensures { (before line : List ℕ) → Grows before text.old.items line whole → Grows before text.new.items (line ++ decimal number) result }
+pub(crate) fn put_free(bytes: &mut [u8], at: usize, line: &NodeLine<'_>) -> usize
+    requires { at + length line.now.name.now + NODE_BYTES ≤ length bytes.old }
+    ensures written { take result bytes.new ≡ take at bytes.old ++ line_of (node_text line.now.name.now None line.now.price line.now.minimum line.now.wins) }
+    ensures within { result ≤ length bytes.old }
 {
-    put(text, whole, Buffer::new().format(number))
+    let to_name = put_piece(bytes, at, b"NODE ");
+    let name = put_name(bytes, to_name, line.name);
+    let to_price = put_piece(bytes, name, b" HIGH 0 - PRICE ");
+    put_prices(bytes, to_price, line)
 }
 
-/// Ends a line whose parts are all there. Where one is missing, the text is cut back to what it was.
 #[inline(always)]
-fn finish(text: &mut Vec<u8>, before: usize, whole: bool) -> Result<(), AllocError>
-    ensures { (old line : List ℕ) → length old ≡ before → Grows old text.old.items (line_of line) whole → Adds old text.new.items line result }
+fn put_prices(bytes: &mut [u8], at: usize, line: &NodeLine<'_>) -> usize
+    requires { at + 54 ≤ length bytes.old }
+    ensures written { take result bytes.new ≡ take at bytes.old ++ decimal line.now.price ++ codes " MIN " ++ decimal line.now.minimum ++ codes " WIN " ++ wins_text line.now.wins ++ codes "\n" }
+    ensures within { result ≤ length bytes.old }
 {
-    if whole {
-        return Ok(());
+    let price = put_number(bytes, at, line.price);
+    let to_minimum = put_piece(bytes, price, b" MIN ");
+    let minimum = put_number(bytes, to_minimum, line.minimum);
+    put_win(bytes, minimum, line.wins)
+}
+
+#[inline(always)]
+fn put_win(bytes: &mut [u8], at: usize, wins: bool) -> usize
+    requires { at + 9 ≤ length bytes.old }
+    ensures written { take result bytes.new ≡ take at bytes.old ++ codes " WIN " ++ wins_text wins ++ codes "\n" }
+    ensures most { result ≤ at + 9 }
+{
+    if wins {
+        put_piece(bytes, at, b" WIN yes\n")
+    } else {
+        put_piece(bytes, at, b" WIN no\n")
     }
-    text.truncate(before);
-    Err(AllocError)
+}
+
+#[inline(always)]
+pub(crate) fn put_bidder(bytes: &mut [u8], at: usize, line: &BidderLine<'_>) -> usize
+    requires { at + length line.now.name.now + BIDDER_BYTES ≤ length bytes.old }
+    ensures written { take result bytes.new ≡ take at bytes.old ++ line_of (text_of_bidder line.now) }
+    ensures within { result ≤ length bytes.old }
+{
+    let to_name = put_piece(bytes, at, b"WHO ");
+    let name = put_name(bytes, to_name, line.name);
+    let to_eligibility = put_piece(bytes, name, b" ELIGIBILITY ");
+    let eligibility = put_number(bytes, to_eligibility, u64::from(line.eligibility));
+    let to_activity = put_piece(bytes, eligibility, b" ACTIVITY ");
+    let activity = put_number(bytes, to_activity, u64::from(line.activity));
+    let to_ticket = put_piece(bytes, activity, b" TICKET ");
+    let ticket = put_number(bytes, to_ticket, u64::from(line.ticket));
+    put_piece(bytes, ticket, b"\n")
 }

@@ -8,5 +8,5 @@ use Rattle.hpb_wire.proofs.number.number.Goals as goal
 pub returns-clause-value : goal.returns-clause-value
 returns-clause-value c =
     let word = c.args.word in
-    let read = read_whole word.bytes.now word.size c.read_digits-end.result.0 c.read_digits-end.result.1 (omega arith) (omega arith) word.within (omega arith) c.read_digits-end.ensures.end c.read_digits-end.ensures.value in
-    sym (canonical c.args.most c.read_digits-end.result.1 (bytes_of word) read c.if-number-most.false (sym (ap has_front_zero c.text-text.ensures) ∙ (sym c.has_front_zero.ensures ∙ c.if-has_front_zero.false)))
+    let read = read_whole word.bytes.now word.size c.first_digits-end.result.0 c.first_digits-end.result.1 (omega arith) (omega arith) word.within (omega arith) c.first_digits-end.ensures.count c.first_digits-end.ensures.value in
+    sym (canonical c.args.most c.first_digits-end.result.1 (bytes_of word) read c.if-number-most.false (sym (ap has_front_zero c.text-text.ensures) ∙ (sym c.has_front_zero.ensures ∙ c.if-has_front_zero.false)))
