@@ -3,7 +3,7 @@ ghost use Rattle.hpb_rules.specs.declared.limits.TheConstants.{MOST_NODES};
 ghost use Rattle.hpb_tree.specs.Keys.{key_of};
 ghost use Rattle.hpb_tree.specs.declared.hints.TheConstants.{HINTS};
 
-use crate::key::NameKey;
+use crate::key::{NameKey, WORD};
 use crate::named::Named;
 use std::alloc::{AllocError, Global};
 
@@ -57,13 +57,26 @@ impl Hints {
         self.find_key(NameKey::of(name))
     }
 
-    /// The place that is hinted at, if the name that stands there is the one that so many first bytes are.
+    /// The place that is hinted at, if the name that stands there is the one that so many first bytes are. A short one
+    /// is read at once, with what lies behind it.
     #[inline(always)]
     pub(crate) fn find_front(&self, bytes: &[u8], len: usize) -> Option<usize>
         requires { len ≤ length bytes.now }
         ensures { IfSome result (λ place. slice_get self.now.keys.items place ≡ Some (key_of (take len bytes.now))) }
     {
-        self.find_key(NameKey::of_front(bytes, len))
+        if len == 0 || len > WORD || bytes.len() < WORD {
+            return self.find_apart(&bytes[..len]);
+        }
+        self.find_key(NameKey::of_word(bytes, len))
+    }
+
+    /// The same as `find`, out of the way of names that are read at once.
+    #[cold]
+    #[inline(never)]
+    fn find_apart(&self, name: &[u8]) -> Option<usize>
+        ensures { IfSome result (λ place. slice_get self.now.keys.items place ≡ Some (key_of name.now)) }
+    {
+        self.find(name)
     }
 
     /// The place that is hinted at, if the name that stands there has the key.

@@ -2,7 +2,7 @@ ghost use Rattle.std.specs.Prelude.{◌≡◌, ◌<◌, ◌≤◌, length, take}
 ghost use Rattle.hpb_tree.specs.Keys.{number, key_of};
 
 /// How many bytes of a name one number takes.
-const WORD: usize = 8;
+pub(crate) const WORD: usize = 8;
 
 /// What a name is compared by. Names of at most 16 bytes that differ have keys that differ.
 #[derive(Clone, Copy, Debug, PartialEq, Eq)]
@@ -36,28 +36,19 @@ impl NameKey {
         }
     }
 
-    /// The key of the name that so many first bytes are. A short one is read at once, with what lies behind it.
+    /// The key of the short name that so many first bytes are, read together with what lies behind it.
     #[inline(always)]
-    pub(crate) fn of_front(bytes: &[u8], len: usize) -> NameKey
-        requires { len ≤ length bytes.now }
+    pub(crate) fn of_word(bytes: &[u8], len: usize) -> NameKey
+        requires some { 0 < len }
+        requires most { len ≤ WORD }
+        requires word { WORD ≤ length bytes.now }
         ensures { result ≡ key_of (take len bytes.now) }
     {
-        if len == 0 || len > WORD || bytes.len() < WORD {
-            return NameKey::of_part(&bytes[..len]);
-        }
         NameKey {
             len,
             first: word_front(bytes, len),
             rest: 0,
         }
-    }
-
-    #[cold]
-    #[inline(never)]
-    fn of_part(name: &[u8]) -> NameKey
-        ensures { result ≡ key_of name.now }
-    {
-        NameKey::of(name)
     }
 }
 
