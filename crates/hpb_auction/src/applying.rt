@@ -22,6 +22,7 @@ impl Auction {
     /// The reply is the one of the rules after each history that the auction shows, and the auction then shows
     /// that history with the command where it was newly accepted. Refusals are those of `judge`.
     #[tactic(auto, using(crate::proofs::Histories::answered, crate::proofs::Histories::shown_at))]
+    #[inline(always)]
     pub fn apply(&mut self, command: &Command) -> Reply
         ensures reply { result ≡ reply_in self.old command.now }
         ensures value { self.new ≡ next_value self.old command.now }
@@ -41,6 +42,7 @@ impl Auction {
     }
 
     /// Takes in a command as the one of this number.
+    #[inline(always)]
     fn accept(&mut self, command: &Command, number: u32)
         requires count { number ≡ self.old.count + 1 }
         requires limit { number ≤ MOST_COMMANDS }
@@ -66,6 +68,7 @@ impl Auction {
     }
 
     /// Takes in a bid: it counts from the next close on.
+    #[inline(always)]
     fn accept_bid(&mut self, accepted: Accepted, bidder: BidderId, node: NodeId, amount: u64)
         requires command { accepted.command ≡ Bid bidder (ticket_of accepted.command) node amount }
         requires count { accepted.number ≡ self.old.count + 1 }

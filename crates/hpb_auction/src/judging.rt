@@ -27,6 +27,7 @@ impl Auction {
     }
 
     /// What becomes of a command: first by its sender's last one, then by the state of the auction.
+    #[inline(always)]
     pub(crate) fn verdict(&self, command: &Command) -> Verdict
         ensures reply { reply_of result ≡ reply_in self.now command.now }
         ensures new { IfNew result (λ number. (number ≡ self.now.count + 1) × (number ≤ MOST_COMMANDS) × IsKnown self.now command.now × CanTake self.now command.now) }
@@ -43,6 +44,7 @@ impl Auction {
     }
 
     /// The last command of a command's sender, or the refusal of a bidder or a node that the definition hasn't.
+    #[inline(always)]
     fn last_of(&self, command: &Command) -> Result<Option<&Accepted>, Refusal>
         ensures known { IfOk result (λ _. IsKnown self.now command.now × (unknown self.now.rules command.now ≡ None)) }
         ensures found { IfOk result (λ last. IsFoundIn (last_at self.now (sender_of command.now)) self.now.count last) }
@@ -54,6 +56,7 @@ impl Auction {
         }
     }
 
+    #[inline(always)]
     fn last_bid_of(&self, bidder: BidderId, node: NodeId) -> Result<Option<&Accepted>, Refusal>
         ensures known { IfOk result (λ _. (bidder < length self.now.rules.bidders) × (node < length self.now.rules.nodes)) }
         ensures found { IfOk result (λ last. IsFoundIn (last_at self.now (bidder_sender bidder)) self.now.count last) }
@@ -71,6 +74,7 @@ impl Auction {
 
     /// What becomes of a command with its sender's next ticket. What is wrong with the command itself is looked at
     /// last, and only where there is room for it in an auction that goes on.
+    #[inline(always)]
     fn by_state(&self, command: &Command) -> Verdict
         requires { IsKnown self.now command.now }
         ensures reply { reply_of result ≡ state_reply self.now.count self.now.over (fault_in self.now command.now) }
@@ -90,6 +94,7 @@ impl Auction {
     }
 
     /// What is wrong with a command of the definition's bidders and nodes, whatever its ticket is.
+    #[inline(always)]
     fn fault(&self, command: &Command) -> Option<Refusal>
         requires { IsKnown self.now command.now }
         ensures value { result ≡ fault_in self.now command.now }
@@ -107,6 +112,7 @@ impl Auction {
         }
     }
 
+    #[inline(always)]
     fn bid_fault(&self, bidder: BidderId, node: NodeId, amount: u64) -> Option<Refusal>
         requires bidder { bidder < length self.now.rules.bidders }
         requires node { node < length self.now.rules.nodes }
@@ -133,6 +139,7 @@ impl Auction {
         None
     }
 
+    #[inline(always)]
     fn stage_fault(&self) -> Option<Refusal>
         ensures value { (ticket : ℕ) → result ≡ fault_in self.now (Stage ticket) }
         ensures further { result ≡ None → self.now.stage < length self.now.rules.stages }
@@ -147,6 +154,7 @@ impl Auction {
 }
 
 /// Whether an amount is a multiple of the step. Each is one of 1, which needs no division.
+#[inline(always)]
 fn is_multiple(amount: u64, step: u32) -> bool
     requires { 0 < step }
     ensures { result ≡ (amount % step == 0) }

@@ -19,6 +19,7 @@ pub(crate) enum Verdict {
 
 impl Verdict {
     /// What the sender is told.
+    #[inline(always)]
     pub(crate) fn reply(self) -> Reply
         ensures { result ≡ reply_of self }
     {
@@ -30,6 +31,7 @@ impl Verdict {
 }
 
 /// What the tickets say of a command whose sender's last one is given: `None` where it is the next.
+#[inline(always)]
 pub(crate) fn by_ticket(command: &Command, last: Option<&Accepted>) -> Option<Verdict>
     ensures reply { reply_told result ≡ ticket_reply command.now (read_last last.entry) }
     ensures never_new { IfSome result (λ verdict. IfNew verdict (λ _. ⊥)) }
@@ -51,6 +53,7 @@ pub(crate) fn by_ticket(command: &Command, last: Option<&Accepted>) -> Option<Ve
 }
 
 /// What a command is under its sender's last ticket.
+#[inline(always)]
 fn by_repeat(command: &Command, last: Option<&Accepted>) -> Verdict
     ensures reply { reply_of result ≡ repeated command.now (read_last last.entry) }
     ensures never_new { IfNew result (λ _. ⊥) }

@@ -29,6 +29,7 @@ impl NodeBids {
     ghost use Rattle.hpb_bids.specs.Inside.{received, closed, is_raised};
 
     /// Takes a bid in the open round: it becomes the best where it is more than that.
+    #[inline(always)]
     fn receive(&mut self, offer: Offer)
         ensures { self.new ≡ received self.old offer }
     {
@@ -137,6 +138,7 @@ impl Books {
     }
 
     /// The nodes on which a bidder bid in the open round: bit n is for node n.
+    #[inline(always)]
     pub fn bid_on(&self, bidder: BidderId) -> u128
         ensures { result ≡ slice_index self.now.bids bidder }
     {
@@ -144,6 +146,7 @@ impl Books {
     }
 
     /// Whether a bidder bid on a node in the open round.
+    #[inline(always)]
     pub fn has_bid_on(&self, bidder: BidderId, node: NodeId) -> bool
         ensures { result ≡ has_bid self.now bidder node }
     {
@@ -158,6 +161,7 @@ impl Books {
     }
 
     /// Takes a bid in the open round. It becomes the node's best where it is more than that.
+    #[inline(always)]
     pub fn place(&mut self, bidder: BidderId, node: NodeId, amount: u64)
         requires { amount ≤ MOST_AMOUNT }
         ensures value { self.new ≡ placed self.old bidder node amount }
