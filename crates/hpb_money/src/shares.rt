@@ -34,7 +34,8 @@ impl Shares {
         Shares { each: 0, more: 0 }
     }
 
-    /// Dollars shared out among so many as evenly as whole dollars allow. Fewer dollars than that need no division.
+    /// Dollars shared out among so many as evenly as whole dollars allow. Fewer dollars than that, and two that share,
+    /// need no division.
     pub fn of(dollars: Dollars, count: u64) -> Shares
         requires { 0 < count }
         ensures { result ≡ shared dollars count }
@@ -43,6 +44,12 @@ impl Shares {
             return Shares {
                 each: 0,
                 more: dollars,
+            };
+        }
+        if count == 2 {
+            return Shares {
+                each: dollars / 2,
+                more: dollars % 2,
             };
         }
         Shares {
