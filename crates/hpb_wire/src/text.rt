@@ -80,8 +80,8 @@ impl ResponseText {
     fn render_node(&mut self, line: &NodeLine<'_>) -> Result<(), AllocError>
         ensures { Adds self.old self.new (text_of_node line.now) result }
     {
-        match line.high {
-            Some(bid) => self.render_standing(line, &bid),
+        match &line.high {
+            Some(bid) => self.render_standing(line, bid),
             None => self.render_free(line),
         }
     }
