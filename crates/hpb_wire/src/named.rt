@@ -64,10 +64,9 @@ pub(crate) fn read_spaced(words: Words<'_>) -> Option<NamedRequest<'_>>
 fn read_alone(keyword: Word<'_>) -> Option<NamedRequest<'_>>
     ensures { spelled_as result ≡ spelled_alone (bytes_of keyword.entry) }
 {
-    if keyword.text() == b"SHOW".as_slice() {
-        Some(NamedRequest::Show)
-    } else {
-        None
+    match keyword.text() {
+        b"SHOW" => Some(NamedRequest::Show),
+        _ => None,
     }
 }
 
@@ -75,17 +74,12 @@ fn read_alone(keyword: Word<'_>) -> Option<NamedRequest<'_>>
 fn read_pair<'a>(keyword: Word<'a>, word: Word<'a>) -> Option<NamedRequest<'a>>
     ensures { spelled_as result ≡ spelled_with (bytes_of keyword.entry) (bytes_of word.entry) }
 {
-    let keyword = keyword.text();
-    if keyword == b"CLOSE".as_slice() {
-        Some(NamedRequest::Close(ticket(word)?))
-    } else if keyword == b"STAGE".as_slice() {
-        Some(NamedRequest::Stage(ticket(word)?))
-    } else if keyword == b"NODE".as_slice() {
-        Some(NamedRequest::Node(name(word)?))
-    } else if keyword == b"WHO".as_slice() {
-        Some(NamedRequest::Who(name(word)?))
-    } else {
-        None
+    match keyword.text() {
+        b"CLOSE" => Some(NamedRequest::Close(ticket(word)?)),
+        b"STAGE" => Some(NamedRequest::Stage(ticket(word)?)),
+        b"NODE" => Some(NamedRequest::Node(name(word)?)),
+        b"WHO" => Some(NamedRequest::Who(name(word)?)),
+        _ => None,
     }
 }
 
