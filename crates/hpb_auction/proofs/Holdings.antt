@@ -31,7 +31,7 @@ small rules accepted l = by (terms_of rules.nodes l) refl
 pub activity_held : (nodes : List Node) (books : BooksView) (outcome : OutcomeView) (holdings : HoldingsView) → AreHoldings nodes books outcome holdings
     → (b : ℕ) → b < MOST_BIDDERS → slice_index holdings.units b ≡ activity_of nodes books outcome b
 activity_held nodes books outcome holdings are b within =
-    are.summed b within ∙ sum_over_same nodes (holds nodes holdings b) (held nodes books outcome b) (units_at nodes) (λ l some. are.licences b l within some)
+    are.summed.sums b within ∙ sum_over_same nodes (holds nodes holdings b) (held nodes books outcome b) (units_at nodes) (λ l some. are.licences b l within some)
 
 module _ (nodes : List Node) (books books' : BooksView) (outcome : OutcomeView) (b n amount : ℕ) (inside : n < length nodes) (placed : IsPlaced books books' b n amount) where
   -- where a bidder is active after a bid

@@ -19,7 +19,7 @@ sum_none f zero h = refl
 sum_none f (suc n) h = ap (λ m. sum_by f (range_with_len 0 m)) (sym (add-one n)) ∙ omega (arith, sum_more f n, sum_none f n (λ m l. h m (omega arith)), h n (omega arith))
 
 -- a sum to which one place adds
-sum_one : (f : ℕ → ℕ) (k n : ℕ) → k < n → ((m : ℕ) → (m ≡ k → ⊥) → f m ≡ 0) → sum_by f (range_with_len 0 n) ≡ f k
+pub sum_one : (f : ℕ → ℕ) (k n : ℕ) → k < n → ((m : ℕ) → (m ≡ k → ⊥) → f m ≡ 0) → sum_by f (range_with_len 0 n) ≡ f k
 sum_one f k zero l h = absurd (omega arith)
 sum_one f k (suc n) l h =
     ap (λ m. sum_by f (range_with_len 0 m)) (sym (add-one n))

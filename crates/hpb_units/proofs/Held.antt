@@ -5,7 +5,7 @@ use Rattle.std.specs.Int.{bit_at}
 use Rattle.std.specs.List.{sum_by, list_any}
 use Rattle.std.proofs.lemmas.List.Sums.{sum_by-cons}
 use Rattle.std.proofs.lemmas.Nat.Bits.{bit_at_and, bit_at-lt, bit_at-zero}
-use Rattle.hpb_rules.specs.declared.limits.TheConstants.{MOST_LICENCE_UNITS}
+use Rattle.hpb_rules.specs.declared.limits.TheConstants.{MOST_BIDDERS, MOST_LICENCE_UNITS}
 use Rattle.hpb_rules.specs.Tree.{Node, terms_of, places, at_or_under, sum_over, units, units_at}
 use Rattle.hpb_rules.proofs.Tests.{no_bit}
 use Rattle.hpb_tree.specs.Licences.{licence_count, licence_number, licences_among, part_over, IsMask}
@@ -15,7 +15,7 @@ use Rattle.hpb_units.specs.Activity.{is_marked, is_won_by, is_active_on, held}
 use Rattle.std.specs.Prelude.{slice_index}
 use Rattle.std.proofs.lemmas.Bool.{both_ways, eqb-true, eq-eqb}
 use Rattle.std.proofs.Math.Bool.{or-false}
-use Rattle.hpb_units.specs.Holdings.{HoldingsView, holds, IsNothing, AreSmall, AreSummed, HoldsMore}
+use Rattle.hpb_units.specs.Holdings.{HoldingsView, holds, IsNothing, AreLicenceUnits, AreSmall, AreSummed, HoldsMore}
 use Rattle.hpb_units.proofs.Marks.{marked_or, marked_node}
 use Rattle.hpb_units.proofs.Counting.{part_some, part_none, sum_none, sum_over_same}
 
@@ -78,7 +78,7 @@ module _ (nodes : List Node) where
     sum_apart none = sum_over_either (is_marked nodes own) (at_or_under nodes n) (units_at nodes)
         (λ l some. ap (λ b. is_marked nodes own l && b) (sym (marked_node nodes n more l mask some)) ∙ marked_apart own more l none)
 
-    -- else the units are those of both masks
+    -- the units of both masks together
     pub sum_both : sum_over nodes (is_marked nodes (bit_or own more)) (units_at nodes) ≡ sum_over nodes (λ l. is_marked nodes own l || at_or_under nodes n l) (units_at nodes)
     sum_both = sum_over_same nodes (is_marked nodes (bit_or own more)) (λ l. is_marked nodes own l || at_or_under nodes n l) (units_at nodes) either_marked
 
@@ -105,15 +105,13 @@ module _ (nodes : List Node) where
     pub read_apart : bit_and read more ≡ 0 → units_either own n ≡ units_marked own + units nodes n
     read_apart none = ap (λ m. units_either m n) (sym is) ∙ sum_apart read more n mask none ∙ ap (λ m. units_marked m + units nodes n) is
 
-    pub read_both : units_marked (bit_or read more) ≡ units_either own n
-    read_both = sum_both read more n mask ∙ ap (λ m. units_either m n) is
-
   -- a table in which one bidder's entry was set
   pub record IsSet (old new : HoldingsView) (bidder mask sum : ℕ) : Type 0 where
     pub licences : slice_index new.licences bidder ≡ mask
     pub units : slice_index new.units bidder ≡ sum
     pub other_licences : (other : ℕ) → (other ≡ bidder → ⊥) → slice_index new.licences other ≡ slice_index old.licences other
     pub other_units : (other : ℕ) → (other ≡ bidder → ⊥) → slice_index new.units other ≡ slice_index old.units other
+    pub licence_units : new.licence_units ≡ old.licence_units
 
   module _ (old new : HoldingsView) (bidder own more n units : ℕ) (mask : IsMask nodes n more) (read : own ≡ slice_index old.licences bidder) (set : IsSet old new bidder (bit_or own more) units) where
     pub holds_more : HoldsMore nodes old new bidder n
@@ -131,10 +129,13 @@ module _ (nodes : List Node) where
             ∙ sym (or-false (holds nodes old other l))
 
     pub summed_more : units ≡ sum_over nodes (λ l. holds nodes old bidder l || at_or_under nodes n l) (units_at nodes) → AreSummed nodes old → AreSummed nodes new
-    summed_more counted summed other within = by (eqb bidder other) refl
+    summed_more counted summed = record {
+      sums = λ other within. by other within (eqb bidder other) refl;
+      licences = subst (AreLicenceUnits nodes) (sym set.licence_units) summed.licences;
+    }
       where
-        by : (b : Bool) → eqb bidder other ≡ b → slice_index new.units other ≡ units_marked (slice_index new.licences other)
-        by true e =
+        by : (other : ℕ) → other < MOST_BIDDERS → (b : Bool) → eqb bidder other ≡ b → slice_index new.units other ≡ units_marked (slice_index new.licences other)
+        by other within true e =
             let same : bidder ≡ other = eqb-true bidder other e in
             ap (λ k. slice_index new.units k) (sym same)
             ∙ set.units
@@ -143,20 +144,27 @@ module _ (nodes : List Node) where
             ∙ sym (sum_both own more n mask)
             ∙ ap units_marked (sym set.licences)
             ∙ ap (λ k. units_marked (slice_index new.licences k)) same
-        by false e =
+        by other within false e =
             let another : other ≡ bidder → ⊥ = λ same. both_ways (eqb bidder other) e (eq-eqb bidder other (sym same)) in
-            set.other_units other another ∙ summed other within ∙ ap units_marked (sym (set.other_licences other another))
+            set.other_units other another ∙ summed.sums other within ∙ ap units_marked (sym (set.other_licences other another))
 
   -- where nobody holds anything there are no units
   pub nothing_holds : (holdings : HoldingsView) → IsNothing holdings → (b l : ℕ) → holds nodes holdings b l ≡ false
   nothing_holds holdings none b l = no_bit (slice_index holdings.licences b) (licence_number nodes l) (none.licences b)
 
-  pub nothing_summed : (holdings : HoldingsView) → IsNothing holdings → AreSummed nodes holdings
-  nothing_summed holdings none b within = none.units b ∙ sym (sum_none (part_over nodes (holds nodes holdings b) (units_at nodes)) (length nodes) (λ l less. at l (is_some (terms_of nodes l)) refl))
+  -- an empty mask has no units
+  pub units_empty : units_marked 0 ≡ 0
+  units_empty = sum_none (part_over nodes (is_marked nodes 0) (units_at nodes)) (length nodes) (λ l less. at l (is_some (terms_of nodes l)) refl)
     where
-      at : (l : ℕ) (t : Bool) → is_some (terms_of nodes l) ≡ t → part_over nodes (holds nodes holdings b) (units_at nodes) l ≡ 0
-      at l true e = part_some nodes (holds nodes holdings b) (units_at nodes) l e ∙ ap (λ t. cond t (units_at nodes l) 0) (nothing_holds holdings none b l)
-      at l false e = part_none nodes (holds nodes holdings b) (units_at nodes) l e
+      at : (l : ℕ) (t : Bool) → is_some (terms_of nodes l) ≡ t → part_over nodes (is_marked nodes 0) (units_at nodes) l ≡ 0
+      at l true e = part_some nodes (is_marked nodes 0) (units_at nodes) l e ∙ ap (λ t. cond t (units_at nodes l) 0) (no_bit 0 (licence_number nodes l) refl)
+      at l false e = part_none nodes (is_marked nodes 0) (units_at nodes) l e
+
+  pub nothing_summed : (holdings : HoldingsView) → IsNothing holdings → AreLicenceUnits nodes holdings.licence_units → AreSummed nodes holdings
+  nothing_summed holdings none known = record {
+    sums = λ b within. none.units b ∙ sym units_empty ∙ ap units_marked (sym (none.licences b));
+    licences = known;
+  }
 
   module _ (books : BooksView) (outcome : OutcomeView) where
     -- what a bidder holds is right

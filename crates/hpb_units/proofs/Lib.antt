@@ -1,4 +1,7 @@
 pub mod Marks
 pub mod Counting
 pub mod Held
+pub mod Numbers
+pub mod Lowest
+pub mod Summing
 pub mod Won

@@ -19,7 +19,7 @@ use Rattle.hpb_winners.specs.Places.{IsGreatestTaken}
 use Rattle.hpb_winners.proofs.Along.{any_some}
 use Rattle.hpb_winners.proofs.GreatestBit.{taken_here, taken_behind, taken_before, taken_within, rest_before}
 use Rattle.hpb_units.specs.Activity.{is_won_by}
-use Rattle.hpb_units.specs.Holdings.{HoldingsView, holds, IsNothing, AreSummed, AreHoldings, HoldsMore}
+use Rattle.hpb_units.specs.Holdings.{HoldingsView, holds, IsNothing, AreLicenceUnits, AreSummed, AreHoldings, HoldsMore}
 use Rattle.hpb_units.proofs.Held.{held_won, nothing_holds, nothing_summed}
 
 module _ (nodes : List Node) where
@@ -52,13 +52,13 @@ module _ (nodes : List Node) where
       pub within : left < 2 ^ length nodes
 
     -- nothing is held yet, and all winners are left
-    pub won_start : (holdings : HoldingsView) (winners : ℕ) → IsNothing holdings → ((n : ℕ) → n < length nodes → has_bit winners n ≡ is_in outcome.wins n) → winners < 2 ^ length nodes → AreWon holdings winners
-    won_start holdings winners none wins within = record {
+    pub won_start : (holdings : HoldingsView) (winners : ℕ) → IsNothing holdings → AreLicenceUnits nodes holdings.licence_units → ((n : ℕ) → n < length nodes → has_bit winners n ≡ is_in outcome.wins n) → winners < 2 ^ length nodes → AreWon holdings winners
+    won_start holdings winners none known wins within = record {
       licences = λ b l some.
           ap (λ t. t || to_come winners b l) (nothing_holds nodes holdings none b l)
           ∙ any_same (λ n. has_bit winners n && brings b l n) (λ n. at_or_under nodes n l && is_won_by books outcome b n)
           (λ n h. ap (λ t. t && brings b l n) (wins n h) ∙ swapped (is_in outcome.wins n) (at_or_under nodes n l) (is_of b (offer_at books.standing n)));
-      summed = nothing_summed nodes holdings none;
+      summed = nothing_summed nodes holdings none known;
       within = within;
     }
       where

@@ -1,14 +1,15 @@
 -- The holdings of the code as definitions see them.
 use Rattle.std.specs.Prelude.{◌≡◌, length}
-use Rattle.hpb_rules.specs.declared.limits.TheConstants.{MOST_BIDDERS}
+use Rattle.hpb_rules.specs.declared.limits.TheConstants.{MOST_BIDDERS, MOST_LICENCES}
 use Rattle.hpb_units.specs.Holdings.{HoldingsView}
 use Rattle.hpb_units.specs.declared.holdings.Holdings.TheInside.{Inside}
 
 -- The tables of the code.
 abbrev pub holdings_view : Inside → HoldingsView
-holdings_view h = record { licences = h.licences.items; units = h.units.items }
+holdings_view h = record { licences = h.licences.items; units = h.units.items; licence_units = h.licence_units.items }
 
--- Each table has a place for each bidder that a definition can have.
+-- Each table has a place for each bidder, or for each licence, that a definition can have.
 pub record IsKept (h : Inside) : Type 0 where
   pub licences : length h.licences.items ≡ MOST_BIDDERS
   pub units : length h.units.items ≡ MOST_BIDDERS
+  pub licence_units : length h.licence_units.items ≡ MOST_LICENCES

@@ -1,13 +1,14 @@
-ghost use Rattle.std.specs.Prelude.{◌≡◌, ◌≤◌, ◌<◌, ◌↔◌, ◌||◌, ◌&&◌, ℕ, IfOk, IsTrue, length, slice_index};
+ghost use Rattle.std.specs.Prelude.{◌≡◌, ◌≤◌, ◌<◌, ◌^◌, ◌↔◌, ◌||◌, ◌&&◌, ℕ, IfOk, IsTrue, length, slice_index};
 ghost use Rattle.hpb_rules.specs.Tree.{sum_over, at_or_under, units_at};
+ghost use Rattle.hpb_tree.specs.Licences.{licence_count};
 ghost use Rattle.hpb_bids.specs.View.{BooksView, IsQuiet};
 ghost use Rattle.hpb_winners.specs.View.{OutcomeView};
-ghost use Rattle.hpb_units.specs.Activity.{activity_with};
-ghost use Rattle.hpb_units.specs.Holdings.{holds, IsNothing, AreSummed, AreSmall, AreHoldings, HoldsMore};
+ghost use Rattle.hpb_units.specs.Activity.{activity_with, is_marked};
+ghost use Rattle.hpb_units.specs.Holdings.{holds, IsNothing, AreLicenceUnits, AreSummed, AreSmall, AreHoldings, HoldsMore};
 
 use crate::units::{licences_held, units_of};
 use hpb_bids::Books;
-use hpb_rules::{BidderId, MOST_BIDDERS, NodeId};
+use hpb_rules::{BidderId, MOST_BIDDERS, MOST_LICENCES, NodeId};
 use hpb_tree::Tree;
 use hpb_winners::{Outcome, first_bits, take_greatest};
 use std::alloc::{AllocError, Global};
@@ -21,6 +22,8 @@ pub struct Holdings {
     pub(crate) licences: Vec<u64>,
     /// The bidding units of these licences.
     pub(crate) units: Vec<u32>,
+    /// The bidding units of each licence of the tree, by its number from 0.
+    pub(crate) licence_units: Vec<u32>,
 }
 
 impl Model for Holdings {
@@ -48,6 +51,7 @@ impl Holdings {
         let mut holdings = Holdings {
             licences: vec![in alloc; 0; MOST_BIDDERS]?,
             units: vec![in alloc; 0; MOST_BIDDERS]?,
+            licence_units: vec![in alloc; 0; MOST_LICENCES]?,
         };
         holdings.find(tree, books, outcome);
         Ok(holdings)
@@ -60,6 +64,7 @@ impl Holdings {
         Ok(Holdings {
             licences: self.licences.as_slice().to_vec(alloc)?,
             units: self.units.as_slice().to_vec(alloc)?,
+            licence_units: self.licence_units.as_slice().to_vec(alloc)?,
         })
     }
 
@@ -69,9 +74,12 @@ impl Holdings {
     {
         self.licences.copy_from_slice(other.licences.as_slice());
         self.units.copy_from_slice(other.units.as_slice());
+        self.licence_units
+            .copy_from_slice(other.licence_units.as_slice());
     }
 
     /// The activity of a bidder, in bidding units: those of the licences that it holds, each licence once.
+    #[inline(always)]
     pub fn activity(&self, bidder: BidderId) -> u32
         ensures { result ≡ slice_index self.now.units bidder }
     {
@@ -79,6 +87,7 @@ impl Holdings {
     }
 
     /// Whether a bidder's activity with one more node is within its eligibility, in bidding units.
+    #[inline(always)]
     pub fn fits(&self, tree: &Tree, bidder: BidderId, node: NodeId, eligibility: u32) -> bool
         requires node { node < length tree.now.nodes }
         requires small { AreSmall tree.now.nodes }
@@ -92,6 +101,7 @@ impl Holdings {
     pub fn find(&mut self, tree: &Tree, books: &Books, outcome: &Outcome)
         ensures { AreHoldings tree.now.nodes books.now outcome.now self.new }
     {
+        self.find_licence_units(tree);
         for place in 0..MOST_BIDDERS {
             let bidder = BidderId::new(place);
             let licences = licences_held(tree, books, outcome, bidder);
@@ -108,6 +118,7 @@ impl Holdings {
         tree.facts();
         let nodes = tree.nodes();
         let mut winners = first_bits(outcome.winners(), nodes.len());
+        self.find_licence_units(tree);
         self.clear();
         while let Some(place) = take_greatest(&mut winners) {
             let node = nodes[place];
@@ -118,6 +129,7 @@ impl Holdings {
     }
 
     /// A bidder holds the licences of one node more.
+    #[inline(always)]
     pub fn add(&mut self, tree: &Tree, bidder: BidderId, node: NodeId)
         requires node { node < length tree.now.nodes }
         requires small { AreSmall tree.now.nodes }
@@ -130,8 +142,9 @@ impl Holdings {
         self.set(bidder, licences, units);
     }
 
-    /// The units of the licences that a bidder holds or that are a node's. The sum over all licences is only
-    /// needed where it holds a part of the node's.
+    /// The units of the licences that a bidder holds or that are a node's. Where it holds a part of the
+    /// node's, only the others are summed up, licence by licence.
+    #[inline(always)]
     fn units_with(&self, tree: &Tree, bidder: BidderId, node: NodeId) -> u32
         requires node { node < length tree.now.nodes }
         requires small { AreSmall tree.now.nodes }
@@ -148,10 +161,30 @@ impl Holdings {
         if own & more == 0 {
             return self.activity(bidder) + tree.units(node);
         }
-        units_of(tree, own | more)
+        self.activity(bidder) + self.units_of_licences(tree, more & !own)
+    }
+
+    /// The bidding units of these licences: bit i is for the i-th licence of the tree, from 0. The set bits
+    /// are walked, from the lowest up, and the others cost nothing.
+    #[inline(always)]
+    fn units_of_licences(&self, tree: &Tree, licences: u64) -> u32
+        requires within { licences < 2 ^ licence_count tree.now.nodes }
+        requires small { AreSmall tree.now.nodes }
+        requires units { AreLicenceUnits tree.now.nodes self.now.licence_units }
+        ensures { result ≡ sum_over tree.now.nodes (is_marked tree.now.nodes licences) (units_at tree.now.nodes) }
+    {
+        tree.facts();
+        let mut rest = licences;
+        let mut total = 0;
+        while rest != 0 {
+            total += self.licence_units[rest.trailing_zeros() as usize];
+            rest &= rest - 1;
+        }
+        total
     }
 
     /// The licences that a bidder holds: bit i is for the i-th licence of the tree, from 0.
+    #[inline(always)]
     fn licences(&self, bidder: BidderId) -> u64
         ensures value { result ≡ slice_index self.now.licences bidder }
         ensures within { bidder < MOST_BIDDERS }
@@ -159,21 +192,40 @@ impl Holdings {
         self.licences[bidder.place()]
     }
 
+    /// Finds the bidding units of each licence of the tree, and changes nothing else.
+    fn find_licence_units(&mut self, tree: &Tree)
+        ensures found { AreLicenceUnits tree.now.nodes self.new.licence_units }
+        ensures same_licences { self.new.licences ≡ self.old.licences }
+        ensures same_units { self.new.units ≡ self.old.units }
+    {
+        tree.facts();
+        let mut number = 0;
+        for &node in tree.nodes() {
+            if tree.terms(node).is_some() {
+                self.licence_units[number] = tree.units(node);
+                number += 1;
+            }
+        }
+    }
+
     /// Sets what a bidder holds, and nothing else.
+    #[inline(always)]
     fn set(&mut self, bidder: BidderId, licences: u64, units: u32)
         ensures licences { slice_index self.new.licences bidder ≡ licences }
         ensures units { slice_index self.new.units bidder ≡ units }
         ensures other_licences { (other : ℕ) → (other ≡ bidder → ⊥) → slice_index self.new.licences other ≡ slice_index self.old.licences other }
         ensures other_units { (other : ℕ) → (other ≡ bidder → ⊥) → slice_index self.new.units other ≡ slice_index self.old.units other }
+        ensures same_licence_units { self.new.licence_units ≡ self.old.licence_units }
     {
         let place = bidder.place();
         self.licences[place] = licences;
         self.units[place] = units;
     }
 
-    /// Nobody holds anything.
+    /// Nobody holds anything, and nothing else changes.
     fn clear(&mut self)
-        ensures { IsNothing self.new }
+        ensures nothing { IsNothing self.new }
+        ensures same_licence_units { self.new.licence_units ≡ self.old.licence_units }
     {
         self.licences.fill(0);
         self.units.fill(0);

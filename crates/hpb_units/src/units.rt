@@ -65,6 +65,7 @@ fn has_won(books: &Books, outcome: &Outcome, bidder: BidderId, node: NodeId) -> 
 }
 
 /// The bidding units of these licences: bit i is for the i-th licence of the tree, from 0.
+#[inline(never)]
 pub(crate) fn units_of(tree: &Tree, licences: u64) -> u32
     ensures { result ≡ sum_over tree.now.nodes (is_marked tree.now.nodes licences) (units_at tree.now.nodes) }
 {

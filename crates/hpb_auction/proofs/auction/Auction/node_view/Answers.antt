@@ -1,5 +1,9 @@
-use Rattle.std.proofs.Common.{ap, sym, ◌∙◌}
-use Rattle.hpb_rules.specs.AuctionValue.{NodeBids}
+use Rattle.std.proofs.Common.{ℕ, ◌<◌, length, Option, Some, None, ap, sym, ◌∙◌, subst}
+use Rattle.std.specs.Option.{IfSome}
+use Rattle.hpb_rules.specs.declared.command.Offer.{Offer}
+use Rattle.hpb_rules.specs.Tree.{Rules}
+use Rattle.hpb_rules.specs.AuctionValue.{AuctionValue, NodeBids}
+use Rattle.hpb_auction.specs.Inside.{IsOfferOf}
 use Rattle.hpb_auction.proofs.Tables.{node_found}
 use Rattle.hpb_auction.proofs.HighBids.{wins_found, price_found, minimum_found, best_found}
 use Rattle.hpb_auction.proofs.auction.Auction.node_view.Goals as goal
@@ -21,3 +25,14 @@ returns-clause-wins c = c.wins.ensures ∙ wins_found c.self.inside c.self.invar
 
 pub returns-clause-best : goal.returns-clause-best
 returns-clause-best c = best_found c.self.inside c.self.invariant c.args.self.now c.self.view_is
+
+-- an offer of the definition is one of its bidders'
+by_bidder : (rules : Rules) (node : ℕ) (offer : Option Offer) → IfSome offer (IsOfferOf rules node) → IfSome offer (λ o. o.bidder < length rules.bidders)
+by_bidder rules node None kept = kept
+by_bidder rules node (Some offer) kept = kept.1
+
+pub returns-clause-bidder : goal.returns-clause-bidder
+returns-clause-bidder c =
+    let a = c.self.inside in
+    subst (λ (value : AuctionValue). IfSome c.standing.result (λ o. o.bidder < length value.rules.bidders)) c.self.view_is
+    (subst (λ (offer : Option Offer). IfSome offer (λ o. o.bidder < length a.definition.bidders)) (sym c.standing.ensures.value) (by_bidder a.definition c.args.node _ (c.self.invariant.bids.standing c.args.node)))
