@@ -137,7 +137,8 @@ impl Auction {
         //    where prices change.
         let tree = self.definition.tree();
         upward_along(tree, &self.books, changed, &mut self.outcome);
-        self.holdings.find_won(tree, &self.books, &self.outcome);
+        self.holdings
+            .find_won_along(tree, &self.books, &self.outcome);
         downward_along(tree, &self.books, &self.outcome, &mut self.prices);
     }
 }

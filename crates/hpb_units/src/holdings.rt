@@ -115,10 +115,20 @@ impl Holdings {
         requires small { AreSmall tree.now.nodes }
         ensures { AreHoldings tree.now.nodes books.now outcome.now self.new }
     {
+        self.find_licence_units(tree);
+        self.find_won_along(tree, books, outcome);
+    }
+
+    /// The same where the bidding units of the tree's licences are known, as holdings by any books on the tree know them.
+    pub fn find_won_along(&mut self, tree: &Tree, books: &Books, outcome: &Outcome)
+        requires quiet { IsQuiet books.now }
+        requires small { AreSmall tree.now.nodes }
+        requires units { AreLicenceUnits tree.now.nodes self.old.licence_units }
+        ensures { AreHoldings tree.now.nodes books.now outcome.now self.new }
+    {
         tree.facts();
         let nodes = tree.nodes();
         let mut winners = first_bits(outcome.winners(), nodes.len());
-        self.find_licence_units(tree);
         self.clear();
         while let Some(place) = take_greatest(&mut winners) {
             let node = nodes[place];

@@ -17,7 +17,7 @@ use Rattle.hpb_auction.specs.declared.sender.BidderRow.{BidderRow}
 use Rattle.hpb_rules.specs.Values.{has_open_bid, closed_value}
 use Rattle.std.specs.Prelude.{slice_index}
 use Rattle.hpb_units.specs.Activity.{activity_of}
-use Rattle.hpb_units.specs.Holdings.{AreSmall, AreHoldings}
+use Rattle.hpb_units.specs.Holdings.{AreSmall, AreHoldings, AreLicenceUnits}
 use Rattle.hpb_auction.proofs.Holdings.{small, activity_held}
 use Rattle.hpb_auction.specs.Rows.{renewed}
 use Rattle.hpb_auction.specs.Inside.{value_inside, booked, state_at, bidder_places, row_at}
@@ -118,14 +118,17 @@ invariant_of-self c =
         prices = subst (λ (t : TreeRules). HasPrices t.nodes (bid_of c.fold_round-changed.new.self) c.downward_along.new.prices) c.tree-tree.ensures c.downward_along.ensures.prices;
         minima = subst (λ (t : TreeRules). HasMinima t (bid_of c.fold_round-changed.new.self) c.downward_along.new.prices) c.tree-tree.ensures c.downward_along.ensures.minima;
       };
-      holdings = subst (λ (t : TreeRules). AreHoldings t.nodes c.fold_round-changed.new.self c.upward_along.new.outcome c.find_won.new.self) c.tree-tree.ensures c.find_won.ensures;
+      holdings = subst (λ (t : TreeRules). AreHoldings t.nodes c.fold_round-changed.new.self c.upward_along.new.outcome c.find_won_along.new.self) c.tree-tree.ensures c.find_won_along.ensures;
     }
 
 pub returns : goal.returns
 returns c = seen_closed c ∙ ap closed_value c.self.view_is
 
-pub find_won-requires-clause-small : goal.find_won-requires-clause-small
-find_won-requires-clause-small c = subst (λ (t : TreeRules). AreSmall t.nodes) (sym c.tree-tree.ensures) (small c.self.inside.definition c.self.invariant.accepted)
+pub find_won_along-requires-clause-small : goal.find_won_along-requires-clause-small
+find_won_along-requires-clause-small c = subst (λ (t : TreeRules). AreSmall t.nodes) (sym c.tree-tree.ensures) (small c.self.inside.definition c.self.invariant.accepted)
+
+pub find_won_along-requires-clause-units : goal.find_won_along-requires-clause-units
+find_won_along-requires-clause-units c = subst (λ (t : TreeRules). AreLicenceUnits t.nodes c.self.inside.holdings.licence_units) (sym c.tree-tree.ensures) c.self.invariant.holdings.summed.licences
 
 pub upward_along-requires : goal.upward_along-requires
 upward_along-requires c =
