@@ -1,18 +1,15 @@
 -- Digits read from the left.
-use Rattle.std.proofs.Common.{◌≡◌, ℕ, ◌+◌, ◌*◌, ◌^◌, ◌<◌, ◌≤◌, Bool, true, false, cond, eqb, ltb, ◌&&◌, zero, suc, ◌-◌, ◌%◌, List, [], ◌∷◌, ◌++◌, length, take, Option, Some, None, refl, sym, ap, ◌∙◌, arith, length-append, mod-eq_of_lt}
+use Rattle.std.proofs.Common.{◌≡◌, ℕ, ◌+◌, ◌*◌, ◌^◌, ◌<◌, ◌≤◌, Bool, true, false, cond, eqb, ltb, ◌&&◌, List, [], ◌∷◌, ◌++◌, length, Option, Some, None, refl, sym, ap, arith, length-append}
 use Rattle.std.proofs.Math.Nat.{pow-suc, pow-le-pow_right, mul-le-mul_right}
 use Rattle.std.proofs.Math.Dec.{lit<}
-use Rattle.std.specs.List.{slice_range}
 use Rattle.std.specs.Option.{option_and_then}
 use Rattle.std.specs.Prelude.{IfSome}
 use Rattle.std.specs.Char.{is_ascii_digit, digit_value}
-use Rattle.std.specs.Float.Numeral.{digits_len}
 use Rattle.std.specs.Str.{all_ascii_digits}
 use Rattle.std.specs.Str.Parse.{digits_value, digits_value_after}
 use Rattle.std.proofs.lemmas.Bool.{lt-ltb, and_parts}
 use Rattle.std.proofs.lemmas.Bool.Decides.{nat_tests}
 use Rattle.std.proofs.lemmas.Int.Digits.{digits_value_push}
-use Rattle.std.proofs.lemmas.List.{length-take-le}
 use Rattle.hpb_wire.specs.Numbers.{has_front_zero, number_of_digits, digit_number, digits_number}
 
 -- one digit more, at the end
@@ -72,16 +69,6 @@ beyond (byte ∷ digits) h plain long =
     let power : 10 ^ 20 ≤ 10 ^ length digits = pow-le-pow_right (lit< tt) {i = 20} {j = length digits} (omega arith) in
     omega (arith, mul-le-mul_right (10 ^ length digits) first, after_at_least (0 * 10 + digit_value byte) digits)
 
--- the digits that bytes begin with
-front_digits : (bytes : List ℕ) (count : ℕ) → count ≤ digits_len bytes → all_ascii_digits (take count bytes) ≡ true
-front_digits bytes zero h = refl
-front_digits [] (suc count) h = refl
-front_digits (byte ∷ bytes) (suc count) h =
-    (elim (is_ascii_digit byte) as (λ b. suc count ≤ cond b (1 + digits_len bytes) 0 → (b && all_ascii_digits (take count bytes)) ≡ true) [
-      | true ↦ λ g. front_digits bytes count (omega (arith, g))
-      | false ↦ λ g. absurd (omega (arith, g))
-    ]) h
-
 -- a digit is worth nine at most
 worth_most : (byte : ℕ) → is_ascii_digit byte ≡ true → digit_value byte ≤ 9
 worth_most byte h = grind (arith, nat_tests)
@@ -94,24 +81,11 @@ after_below number (byte ∷ digits) h =
     let most : number * 10 + digit_value byte + 1 ≤ (number + 1) * 10 = omega (arith, worth_most byte parts.0) in
     omega (arith, after_below (number * 10 + digit_value byte) digits parts.1, mul-le-mul_right (10 ^ length digits) most, ap (λ x. (number + 1) * x) (pow-suc 10 (length digits)))
 
--- a word of fewer than 20 bytes, all of them digits, is read whole
-pub read_whole : (bytes : List ℕ) (size end number : ℕ) → 0 < size → size < 20 → size ≤ length bytes → end ≡ size → end ≡ digits_len bytes
-    → number ≡ digits_value 10 (take end bytes) % 2 ^ 64 → number_of_digits (take size bytes) ≡ Some number
-read_whole bytes size end number filled short within whole digits value =
-    let word = take size bytes in
-    let count : length word ≡ size = length-take-le size bytes within in
-    let all : all_ascii_digits word ≡ true = front_digits bytes size (omega arith) in
+-- a word of fewer than 20 bytes, all of them digits, is a number of 64 bits
+pub read_whole : (word : List ℕ) (number : ℕ) → 0 < length word → length word < 20 → all_ascii_digits word ≡ true → number ≡ digits_value 10 word → number_of_digits word ≡ Some number
+read_whole word number filled short all value =
     let below : digits_value 10 word < (0 + 1) * 10 ^ length word = after_below 0 word all in
     let power : 10 ^ length word ≤ 10 ^ 19 = pow-le-pow_right (lit< tt) {i = length word} {j = 19} (omega arith) in
-    let fits : digits_value 10 word < 2 ^ 64 = omega (arith, below, power) in
-    let some : ltb 0 (length word) ≡ true = lt-ltb 0 (length word) (omega arith) in
-    let small : ltb (digits_value 10 word) (2 ^ 64) ≡ true = lt-ltb (digits_value 10 word) (2 ^ 64) fits in
-    let same : number ≡ digits_value 10 word = value ∙ ap (λ n. digits_value 10 (take n bytes) % 2 ^ 64) whole ∙ mod-eq_of_lt fits in
-    rw (all, some, small) (ap Some (sym same))
-
--- what is read from the front on
-pub read_front : (bytes : List ℕ) (end number : ℕ) → number ≡ (0 * 10 ^ (end - 0) + digits_value 10 (slice_range bytes 0 end)) % 2 ^ 64 → number ≡ digits_value 10 (take end bytes) % 2 ^ 64
-read_front bytes end number value =
-    let count : end - 0 ≡ end = omega arith in
-    let plain : 0 * 10 ^ (end - 0) + digits_value 10 (take (end - 0) bytes) ≡ digits_value 10 (take (end - 0) bytes) = omega arith in
-    value ∙ ap (λ n. n % 2 ^ 64) (plain ∙ ap (λ n. digits_value 10 (take n bytes)) count)
+    let some : ltb 0 (length word) ≡ true = lt-ltb 0 (length word) filled in
+    let small : ltb (digits_value 10 word) (2 ^ 64) ≡ true = lt-ltb (digits_value 10 word) (2 ^ 64) (omega (arith, below, power)) in
+    rw (all, some, small) (ap Some (sym value))

@@ -1,4 +1,5 @@
 mod Digits
+mod Eight
 mod Cutting
 mod Places
 mod Canonical

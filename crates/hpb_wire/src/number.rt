@@ -1,44 +1,104 @@
-ghost use Rattle.std.specs.Prelude.{◌≡◌, ◌%◌, ◌^◌, ◌≤◌, ◌<◌, length, take, IfSome};
-ghost use Rattle.std.specs.Float.Numeral.{digits_len};
-ghost use Rattle.std.specs.Str.Parse.{digits_value};
+ghost use Rattle.std.specs.Prelude.{◌≡◌, ℕ, ◌-◌, ◌^◌, ◌≤◌, ◌<◌, List, ◌++◌, map, length, take, replicate, nat_le, IfSome};
+ghost use Rattle.std.specs.List.{list_any};
+ghost use Rattle.std.specs.Int.Digits.{number_from_digits};
+ghost use Rattle.std.specs.Simd.Lanes.{number_l};
+ghost use Rattle.core.specs.Dec2flt.Digits.{less_zero, IsEightBytes, IsEightDigits};
 ghost use Rattle.hpb_rules.specs.Lines.{number_up_to};
 ghost use Rattle.hpb_wire.specs.Words.{bytes_of};
 ghost use Rattle.hpb_wire.specs.Numbers.{number_of_digits, digits_number, digit_number, has_front_zero};
 
 use crate::word::Word;
-use core::dec2flt::read_digits;
 
 /// How many digits the greatest number of 64 bits has.
 const MOST_DIGITS: usize = 20;
 
-/// The number up to `most` that a word spells in decimal, with no sign and no zero before another digit. Of fewer than
-/// 20 digits eight are read at a time.
+/// How many bytes are read together.
+const LANES: usize = 8;
+
+/// The digit 0 in each of eight bytes.
+const ZEROS: u64 = 0x3030_3030_3030_3030;
+
+/// The high bit of each of eight bytes.
+const HIGH_BITS: u64 = 0x8080_8080_8080_8080;
+
+/// All bits of each of eight bytes but the high one.
+const LOW_BITS: u64 = 0x7f7f_7f7f_7f7f_7f7f;
+
+/// What takes ten to the high bit, for each of eight bytes.
+const TEN_TO_HIGH: u64 = 0x7676_7676_7676_7676;
+
+/// The first and the fifth of eight bytes.
+const TWO_PAIRS: u64 = 0x0000_00ff_0000_00ff;
+
+/// The number up to `most` that a word spells in decimal, with no sign and no zero before another digit. A word of up
+/// to eight digits is read at once, with what stands behind it.
 #[inline(always)]
 pub(crate) fn number(word: Word<'_>, most: u64) -> Option<u64>
     ensures value { result ≡ number_up_to most (bytes_of word.entry) }
     ensures bound { IfSome result (λ n. n ≤ most) }
 {
-    let text = word.text();
-    let (end, number) = first_digits(word.bytes);
-    if end == 0 || end >= MOST_DIGITS || end != word.size {
-        return number_of_text(text, most);
+    if word.size == 0 || word.size > LANES || word.bytes.len() < LANES {
+        return number_of_text(word.text(), most);
     }
-    if has_front_zero(text) || number > most {
-        return number_of_text(text, most);
+    let lanes = lanes(word.bytes);
+    let digits = keep_first(lanes, word.size);
+    // The lowest of the lanes is the first byte of the word.
+    if has_others(digits) || (lanes % 256 == 0 && word.size > 1) {
+        return number_of_text(word.text(), most);
+    }
+    let number = value_of_eight(digits);
+    if number > most {
+        return number_of_text(word.text(), most);
     }
     Some(number)
 }
 
-/// How many digits stand first, and what they spell, by 64 bits of it.
-#[inline(never)]
-fn first_digits(bytes: &[u8]) -> (usize, u64)
-    ensures count { result.0 ≡ digits_len bytes.now }
-    ensures value { result.1 ≡ digits_value 10 (take result.0 bytes.now) % 2 ^ 64 }
+/// The first eight bytes as one number, the first of them lowest. A digit is there as its value, any other byte as ten
+/// or more.
+#[inline(always)]
+fn lanes(bytes: &[u8]) -> u64
+    requires { 8 ≤ length bytes.now }
+    ensures bytes { IsEightBytes (take 8 bytes.now) }
+    ensures value { result ≡ number_l 256 (map less_zero (take 8 bytes.now)) }
 {
-    read_digits(bytes, 0, 0)
+    let word = u64::from_le_bytes([
+        bytes[0], bytes[1], bytes[2], bytes[3], bytes[4], bytes[5], bytes[6], bytes[7],
+    ]);
+    word ^ ZEROS
 }
 
-/// The same, digit by digit.
+/// The first `count` of eight bytes, moved up to the end, and zeros before them.
+#[inline(always)]
+fn keep_first(word: u64, count: usize) -> u64
+    requires some { 0 < count }
+    requires most { count ≤ 8 }
+    ensures { (bytes : List ℕ) → IsEightBytes bytes → word ≡ number_l 256 bytes → result ≡ number_l 256 (replicate (8 - count) 0 ++ take count bytes) }
+{
+    word << (8 * (LANES - count))
+}
+
+/// Whether one of eight bytes is ten or more. No sum carries into the next byte.
+#[inline(always)]
+fn has_others(word: u64) -> bool
+    ensures { (bytes : List ℕ) → IsEightBytes bytes → word ≡ number_l 256 bytes → result ≡ list_any (nat_le 10) bytes }
+{
+    ((word & LOW_BITS) + TEN_TO_HIGH | word) & HIGH_BITS != 0
+}
+
+/// The number that eight digits spell, the first of them in the lowest byte.
+#[inline(always)]
+fn value_of_eight(word: u64) -> u64
+    ensures { (digits : List ℕ) → IsEightDigits digits → word ≡ number_l 256 digits → result ≡ number_from_digits 10 digits }
+{
+    // Each second byte is a pair of digits: the first and the third pair stand under the mask, and so do the others once
+    // they are moved down. What each pair is worth comes together in the upper half.
+    let pairs = word.wrapping_mul(10).wrapping_add(word >> 8);
+    let odd = (pairs & TWO_PAIRS).wrapping_mul(100 + (1_000_000 << 32));
+    let even = ((pairs >> 16) & TWO_PAIRS).wrapping_mul(1 + (10_000 << 32));
+    odd.wrapping_add(even) >> 32
+}
+
+/// What `number` answers, of any word, read digit by digit.
 #[cold]
 #[inline(never)]
 #[tactic(auto, using(crate::proofs::Canonical::fronted, crate::proofs::Canonical::no_number, crate::proofs::Canonical::too_long))]

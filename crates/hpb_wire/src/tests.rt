@@ -118,6 +118,24 @@ fn hostile_lines(rt: HostRuntime) -> Result<(), Fail> {
 }
 
 #[test]
+fn numbers_of_lines(rt: HostRuntime) -> Result<(), Fail> {
+    let definition = definition(rt.alloc())?;
+    let table: [(&[u8], Result<Request, Refusal>); 7] = [
+        (b"BID x 12345678 a 90817263", bid(12345678, 90817263)),
+        (b"BID x 10 a 1000000", bid(10, 1000000)),
+        (b"BID x 0 a 123456789", bid(0, 123456789)),
+        (b"BID x 01 a 1000000", Err(Refusal::Line)),
+        (b"BID x 1/ a 1000000", Err(Refusal::Line)),
+        (b"BID x 1: a 1000000", Err(Refusal::Line)),
+        (b"BID x 1\xb1 a 1000000", Err(Refusal::Line)),
+    ];
+    for (line, wanted) in table {
+        assert_eq!(rt; parse_line(line, &definition), wanted, "at {line:?}");
+    }
+    Ok(())
+}
+
+#[test]
 fn responses_are_written(rt: HostRuntime) -> Result<(), Fail> {
     let mut text = ResponseText::new(rt.alloc(), 0)?;
     let standing = Some(HighBid {
