@@ -51,11 +51,8 @@ fn put_short(bytes: &mut [u8], at: usize, number: u64) -> usize
     if number < 100 {
         return put_one_or_two(bytes, at, number);
     }
-    if number < 1_000 {
-        let next = put_digit(bytes, at, number / 100);
-        return put_pair(bytes, next, number % 100);
-    }
-    put_four(bytes, at, number)
+    let next = put_one_or_two(bytes, at, number / 100);
+    put_pair(bytes, next, number % 100)
 }
 
 /// Writes a number of one digit or two.

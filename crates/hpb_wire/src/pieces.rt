@@ -53,7 +53,8 @@ fn put_ends<const N: usize>(bytes: &mut [u8], at: usize, text: &[u8]) -> usize
     put_part::<N>(bytes, at + back, text, back)
 }
 
-/// Writes so many bytes of a text, from one of them on.
+/// Writes so many bytes of a text, from one of them on. All are read before the first is written, so that they are
+/// moved together.
 #[inline(always)]
 fn put_part<const N: usize>(bytes: &mut [u8], at: usize, text: &[u8], from: usize) -> usize
     requires part { from + N ≤ length text.now }
@@ -61,8 +62,12 @@ fn put_part<const N: usize>(bytes: &mut [u8], at: usize, text: &[u8], from: usiz
     ensures written { take result bytes.new ≡ take at bytes.old ++ take N (drop from text.now) }
     ensures next { result ≡ at + N }
 {
+    let mut part = [0; N];
     for i in 0..N {
-        bytes[at + i] = text[from + i];
+        part[i] = text[from + i];
+    }
+    for i in 0..N {
+        bytes[at + i] = part[i];
     }
     at + N
 }
