@@ -5,7 +5,7 @@ ghost use Rattle.hpb_wire.specs.Requests.{spelled_as, name_as};
 ghost use Rattle.hpb_wire.specs.Words.{bytes_of};
 
 use crate::cut::{Words, cut, unmarked};
-use crate::number::number;
+use crate::number::{number, short_number};
 use crate::word::Word;
 use hpb_rules::MOST_LINE_BYTES;
 
@@ -85,6 +85,33 @@ fn read_pair<'a>(keyword: Word<'a>, word: Word<'a>) -> Option<NamedRequest<'a>>
 
 #[inline(always)]
 fn read_bid<'a>(
+    from: Word<'a>,
+    ticket_word: Word<'a>,
+    on: Word<'a>,
+    amount_word: Word<'a>,
+) -> Option<NamedRequest<'a>>
+    ensures { spelled_as result ≡ spelled_bid (bytes_of from.entry) (bytes_of ticket_word.entry) (bytes_of on.entry) (bytes_of amount_word.entry) }
+{
+    let bidder = name(from)?;
+    let Some(ticket) = short_number(ticket_word) else {
+        return read_long_bid(from, ticket_word, on, amount_word);
+    };
+    let node = name(on)?;
+    let Some(amount) = short_number(amount_word) else {
+        return read_long_bid(from, ticket_word, on, amount_word);
+    };
+    Some(NamedRequest::Bid {
+        bidder,
+        ticket: ticket as u32,
+        node,
+        amount,
+    })
+}
+
+/// The same of any words, out of the way of short numbers.
+#[cold]
+#[inline(never)]
+fn read_long_bid<'a>(
     from: Word<'a>,
     ticket_word: Word<'a>,
     on: Word<'a>,

@@ -1,4 +1,4 @@
-ghost use Rattle.std.specs.Prelude.{◌≡◌, ℕ, ◌-◌, ◌^◌, ◌≤◌, ◌<◌, List, ◌++◌, map, length, take, replicate, nat_le, IfSome};
+ghost use Rattle.std.specs.Prelude.{◌≡◌, ℕ, ◌-◌, ◌^◌, ◌≤◌, ◌<◌, List, ◌++◌, map, length, take, replicate, nat_le, IfSome, Some};
 ghost use Rattle.std.specs.List.{list_any};
 ghost use Rattle.std.specs.Int.Digits.{number_from_digits};
 ghost use Rattle.std.specs.Simd.Lanes.{number_l};
@@ -30,27 +30,35 @@ const TEN_TO_HIGH: u64 = 0x7676_7676_7676_7676;
 /// The first and the fifth of eight bytes.
 const TWO_PAIRS: u64 = 0x0000_00ff_0000_00ff;
 
-/// The number up to `most` that a word spells in decimal, with no sign and no zero before another digit. A word of up
-/// to eight digits is read at once, with what stands behind it.
+/// The number up to `most` that a word spells in decimal, with no sign and no zero before another digit.
 #[inline(always)]
 pub(crate) fn number(word: Word<'_>, most: u64) -> Option<u64>
     ensures value { result ≡ number_up_to most (bytes_of word.entry) }
     ensures bound { IfSome result (λ n. n ≤ most) }
 {
+    match short_number(word) {
+        Some(number) if number <= most => Some(number),
+        _ => number_of_text(word.text(), most),
+    }
+}
+
+/// The number that a word of up to eight digits spells, read at once with what stands behind it. `None` says nothing of
+/// the word.
+#[inline(always)]
+pub(crate) fn short_number(word: Word<'_>) -> Option<u64>
+    ensures value { IfSome result (λ n. (most : ℕ) → n ≤ most → number_up_to most (bytes_of word.entry) ≡ Some n) }
+    ensures bound { IfSome result (λ n. n < 2 ^ 32) }
+{
     if word.size == 0 || word.size > LANES || word.bytes.len() < LANES {
-        return number_of_text(word.text(), most);
+        return None;
     }
     let lanes = lanes(word.bytes);
     let digits = keep_first(lanes, word.size);
     // The lowest of the lanes is the first byte of the word.
     if has_others(digits) || (lanes % 256 == 0 && word.size > 1) {
-        return number_of_text(word.text(), most);
+        return None;
     }
-    let number = value_of_eight(digits);
-    if number > most {
-        return number_of_text(word.text(), most);
-    }
-    Some(number)
+    Some(value_of_eight(digits))
 }
 
 /// The first eight bytes as one number, the first of them lowest. A digit is there as its value, any other byte as ten
@@ -88,7 +96,8 @@ fn has_others(word: u64) -> bool
 /// The number that eight digits spell, the first of them in the lowest byte.
 #[inline(always)]
 fn value_of_eight(word: u64) -> u64
-    ensures { (digits : List ℕ) → IsEightDigits digits → word ≡ number_l 256 digits → result ≡ number_from_digits 10 digits }
+    ensures value { (digits : List ℕ) → IsEightDigits digits → word ≡ number_l 256 digits → result ≡ number_from_digits 10 digits }
+    ensures bound { result < 2 ^ 32 }
 {
     // Each second byte is a pair of digits: the first and the third pair stand under the mask, and so do the others once
     // they are moved down. What each pair is worth comes together in the upper half.
