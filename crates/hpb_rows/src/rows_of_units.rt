@@ -41,6 +41,16 @@ fn package_counts_its_licences_once(rt: HostRuntime) -> Result<(), Fail> {
 }
 
 #[test]
+fn package_of_a_licence_held_counts_the_others(rt: HostRuntime) -> Result<(), Fail> {
+    let written = answers(rt.alloc(), "BID z 1 a 100\nWHO z\nBID z 2 all 300\nWHO z\n")?;
+    assert_eq!(rt;
+        written.as_str(),
+        "OK 1\nWHO z ELIGIBILITY 40 ACTIVITY 10 TICKET 1\nOK 2\nWHO z ELIGIBILITY 40 ACTIVITY 40 TICKET 2\n"
+    );
+    Ok(())
+}
+
+#[test]
 fn stages(rt: HostRuntime) -> Result<(), Fail> {
     let alloc = rt.alloc();
     let written = answers_later(
