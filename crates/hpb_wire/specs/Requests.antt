@@ -1,35 +1,26 @@
 -- What the code makes of lines, as the rules see it.
-use Rattle.std.specs.Prelude.{◌≡◌, ℕ, ◌<◌, false, List, [], length, slice_index, take, Option, Some, None, All, ⊤}
+use Rattle.std.specs.Prelude.{◌≡◌, ℕ, ◌<◌, false, List, [], length, slice_index, take, Option, Some, None, Result, Ok, Err, All, ⊤}
 use Rattle.hpb_rules.specs.declared.command.Command.{Command}
 use Rattle.hpb_rules.specs.declared.command.Command.TheVariants.{Bid, Close, Stage}
 use Rattle.hpb_rules.specs.Lines as lines
 use Rattle.hpb_rules.specs.Tree.{Rules}
+use Rattle.hpb_rules.specs.declared.refusal.Refusal.{Refusal}
+use Rattle.hpb_rules.specs.declared.refusal.Refusal.TheVariants as refusals
 use Rattle.hpb_rules.specs.declared.request.Request.{Request}
 use Rattle.hpb_rules.specs.declared.request.Request.TheVariants as requests
 use Rattle.hpb_wire.specs.declared.word.Word.{Word}
 use Rattle.hpb_wire.specs.declared.cut.Words.{Words}
 use Rattle.hpb_wire.specs.Words.{bytes_of}
-use Rattle.hpb_wire.specs.declared.named.NamedRequest.{NamedRequest}
-use Rattle.hpb_wire.specs.declared.named.NamedRequest.TheVariants as names
 
--- What a line spells, by the bytes of its names.
-abbrev pub spelled_view : NamedRequest → lines.Spelled
-spelled_view (names.Bid from ticket on amount) = lines.bid_line (bytes_of from) ticket (bytes_of on) amount
-spelled_view (names.Close ticket) = lines.close_line ticket
-spelled_view (names.Stage ticket) = lines.stage_line ticket
-spelled_view names.Show = lines.show_line
-spelled_view (names.Node name) = lines.node_line (bytes_of name)
-spelled_view (names.Who name) = lines.who_line (bytes_of name)
+-- A word that is a name, or the refusal of one that is none.
+abbrev pub IsNamed : List ℕ → Result Word Refusal → Type 0
+IsNamed word (Ok name) = (bytes_of name ≡ word) × (lines.name_in word ≡ Some word)
+IsNamed word (Err refusal) = (refusal ≡ refusals.Line) × (lines.name_in word ≡ None)
 
--- What is spelled, if anything is.
-abbrev pub spelled_as : Option NamedRequest → Option lines.Spelled
-spelled_as None = None
-spelled_as (Some spelling) = Some (spelled_view spelling)
-
--- The bytes of a name, if there is one.
-abbrev pub name_as : Option Word → Option (List ℕ)
-name_as None = None
-name_as (Some word) = Some (bytes_of word)
+-- The number that a word is, or the refusal of one that is none.
+abbrev pub IsNumber : Option ℕ → Result ℕ Refusal → Type 0
+IsNumber spelled (Ok number) = spelled ≡ Some number
+IsNumber spelled (Err refusal) = (refusal ≡ refusals.Line) × (spelled ≡ None)
 
 -- The words of what is left of a line, if anything is.
 abbrev pub words_left : Option Words → List (List ℕ)

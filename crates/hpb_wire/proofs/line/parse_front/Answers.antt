@@ -13,6 +13,6 @@ returns-clause-value c =
     let long = length-take-le line.size line.bytes.now line.within in
     let lies : bytes_of line ≡ take line.size c.args.bytes.now = ap (take line.size) c.in_ok-words.ensures.line in
     let none = subst (All (λ b. is_line_feed b ≡ false)) (sym lies) c.in_ok-words.ensures.front.2 in
-    c.requested.ensures.value
-    ∙ ap (looked_up rules) (c.read_spaced.ensures ∙ sym (spelled_whole (bytes_of line) (omega (arith, long, c.in_ok-words.ensures.short)) none))
+    c.read_spaced.ensures.value
+    ∙ ap (looked_up rules) (sym (spelled_whole (bytes_of line) (omega (arith, long, c.in_ok-words.ensures.short)) none))
     ∙ ap (request_of rules) lies
