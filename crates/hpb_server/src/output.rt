@@ -40,12 +40,12 @@ impl Output {
         })
     }
 
-    /// Adds a response, or nothing where memory is refused.
+    /// Adds a response, or nothing where memory is refused. A desk is the `Caller` of `render_for`.
     #[inline(always)]
-    pub(crate) fn add(&mut self, response: &Response<'_>) -> Result<(), AllocError>
+    pub(crate) fn add<Caller>(&mut self, response: &Response<'_>) -> Result<(), AllocError>
         ensures { Adds self.old self.new (text_of response.now) result }
     {
-        self.waiting.render(response)
+        self.waiting.render_for::<Caller>(response)
     }
 
     /// Adds a reply, or nothing where memory is refused.

@@ -115,7 +115,7 @@ fn answer_unread<W: Write, D: Desk>(
 {
     let mut queue = Commands::new();
     'lines: while !desk.is_over() {
-        let Some(next) = next_request(input, line, desk.definition()) else {
+        let Some(next) = next_request::<D>(input, line, desk.definition()) else {
             input.keep_rest(line);
             return ask_queue(alloc, writer, desk, &mut queue, output);
         };
@@ -126,16 +126,21 @@ fn answer_unread<W: Write, D: Desk>(
     Ok(())
 }
 
-/// What the next line asks for, where its end was read. What is kept of its start stands in `line`.
+/// What the next line asks for, where its end was read. What is kept of its start stands in `line`. A desk is the
+/// `Caller` of `parse_front`.
 #[inline(always)]
-fn next_request(input: &Input, line: &mut Line, definition: &Definition) -> Option<FrontRequest>
+fn next_request<Caller>(
+    input: &Input,
+    line: &mut Line,
+    definition: &Definition,
+) -> Option<FrontRequest>
     ensures line { FindsEnd input.now.unread (size_of result) }
     ensures value { IfSome result (λ next. next.request ≡ request_of definition.now (take KEPT_BYTES (line.old ++ take next.size input.now.unread))) }
     ensures known { IfSome result (λ next. IfOk next.request (IsRequestOf definition.now)) }
     ensures kept { result ≡ None → line.new ≡ line.old }
 {
     if line.is_empty() {
-        if let Some(next) = parse_front(input.unread(), definition) {
+        if let Some(next) = parse_front::<Caller>(input.unread(), definition) {
             return Some(next);
         }
     }
@@ -407,7 +412,7 @@ fn answer_show<D: Desk>(desk: &mut D, output: &mut Output) -> Result<(), AllocEr
     ensures rules { D.rules desk.new ≡ D.rules desk.old }
 {
     match desk.look() {
-        Some(auction) => output.add(&hpb_wire::show(auction)),
+        Some(auction) => output.add::<D>(&hpb_wire::show(auction)),
         None => output.refuse(Refusal::Failed),
     }
 }
@@ -421,7 +426,7 @@ fn answer_node<D: Desk>(desk: &mut D, node: NodeId, output: &mut Output) -> Resu
     ensures rules { D.rules desk.new ≡ D.rules desk.old }
 {
     match desk.look() {
-        Some(auction) => output.add(&hpb_wire::node(auction, node)),
+        Some(auction) => output.add::<D>(&hpb_wire::node(auction, node)),
         None => output.refuse(Refusal::Failed),
     }
 }
@@ -439,7 +444,7 @@ fn answer_who<D: Desk>(
     ensures rules { D.rules desk.new ≡ D.rules desk.old }
 {
     match desk.look() {
-        Some(auction) => output.add(&hpb_wire::who(auction, bidder)),
+        Some(auction) => output.add::<D>(&hpb_wire::who(auction, bidder)),
         None => output.refuse(Refusal::Failed),
     }
 }

@@ -45,15 +45,23 @@ impl ResponseText {
     }
 
     /// Adds the line of a response, with its end. Where memory is refused, the text stays as it is.
-    #[inline(always)]
     pub fn render(&mut self, response: &Response<'_>) -> Result<(), AllocError>
+        ensures { Adds self.old self.new (text_of response.now) result }
+    {
+        self.render_for::<()>(response)
+    }
+
+    /// The same, with a copy for each caller, as `parse_front` has: a response is then not put together in memory only
+    /// to be taken apart again.
+    #[inline(always)]
+    pub fn render_for<Caller>(&mut self, response: &Response<'_>) -> Result<(), AllocError>
         ensures { Adds self.old self.new (text_of response.now) result }
     {
         match response {
             Response::Reply(reply) => self.render_reply(*reply),
-            Response::Show(line) => self.render_round(line),
-            Response::Node(line) => self.render_node(line),
-            Response::Who(line) => self.render_bidder(line),
+            Response::Show(line) => self.render_round::<Caller>(line),
+            Response::Node(line) => self.render_node::<Caller>(line),
+            Response::Who(line) => self.render_bidder::<Caller>(line),
         }
     }
 
@@ -67,8 +75,7 @@ impl ResponseText {
         Ok(())
     }
 
-    #[inline(always)]
-    fn render_round(&mut self, line: &RoundLine) -> Result<(), AllocError>
+    fn render_round<Caller>(&mut self, line: &RoundLine) -> Result<(), AllocError>
         ensures { Adds self.old self.new (text_of_round line.now) result }
     {
         make_room(&mut self.bytes, self.length, ROUND_BYTES)?;
@@ -76,8 +83,7 @@ impl ResponseText {
         Ok(())
     }
 
-    #[inline(always)]
-    fn render_node(&mut self, line: &NodeLine<'_>) -> Result<(), AllocError>
+    fn render_node<Caller>(&mut self, line: &NodeLine<'_>) -> Result<(), AllocError>
         ensures { Adds self.old self.new (text_of_node line.now) result }
     {
         match &line.high {
@@ -108,8 +114,7 @@ impl ResponseText {
         Ok(())
     }
 
-    #[inline(always)]
-    fn render_bidder(&mut self, line: &BidderLine<'_>) -> Result<(), AllocError>
+    fn render_bidder<Caller>(&mut self, line: &BidderLine<'_>) -> Result<(), AllocError>
         ensures { Adds self.old self.new (text_of_bidder line.now) result }
     {
         make_room(&mut self.bytes, self.length, line.name.len() + BIDDER_BYTES)?;

@@ -7,7 +7,7 @@ use Rattle.hpb_server.proofs.serving.next_request.Goals as goal
 
 -- nothing was kept of the start of a line that lies whole in what was read
 pub returns-in-Some-clause-value : goal.returns-in-Some-clause-value
-returns-in-Some-clause-value c =
+returns-in-Some-clause-value g c =
     let rules = c.args.definition.now in
     let part = take c.in-Some.next.size c.args.input.now.unread in
     let none : c.args.line.now ≡ [] = none_kept c.args.line.now (sym c.is_empty.ensures ∙ c.if-is_empty.true) in

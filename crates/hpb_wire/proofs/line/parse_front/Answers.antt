@@ -7,7 +7,7 @@ use Rattle.hpb_wire.proofs.Cutting.{spelled_whole}
 use Rattle.hpb_wire.proofs.line.parse_front.Goals as goal
 
 pub returns-clause-value : goal.returns-clause-value
-returns-clause-value c =
+returns-clause-value g c =
     let rules = c.args.definition.now in
     let line = c.in_ok-words.words.line in
     let long = length-take-le line.size line.bytes.now line.within in
