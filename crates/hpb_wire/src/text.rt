@@ -87,20 +87,24 @@ impl ResponseText {
         ensures { Adds self.old self.new (text_of_node line.now) result }
     {
         match &line.high {
-            Some(bid) => self.render_standing(line, bid),
+            Some(bid) => self.render_standing::<Caller>(line, bid),
             None => self.render_free(line),
         }
     }
 
     /// Adds the line of a node with a high bid.
     #[inline(always)]
-    fn render_standing(&mut self, line: &NodeLine<'_>, bid: &HighBid<'_>) -> Result<(), AllocError>
+    fn render_standing<Caller>(
+        &mut self,
+        line: &NodeLine<'_>,
+        bid: &HighBid<'_>,
+    ) -> Result<(), AllocError>
         ensures { Adds self.old self.new (node_text line.now.name.now (Some (bid.now.amount, bid.now.bidder.now)) line.now.price line.now.minimum line.now.wins) result }
     {
         let around = bid.bidder.len() + NODE_BYTES;
         let more = around.checked_add(line.name.len()).ok_or(AllocError)?;
         make_room(&mut self.bytes, self.length, more)?;
-        self.length = put_standing(self.bytes.as_mut_slice(), self.length, line, bid);
+        self.length = put_standing::<Caller>(self.bytes.as_mut_slice(), self.length, line, bid);
         Ok(())
     }
 

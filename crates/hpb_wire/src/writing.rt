@@ -78,7 +78,7 @@ fn put_closed(bytes: &mut [u8], at: usize, closed: bool) -> usize
 }
 
 #[inline(always)]
-pub(crate) fn put_standing(
+pub(crate) fn put_standing<Caller>(
     bytes: &mut [u8],
     at: usize,
     line: &NodeLine<'_>,
