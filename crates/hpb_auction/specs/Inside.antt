@@ -1,7 +1,8 @@
 -- What the code of an auction stands for, and what it keeps: its tables are those of its books.
 use Rattle.std.specs.Prelude.{◌≡◌, ℕ, ◌<◌, ◌≤◌, true, List, map, length, Option, None, slice_index_or, IfSome}
 use Rattle.std.specs.List.{range_with_len}
-use Rattle.hpb_rules.specs.Saved.{restored_last}
+use Rattle.hpb_rules.specs.Choices.{is_in}
+use Rattle.hpb_rules.specs.Saved.{has_bit, restored_last}
 use Rattle.hpb_rules.specs.declared.command.Offer.{Offer}
 use Rattle.hpb_rules.specs.declared.limits.TheConstants.{MOST_BIDDERS}
 use Rattle.hpb_rules.specs.Tree.{Rules, IsTree, places, tree_of}
@@ -83,3 +84,4 @@ pub record IsKept (a : Inside) : Type 0 where
   pub bids : AreBidsOf a.definition a.books
   pub tables : AreTablesOf a.definition a.books a.outcome a.prices
   pub holdings : AreHoldings a.definition.nodes a.books a.outcome a.holdings
+  pub winners : (node : ℕ) → has_bit a.winners node ≡ is_in a.outcome.wins node

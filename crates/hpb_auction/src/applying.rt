@@ -137,8 +137,9 @@ impl Auction {
         //    where prices change.
         let tree = self.definition.tree();
         upward_along(tree, &self.books, changed, &mut self.outcome);
+        self.winners = self.outcome.winners();
         self.holdings
-            .find_won_along(tree, &self.books, &self.outcome);
+            .find_won(tree, &self.books, &self.outcome, self.winners);
         downward_along(tree, &self.books, &self.outcome, &mut self.prices);
     }
 }

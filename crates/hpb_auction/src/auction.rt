@@ -1,6 +1,7 @@
 ghost use Rattle.std.specs.Prelude.{◌≡◌, ◌+◌, ◌<◌, ◌≤◌, List, [], length, reverse, IfOk, IfSome};
 ghost use Rattle.hpb_rules.specs.declared.command.Command.{Command};
 ghost use Rattle.hpb_rules.specs.declared.limits.TheConstants.{MOST_COMMANDS};
+ghost use Rattle.hpb_rules.specs.Saved.{has_bit};
 
 use crate::sender::{BidderRow, bidder_rows, last_ticket};
 use crate::views::{BidderView, NodeView};
@@ -22,6 +23,8 @@ pub struct Auction {
     pub(crate) outcome: Outcome,
     pub(crate) prices: Prices,
     pub(crate) holdings: Holdings,
+    /// The nodes that win: bit n is for node n. Where it is kept nobody has to walk up from a node for it.
+    pub(crate) winners: u128,
     pub(crate) bidders: Vec<BidderRow>,
     pub(crate) auctioneer: Option<Accepted>,
     pub(crate) count: u32,
@@ -63,6 +66,7 @@ impl Auction {
         let outcome = Outcome::new(alloc, definition.tree())?;
         let prices = Prices::new(alloc, definition.tree())?;
         let holdings = Holdings::new(alloc, definition.tree(), &books, &outcome)?;
+        let winners = outcome.winners();
         let bidders = bidder_rows(alloc, &definition)?;
         Ok(Auction {
             definition,
@@ -70,6 +74,7 @@ impl Auction {
             outcome,
             prices,
             holdings,
+            winners,
             bidders,
             auctioneer: None,
             count: 0,
@@ -89,6 +94,7 @@ impl Auction {
             outcome: self.outcome.copy(alloc)?,
             prices: self.prices.copy(alloc)?,
             holdings: self.holdings.copy(alloc)?,
+            winners: self.winners,
             bidders: Vec::from_slice(alloc, self.bidders.as_slice())?,
             auctioneer: self.auctioneer,
             count: self.count,
@@ -107,6 +113,7 @@ impl Auction {
         self.outcome.copy_from(&other.outcome);
         self.prices.copy_from(&other.prices);
         self.holdings.copy_from(&other.holdings);
+        self.winners = other.winners;
         self.bidders.copy_from_slice(other.bidders.as_slice());
         self.auctioneer = other.auctioneer;
         self.count = other.count;
@@ -179,7 +186,7 @@ impl Auction {
             incoming: self.books.incoming(node),
             price: self.prices.price(node),
             minimum: self.prices.minimum(node),
-            wins: self.outcome.wins(node),
+            wins: is_marked(self.winners, node),
         }
     }
 
@@ -200,4 +207,12 @@ impl Auction {
             ticket: last_ticket(row.last.as_ref()),
         }
     }
+}
+
+/// Whether a mask has the bit of a node.
+#[inline(always)]
+fn is_marked(mask: u128, node: NodeId) -> bool
+    ensures { result ≡ has_bit mask node }
+{
+    (mask >> node.place()) & 1 == 1
 }

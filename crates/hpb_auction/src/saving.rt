@@ -68,6 +68,7 @@ impl Auction {
         restore_bids(&mut self.books, &saved.bidders);
         let tree = self.definition.tree();
         upward(tree, &self.books, &mut self.outcome);
+        self.winners = self.outcome.winners();
         self.holdings.find(tree, &self.books, &self.outcome);
         downward(tree, &self.books, &self.outcome, &mut self.prices);
     }

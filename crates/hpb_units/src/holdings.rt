@@ -1,4 +1,6 @@
 ghost use Rattle.std.specs.Prelude.{◌≡◌, ◌≤◌, ◌<◌, ◌^◌, ◌↔◌, ◌||◌, ◌&&◌, ℕ, IfOk, IsTrue, length, slice_index};
+ghost use Rattle.hpb_rules.specs.Choices.{is_in};
+ghost use Rattle.hpb_rules.specs.Saved.{has_bit};
 ghost use Rattle.hpb_rules.specs.Tree.{sum_over, at_or_under, units_at};
 ghost use Rattle.hpb_tree.specs.Licences.{licence_count};
 ghost use Rattle.hpb_bids.specs.View.{BooksView, IsQuiet};
@@ -109,26 +111,19 @@ impl Holdings {
         }
     }
 
-    /// Becomes the holdings by an outcome and books without a bid in the open round: those of the winners.
-    pub fn find_won(&mut self, tree: &Tree, books: &Books, outcome: &Outcome)
-        requires quiet { IsQuiet books.now }
-        requires small { AreSmall tree.now.nodes }
-        ensures { AreHoldings tree.now.nodes books.now outcome.now self.new }
-    {
-        self.find_licence_units(tree);
-        self.find_won_along(tree, books, outcome);
-    }
-
-    /// The same where the bidding units of the tree's licences are known, as holdings by any books on the tree know them.
-    pub fn find_won_along(&mut self, tree: &Tree, books: &Books, outcome: &Outcome)
+    /// Becomes the holdings by an outcome and books without a bid in the open round: those of the winners, who are given
+    /// as a mask with bit n for node n. The bidding units of the tree's licences are known, as holdings by any books on the
+    /// tree know them.
+    pub fn find_won(&mut self, tree: &Tree, books: &Books, outcome: &Outcome, winners: u128)
         requires quiet { IsQuiet books.now }
         requires small { AreSmall tree.now.nodes }
         requires units { AreLicenceUnits tree.now.nodes self.old.licence_units }
+        requires winners { (n : ℕ) → has_bit winners n ≡ is_in outcome.now.wins n }
         ensures { AreHoldings tree.now.nodes books.now outcome.now self.new }
     {
         tree.facts();
         let nodes = tree.nodes();
-        let mut winners = first_bits(outcome.winners(), nodes.len());
+        let mut winners = first_bits(winners, nodes.len());
         self.clear();
         while let Some(place) = take_greatest(&mut winners) {
             let node = nodes[place];

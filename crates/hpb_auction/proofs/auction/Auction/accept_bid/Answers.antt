@@ -68,6 +68,7 @@ invariant_of-self c =
       holdings = holdings_placed a.definition.nodes a.books c.place.new.self a.outcome c.args.bidder c.args.node c.args.amount (known c).1 (placed c) a.holdings c.add.new.self kept.holdings
           (subst (λ (t : TreeRules). HoldsMore t.nodes a.holdings c.add.new.self c.args.bidder c.args.node) c.tree-tree.ensures c.add.ensures.more)
           (subst (λ (t : TreeRules). AreSummed t.nodes c.add.new.self) c.tree-tree.ensures c.add.ensures.summed);
+      winners = kept.winners;
     }
 
 pub add-requires-clause-node : goal.add-requires-clause-node

@@ -28,6 +28,7 @@ invariant_of-self c =
       bids = kept.bids;
       tables = kept.tables;
       holdings = kept.holdings;
+      winners = kept.winners;
     }
 
 pub invariant_of-self-2 : goal.invariant_of-self-2
@@ -42,4 +43,5 @@ invariant_of-self-2 c =
       bids = kept.bids;
       tables = kept.tables;
       holdings = kept.holdings;
+      winners = kept.winners;
     }

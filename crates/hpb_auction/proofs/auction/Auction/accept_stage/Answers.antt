@@ -24,4 +24,5 @@ invariant_of-self c =
       bids = kept.bids;
       tables = kept.tables;
       holdings = kept.holdings;
+      winners = kept.winners;
     }

@@ -118,17 +118,18 @@ invariant_of-self c =
         prices = subst (λ (t : TreeRules). HasPrices t.nodes (bid_of c.fold_round-changed.new.self) c.downward_along.new.prices) c.tree-tree.ensures c.downward_along.ensures.prices;
         minima = subst (λ (t : TreeRules). HasMinima t (bid_of c.fold_round-changed.new.self) c.downward_along.new.prices) c.tree-tree.ensures c.downward_along.ensures.minima;
       };
-      holdings = subst (λ (t : TreeRules). AreHoldings t.nodes c.fold_round-changed.new.self c.upward_along.new.outcome c.find_won_along.new.self) c.tree-tree.ensures c.find_won_along.ensures;
+      holdings = subst (λ (t : TreeRules). AreHoldings t.nodes c.fold_round-changed.new.self c.upward_along.new.outcome c.find_won.new.self) c.tree-tree.ensures c.find_won.ensures;
+      winners = c.winners-self-inside.ensures;
     }
 
 pub returns : goal.returns
 returns c = seen_closed c ∙ ap closed_value c.self.view_is
 
-pub find_won_along-requires-clause-small : goal.find_won_along-requires-clause-small
-find_won_along-requires-clause-small c = subst (λ (t : TreeRules). AreSmall t.nodes) (sym c.tree-tree.ensures) (small c.self.inside.definition c.self.invariant.accepted)
+pub find_won-requires-clause-small : goal.find_won-requires-clause-small
+find_won-requires-clause-small c = subst (λ (t : TreeRules). AreSmall t.nodes) (sym c.tree-tree.ensures) (small c.self.inside.definition c.self.invariant.accepted)
 
-pub find_won_along-requires-clause-units : goal.find_won_along-requires-clause-units
-find_won_along-requires-clause-units c = subst (λ (t : TreeRules). AreLicenceUnits t.nodes c.self.inside.holdings.licence_units) (sym c.tree-tree.ensures) c.self.invariant.holdings.summed.licences
+pub find_won-requires-clause-units : goal.find_won-requires-clause-units
+find_won-requires-clause-units c = subst (λ (t : TreeRules). AreLicenceUnits t.nodes c.self.inside.holdings.licence_units) (sym c.tree-tree.ensures) c.self.invariant.holdings.summed.licences
 
 pub upward_along-requires : goal.upward_along-requires
 upward_along-requires c =

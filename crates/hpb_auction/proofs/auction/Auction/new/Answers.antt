@@ -37,6 +37,7 @@ invariant_of-result c =
       bids = empty_kept rules c.in_ok-books.books c.in_ok-books.ensures.empty;
       tables = tables c;
       holdings = subst (λ (t : TreeRules). AreHoldings t.nodes c.in_ok-books.books c.in_ok-outcome.outcome c.in_ok-holdings.holdings) c.tree-4.ensures c.in_ok-holdings.ensures;
+      winners = c.winners-winners.ensures;
     }
 
 pub returns-clause-value : goal.returns-clause-value

@@ -71,6 +71,7 @@ invariant_of-self c =
         minima = subst (λ (t : TreeRules). HasMinima t (bid_of c.restore_bids.new.books) c.downward.new.prices) c.tree-tree.ensures c.downward.ensures.minima;
       };
       holdings = subst (λ (t : TreeRules). AreHoldings t.nodes c.restore_bids.new.books c.upward.new.outcome c.find.new.self) c.tree-tree.ensures c.find.ensures;
+      winners = c.winners-self-inside.ensures;
     }
 
 pub returns-clause-value : goal.returns-clause-value

@@ -3,8 +3,8 @@ use Rattle.hpb_rules.specs.History.{is_of}
 use Rattle.hpb_winners.specs.Places.{IsGreatestTaken}
 use Rattle.hpb_units.specs.Holdings.{AreLicenceUnits}
 use Rattle.hpb_units.proofs.Won.{won_start, won_within, won_more, won_none, won_all}
-use Rattle.hpb_units.proofs.holdings.Holdings.find_won_along.Goals.{In-Some, After-standing}
-use Rattle.hpb_units.proofs.holdings.Holdings.find_won_along.Goals as goal
+use Rattle.hpb_units.proofs.holdings.Holdings.find_won.Goals.{In-Some, After-standing}
+use Rattle.hpb_units.proofs.holdings.Holdings.find_won.Goals as goal
 
 taken : (c : In-Some) → IsGreatestTaken c.loop-place.winners (Some c.in-Some.place) c.take_greatest.new.mask
 taken c = subst (λ place. IsGreatestTaken c.loop-place.winners place c.take_greatest.new.mask) c.in-Some.is c.take_greatest.ensures
@@ -15,7 +15,7 @@ within c = won_within c.args.tree.now.nodes c.args.books.now c.args.outcome.now 
 pub loop-place-init : goal.loop-place-init
 loop-place-init c =
     won_start c.args.tree.now.nodes c.args.books.now c.args.outcome.now c.clear.new.self c.first_bits-winners.result c.clear.ensures.nothing (subst (AreLicenceUnits c.args.tree.now.nodes) (sym c.clear.ensures.same_licence_units) c.requires.units)
-    (λ n h. c.first_bits-winners.ensures.bits n (omega (arith, h, c.nodes-nodes.ensures.count)) ∙ c.winners.ensures n)
+    (λ n h. c.first_bits-winners.ensures.bits n (omega (arith, h, c.nodes-nodes.ensures.count)) ∙ c.requires.winners n)
     (subst (λ k. c.first_bits-winners.result < 2 ^ k) c.nodes-nodes.ensures.count c.first_bits-winners.ensures.within)
 
 pub bounds-nodes-place : goal.bounds-nodes-place

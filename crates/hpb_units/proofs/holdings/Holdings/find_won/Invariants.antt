@@ -1,5 +1,5 @@
 use Rattle.hpb_units.proofs.Won.{AreWon}
-use Rattle.hpb_units.proofs.holdings.Holdings.find_won_along.Given as goal
+use Rattle.hpb_units.proofs.holdings.Holdings.find_won.Given as goal
 
 -- each turn takes a winner out
 abbrev pub decreases-loop-place : goal.decreases-loop-place
