@@ -1,6 +1,7 @@
 //! Letters to offer, and answers to them, in the auction of six nodes and four bidders.
-ghost use Rattle.std.specs.Prelude.{◌≡◌, ◌<◌};
+ghost use Rattle.std.specs.Prelude.{◌≡◌, ◌+◌, ◌<◌};
 ghost use Rattle.hpb_rules.specs.declared.command.Command.TheVariants as commands;
+ghost use Rattle.hpb_rules.specs.declared.limits.TheConstants.{MOST_COMMANDS};
 ghost use Rattle.hpb_rules.specs.declared.reply.Reply.TheVariants as replies;
 ghost use Rattle.hpb_engine_rows.specs.Places.{bidder_place, node_place, auctioneer_seat};
 
@@ -134,6 +135,7 @@ pub fn full_of(letter: Letter) -> Letters {
 pub fn accepted(letter: Letter, at: u32) -> Answer
     ensures letter { result.letter ≡ letter }
     ensures at { result.at ≡ at }
+    ensures reply { at < MOST_COMMANDS → result.reply ≡ replies.Ok (at + 1) }
 {
     Answer {
         letter,
