@@ -23,7 +23,7 @@ pub struct Auction {
     pub(crate) outcome: Outcome,
     pub(crate) prices: Prices,
     pub(crate) holdings: Holdings,
-    /// The nodes that win: bit n is for node n. Where it is kept nobody has to walk up from a node for it.
+    /// The nodes that win by the outcome: bit n is for node n. It is kept so that a question takes no walk up the tree.
     pub(crate) winners: u128,
     pub(crate) bidders: Vec<BidderRow>,
     pub(crate) auctioneer: Option<Accepted>,
