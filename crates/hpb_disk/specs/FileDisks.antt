@@ -1,5 +1,7 @@
 -- What a device in a file shows.
-use Rattle.std.specs.Prelude.{ℕ, Bool, List, length}
+use Rattle.std.specs.Prelude.{ℕ, pos, ◌≤ℤ◌, Bool, List, length}
+use Rattle.std.specs.Fd.{file_raw_fd}
+use Rattle.std.specs.declared.fs.File.{File}
 use Rattle.hpb_disk.specs.declared.file.FileDisk.{FileDisk}
 use Rattle.hpb_disk.specs.Calls.{Call, calls_of, left_of, since_of, failures_of}
 
@@ -30,3 +32,11 @@ file_failures disk = failures_of (file_calls disk)
 -- A write or a sync of it has failed.
 abbrev pub file_is_broken : FileDisk → Bool
 file_is_broken disk = disk.broken
+
+-- The descriptor of a file is none of those by which the standard streams are read and written.
+abbrev pub IsApart : File → Type 0
+IsApart file = pos 3 ≤ℤ file_raw_fd file
+
+-- So is that of a device.
+abbrev pub file_is_apart : FileDisk → Type 0
+file_is_apart disk = IsApart disk.file

@@ -19,6 +19,19 @@ pub enum FileFault {
     /// It has more bytes than a device may have.
     #[error("the file is too long")]
     TooLong,
+    /// Standard input or output leads to the file, or would: it was opened by the descriptor of a stream that is closed.
+    /// What is written there would be written into the file.
+    #[error("standard input or output leads to the file")]
+    Stream,
+    /// Standard errors lead to the file.
+    #[error("standard errors lead to the file")]
+    Errors,
+    /// What stands at the name that it has while it is made is no file that a killed process left.
+    #[error("another file stands where it is made")]
+    Beside,
+    /// It has more bytes than this process may write: who writes beyond the limit is ended by the system.
+    #[error("the file has {len} bytes, and no more than {limit} may be written")]
+    Limit { len: u64, limit: u64 },
     /// The system refused a call, as for a path with no file, for a directory, or where it can't sync.
     #[error(transparent)]
     System(#[from] io::Error),

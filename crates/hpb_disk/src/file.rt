@@ -1,16 +1,21 @@
 //! A device in a file of the operating system.
-ghost use Rattle.std.specs.Prelude.{◌≡◌, ◌+◌, ◌≤◌, ◌^◌, ◌↔◌, true, false, ◌∷◌, length, replicate, IsTrue, IsErr, IfOk, OnOk, OnErr, MatchResult};
+ghost use Rattle.std.specs.Prelude.{◌≡◌, ◌+◌, ◌≤◌, ◌^◌, true, false, ◌∷◌, length, replicate, IsErr, IfOk, OnOk, OnErr, MatchResult};
 ghost use Rattle.hpb_disk.specs.Images.{part, put, Only, TornFrom, Within, Elapses, CountsFailure};
 ghost use Rattle.hpb_disk.specs.Calls.{calls_of, seen_of};
 ghost use Rattle.hpb_disk.specs.Devices as devices;
 
+use crate::mark::FileMark;
 use crate::memory::overwrite;
+use crate::opening::{
+    Share, are_same, beside, check_descriptor, check_limit, fill_and_name, forget_beside, lock,
+    look_at, open_beside, open_folder, settle, sync_names,
+};
 use crate::trace::Trace;
 use crate::{Disk, DiskFailed, FileFault};
 use std::alloc::Global;
-use std::fs::{self, File, Files, TryLockError};
+use std::fs::{self, File, Files};
 use std::io;
-use std::os::fd::AsRawFd;
+use std::io::ErrorKind;
 use std::os::unix::fs::FileExt;
 use std::path::Path;
 
@@ -33,58 +38,15 @@ pub struct FileDisk {
     ghost shown: { bytes.items ≡ seen_of trace.first (calls_of trace.events) },
 }
 
-fn are_same(some: &[u8], others: &[u8]) -> bool
-    ensures { IsTrue result ↔ (some.now ≡ others.now) }
-{
-    some == others
-}
-
-// Who else may have a file at the same time.
-#[derive(Clone, Copy, PartialEq, Eq)]
-enum Share {
-    Nobody,
-    Readers,
-}
-
-fn lock(file: &File, share: Share) -> Result<(), FileFault> {
-    let locked = match share {
-        Share::Nobody => file.try_lock(),
-        Share::Readers => file.try_lock_shared(),
-    };
-    match locked {
-        Ok(()) => Ok(()),
-        Err(TryLockError::WouldBlock) => Err(FileFault::Busy),
-        Err(TryLockError::Error(error)) => Err(FileFault::System(error)),
-    }
-}
-
-// What was written before is on the medium after this, and what is read from then on comes from there: after a sync that
-// failed an earlier process may have left bytes in the system's memory that the medium doesn't have.
-fn settle(file: &File) -> io::Result<()> {
-    file.sync_data()?;
-    match libc::posix_fadvise(file.as_raw_fd(), 0, 0, libc::POSIX_FADV_DONTNEED) {
-        0 => Ok(()),
-        code => Err(io::Error::from_raw_os_error(code)),
-    }
-}
-
-// The directory that a file's name stands in.
-fn sync_name<R: Files<File = File>>(rt: &R, path: &str) -> io::Result<()> {
-    let folder = match Path::new(path).parent() {
-        Some(folder) if !folder.as_str().is_empty() => folder.as_str(),
-        _ => ".",
-    };
-    fs::open(rt, folder)?.sync_all()
-}
-
 impl FileDisk {
-    ghost use Rattle.hpb_disk.specs.FileDisks.{file_seen, file_left, file_is_broken};
+    ghost use Rattle.hpb_disk.specs.FileDisks.{file_seen, file_left, file_is_apart, file_is_broken};
 
     // Over a file that holds these bytes, all of them on the medium.
     pub(crate) fn over(file: File, bytes: Vec<u8>) -> FileDisk
         ensures seen { file_seen result ≡ bytes.items }
         ensures settled { Only (file_seen result) (file_left result) }
         ensures works { file_is_broken result ≡ false }
+        ensures file { result.file ≡ file }
     {
         let trace = Trace::new(&bytes);
         FileDisk {
@@ -99,8 +61,10 @@ impl FileDisk {
     fn take(alloc: Global, file: File, share: Share) -> Result<FileDisk, FileFault>
         ensures settled { IfOk result (λ disk. Only (file_seen disk) (file_left disk)) }
         ensures works { IfOk result (λ disk. file_is_broken disk ≡ false) }
+        ensures apart { IfOk result file_is_apart }
         ensures most { IfOk result (λ disk. length (file_seen disk) ≤ 2 ^ 26) }
     {
+        check_descriptor(&file)?;
         if !file.metadata()?.is_file() {
             return Err(FileFault::NotAFile);
         }
@@ -109,13 +73,17 @@ impl FileDisk {
         if len > MOST_BYTES {
             return Err(FileFault::TooLong);
         }
+        if share == Share::Nobody {
+            check_limit(len)?;
+        }
         settle(&file)?;
         let mut bytes = vec![in alloc; 0; len as usize]?;
         file.read_exact_at(&mut bytes, 0)?;
         Ok(FileDisk::over(file, bytes))
     }
 
-    /// Opens a file that is there. Its length is that of the device. Nothing is pending.
+    /// Opens a file that is there. Its length is that of the device. Nothing is pending, and its name is on the medium
+    /// too.
     pub fn open<R: Files<File = File>>(
         rt: &R,
         alloc: Global,
@@ -123,10 +91,14 @@ impl FileDisk {
     ) -> Result<FileDisk, FileFault>
         ensures settled { IfOk result (λ disk. Only (file_seen disk) (file_left disk)) }
         ensures works { IfOk result (λ disk. file_is_broken disk ≡ false) }
+        ensures apart { IfOk result file_is_apart }
         ensures most { IfOk result (λ disk. length (file_seen disk) ≤ 2 ^ 26) }
     {
+        look_at(rt, path)?;
         let file = File::options().read(true).write(true).open(rt, path)?;
-        FileDisk::take(alloc, file, Share::Nobody)
+        let disk = FileDisk::take(alloc, file, Share::Nobody)?;
+        sync_names(rt, alloc, path)?;
+        Ok(disk)
     }
 
     /// Opens a file that is there, to read alone: it asks for no right to write it, and a write is a failure of the
@@ -139,13 +111,20 @@ impl FileDisk {
     ) -> Result<FileDisk, FileFault>
         ensures settled { IfOk result (λ disk. Only (file_seen disk) (file_left disk)) }
         ensures works { IfOk result (λ disk. file_is_broken disk ≡ false) }
+        ensures apart { IfOk result file_is_apart }
         ensures most { IfOk result (λ disk. length (file_seen disk) ≤ 2 ^ 26) }
     {
+        look_at(rt, path)?;
         let file = File::options().read(true).open(rt, path)?;
         FileDisk::take(alloc, file, Share::Readers)
     }
 
-    /// Makes a file of so many zero bytes where none is, and opens it. Nothing is pending.
+    /// Makes a file of so many zero bytes where none is, and opens it. Nothing is pending, and its name is on the medium
+    /// too.
+    ///
+    /// It is made beside its name, as the name with `.new` behind it, and gets its name when it is whole: whenever the
+    /// process is killed, there is no file of that name that is shorter. What a killed process left beside is used again.
+    /// A file that is there is never replaced, and one beside that holds more than zeros is refused.
     pub fn make<R: Files<File = File>>(
         rt: &R,
         alloc: Global,
@@ -155,23 +134,57 @@ impl FileDisk {
         ensures seen { IfOk result (λ disk. file_seen disk ≡ replicate len 0) }
         ensures settled { IfOk result (λ disk. Only (file_seen disk) (file_left disk)) }
         ensures works { IfOk result (λ disk. file_is_broken disk ≡ false) }
+        ensures apart { IfOk result file_is_apart }
     {
         if len as u64 > MOST_BYTES {
             return Err(FileFault::TooLong);
         }
-        let file = File::options()
-            .read(true)
-            .write(true)
-            .create_new(true)
-            .open(rt, path)?;
-        file.set_len(len as u64)?;
-        let disk = FileDisk::take(alloc, file, Share::Nobody)?;
-        sync_name(rt, path)?;
-        // Whoever wrote it before it was locked has it still.
-        if !are_same(&disk.bytes, &vec![in alloc; 0; len]?) {
-            return Err(FileFault::Busy);
+        check_limit(len as u64)?;
+        let bytes = vec![in alloc; 0; len]?;
+        let mut again = vec![in alloc; 0; len]?;
+        let beside = beside(alloc, path)?;
+        let folder = open_folder(rt, &Path::new(path))?;
+        let file = open_beside(rt, alloc, beside.as_str())?;
+        let named = fill_and_name(rt, &file, &bytes, &mut again, beside.as_str(), path);
+        if let Err(fault) = named {
+            let _ = fs::remove_file(rt, beside.as_str());
+            return Err(fault);
         }
-        Ok(disk)
+        folder.sync_all()?;
+        Ok(FileDisk::over(file, bytes))
+    }
+
+    /// Opens a file that is there, or makes one of so many zero bytes where none is.
+    pub fn open_or_make<R: Files<File = File>>(
+        rt: &R,
+        alloc: Global,
+        path: &str,
+        len: usize,
+    ) -> Result<FileDisk, FileFault>
+        ensures settled { IfOk result (λ disk. Only (file_seen disk) (file_left disk)) }
+        ensures works { IfOk result (λ disk. file_is_broken disk ≡ false) }
+        ensures apart { IfOk result file_is_apart }
+    {
+        match FileDisk::open(rt, alloc, path) {
+            Err(FileFault::System(error)) if error.kind() == ErrorKind::NotFound => {}
+            Err(fault) => return Err(fault),
+            Ok(disk) => {
+                forget_beside(rt, beside(alloc, path)?.as_str(), &disk.file)?;
+                return Ok(disk);
+            }
+        }
+        match FileDisk::make(rt, alloc, path, len) {
+            // Another process made it meanwhile.
+            Err(FileFault::System(error)) if error.kind() == ErrorKind::AlreadyExists => {
+                FileDisk::open(rt, alloc, path)
+            }
+            made => made,
+        }
+    }
+
+    /// Which file it is, and how long.
+    pub fn mark(&self) -> io::Result<FileMark> {
+        Ok(FileMark::of(&self.file.metadata()?))
     }
 }
 

@@ -9,7 +9,9 @@ mod faulty;
 mod file;
 mod gates;
 mod laws;
+mod mark;
 mod memory;
+mod opening;
 mod replacing;
 mod stop;
 #[cfg(test)]
@@ -23,5 +25,6 @@ pub use faulty::{Faults, FaultyDisk, FromThenOn, FuseDisk, OnceDisk, ThatAlone};
 pub use file::{FileDisk, MOST_BYTES};
 pub use gates::{close_gate, gate_is_open, open_gate};
 pub use laws::{elsewhere_stays, open_or_closed, put_is_read, put_is_torn, torn_gate_is_a_byte};
+pub use mark::FileMark;
 pub use memory::MemoryDisk;
 pub use replacing::replace_record;

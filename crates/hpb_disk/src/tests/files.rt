@@ -4,7 +4,8 @@ use super::using::{all_of, two_at, write};
 use crate::{Disk, FileDisk, FileFault, MOST_BYTES};
 use std::alloc::Global;
 use std::fs::{self, File, Files};
-use std::os::unix::fs::PermissionsExt;
+use std::os::fd::IntoRawFd;
+use std::os::unix::fs::{PermissionsExt, symlink};
 use std::process::Abort;
 use std::test::Fail;
 
@@ -14,6 +15,14 @@ fn is_busy(opened: Result<FileDisk, FileFault>) -> bool {
 
 fn is_no_file(opened: Result<FileDisk, FileFault>) -> bool {
     matches!(opened, Err(FileFault::NotAFile))
+}
+
+fn is_beside(opened: Result<FileDisk, FileFault>) -> bool {
+    matches!(opened, Err(FileFault::Beside))
+}
+
+fn is_stream(opened: Result<FileDisk, FileFault>) -> bool {
+    matches!(opened, Err(FileFault::Stream))
 }
 
 fn is_too_long(opened: Result<FileDisk, FileFault>) -> bool {
@@ -78,7 +87,8 @@ fn what_is_no_file_is_refused(rt: HostRuntime) -> Result<(), Fail> {
     let folder = "hpb_disk_folder";
     let _ = fs::remove_dir_all(&rt, folder);
     fs::create_dir(&rt, folder)?;
-    assert!(rt; is_refused(FileDisk::open(&rt, alloc, folder)));
+    assert!(rt; is_no_file(FileDisk::open(&rt, alloc, folder)));
+    assert!(rt; is_no_file(FileDisk::open_to_read(&rt, alloc, folder)));
     assert!(rt; is_refused(FileDisk::make(&rt, alloc, folder, 4)));
     assert!(rt; is_refused(FileDisk::open(&rt, alloc, "hpb_disk_folder/none")));
     assert!(rt; is_refused(FileDisk::make(&rt, alloc, "hpb_disk_folder/none/a", 4)));
@@ -104,10 +114,127 @@ fn a_folder_that_cannot_be_synced_is_refused(rt: HostRuntime) -> Result<(), Fail
     fs::set_permissions(&rt, folder, fs::Permissions::from_mode(0o300))?;
     // A user who may do all opens it all the same.
     let may_read = File::open(&rt, folder).is_ok();
-    let made = FileDisk::make(&rt, alloc, "hpb_disk_shut/made", 4);
-    assert_eq!(rt; is_refused(made), !may_read);
-    fs::remove_file(&rt, "hpb_disk_shut/made")?;
+    let path = "hpb_disk_shut/made";
+    assert_eq!(rt; is_refused(FileDisk::make(&rt, alloc, path, 4)), !may_read);
+    assert_eq!(rt; fs::exists(&rt, path)?, may_read);
+    fs::write(&rt, path, [0; 4].as_slice())?;
+    assert_eq!(rt; is_refused(FileDisk::open(&rt, alloc, path)), !may_read);
+    assert!(rt; FileDisk::open_to_read(&rt, alloc, path).is_ok());
+    fs::remove_file(&rt, path)?;
     fs::remove_dir(&rt, folder)?;
+    Ok(())
+}
+
+#[test]
+fn the_descriptor_of_a_standard_stream_is_refused(rt: HostRuntime) -> Result<(), Fail> {
+    let alloc = rt.alloc();
+    let path = "hpb_disk_stream";
+    fs::write(&rt, path, b"abcd".as_slice())?;
+    libc::close(libc::STDIN_FILENO);
+    let opened = FileDisk::open(&rt, alloc, path);
+    let read = FileDisk::open_to_read(&rt, alloc, path);
+    // The folder is opened by that descriptor, and the file by another.
+    let made = FileDisk::make(&rt, alloc, "hpb_disk_stream_made", 4);
+    assert!(rt; is_stream(opened));
+    assert!(rt; is_stream(read));
+    assert!(rt; made.is_ok());
+    // Once it leads to the file, no other descriptor will do.
+    let input = File::open(&rt, path)?;
+    assert_eq!(rt; input.into_raw_fd(), libc::STDIN_FILENO);
+    assert!(rt; is_stream(FileDisk::open(&rt, alloc, path)));
+    assert!(rt; is_stream(FileDisk::open_to_read(&rt, alloc, path)));
+    libc::close(libc::STDIN_FILENO);
+    let input = File::open(&rt, "/dev/null")?;
+    assert_eq!(rt; input.into_raw_fd(), libc::STDIN_FILENO);
+    fs::remove_file(&rt, path)?;
+    fs::remove_file(&rt, "hpb_disk_stream_made")?;
+    Ok(())
+}
+
+#[test]
+fn what_a_killed_process_left_beside_is_used_again(rt: HostRuntime) -> Result<(), Fail> {
+    let alloc = rt.alloc();
+    let (path, beside) = ("hpb_disk_left", "hpb_disk_left.new");
+    let _ = fs::remove_file(&rt, path);
+    // It was longer.
+    fs::write(&rt, beside, [0; 8].as_slice())?;
+    let mut disk = FileDisk::open_or_make(&rt, alloc, path, 4)?;
+    check_bytes(&rt, alloc, &mut disk, &[0; 4])?;
+    assert!(rt; !fs::exists(&rt, beside)?);
+    assert!(rt; write(&mut disk, 0, b"wxyz"));
+    drop(disk);
+    // The process ended between the two names.
+    fs::hard_link(&rt, path, beside)?;
+    let mut again = FileDisk::open_or_make(&rt, alloc, path, 4)?;
+    check_bytes(&rt, alloc, &mut again, b"wxyz")?;
+    assert!(rt; !fs::exists(&rt, beside)?);
+    drop(again);
+    fs::remove_file(&rt, path)?;
+    Ok(())
+}
+
+#[test]
+fn what_stands_beside_is_not_overwritten(rt: HostRuntime) -> Result<(), Fail> {
+    let alloc = rt.alloc();
+    let (path, beside, other) = ("hpb_disk_moved", "hpb_disk_moved.new", "hpb_disk_kept");
+    let _ = fs::remove_file(&rt, path);
+    // A file of somebody's.
+    fs::write(&rt, beside, b"wxyz".as_slice())?;
+    assert!(rt; is_beside(FileDisk::make(&rt, alloc, path, 4)));
+    assert_eq!(rt; fs::read(&rt, beside)?.as_slice(), b"wxyz".as_slice());
+    fs::remove_file(&rt, beside)?;
+    // Another name of one that holds zeros, and then a link to it.
+    fs::write(&rt, other, [0; 8].as_slice())?;
+    fs::hard_link(&rt, other, beside)?;
+    assert!(rt; is_beside(FileDisk::make(&rt, alloc, path, 4)));
+    fs::remove_file(&rt, beside)?;
+    symlink(&rt, other, beside)?;
+    assert!(rt; is_beside(FileDisk::make(&rt, alloc, path, 4)));
+    fs::remove_file(&rt, beside)?;
+    assert_eq!(rt; fs::read(&rt, other)?.len(), 8);
+    assert!(rt; FileDisk::make(&rt, alloc, path, 4).is_ok());
+    fs::remove_file(&rt, path)?;
+    fs::remove_file(&rt, other)?;
+    Ok(())
+}
+
+#[test]
+fn a_file_that_is_being_made_is_busy(rt: HostRuntime) -> Result<(), Fail> {
+    let alloc = rt.alloc();
+    let (path, beside) = ("hpb_disk_twice", "hpb_disk_twice.new");
+    let _ = fs::remove_file(&rt, path);
+    fs::write(&rt, beside, b"".as_slice())?;
+    let other = File::open(&rt, beside)?;
+    assert!(rt; other.try_lock().is_ok());
+    assert!(rt; is_busy(FileDisk::make(&rt, alloc, path, 4)));
+    assert!(rt; fs::exists(&rt, beside)?);
+    drop(other);
+    assert!(rt; FileDisk::make(&rt, alloc, path, 4).is_ok());
+    fs::remove_file(&rt, path)?;
+    Ok(())
+}
+
+#[test]
+fn a_mark_tells_of_another_file_and_another_length(rt: HostRuntime) -> Result<(), Fail> {
+    let path = "hpb_disk_marked";
+    fs::write(&rt, path, b"abcd".as_slice())?;
+    // Opened by a link, whose folder is synced too.
+    let link = "hpb_disk_link";
+    let _ = fs::remove_file(&rt, link);
+    symlink(&rt, path, link)?;
+    let disk = FileDisk::open(&rt, rt.alloc(), link)?;
+    let mark = disk.mark()?;
+    assert!(rt; mark.is_at(&rt, path) && mark.is_at(&rt, link));
+    fs::rename(&rt, path, "hpb_disk_away")?;
+    assert!(rt; !mark.is_at(&rt, path));
+    fs::write(&rt, path, b"abcd".as_slice())?;
+    assert!(rt; !mark.is_at(&rt, path));
+    fs::rename(&rt, "hpb_disk_away", path)?;
+    assert!(rt; mark.is_at(&rt, path));
+    File::options().write(true).open(&rt, path)?.set_len(5)?;
+    assert!(rt; !mark.is_at(&rt, path));
+    fs::remove_file(&rt, link)?;
+    fs::remove_file(&rt, path)?;
     Ok(())
 }
 

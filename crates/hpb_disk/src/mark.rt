@@ -1,0 +1,30 @@
+//! Which file a device is in.
+
+use std::fs::{self, Files, Metadata};
+use std::os::unix::fs::MetadataExt;
+
+/// Which file it is, and how many bytes it has.
+#[derive(Clone, Copy, Debug, PartialEq, Eq)]
+pub struct FileMark {
+    device: u64,
+    inode: u64,
+    len: u64,
+}
+
+impl FileMark {
+    pub(crate) fn of(file: &Metadata) -> FileMark {
+        FileMark {
+            device: file.dev(),
+            inode: file.ino(),
+            len: file.len(),
+        }
+    }
+
+    /// Whether a path leads to this file, and it has as many bytes as it had.
+    pub fn is_at<R: Files>(&self, rt: &R, path: &str) -> bool {
+        match fs::metadata(rt, path) {
+            Ok(found) => FileMark::of(&found) == *self,
+            Err(_) => false,
+        }
+    }
+}
