@@ -171,6 +171,8 @@ impl<D: Disk + Drop> Desk for DeviceDesk<D> {
 
     ghost takes_memory = { true };
 
+    ghost waits = { true };
+
     ghost rules_are = { λ desk state is. desk_has_rules desk.definition state is.1 };
 
     ghost over_is = { λ desk state is. refl };
@@ -193,6 +195,10 @@ impl<D: Disk + Drop> Desk for DeviceDesk<D> {
 
     fn most_asked(&self) -> usize {
         self.batch
+    }
+
+    fn waits_when_asked(&self) -> bool {
+        true
     }
 
     fn ask(&mut self, alloc: Global, commands: &Commands) -> Result<Replies, AllocError> {

@@ -39,7 +39,8 @@ pub struct Ran<D: Disk + Drop> {
 /// acknowledged, and 93 that one had failed before. Questions are still answered by what is acknowledged. The session ends
 /// by 90 where memory is refused, and by 92 where the reader or the writer fails or more than 1,000,000,000 bytes are read.
 ///
-/// All that is answered is written and flushed before more is read.
+/// All that is answered is written and flushed before the next commit, before a checkpoint that is due, and before more
+/// is read.
 pub fn run_device<R: Read, W: Write, D: Disk + Drop>(
     alloc: Global,
     reader: &mut R,

@@ -37,6 +37,23 @@ pub passes_weaker : {few most : ℕ} (takes_memory : Bool) (old new : Option (Li
 passes_weaker takes_memory old new bytes left (Ok done) fewer p = p
 passes_weaker takes_memory old new bytes left (Err fault) fewer p = (p.0, p.1, p.2, p.3, left_weaker takes_memory fault p.3.0 fewer p.4)
 
+-- a front was written first, and what comes after it passes
+pub passes_first : (most : ℕ) (takes_memory : Bool) (old now new : Option (List ℕ)) (bytes output text left : List ℕ) (r : Result ⊤ Fault) → Passes 0 false old now bytes output (Ok tt) → Passes most takes_memory now new (output ++ text) left r → Passes most takes_memory old new (bytes ++ text) left r
+passes_first most takes_memory old now new bytes output text left r first p = passed r p
+  where
+    joined : (sent rest : List ℕ) → output ++ text ≡ sent ++ rest → bytes ++ text ≡ (first.0 ++ sent) ++ rest
+    joined sent rest e = ap (λ xs. xs ++ text) first.2 ∙ append_assoc first.0 output text ∙ ap (λ xs. first.0 ++ xs) e ∙ sym (append_assoc first.0 sent rest)
+
+    passed : (r : Result ⊤ Fault) → Passes most takes_memory now new (output ++ text) left r → Passes most takes_memory old new (bytes ++ text) left r
+    passed (Ok done) p = (first.0 ++ p.0, Appends-trans old now new first.0 p.0 first.1 p.1, joined p.0 left p.2)
+    passed (Err fault) p = (p.0, first.0 ++ p.1, Appends-trans old now new first.0 p.1 first.1 p.2, (p.3.0, joined p.1 p.3.0 p.3.1), p.4)
+
+-- the writer failed before anything came after it
+pub first_fails : (most : ℕ) (takes_memory : Bool) (old new : Option (List ℕ)) (bytes output left : List ℕ) (fault : Fault) (r : Result ⊤ Fault) → IsErrAnd r (λ e. e ≡ fault) → Passes 0 false old new bytes output (Err fault) → Passes most takes_memory old new (bytes ++ []) left r
+first_fails most takes_memory old new bytes output left fault r bad p = err_case (Passes most takes_memory old new (bytes ++ []) left) r bad
+    (λ other is. subst (λ (f : Fault). Passes most takes_memory old new (bytes ++ []) left (Err f)) (sym is)
+    (subst (λ (xs : List ℕ). Passes most takes_memory old new xs left (Err fault)) (sym (append-nil bytes)) (passes_weaker takes_memory old new bytes left (Err fault) (omega arith) p)))
+
 -- what a fault of the writer leaves
 front_left : (most : ℕ) (takes_memory : Bool) (old new : Option (List ℕ)) (bytes sent rest : List ℕ) (fault : Fault) → fault ≡ Writer → Appends old new sent → bytes ≡ sent ++ rest
     → (fault ≢ Reader) × (sent : List ℕ) × Appends old new sent × (front : IsFront sent bytes) × IsLeft most takes_memory fault front.0
@@ -61,6 +78,10 @@ module _ (most : ℕ) (takes_memory : Bool) (old new : Option (List ℕ)) {bytes
   lines_refused answers left r bad few some e s = err_case (Passes most takes_memory old new (bytes ++ lines_of answers) left) r bad
       (λ other is. subst (λ (f : Fault). (f ≢ Reader) × (sent : List ℕ) × Appends old new sent × (front : IsFront sent (bytes ++ lines_of answers)) × IsLeft most takes_memory f front.0) (sym is)
       (memory_read, output, s, (lines_of answers, ap (λ xs. xs ++ lines_of answers) (sym e)), (answers, few, some, refl)))
+
+-- an output is written whole, and nothing comes after it
+pub all_sent : (old new : Option (List ℕ)) (output left : List ℕ) (r : Result ⊤ Fault) → Sends old new output r → left ≡ [] → Passes 0 false old new output left r
+all_sent old new output left r s empty = sent_passes 0 false old new r refl s empty
 
 -- memory is refused for a line
 pub line_refused : (old new : Option (List ℕ)) {bytes output : List ℕ} (answer left : List ℕ) (r : Result ⊤ Fault) → IsErrAnd r (λ e. e ≡ Memory) → output ≡ bytes → Appends old new output → PassesLine old new (bytes ++ line_of answer) left r

@@ -24,8 +24,8 @@ use Rattle.hpb_server.specs.Reading.{Pending, HasNoEnd, TakesToEnd, TakesAll}
 use Rattle.hpb_server.specs.Serving.{AnswersRequest}
 use Rattle.hpb_server.specs.Session.{asked_for, replies_text, AnswersRequests, Broken, Leads, Passes, PassesRequests, Proceeds, Session}
 use Rattle.hpb_server.proofs.Definitions.{take-take-append}
-use Rattle.hpb_server.proofs.Errors.{err_case, ok_case}
-use Rattle.hpb_server.proofs.Passing.{lines_append}
+use Rattle.hpb_server.proofs.Errors.{err_case, err_only, ok_case}
+use Rattle.hpb_server.proofs.Passing.{first_fails, lines_append, passes_first}
 use Rattle.hpb_server.proofs.WholeLines.{leads_none, leads_append, leads_line, leads_over}
 
 -- each line spells its request
@@ -49,6 +49,33 @@ spell_split rules [] (request ∷ requests) others s = absurd s
 spell_split rules (line ∷ lines) (request ∷ requests) others s =
     let t = spell_split rules lines requests others s.2 in
     (line ∷ t.0, t.1, ap (λ xs. line ∷ xs) t.2, (s.0, s.1, t.3), t.4)
+
+-- ---- what is written before requests are asked
+module _ {State : Type 0} (rules : State → Rules) (over : State → Bool) (asks : State → Command → Reply → State → Type 0) (looks : State → Option AuctionValue → State → Type 0) (most : ℕ) (takes_memory : Bool) {state : State} {asked : List (Result Request Refusal)} {old now : Option (List ℕ)} {bytes : List ℕ} (output : List ℕ) where
+  pub sent_first : {next : State} {new : Option (List ℕ)} {left : List ℕ} {queue : List Command} (r : Result ⊤ Fault) → Passes 0 false old now bytes output (Ok tt)
+      → PassesRequests rules over asks looks most takes_memory state asked next now new output left queue r → PassesRequests rules over asks looks most takes_memory state asked next old new bytes left queue r
+  sent_first {new = new} {left = left} r first p = record {
+    answered = p.answered;
+    waiting = p.waiting;
+    text = p.text;
+    parts = p.parts;
+    answers = p.answers;
+    passes = passes_first most takes_memory old now new bytes output p.text left r first p.passes;
+    queued = p.queued;
+  }
+
+  -- the writer failed, and nothing is asked
+  pub not_asked : {left : List ℕ} {queue : List Command} (fault : Fault) (r : Result ⊤ Fault) → IsErrAnd r (λ e. e ≡ fault) → Passes 0 false old now bytes output (Err fault)
+      → PassesRequests rules over asks looks most takes_memory state asked state old now bytes left queue r
+  not_asked {left = left} fault r bad p = record {
+    answered = [];
+    waiting = asked;
+    text = [];
+    parts = refl;
+    answers = (refl, refl);
+    passes = first_fails most takes_memory old now bytes output left fault r bad p;
+    queued = err_only _ _ r bad;
+  }
 
 -- ---- requests that are answered one after another
 module _ {State : Type 0} (rules : State → Rules) (over : State → Bool) (asks : State → Command → Reply → State → Type 0) (looks : State → Option AuctionValue → State → Type 0) where

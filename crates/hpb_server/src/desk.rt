@@ -56,6 +56,9 @@ pub trait Desk {
     /// Memory may be refused where commands are asked, and where the desk rests.
     ghost takes_memory: { Bool };
 
+    /// To ask takes a wait, as for a commit.
+    ghost waits: { Bool };
+
     /// The definition that lines are read by.
     fn definition(&self) -> &Definition
         ensures { result.now ≡ rules self.now };
@@ -68,6 +71,10 @@ pub trait Desk {
     fn most_asked(&self) -> usize
         ensures some { 0 < result }
         ensures most { result ≤ most };
+
+    /// Whether to ask takes a wait, as for a commit. What was answered before leaves first.
+    fn waits_when_asked(&self) -> bool
+        ensures { result ≡ waits };
 
     /// Asks for commands together, and gives what each is answered, up to the reply that ends the session. Where
     /// memory is refused, none is asked.
@@ -159,6 +166,7 @@ impl ScriptDesk {
 }
 
 impl Desk for ScriptDesk {
+    ghost use Rattle.std.specs.Prelude.{false};
     ghost use Rattle.hpb_rules.specs.AuctionValue.{AuctionValue, Shows};
     ghost use Rattle.hpb_server.specs.AuctionDesk.{auction_keeps_rules, auction_over, auction_replies, auction_rules, auction_shows, one_is_some};
     ghost use Rattle.hpb_server.specs.Desk.{never_over, no_memory, one_asked, rules_in, IsItself, RepliesIn, ShowsItself};
@@ -185,6 +193,8 @@ impl Desk for ScriptDesk {
 
     ghost takes_memory = { no_memory };
 
+    ghost waits = { false };
+
     ghost rules_are = { auction_rules };
 
     ghost over_is = { auction_over };
@@ -207,6 +217,10 @@ impl Desk for ScriptDesk {
 
     fn most_asked(&self) -> usize {
         1
+    }
+
+    fn waits_when_asked(&self) -> bool {
+        false
     }
 
     fn ask(&mut self, _alloc: Global, commands: &Commands) -> Result<Replies, AllocError> {

@@ -25,7 +25,8 @@ use std::alloc::{AllocError, Global};
 use std::io::{Read, Write};
 
 /// Answers each line of the reader by one line on the writer, to the end of the reader. What has been
-/// answered is written and flushed before more is read.
+/// answered is written and flushed before more is read. Where to ask the desk takes a wait (`Desk::waits_when_asked`) it
+/// is written and flushed before the desk is asked, too.
 ///
 /// A line has at most 128 bytes and a line feed; any other, a last one without line feed too, is refused
 /// by `ERR 10 line`. No line tells of a fault: 90 where memory is refused, 92 where the reader or the writer
@@ -217,7 +218,7 @@ fn enqueue<W: Write, D: Desk>(
     ask_queue(alloc, writer, desk, queue, output)
 }
 
-/// Asks for one command by itself, and adds its answer.
+/// Asks for one command by itself, and adds its answer. Where the desk waits, all that is answered leaves first.
 #[inline(always)]
 fn ask_alone<W: Write, D: Desk>(
     alloc: Global,
@@ -227,6 +228,26 @@ fn ask_alone<W: Write, D: Desk>(
     output: &mut Output,
 ) -> Result<(), Fault>
     requires goes_on { D.over desk.old ≡ false }
+    ensures passed { Moves D.is_at desk.old desk.new (λ state next. PassesRequests D.rules_at D.over_at D.asks D.looks D.most D.takes_memory state
+        (Ok (requests.Command command.now) ∷ []) next
+        (W.contents writer.old) (W.contents writer.new) output.old output.new [] result) }
+    ensures rules { D.rules desk.new ≡ D.rules desk.old }
+{
+    send_first(writer, desk, output)?;
+    ask_alone_now(alloc, writer, desk, command, output)
+}
+
+/// Asks for one command by itself, and adds its answer. Where the desk waits, the output is empty.
+#[inline(always)]
+fn ask_alone_now<W: Write, D: Desk>(
+    alloc: Global,
+    writer: &mut W,
+    desk: &mut D,
+    command: &Command,
+    output: &mut Output,
+) -> Result<(), Fault>
+    requires goes_on { D.over desk.old ≡ false }
+    requires sent { D.waits ≡ true → output.old ≡ [] }
     ensures passed { Moves D.is_at desk.old desk.new (λ state next. PassesRequests D.rules_at D.over_at D.asks D.looks D.most D.takes_memory state
         (Ok (requests.Command command.now) ∷ []) next
         (W.contents writer.old) (W.contents writer.new) output.old output.new [] result) }
@@ -293,7 +314,7 @@ fn ask_queue<W: Write, D: Desk>(
     ask_waiting(alloc, writer, desk, queue, output)
 }
 
-/// Asks for all that waits, and passes the replies.
+/// Asks for all that waits, and passes the replies. Where the desk waits, all that is answered leaves first.
 #[inline(never)]
 fn ask_waiting<W: Write, D: Desk>(
     alloc: Global,
@@ -310,6 +331,28 @@ fn ask_waiting<W: Write, D: Desk>(
     ensures rules { D.rules desk.new ≡ D.rules desk.old }
     ensures asked { OnOk result (queue.new ≡ []) }
 {
+    send_first(writer, desk, output)?;
+    ask_waiting_now(alloc, writer, desk, queue, output)
+}
+
+/// Asks for all that waits, and passes the replies. Where the desk waits, the output is empty.
+#[inline(always)]
+fn ask_waiting_now<W: Write, D: Desk>(
+    alloc: Global,
+    writer: &mut W,
+    desk: &mut D,
+    queue: &mut Commands,
+    output: &mut Output,
+) -> Result<(), Fault>
+    requires some { 0 < length queue.old }
+    requires most { length queue.old ≤ D.most }
+    requires sent { D.waits ≡ true → output.old ≡ [] }
+    ensures passed { Moves D.is_at desk.old desk.new (λ state next. PassesRequests D.rules_at D.over_at D.asks D.looks D.most D.takes_memory state
+        (asked_for queue.old) next
+        (W.contents writer.old) (W.contents writer.new) output.old output.new queue.new result) }
+    ensures rules { D.rules desk.new ≡ D.rules desk.old }
+    ensures asked { OnOk result (queue.new ≡ []) }
+{
     match desk.ask(alloc, queue) {
         Ok(replies) => {
             queue.clear();
@@ -320,6 +363,19 @@ fn ask_waiting<W: Write, D: Desk>(
             Err(error.into())
         }
     }
+}
+
+/// Writes all that is answered, where the desk waits.
+#[inline(always)]
+#[tactic(auto, using(crate::proofs::Passing::all_sent))]
+fn send_first<W: Write, D: Desk>(writer: &mut W, desk: &D, output: &mut Output) -> Result<(), Fault>
+    ensures passed { Passes 0 false (W.contents writer.old) (W.contents writer.new) output.old output.new result }
+    ensures sent { D.waits ≡ true → output.new ≡ [] }
+{
+    if desk.waits_when_asked() {
+        return output.send(writer);
+    }
+    Ok(())
 }
 
 /// Adds the answers that came together.

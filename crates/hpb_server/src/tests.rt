@@ -21,7 +21,7 @@ pub(crate) const DEFINITION: &[u8] =
 #[derive(Drop)]
 pub(crate) struct Talk {
     reads: Cell<usize>,
-    writes: Cell<usize>,
+    pub(crate) writes: Cell<usize>,
     /// How many lines were written, and how many of them were flushed.
     written: Cell<usize>,
     pub(crate) flushed: Cell<usize>,

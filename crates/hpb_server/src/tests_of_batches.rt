@@ -1,7 +1,7 @@
 ghost use Rattle.std.specs.Prelude.{◌≡◌, ◌<◌, ◌≤◌, length};
 ghost use Rattle.std.proofs.Common.{arith};
 
-use crate::desk::Desk;
+use crate::desk::{Desk, ScriptDesk};
 use crate::fault::Fault;
 use crate::serving::serve;
 use crate::tests::{Counts, DEFINITION, FailingReader, Lines, Talk};
@@ -56,6 +56,8 @@ impl Desk for BatchDesk {
 
     ghost takes_memory = { true };
 
+    ghost waits = { true };
+
     ghost rules_are = { λ d state at. at.0 };
 
     ghost over_is = { λ d state at. at.1 };
@@ -78,6 +80,10 @@ impl Desk for BatchDesk {
 
     fn most_asked(&self) -> usize {
         self.together.clamp(1, MOST_LETTERS)
+    }
+
+    fn waits_when_asked(&self) -> bool {
+        true
     }
 
     fn ask(&mut self, _alloc: Global, commands: &Commands) -> Result<Replies, AllocError> {
@@ -187,6 +193,38 @@ fn a_queue_is_asked_once_it_is_long_enough_and_before_any_other_line(
         assert_eq!(rt; written.as_slice(), FRONTS[8], "{together}");
         assert_eq!(rt; desk.batches.as_slice(), batches, "{together}");
     }
+    Ok(())
+}
+
+#[test]
+fn answers_leave_batch_by_batch(rt: HostRuntime) -> Result<(), Fail> {
+    let alloc = rt.alloc();
+    // How often is written: before each batch but the first, and at the end.
+    for (together, writes) in [(1, 6), (2, 4), (3, 3), (64, 3)] {
+        let talk = Talk::new();
+        let mut writer = Counts { talk: &talk };
+        let mut desk = desk(alloc, together, usize::MAX, usize::MAX, usize::MAX)?;
+        let mut reader = LINES;
+        let result = serve(alloc, &mut reader, &mut writer, &mut desk);
+        assert_eq!(rt; result, Ok(()), "{together}");
+        assert_eq!(rt; desk.batches.len(), writes, "{together}");
+        assert_eq!(rt; talk.writes.get(), writes, "{together}");
+        assert_eq!(rt; talk.flushed.get(), 8, "{together}");
+    }
+    Ok(())
+}
+
+#[test]
+fn answers_are_gathered_where_no_desk_waits(rt: HostRuntime) -> Result<(), Fail> {
+    let alloc = rt.alloc();
+    let definition = read_definition(alloc, DEFINITION)?;
+    let mut desk = ScriptDesk::new(Auction::new(alloc, &definition)?);
+    let talk = Talk::new();
+    let mut writer = Counts { talk: &talk };
+    let mut reader = LINES;
+    assert_eq!(rt; serve(alloc, &mut reader, &mut writer, &mut desk), Ok(()));
+    assert_eq!(rt; talk.writes.get(), 1);
+    assert_eq!(rt; talk.flushed.get(), 8);
     Ok(())
 }
 

@@ -115,7 +115,7 @@ impl<M: Copy, R: Wait + Drop> HouseDesk<M, R> {
 }
 
 impl<M: Copy, R: Wait + Drop> Desk for HouseDesk<M, R> {
-    ghost use Rattle.std.specs.Prelude.{false};
+    ghost use Rattle.std.specs.Prelude.{false, true};
     ghost use Rattle.std.proofs.Common.{ap};
     ghost use Rattle.hpb_server.specs.Desk.{no_memory};
     ghost use Rattle.hpb_sessions.specs.Sessions.{DeskStands, RepliesAt, ShowsAt, State as Standing, TellsAt, one_asked, over_at, rules_at};
@@ -144,6 +144,8 @@ impl<M: Copy, R: Wait + Drop> Desk for HouseDesk<M, R> {
 
     ghost takes_memory = { no_memory };
 
+    ghost waits = { true };
+
     ghost rules_are = { λ desk state is. ap (λ viewing. viewing.opened.rules) is.1 };
 
     ghost over_is = { λ desk state is. ap is_over is.3 };
@@ -166,6 +168,10 @@ impl<M: Copy, R: Wait + Drop> Desk for HouseDesk<M, R> {
 
     fn most_asked(&self) -> usize {
         1
+    }
+
+    fn waits_when_asked(&self) -> bool {
+        true
     }
 
     fn ask(&mut self, _alloc: Global, commands: &Commands) -> Result<Replies, AllocError> {

@@ -24,6 +24,8 @@ use std::thread;
 /// finishes the client. After a 95 `order` the client is handed back in place of that. For each answer of the house it
 /// looks so many times, while other threads run, before it sleeps.
 ///
+/// All that is answered is written and flushed before the next command is posted, and before more is read.
+///
 /// The replies fit what the client's viewer shows at the end: each was judged after commands that stand at the front of that
 /// history, and after all that the session was told of before.
 pub fn run_session<M: Copy, R: Wait + Drop, I: Read, O: Write>(

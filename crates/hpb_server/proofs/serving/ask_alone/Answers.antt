@@ -1,59 +1,18 @@
-use Rattle.std.proofs.Common.{[], ◌∷◌, refl, ◌∙◌, arith}
-use Rattle.std.specs.Prelude.{Ok, Err}
-use Rattle.hpb_rules.specs.Rendering.{reply_text}
-use Rattle.hpb_rules.specs.Text.{line_of}
-use Rattle.hpb_rules.specs.declared.request.Request.TheVariants as requests
-use Rattle.hpb_server.proofs.Errors.{err_only, ok_case}
-use Rattle.hpb_server.proofs.Passing.{front_passes, lines_refused, passes_weaker}
-use Rattle.hpb_server.proofs.Queues.{request_answered}
+use Rattle.std.proofs.Common.{[]}
+use Rattle.hpb_server.proofs.Queues.{not_asked, sent_first}
 use Rattle.hpb_server.proofs.serving.ask_alone.Goals as goal
 
-pub returns-in-Ok-clause-passed : goal.returns-in-Ok-clause-passed
-returns-in-Ok-clause-passed g c = λ state at.
-    let request = Ok (requests.Command c.args.command.now) in
-    let asked = c.in-Ok.ensures.asked state at in
-    let answer = reply_text c.in-Ok.reply in
-    let goes = g.met.D.Desk.over_is c.args.desk.now state at ∙ c.requires.goes_on in
-    let stays = g.met.D.Desk.rules_stay state asked.0 c.args.command.now c.in-Ok.reply asked.1 in (
+pub returns-in_err-send_first-clause-passed : goal.returns-in_err-send_first-clause-passed
+returns-in_err-send_first-clause-passed g c = λ state at. (
+  state,
+  not_asked g.D.Desk.rules_at g.D.Desk.over_at g.D.Desk.asks g.D.Desk.looks g.D.Desk.most g.D.Desk.takes_memory [] c.in_err-send_first.field-0.0 c.from_residual.result c.from_residual.ensures.1 c.in_err-send_first.ensures.passed,
+  at,
+)
+
+pub returns-clause-passed : goal.returns-clause-passed
+returns-clause-passed g c = λ state at.
+    let asked = c.ask_alone_now.ensures.passed state at in (
       asked.0,
-      record {
-        answered = request ∷ [];
-        waiting = [];
-        text = line_of answer;
-        parts = refl;
-        answers = request_answered g.D.Desk.rules_at g.D.Desk.over_at g.D.Desk.asks g.D.Desk.looks state asked.0 request answer goes stays (c.in-Ok.reply, asked.1, refl);
-        passes = passes_weaker g.D.Desk.takes_memory _ _ _ _ c.pass_added.result (omega (arith, g.met.D.Desk.most_is_some.0)) (c.pass_added.ensures c.args.output.now answer c.reply-added.ensures);
-        queued = ok_case c.pass_added.result refl;
-      },
+      sent_first g.D.Desk.rules_at g.D.Desk.over_at g.D.Desk.asks g.D.Desk.looks g.D.Desk.most g.D.Desk.takes_memory _ c.ask_alone_now.result c.in_ok-send_first.ensures.passed asked.1,
       asked.2,
     )
-
-pub returns-in_err-send-in-Err-clause-passed : goal.returns-in_err-send-in-Err-clause-passed
-returns-in_err-send-in-Err-clause-passed g c = λ state at. (
-  state,
-  record {
-    answered = [];
-    waiting = Ok (requests.Command c.args.command.now) ∷ [];
-    text = [];
-    parts = refl;
-    answers = (refl, refl);
-    passes = front_passes g.D.Desk.most g.D.Desk.takes_memory _ _ [] c.send.new.self c.in_err-send-in-Err.field-0.0 c.from_residual.result c.from_residual.ensures.1 refl c.in_err-send-in-Err.ensures.bytes;
-    queued = err_only _ _ c.from_residual.result c.from_residual.ensures.1;
-  },
-  c.in-Err.ensures.kept state at,
-)
-
-pub returns-in_ok-send-in-Err-clause-passed : goal.returns-in_ok-send-in-Err-clause-passed
-returns-in_ok-send-in-Err-clause-passed g c = λ state at. (
-  state,
-  record {
-    answered = [];
-    waiting = Ok (requests.Command c.args.command.now) ∷ [];
-    text = [];
-    parts = refl;
-    answers = (refl, refl);
-    passes = lines_refused g.D.Desk.most g.D.Desk.takes_memory _ _ [] c.send.new.self (Err c.into.result) c.into.ensures (omega arith) (λ none. c.in-Err.ensures.refused) refl c.in_ok-send-in-Err.ensures.bytes;
-    queued = tt;
-  },
-  c.in-Err.ensures.kept state at,
-)

@@ -1,0 +1,56 @@
+use Rattle.std.proofs.Common.{[], refl, sym, ap, arith, append-nil}
+use Rattle.std.specs.Prelude.{Err}
+use Rattle.hpb_server.specs.Session.{asked_for, replies_text}
+use Rattle.hpb_server.proofs.Errors.{ok_case}
+use Rattle.hpb_server.proofs.Passing.{front_passes, lines_refused, passes_weaker}
+use Rattle.hpb_server.proofs.Queues.{fewer_replies, queue_answered}
+use Rattle.hpb_server.proofs.serving.ask_waiting_now.Goals as goal
+
+pub returns-in-Ok-clause-passed : goal.returns-in-Ok-clause-passed
+returns-in-Ok-clause-passed g c = λ state at.
+    let commands = c.args.queue.now in
+    let replies = c.in-Ok.replies in
+    let asked = c.in-Ok.ensures.asked state at in
+    let fewer = fewer_replies g.D.Desk.rules_at g.D.Desk.over_at g.D.Desk.asks g.D.Desk.looks state asked.0 commands replies asked.1 in (
+      asked.0,
+      record {
+        answered = asked_for commands;
+        waiting = [];
+        text = replies_text replies;
+        parts = sym (append-nil (asked_for commands));
+        answers = queue_answered g.D.Desk.rules_at g.D.Desk.over_at g.D.Desk.asks g.D.Desk.looks g.met.D.Desk.rules_stay state asked.0 commands replies asked.1;
+        passes = passes_weaker g.D.Desk.takes_memory _ _ _ _ c.pass_replies.result (omega (arith, fewer, c.requires.most)) c.pass_replies.ensures;
+        queued = ok_case c.pass_replies.result (sym (ap asked_for c.clear.ensures));
+      },
+      asked.2,
+    )
+
+pub returns-in_err-send-in-Err-clause-passed : goal.returns-in_err-send-in-Err-clause-passed
+returns-in_err-send-in-Err-clause-passed g c = λ state at. (
+  state,
+  record {
+    answered = [];
+    waiting = asked_for c.args.queue.now;
+    text = [];
+    parts = refl;
+    answers = (refl, refl);
+    passes = front_passes g.D.Desk.most g.D.Desk.takes_memory _ _ [] c.send.new.self c.in_err-send-in-Err.field-0.0 c.from_residual.result c.from_residual.ensures.1 refl c.in_err-send-in-Err.ensures.bytes;
+    queued = ok_case c.from_residual.result refl;
+  },
+  c.in-Err.ensures.kept state at,
+)
+
+pub returns-in_ok-send-in-Err-clause-passed : goal.returns-in_ok-send-in-Err-clause-passed
+returns-in_ok-send-in-Err-clause-passed g c = λ state at. (
+  state,
+  record {
+    answered = [];
+    waiting = asked_for c.args.queue.now;
+    text = [];
+    parts = refl;
+    answers = (refl, refl);
+    passes = lines_refused g.D.Desk.most g.D.Desk.takes_memory _ _ [] c.send.new.self (Err c.into.result) c.into.ensures (omega arith) (λ none. c.in-Err.ensures.refused) refl c.in_ok-send-in-Err.ensures.bytes;
+    queued = tt;
+  },
+  c.in-Err.ensures.kept state at,
+)
