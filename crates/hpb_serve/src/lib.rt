@@ -8,6 +8,8 @@ mod fault;
 mod looking;
 mod serving;
 mod threads;
+mod watching;
 
 pub use fault::ServeFault;
-pub use serving::{Served, serve_opened};
+pub use serving::{Served, serve_opened, serve_watched};
+pub use watching::{Unwatched, Watch};

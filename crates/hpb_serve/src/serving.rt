@@ -7,6 +7,7 @@ ghost use Rattle.hpb_serve.specs.declared.fault.ServeFault.TheVariants.{Order};
 use crate::announcing::announce;
 use crate::fault::ServeFault;
 use crate::threads::run_threads;
+use crate::watching::{Unwatched, Watch};
 use hpb_disk::Disk;
 use hpb_house::{House, Started};
 use hpb_recover::Opened;
@@ -55,6 +56,36 @@ pub fn serve_opened<
     // 95 only where a session had a reason.
     ensures order { result ≡ Err Order → LeavesOne opened.plan.auction }
 {
+    serve_watched(
+        rt, alloc, opened, listener, port, sessions, output, &Unwatched,
+    )
+}
+
+/// Serves so many sessions as `serve_opened` does, while a watch is told what happens beside them: of each connection that
+/// is not accepted, and then nothing is accepted for a moment. It looks at each checkpoint until it has told people of
+/// something, and once all sessions have ended.
+pub fn serve_watched<
+    H: Net<Listener = TcpListener, Stream = TcpStream> + Threads + Wait + Sync,
+    D: Disk + Drop + Send,
+    W: Write,
+    V: Watch + Sync,
+>(
+    rt: &H,
+    alloc: Global,
+    opened: Opened<D>,
+    listener: TcpListener,
+    port: u16,
+    sessions: u8,
+    output: &mut W,
+    watch: &V,
+) -> Result<Served, ServeFault>
+    requires { (1 ≤ sessions) × (sessions ≤ 32) }
+    ensures written { Announces (listening_line port) (W.contents output.old) (W.contents output.new) result }
+    // All sessions have ended, and the commands that they were told of as newly accepted are those that were committed.
+    ensures ended { IfOk result (λ served. EndsAll D.seen D.may_leave opened.plan.auction sessions served) }
+    // 95 only where a session had a reason.
+    ensures order { result ≡ Err Order → LeavesOne opened.plan.auction }
+{
     let Started {
         house,
         intake,
@@ -66,7 +97,7 @@ pub fn serve_opened<
     if let Err(fault) = announce(alloc, port, output) {
         return Err(fault);
     }
-    let mut reports = match run_threads(rt, alloc, &house, intake, clients, listener) {
+    let mut reports = match run_threads(rt, alloc, &house, intake, clients, listener, watch) {
         Ok(reports) => reports,
         Err(fault) => return Err(fault),
     };

@@ -8,6 +8,7 @@ ghost use Rattle.hpb_serve.specs.declared.fault.ServeFault.TheVariants.{Memory, 
 use crate::connection::{Idle, serve_connection};
 use crate::ends::{OfSeat, join_sessions};
 use crate::fault::ServeFault;
+use crate::watching::{Rounds, Watch};
 use hpb_disk::Disk;
 use hpb_house::{Halt, House, OpenGate, checkpointer, committer};
 use hpb_rings::{Client, Intake, Report};
@@ -17,7 +18,8 @@ use std::net::{TcpListener, TcpStream};
 use std::snapshot::Snapshot;
 use std::sync::Wait;
 use std::thread;
-use std::thread::{PromisedHandle, Scope, Threads};
+use std::thread::{Parker, PromisedHandle, Scope, Threads};
+use std::time::Duration;
 
 /// Finishes clients that have no session.
 fn finish_clients<R: Wait>(rt: &R, clients: Vec<Client<Halt>>)
@@ -28,11 +30,22 @@ fn finish_clients<R: Wait>(rt: &R, clients: Vec<Client<Halt>>)
     }
 }
 
-/// The next connection. One that is not accepted has ended.
-fn next_connection(listener: &TcpListener) -> Option<TcpStream> {
+/// How long nothing is accepted after a connection that was not, in milliseconds: what was missing may be there then.
+const PAUSE: u64 = 100;
+
+/// The next connection. One that is not accepted has ended, and a watch is told of it.
+fn next_connection<V: Watch, R: Wait>(
+    rt: &R,
+    listener: &TcpListener,
+    watch: &V,
+) -> Option<TcpStream> {
     match listener.accept() {
         Ok((stream, _)) => Some(stream),
-        Err(_) => None,
+        Err(error) => {
+            watch.missed(&error);
+            Parker::new().park_timeout(rt, Duration::from_millis(PAUSE));
+            None
+        }
     }
 }
 
@@ -40,13 +53,21 @@ fn next_connection(listener: &TcpListener) -> Option<TcpStream> {
 /// listener is closed.
 ///
 /// 90 where a thread is refused. That session is then run by this thread, and is the last: the clients after it are finished.
-fn start_sessions<'s, E, D: Disk + Drop + Send, W: Wait + Drop + Send, R: Threads + Wait + Sync>(
+fn start_sessions<
+    's,
+    E,
+    D: Disk + Drop + Send,
+    W: Wait + Drop + Send,
+    R: Threads + Wait + Sync,
+    V: Watch,
+>(
     scope: &Scope<'s, E>,
     rt: &'s R,
     alloc: Global,
     house: &'s House<D, W>,
     clients: Vec<Client<Halt>>,
     listener: TcpListener,
+    watch: &V,
     threads: Vec<PromisedHandle<SessionEnd<Halt>, OfSeat<D, W>>>,
 ) -> Result<Vec<PromisedHandle<SessionEnd<Halt>, OfSeat<D, W>>>, ServeFault>
     requires ready { All (λ client. SameBoard house.now client.viewer × (client.waiting.items ≡ [])) clients.items }
@@ -63,7 +84,7 @@ fn start_sessions<'s, E, D: Disk + Drop + Send, W: Wait + Drop + Send, R: Thread
             finish_client(rt, client);
             continue;
         };
-        let connection = next_connection(listener);
+        let connection = next_connection(rt, listener, watch);
         let promise = OfSeat {
             house: Snapshot::of(house),
             seat: client.seat,
@@ -93,14 +114,21 @@ fn start_sessions<'s, E, D: Disk + Drop + Send, W: Wait + Drop + Send, R: Thread
 /// Runs the workers of a house and a session for each client, and waits for all of them: the clients' reports.
 ///
 /// 90 where memory or a thread is refused, 95 where a session ended without its client. Each client that has no session
-/// is finished, so that the committer ends.
-pub(crate) fn run_threads<D: Disk + Drop + Send, W: Wait + Drop + Send, R: Threads + Wait + Sync>(
+/// is finished, so that the committer ends. A watch is told of connections that were not accepted, and looks at each checkpoint
+/// and at the end.
+pub(crate) fn run_threads<
+    D: Disk + Drop + Send,
+    W: Wait + Drop + Send,
+    R: Threads + Wait + Sync,
+    V: Watch + Sync,
+>(
     rt: &R,
     alloc: Global,
     house: &House<D, W>,
     intake: Intake<Halt>,
     clients: Vec<Client<Halt>>,
     listener: TcpListener,
+    watch: &V,
 ) -> Result<Vec<Report>, ServeFault>
     requires ready { All (λ client. SameBoard house.now client.viewer × (client.waiting.items ≡ [])) clients.items }
     ensures board { IfOk result (λ reports. All (λ report. SameBoard house.now report.viewer) reports.items) }
@@ -112,7 +140,7 @@ pub(crate) fn run_threads<D: Disk + Drop + Send, W: Wait + Drop + Send, R: Threa
         thread::scope_env(),
         rt,
         move |scope| -> Result<Vec<Report>, ServeFault>
-            requires cross { IsSend D.row × IsSend W.row × IsSync R.row }
+            requires cross { IsSend D.row × IsSend W.row × IsSync R.row × IsSync V.row }
             requires ready { All (λ client. SameBoard house.now client.viewer × (client.waiting.items ≡ [])) clients.items }
             ensures board { IfOk result (λ reports. All (λ report. SameBoard house.entry.now report.viewer) reports.items) }
             ensures seats { IfOk result (λ reports. map (λ report. report.seat) reports.items ≡ map (λ client. client.seat) clients.items) }
@@ -125,14 +153,18 @@ pub(crate) fn run_threads<D: Disk + Drop + Send, W: Wait + Drop + Send, R: Threa
                 house.dismiss();
                 return Err(ServeFault::Memory);
             };
-            let Ok(checkpoints) = scope.spawn(move || checkpointer(rt, house, &OpenGate)) else {
+            let Ok(checkpoints) = scope.spawn(move || checkpointer(rt, house, &Rounds::new(watch)))
+            else {
                 finish_clients(rt, clients);
                 return Err(ServeFault::Memory);
             };
-            let threads = start_sessions(scope, rt, alloc, house, clients, listener, threads)?;
+            let threads = start_sessions(
+                scope, rt, alloc, house, clients, listener, watch, threads,
+            )?;
             let joined = join_sessions(rt, house, threads, reports);
             commits.join(rt);
             checkpoints.join(rt);
+            watch.look();
             joined
         },
     )

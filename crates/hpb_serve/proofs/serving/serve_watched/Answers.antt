@@ -4,7 +4,7 @@ use Rattle.hpb_serve.specs.Ended.{LeavesOne}
 use Rattle.hpb_serve.specs.declared.fault.ServeFault.TheVariants.{Order}
 use Rattle.hpb_serve.proofs.Orders.{fault_or, no_order}
 use Rattle.hpb_serve.proofs.Reports.{apart, of_book, of_opened, same_seats}
-use Rattle.hpb_serve.proofs.serving.serve_opened.Goals as goal
+use Rattle.hpb_serve.proofs.serving.serve_watched.Goals as goal
 
 pub returns-in-Err-announce-clause-order : goal.returns-in-Err-announce-clause-order
 returns-in-Err-announce-clause-order g c = λ is. absurd (no_order c.in-Err-announce.fault c.in-Err-announce.ensures.fault (ap (fault_or Order) is))
