@@ -1,16 +1,24 @@
 //! The program: its words, its input, its output, its status.
 #![tactic(auto)]
 
-use hpb_program::{Noted, program, refuse_words};
+use hpb_program::{Noted, answer_memory, hold_streams, program, refuse_streams, refuse_words};
 use std::io;
-use std::io::IsTerminal;
+use std::io::{ErrorKind, IsTerminal};
 use std::process::ExitCode;
 
 fn main(rt: HostRuntime) -> ExitCode {
     let mut errors = rt.stderr();
+    if let Err(error) = hold_streams(&rt) {
+        return ExitCode::from(refuse_streams(rt.alloc(), &error, &mut errors));
+    }
     let words = match words(&rt) {
         Ok(words) => words,
-        Err(error) => return ExitCode::from(refuse_words(&error, &mut errors)),
+        Err(error) => {
+            if error.kind() == ErrorKind::OutOfMemory {
+                answer_memory(&mut rt.stdout());
+            }
+            return ExitCode::from(refuse_words(&error, &mut errors));
+        }
     };
     let is_terminal = rt.stdin().is_terminal();
     let mut input = Noted::new(rt.stdin());

@@ -10,7 +10,7 @@ use Rattle.clap.specs.Kinds.{IsAmong}
 use Rattle.clap.specs.Faults.{fault_of, is_simple_and_free}
 use Rattle.clap.specs.declared.error.kind.ErrorKind.{ErrorKind}
 use Rattle.clap.specs.declared.error.kind.ErrorKind.TheVariants.{OutOfMemory}
-use Rattle.hpb_program.specs.Words.{hpb, AsksFor, HasKnownCommand, IsKnownName, IsTold}
+use Rattle.hpb_program.specs.Words.{hpb, AreWellGiven, AsksFor, HasKnownCommand, IsKnownName, IsTold, IsWrong}
 use Rattle.hpb_program.specs.declared.words.WordsFault.{WordsFault}
 use Rattle.hpb_program.specs.declared.words.WordsFault.TheVariants.{Memory, Refused}
 
@@ -46,8 +46,13 @@ known_command words = known_at (stop_after (built hpb).top.rules (names_of (buil
 pub told_asked : (words : List (List ℕ)) (app : App) (kind : ErrorKind) (fault : WordsFault) → app ≡ hpb
     → (is_simple_and_free app ≡ true → (kind ≡ OutOfMemory) ⊎ IsAmong kind (fault_of app words)) → IsTold kind fault → AsksFor words (Err fault)
 told_asked words app kind Memory is fails told = tt
-told_asked words app kind (Refused text status) is fails told = (
+told_asked words app kind (Refused text status) is fails told = inl (
   kind,
   ⊎_elim (λ none. absurd (told.0 none)) (λ among. subst (λ (a : App). IsAmong kind (fault_of a words)) is among) (fails (ap is_simple_and_free is)),
   told.1,
 )
+
+-- a value that isn't given well is told
+pub told_value : (words : List (List ℕ)) (fault : WordsFault) → fault_of hpb words ≡ [] → (AreWellGiven (subcommand_of hpb words) → ⊥) → IsWrong fault → AsksFor words (Err fault)
+told_value words Memory none ill wrong = absurd wrong
+told_value words (Refused text status) none ill wrong = inr (none, ill, wrong)

@@ -93,6 +93,7 @@ module _ (journal : ℕ) (before after : Streams) (text : List ℕ) (gives : Giv
       go faults.Journal of = absurd of
       go (faults.Open f) of = absurd of
       go (faults.Port at error) of = absurd of
+      go (faults.Descriptors sessions wanted error) of = absurd of
       go faults.Place of = absurd of
       go faults.Order of = absurd of
       go faults.Counts of = absurd of
@@ -113,6 +114,10 @@ of_file fault made is = subst IsOfFile (sym is) (go fault)
     go files.Busy = tt
     go files.NotAFile = tt
     go files.TooLong = tt
+    go files.Stream = tt
+    go files.Errors = tt
+    go files.Beside = tt
+    go (files.Limit len limit) = tt
     go (files.System e) = tt
 
 pub of_formatting : (cause : FormatCause) (made : JobFault) → made ≡ made_of_formatting cause → IsOfFile made

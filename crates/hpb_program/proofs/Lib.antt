@@ -5,3 +5,4 @@ mod Kept
 mod Options
 mod Served
 mod Taking
+mod ValueTexts

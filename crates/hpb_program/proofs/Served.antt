@@ -16,7 +16,7 @@ use Rattle.hpb_program.specs.declared.job_fault.JobFault.TheVariants as faults
 use Rattle.hpb_program.specs.declared.run_end.RunEnd.{RunEnd}
 use Rattle.hpb_program.specs.Jobs.{made_of_file, made_of_serving}
 use Rattle.hpb_program.specs.Keeping.{IsNotOpened}
-use Rattle.hpb_program.specs.Serving.{IsReadable, ServesFile, ServesKept}
+use Rattle.hpb_program.specs.Serving.{IsOfDescriptors, IsReadable, ServesFile, ServesKept}
 
 -- a device that is not opened is not served, and nothing is written
 pub unopened : (image : List ℕ) (port : ℕ) (contents : Option (List ℕ)) (fault : JobFault) → IsNotOpened image fault → ServesKept image port contents contents (Err fault)
@@ -31,6 +31,7 @@ unopened image port contents (faults.Definition refusal) not = ⊎_elim (λ e. a
 unopened image port contents faults.Journal not = ⊎_elim (λ e. absurd (cc)) (λ e. absurd (cc)) not
 unopened image port contents (faults.Format cause) not = ⊎_elim (λ e. absurd (cc)) (λ e. absurd (cc)) not
 unopened image port contents (faults.Port at error) not = ⊎_elim (λ e. absurd (cc)) (λ e. absurd (cc)) not
+unopened image port contents (faults.Descriptors sessions wanted error) not = ⊎_elim (λ e. absurd (cc)) (λ e. absurd (cc)) not
 unopened image port contents faults.Place not = ⊎_elim (λ e. absurd (cc)) (λ e. absurd (cc)) not
 unopened image port contents faults.Order not = ⊎_elim (λ e. absurd (cc)) (λ e. absurd (cc)) not
 unopened image port contents faults.Counts not = ⊎_elim (λ e. absurd (cc)) (λ e. absurd (cc)) not
@@ -57,7 +58,27 @@ unopened_file port contents fault made is = subst (λ (m : JobFault). ServesFile
     go files.Busy = Keeps-refl contents
     go files.NotAFile = Keeps-refl contents
     go files.TooLong = Keeps-refl contents
+    go files.Stream = Keeps-refl contents
+    go files.Errors = Keeps-refl contents
+    go files.Beside = Keeps-refl contents
+    go (files.Limit len limit) = Keeps-refl contents
     go (files.System e) = Keeps-refl contents
+
+-- where too few files and connections may be had at a time, nothing is served
+pub unheld : (port : ℕ) (contents : Option (List ℕ)) (fault : JobFault) → IsOfDescriptors fault → ServesFile port contents contents (Err fault)
+unheld port contents faults.Memory is = inl (Keeps-refl contents)
+unheld port contents (faults.Descriptors sessions wanted error) is = Keeps-refl contents
+unheld port contents (faults.File fault) is = absurd is
+unheld port contents (faults.Open cause) is = absurd is
+unheld port contents faults.Reader is = absurd is
+unheld port contents faults.Writer is = absurd is
+unheld port contents (faults.Definition refusal) is = absurd is
+unheld port contents faults.Journal is = absurd is
+unheld port contents (faults.Format cause) is = absurd is
+unheld port contents (faults.Port at error) is = absurd is
+unheld port contents faults.Place is = absurd is
+unheld port contents faults.Order is = absurd is
+unheld port contents faults.Counts is = absurd is
 
 -- what is served of a device in a file is served of the file
 pub of_device : (image : List ℕ) (port : ℕ) (old new : Option (List ℕ)) (end : Result RunEnd JobFault) → ServesKept image port old new end → ServesFile port old new end
@@ -71,6 +92,7 @@ of_device image port old new (Err (faults.Definition refusal)) kept = absurd kep
 of_device image port old new (Err faults.Journal) kept = absurd kept
 of_device image port old new (Err (faults.Format cause)) kept = absurd kept
 of_device image port old new (Err (faults.Port at error)) kept = (image, kept)
+of_device image port old new (Err (faults.Descriptors sessions wanted error)) kept = absurd kept
 of_device image port old new (Err faults.Place) kept = (image, kept)
 of_device image port old new (Err faults.Order) kept = (image, kept)
 of_device image port old new (Err faults.Counts) kept = (image, kept)

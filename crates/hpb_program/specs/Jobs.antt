@@ -45,6 +45,7 @@ refusal_of (faults.File fault) = refusals.Device
 refusal_of (faults.Format cause) = formats.refusal_of cause
 refusal_of (faults.Open cause) = causes.refusal_of cause
 refusal_of (faults.Port at error) = refusals.Stream
+refusal_of (faults.Descriptors sessions wanted error) = refusals.Stream
 refusal_of faults.Place = refusals.Place
 refusal_of faults.Order = refusals.Order
 refusal_of faults.Counts = refusals.Counts

@@ -20,7 +20,7 @@ use Rattle.hpb_program.specs.Words.{AsksFor}
 use Rattle.hpb_program.specs.Jobs.{refusal_of, Checks, Formats}
 use Rattle.hpb_server.specs.Fault as sessions
 use Rattle.hpb_server.specs.Script.{RunsScript}
-use Rattle.hpb_server.specs.Streams.{Streams, AreKept}
+use Rattle.hpb_server.specs.Streams.{Streams}
 use Rattle.hpb_server.specs.Telling.{Says, SaysOfScript, TellsOf}
 use Rattle.hpb_rules.specs.declared.refusal.Refusal.TheVariants as refusals
 use Rattle.hpb_program.specs.declared.hints.TheConstants.{SCRIPT_HINT, FORMAT_HINT, RUN_HINT}
@@ -45,6 +45,11 @@ HasStatus (Refused text status) = (status ≡ WELL) ⊎ (status ≡ WRONG_WORDS)
 abbrev pub SaysFault : (errors_old errors_new : Option (List ℕ)) → WordsFault → Type 0
 SaysFault errors_old errors_new Memory = TellsOf errors_old errors_new refusals.Memory
 SaysFault errors_old errors_new (Refused text status) = Says errors_old errors_new (string_bytes text)
+
+-- What is written of words that ask for no job: the line of 90 where memory was refused, and else nothing.
+abbrev pub AnswersFault : (old new : Option (List ℕ)) → WordsFault → Type 0
+AnswersFault old new Memory = Says old new (line_of (refusal_text refusals.Memory))
+AnswersFault old new (Refused text status) = Keeps old new
 
 -- What is told of a fault on the output: the line of its refusal; or nothing where the output failed, since a front of another line may stand there.
 abbrev pub told_text : JobFault → List ℕ
@@ -104,11 +109,17 @@ RunsJob is_terminal (Serve file port sessions) before after errors_old errors_ne
     (served : Option (List ℕ)) × (end : Result RunEnd JobFault) × ServesFile port before.contents served end
     × Keeps before.remaining after.remaining × TellsRun served after.contents errors_old errors_new end status
 
--- What is done by what words ask for: a terminal is told what to type, and their job is done; or nothing, and the errors are told why.
+-- A standard stream leads to the file of a job: nothing is read, and 91 is told on the output and the errors, but nothing on the one that leads there.
+abbrev pub RefusesStreams : (before after : Streams) (errors_old errors_new : Option (List ℕ)) → ℕ → Type 0
+RefusesStreams before after errors_old errors_new status =
+    Keeps before.remaining after.remaining × Says before.contents after.contents (line_of (refusal_text refusals.Device)) × TellsOf errors_old errors_new refusals.Device × (status ≡ ILL)
+
+-- What is done by what words ask for: a terminal is told what to type, and their job is done, unless a standard stream leads to its file; or nothing is read, and the errors are told why.
 abbrev pub RunsAsked : (is_terminal : Bool) → Result Job WordsFault → (before after : Streams) (errors_old errors_new : Option (List ℕ)) → ℕ → Type 0
 RunsAsked is_terminal (Ok job) before after errors_old errors_new status =
-    (errors_hinted : Option (List ℕ)) × Says errors_old errors_hinted (hint_text is_terminal job) × RunsJob is_terminal job before after errors_hinted errors_new status
-RunsAsked is_terminal (Err fault) before after errors_old errors_new status = AreKept before after × SaysFault errors_old errors_new fault × HasStatus fault × (status ≡ status_of_fault fault)
+    RefusesStreams before after errors_old errors_new status
+    ⊎ ((errors_hinted : Option (List ℕ)) × Says errors_old errors_hinted (hint_text is_terminal job) × RunsJob is_terminal job before after errors_hinted errors_new status)
+RunsAsked is_terminal (Err fault) before after errors_old errors_new status = Keeps before.remaining after.remaining × AnswersFault before.contents after.contents fault × SaysFault errors_old errors_new fault × HasStatus fault × (status ≡ status_of_fault fault)
 
 -- What the words ask for is done.
 abbrev pub RunsProgram : (is_terminal : Bool) (words : List (List ℕ)) (before after : Streams) (errors_old errors_new : Option (List ℕ)) → ℕ → Type 0

@@ -45,8 +45,15 @@ ServesKept image port old new (Err faults.Order) = IsReadable image × Appends o
 ServesKept image port old new (Err faults.Counts) = IsReadable image × Appends old new (listening_line port)
 ServesKept image port old new (Err fault) = ⊥
 
--- The same of a file, of whose bytes nothing else is known; or it was not opened, and nothing was written.
+-- A fault of looking for the files and connections that there may be at a time.
+abbrev pub IsOfDescriptors : JobFault → Type 0
+IsOfDescriptors faults.Memory = Unit {0}
+IsOfDescriptors (faults.Descriptors sessions wanted error) = Unit {0}
+IsOfDescriptors fault = ⊥
+
+-- The same of a file, of whose bytes nothing else is known; or it was not opened, or too few files and connections may be had at a time, and nothing was written.
 abbrev pub ServesFile : (port : ℕ) (old new : Option (List ℕ)) → Result RunEnd JobFault → Type 0
 ServesFile port old new (Err (faults.File fault)) = Keeps old new
+ServesFile port old new (Err (faults.Descriptors sessions wanted error)) = Keeps old new
 ServesFile port old new (Err faults.Memory) = StopsAnywhere port old new
 ServesFile port old new end = (image : List ℕ) × ServesKept image port old new end

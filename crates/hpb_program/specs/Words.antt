@@ -1,5 +1,6 @@
 -- What words ask the program for, by what `clap` states of its commands and options.
-use Rattle.std.specs.Prelude.{◌≡◌, ◌≢◌, ◌⊎◌, ℕ, ◌<◌, ◌≤◌, ◌^◌, max, min, List, [], ◌∷◌, true, pos, codes, unwrap_or, option_map, Option, Some, None, Result, Ok, Err}
+use Rattle.std.specs.Prelude.{◌≡◌, ◌≢◌, ◌⊎◌, IfSome, ℕ, ◌<◌, ◌≤◌, ◌^◌, max, min, List, [], ◌∷◌, true, pos, codes, unwrap_or, option_map, Option, Some, None, Result, Ok, Err}
+use Rattle.std.specs.Str.{all_ascii_digits}
 use Rattle.std.specs.Str.Parse.{IsNumeral, digits_value, without_leading_plus}
 use Rattle.clap.specs.Simple.{App, Shape, new_app, new_rule, on_top, subcommand_of, with_rule, with_subcommand}
 use Rattle.clap.specs.Walk.{Row, Rule, first_of, one_of}
@@ -76,6 +77,21 @@ EndsBy kind status = (IsShown kind × (status ≡ WELL)) ⊎ ((IsShown kind → 
 abbrev pub text_in : List Row → List ℕ → List ℕ
 text_in rows name = unwrap_or (first_of name rows) []
 
+-- An option's value is digits alone, where it has one.
+abbrev pub IsGivenByDigits : List Row → List ℕ → Type 0
+IsGivenByDigits rows name = IfSome (first_of name rows) (λ text. all_ascii_digits text ≡ true)
+
+-- The file's name has a character at least, and each number is given by digits alone, without a sign.
+abbrev pub AreWellGivenIn : List Row → Type 0
+AreWellGivenIn rows =
+    (text_in rows (codes "file") ≢ []) × IsGivenByDigits rows (codes "journal") × IsGivenByDigits rows (codes "batch")
+    × IsGivenByDigits rows (codes "every") × IsGivenByDigits rows (codes "port") × IsGivenByDigits rows (codes "sessions")
+
+-- So are the values of a command, if there is one.
+abbrev pub AreWellGiven : Option (List ℕ × List Row) → Type 0
+AreWellGiven None = Unit {0}
+AreWellGiven (Some found) = AreWellGivenIn found.1
+
 -- Digits spell a number of so many bits.
 abbrev pub IsNumber : (bits : ℕ) → List ℕ → Type 0
 IsNumber bits digits = IsNumeral 10 digits × (digits_value 10 digits < 2 ^ bits)
@@ -131,16 +147,27 @@ abbrev pub HasKnownCommand : Option (List ℕ × List Row) → Type 0
 HasKnownCommand None = Unit {0}
 HasKnownCommand (Some found) = IsKnownName found.0
 
--- These words ask for a job where nothing is wrong with them, and else a status is given by one of the kinds of what is.
+-- These words ask for no job, and end by such a status: by one of the kinds of what is wrong or asked for, or with a value that isn't given well.
+abbrev pub EndsWords : List (List ℕ) → ℕ → Type 0
+EndsWords words status =
+    ((kind : ErrorKind) × IsAmong kind (fault_of hpb words) × EndsBy kind status)
+    ⊎ ((fault_of hpb words ≡ []) × (AreWellGiven (subcommand_of hpb words) → ⊥) × (status ≡ WRONG_WORDS))
+
+-- These words ask for a job where nothing is wrong with them and their values are given well, and else end by a status.
 abbrev pub AsksFor : List (List ℕ) → Result Job WordsFault → Type 0
-AsksFor words (Ok job) = (fault_of hpb words ≡ []) × IsJobOf (subcommand_of hpb words) job
+AsksFor words (Ok job) = (fault_of hpb words ≡ []) × AreWellGiven (subcommand_of hpb words) × IsJobOf (subcommand_of hpb words) job
 AsksFor words (Err Memory) = Unit {0}
-AsksFor words (Err (Refused text status)) = (kind : ErrorKind) × IsAmong kind (fault_of hpb words) × EndsBy kind status
+AsksFor words (Err (Refused text status)) = EndsWords words status
 
 -- What is told of an error of this kind.
 abbrev pub IsTold : ErrorKind → WordsFault → Type 0
 IsTold kind Memory = Unit {0}
 IsTold kind (Refused text status) = (kind ≢ OutOfMemory) × EndsBy kind status
+
+-- Words are told to be wrong.
+abbrev pub IsWrong : WordsFault → Type 0
+IsWrong Memory = ⊥
+IsWrong (Refused text status) = status ≡ WRONG_WORDS
 
 -- A command with the texts of its file and its number.
 abbrev pub options_in : Option (List ℕ × List Row) → Option (List ℕ × Option (List ℕ) × Option (List ℕ))
@@ -178,6 +205,7 @@ pub record WordsAskFor : Type 0 where
   pub checks : (name : List ℕ) → options_in (subcommand_of hpb (name ∷ codes "check" ∷ codes "--file=a.hpb" ∷ [])) ≡ Some (codes "check", Some (codes "a.hpb"), None)
   pub check_help : (name : List ℕ) → fault_of hpb (name ∷ codes "check" ∷ codes "--help" ∷ []) ≡ DisplayHelp ∷ []
   pub check_file : (name : List ℕ) → fault_of hpb (name ∷ codes "check" ∷ []) ≡ MissingRequiredArgument ∷ []
+  pub no_name : (name : List ℕ) → AreWellGiven (subcommand_of hpb (name ∷ codes "check" ∷ codes "--file=" ∷ [])) → ⊥
   pub run : (name : List ℕ) → fault_of hpb (name ∷ codes "run" ∷ codes "--file" ∷ codes "a.hpb" ∷ codes "--batch" ∷ codes "16" ∷ codes "--every" ∷ codes "50" ∷ []) ≡ []
   pub runs : (name : List ℕ) → run_options_in (subcommand_of hpb (name ∷ codes "run" ∷ codes "--file" ∷ codes "a.hpb" ∷ codes "--batch" ∷ codes "16" ∷ codes "--every" ∷ codes "50" ∷ []))
       ≡ Some (codes "run", Some (codes "a.hpb"), Some (codes "16"), Some (codes "50"))
@@ -189,6 +217,8 @@ pub record WordsAskFor : Type 0 where
   pub most_batch : (name : List ℕ) → fault_of hpb (name ∷ codes "run" ∷ codes "--file=a.hpb" ∷ codes "--batch=64" ∷ []) ≡ []
   pub below_batch : (name : List ℕ) → fault_of hpb (name ∷ codes "run" ∷ codes "--file=a.hpb" ∷ codes "--batch=0" ∷ []) ≡ ValueValidation ∷ []
   pub above_batch : (name : List ℕ) → fault_of hpb (name ∷ codes "run" ∷ codes "--file=a.hpb" ∷ codes "--batch=65" ∷ []) ≡ ValueValidation ∷ []
+  pub signed_every : (name : List ℕ) → AreWellGiven (subcommand_of hpb (name ∷ codes "run" ∷ codes "--file=a.hpb" ∷ codes "--every=-0" ∷ [])) → ⊥
+  pub signed_port : (name : List ℕ) → AreWellGiven (subcommand_of hpb (name ∷ codes "serve" ∷ codes "--file=a.hpb" ∷ codes "--port=+5000" ∷ codes "--sessions=2" ∷ [])) → ⊥
   pub serve : (name : List ℕ) → fault_of hpb (name ∷ codes "serve" ∷ codes "--file" ∷ codes "a.hpb" ∷ codes "--port" ∷ codes "5000" ∷ codes "--sessions" ∷ codes "2" ∷ []) ≡ []
   pub serves : (name : List ℕ) → serve_options_in (subcommand_of hpb (name ∷ codes "serve" ∷ codes "--file" ∷ codes "a.hpb" ∷ codes "--port" ∷ codes "5000" ∷ codes "--sessions" ∷ codes "2" ∷ []))
       ≡ Some (codes "serve", Some (codes "a.hpb"), Some (codes "5000"), Some (codes "2"))

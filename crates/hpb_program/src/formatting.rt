@@ -8,7 +8,7 @@ ghost use Rattle.hpb_server.specs.Streams.{streams};
 
 use crate::job_fault::JobFault;
 use hpb_define::read_definition;
-use hpb_disk::{FileDisk, FileFault};
+use hpb_disk::FileDisk;
 use hpb_format::format;
 use hpb_image::PAGE_BYTES;
 use hpb_journal::{Frames, JOURNAL_AT, LEAST_FRAMES, MOST_FRAMES, PageFrames};
@@ -17,7 +17,7 @@ use hpb_server::{read_some, send_bytes};
 use hpb_tree::Definition;
 use std::alloc::{AllocError, Global};
 use std::fs::{File, Files};
-use std::io::{ErrorKind, Read, Write};
+use std::io::{Read, Write};
 
 /// The pages before a journal.
 const FIRST_PAGES: u32 = (JOURNAL_AT / PAGE_BYTES) as u32;
@@ -128,27 +128,13 @@ fn format_file<H: Files<File = File>>(
     ensures fault { IfErr result IsOfFile }
     ensures new { IfOk result (λ disk. Within (file_left disk) (IsNew definition.now journal)) }
 {
-    let disk = match open_or_make(rt, alloc, file, PageFrames::new(journal).device_len()) {
+    let len = PageFrames::new(journal).device_len();
+    let disk = match FileDisk::open_or_make(rt, alloc, file, len) {
         Ok(disk) => disk,
         Err(fault) => return Err(JobFault::from(fault)),
     };
     match format(alloc, disk, definition, journal) {
         Ok(disk) => Ok(disk),
         Err(fault) => Err(JobFault::from(fault.cause)),
-    }
-}
-
-/// Opens the file of a path, or makes one of so many bytes where none is.
-fn open_or_make<H: Files<File = File>>(
-    rt: &H,
-    alloc: Global,
-    file: &str,
-    len: usize,
-) -> Result<FileDisk, FileFault> {
-    match FileDisk::open(rt, alloc, file) {
-        Err(FileFault::System(error)) if error.kind() == ErrorKind::NotFound => {
-            FileDisk::make(rt, alloc, file, len)
-        }
-        opened => opened,
     }
 }

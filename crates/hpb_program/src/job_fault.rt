@@ -36,7 +36,16 @@ pub enum JobFault {
     /// 40, 42, 44, 45 or 91: what the file holds was not opened.
     Open(Cause),
     /// 92: connections to this port can't be had.
-    Port { port: u16, error: io::Error },
+    Port {
+        port: u16,
+        error: io::Error,
+    },
+    /// 92: so many sessions want so many files and connections at a time, and can't have them.
+    Descriptors {
+        sessions: u8,
+        wanted: u64,
+        error: io::Error,
+    },
     /// 94: the place of a session was refused.
     Place,
     /// 95: an answer came that isn't the one that its session waited for.
@@ -58,7 +67,7 @@ impl JobFault {
             JobFault::File(_) => Refusal::Device,
             JobFault::Format(cause) => cause.refusal(),
             JobFault::Open(cause) => cause.refusal(),
-            JobFault::Port { .. } => Refusal::Stream,
+            JobFault::Port { .. } | JobFault::Descriptors { .. } => Refusal::Stream,
             JobFault::Place => Refusal::Place,
             JobFault::Order => Refusal::Order,
             JobFault::Counts => Refusal::Counts,
@@ -161,6 +170,14 @@ impl fmt::Display for Advice<'_> {
                 f,
                 "port {port} can't be had: {error}: choose another, by --port"
             ),
+            JobFault::Descriptors {
+                sessions,
+                wanted,
+                error,
+            } => write!(
+                f,
+                "{sessions} sessions want {wanted} files and connections at a time: {error}: let the process have as many (ulimit -n), or give fewer to --sessions"
+            ),
             JobFault::Place => write!(
                 f,
                 "a session has no place in memory: free some, or give fewer to --sessions"
@@ -191,6 +208,18 @@ fn advise_of_file<W: fmt::Write>(
         FileFault::TooLong => write!(
             f,
             "{file} is longer than any file of an auction: name another"
+        ),
+        FileFault::Stream | FileFault::Errors => write!(
+            f,
+            "a standard stream leads to {file}: let it lead elsewhere"
+        ),
+        FileFault::Beside => write!(
+            f,
+            "{file}.new is there, by which name {file} is made first: if no other hpb makes it now, give that one another name"
+        ),
+        FileFault::Limit { len, limit } => write!(
+            f,
+            "{file} wants {len} bytes, and this process may write no more than {limit} to a file: let it write more (ulimit -f)"
         ),
         FileFault::Memory(_) => write!(f, "memory was refused"),
         FileFault::System(error) => write!(

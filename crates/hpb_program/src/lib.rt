@@ -2,12 +2,14 @@
 #![tactic(auto)]
 
 mod checking;
+mod descriptors;
 mod escaped;
 mod formatting;
 mod hints;
 mod job_fault;
 mod keeping;
 mod laws;
+mod lookout;
 mod noted;
 mod run_end;
 mod running;
@@ -16,7 +18,9 @@ mod served_end;
 mod serving;
 mod status;
 mod stream_words;
+mod streams;
 mod telling;
+mod values;
 mod words;
 
 pub use checking::check_device;
@@ -25,8 +29,10 @@ pub use keeping::run_kept;
 pub use laws::words_ask_for;
 pub use noted::Noted;
 pub use run_end::RunEnd;
-pub use running::{program, refuse_words};
+pub use running::{program, refuse_streams, refuse_words};
 pub use serving::serve_kept;
+pub use streams::hold_streams;
+pub use telling::answer_memory;
 pub use words::{Job, WordsFault, read_words};
 
 #[cfg(test)]

@@ -1,6 +1,6 @@
 ghost use Rattle.std.specs.Prelude.{◌≡◌, ◌≢◌, ◌≤◌, IfErr, IfOk, map};
 ghost use Rattle.std.specs.IoError.{error_kind};
-ghost use Rattle.hpb_program.specs.Program.{HasStatus, RunsAsked, RunsJob, RunsProgram, SaysFault, TellsEnd, TellsEnded, TellsRun, TellsScript, hint_text, status_of_fault, status_of_script};
+ghost use Rattle.hpb_program.specs.Program.{AnswersFault, HasStatus, RunsAsked, RunsJob, RunsProgram, SaysFault, TellsEnd, TellsEnded, TellsRun, TellsScript, hint_text, status_of_fault, status_of_script};
 ghost use Rattle.hpb_server.specs.Streams.{streams};
 ghost use Rattle.hpb_rules.specs.declared.refusal.Refusal.TheVariants as refusals;
 ghost use Rattle.hpb_program.specs.Words.{HasRanges};
@@ -17,7 +17,9 @@ use crate::script_end::ScriptAdvice;
 use crate::served_end::ServedAdvice;
 use crate::serving::serve_file;
 use crate::status::{ILL, WELL, WRONG_WORDS};
-use crate::telling::{advise, tell, tell_memory};
+use crate::stream_words::StreamsAdvice;
+use crate::streams::{Led, refuse_led};
+use crate::telling::{advise, answer_memory, tell, tell_memory};
 use crate::words::{Job, WordsFault, read_words};
 use hpb_rules::Refusal;
 use hpb_server::{Fault, ScriptEnd, run_script, say};
@@ -74,6 +76,15 @@ pub fn refuse_words<E: Write>(error: &io::Error, errors: &mut E) -> u8
     WRONG_WORDS
 }
 
+/// The status of the program where its standard streams can't be held: 1. The errors are told why, as far as there are any.
+pub fn refuse_streams<E: Write>(alloc: Global, error: &io::Error, errors: &mut E) -> u8
+    ensures status { result ≡ ILL }
+    ensures told { TellsOf (E.contents errors.old) (E.contents errors.new) refusals.Stream }
+{
+    advise(alloc, Refusal::Stream, StreamsAdvice(error), errors);
+    ILL
+}
+
 /// Does what words ask for, and gives the program's status.
 fn run_asked<
     H: Files<File = File> + Net<Listener = TcpListener, Stream = TcpStream> + Threads + Wait + Sync,
@@ -97,10 +108,15 @@ fn run_asked<
 {
     match asked {
         Ok(job) => {
+            let file = job.file();
+            let led = Led::to(rt, file);
+            if led.is_any() {
+                return refuse_led(alloc, file, led, output, errors);
+            }
             hint(job, is_terminal, errors);
             run_job(rt, alloc, job, input, output, errors, is_terminal)
         }
-        Err(fault) => say_fault(fault, errors),
+        Err(fault) => say_fault(fault, output, errors),
     }
 }
 
@@ -277,15 +293,18 @@ fn tell_ended<A: fmt::Display + Copy, E: Write>(
     ILL
 }
 
-/// Says what is wrong with words, or what help they ask for, and gives the program's status.
-fn say_fault<E: Write>(fault: WordsFault, errors: &mut E) -> u8
+/// Says what is wrong with words, or what help they ask for, and gives the program's status. The output has the line of 90
+/// where memory was refused.
+fn say_fault<W: Write, E: Write>(fault: WordsFault, output: &mut W, errors: &mut E) -> u8
     requires { HasStatus fault }
     ensures status { result ≤ WRONG_WORDS }
     ensures value { result ≡ status_of_fault fault }
+    ensures answered { AnswersFault (W.contents output.old) (W.contents output.new) fault }
     ensures said { SaysFault (E.contents errors.old) (E.contents errors.new) fault }
 {
     match fault {
         WordsFault::Memory => {
+            answer_memory(output);
             tell_memory(errors);
             ILL
         }

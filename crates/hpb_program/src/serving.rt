@@ -4,11 +4,13 @@ ghost use Rattle.hpb_program.specs.Keeping.{IsNotOpened};
 ghost use Rattle.hpb_program.specs.Serving.{IsReadable, ServesFile, ServesKept, closed_line};
 ghost use Rattle.hpb_server.specs.Writing.{Sends};
 
+use crate::descriptors::look_for_descriptors;
 use crate::job_fault::JobFault;
+use crate::lookout::Lookout;
 use crate::run_end::RunEnd;
 use hpb_disk::{Disk, FileDisk};
 use hpb_recover::{Opened, open};
-use hpb_serve::serve_opened;
+use hpb_serve::{Unwatched, Watch, serve_watched};
 use hpb_server::{Fault, send_bytes};
 use std::alloc::{AllocError, Global};
 use std::fs::{File, Files};
@@ -21,8 +23,9 @@ use std::thread::Threads;
 /// As many bytes as the line of the end may have: the number of commands has 32 bits, so ten digits at most.
 const CLOSED_BYTES: usize = 18;
 
-/// Serves so many sessions with the auction that the file of a path keeps, as `serve_kept` says.
-#[tactic(auto, using(crate::proofs::Served::of_device, crate::proofs::Served::unopened_file))]
+/// Serves so many sessions with the auction that the file of a path keeps, as `serve_kept` says, once there may be as many
+/// connections at a time as that takes.
+#[tactic(auto, using(crate::proofs::Served::of_device, crate::proofs::Served::unheld, crate::proofs::Served::unopened_file))]
 pub(crate) fn serve_file<
     H: Files<File = File> + Net<Listener = TcpListener, Stream = TcpStream> + Threads + Wait + Sync,
     W: Write,
@@ -41,7 +44,14 @@ pub(crate) fn serve_file<
         Ok(disk) => disk,
         Err(fault) => return Err(JobFault::from(fault)),
     };
-    serve_kept(rt, alloc, disk, port, sessions, output)
+    let lookout = match Lookout::new(rt, alloc, file, &disk) {
+        Ok(lookout) => lookout,
+        Err(fault) => return Err(JobFault::from(fault)),
+    };
+    if let Err(fault) = look_for_descriptors(rt, alloc, sessions) {
+        return Err(fault);
+    }
+    serve_device(rt, alloc, disk, port, sessions, output, &lookout)
 }
 
 /// Serves so many sessions, from 1 to 32, with the auction that a device keeps, over connections to a port of 127.0.0.1.
@@ -51,7 +61,6 @@ pub(crate) fn serve_file<
 /// The port is asked for only where the device was opened, and nothing is written where either was refused: 40, 42, 44, 45
 /// and 91 of the device, 92 of the port. A house that wasn't started is 90 or 94, a session that took no answer 95, and
 /// what was answered and isn't what was kept 96.
-#[tactic(auto, using(crate::proofs::Served::unopened))]
 pub fn serve_kept<
     H: Net<Listener = TcpListener, Stream = TcpStream> + Threads + Wait + Sync,
     D: Disk + Drop + Send,
@@ -63,6 +72,28 @@ pub fn serve_kept<
     port: u16,
     sessions: u8,
     output: &mut W,
+) -> Result<RunEnd, JobFault>
+    requires { (1 ≤ sessions) × (sessions ≤ 32) }
+    ensures { ServesKept (D.seen disk) port (W.contents output.old) (W.contents output.new) result }
+{
+    serve_device(rt, alloc, disk, port, sessions, output, &Unwatched)
+}
+
+/// Serves so many sessions as `serve_kept` does, while a watch is told what happens beside them.
+#[tactic(auto, using(crate::proofs::Served::unopened))]
+fn serve_device<
+    H: Net<Listener = TcpListener, Stream = TcpStream> + Threads + Wait + Sync,
+    D: Disk + Drop + Send,
+    W: Write,
+    V: Watch + Sync,
+>(
+    rt: &H,
+    alloc: Global,
+    disk: D,
+    port: u16,
+    sessions: u8,
+    output: &mut W,
+    watch: &V,
 ) -> Result<RunEnd, JobFault>
     requires { (1 ≤ sessions) × (sessions ≤ 32) }
     ensures { ServesKept (D.seen disk) port (W.contents output.old) (W.contents output.new) result }
@@ -80,7 +111,7 @@ pub fn serve_kept<
         Ok(listener) => listener,
         Err(error) => return Err(JobFault::Port { port, error }),
     };
-    let served = match serve_opened(rt, alloc, opened, listener, port, sessions, output) {
+    let served = match serve_watched(rt, alloc, opened, listener, port, sessions, output, watch) {
         Ok(served) => served,
         Err(fault) => return Err(JobFault::from(fault)),
     };

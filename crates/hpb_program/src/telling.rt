@@ -24,9 +24,16 @@ pub(crate) fn tell<W: Write>(alloc: Global, fault: &JobFault, output: &mut W)
 {
     match fault {
         JobFault::Writer => {}
-        JobFault::Memory => say(line_of_memory().as_bytes(), output),
+        JobFault::Memory => answer_memory(output),
         other => tell_refusal(alloc, other.refusal(), output),
     }
+}
+
+/// Writes the line of 90, without taking memory.
+pub fn answer_memory<W: Write>(output: &mut W)
+    ensures { Says (W.contents output.old) (W.contents output.new) (line_of (refusal_text refusals.Memory)) }
+{
+    say(line_of_memory().as_bytes(), output);
 }
 
 fn line_of_memory() -> &'static str
@@ -35,7 +42,7 @@ fn line_of_memory() -> &'static str
     MEMORY_LINE
 }
 
-fn tell_refusal<W: Write>(alloc: Global, refusal: Refusal, output: &mut W)
+pub(crate) fn tell_refusal<W: Write>(alloc: Global, refusal: Refusal, output: &mut W)
     ensures { Says (W.contents output.old) (W.contents output.new) (line_of (refusal_text refusal)) }
 {
     if let Ok(line) = line_of_refusal(alloc, refusal) {

@@ -7,8 +7,10 @@ mod using;
 use super::*;
 use hpb_rules::Refusal;
 use std::fs::{File, Files};
+use std::io;
 use std::io::ErrorKind;
 use std::net::{Net, TcpListener, TcpStream};
+use std::os::fd::AsRawFd;
 use std::sync::Wait;
 use std::test::Fail;
 use std::thread::Threads;
@@ -261,6 +263,71 @@ fn words_are_read(rt: HostRuntime) -> Result<(), Fail> {
     Ok(())
 }
 
+const NO_NAME: &str = "invalid value '' for '--file <F>': a file's name has a character at least";
+
+/// Words with a value that is refused, and what is said of it.
+const WRONG_VALUES: [(&[&str], &str); 10] = [
+    (&["hpb", "format", "--file=", "--journal=+4"], NO_NAME),
+    (&["hpb", "check", "--file", ""], NO_NAME),
+    (&["hpb", "run", "--file="], NO_NAME),
+    (
+        &["hpb", "serve", "--port=5000", "--file", "", "--sessions=2"],
+        NO_NAME,
+    ),
+    (
+        &["hpb", "format", "--file", "a", "--journal", "+8"],
+        "invalid value '+8' for '--journal <J>': a number is given by digits alone",
+    ),
+    (
+        &["hpb", "run", "--file", "a", "--batch", "+1"],
+        "invalid value '+1' for '--batch <N>': a number is given by digits alone",
+    ),
+    (
+        &["hpb", "run", "--file", "a", "--every=+1"],
+        "invalid value '+1' for '--every <K>': a number is given by digits alone",
+    ),
+    (
+        &["hpb", "run", "--file", "a", "--every=-0"],
+        "invalid value '-0' for '--every <K>': a number is given by digits alone",
+    ),
+    (
+        &[
+            "hpb",
+            "serve",
+            "--file=a",
+            "--port",
+            "+5000",
+            "--sessions=2",
+        ],
+        "invalid value '+5000' for '--port <P>': a number is given by digits alone",
+    ),
+    (
+        &[
+            "hpb",
+            "serve",
+            "--file=a",
+            "--port=5000",
+            "--sessions",
+            "+2",
+        ],
+        "invalid value '+2' for '--sessions <N>': a number is given by digits alone",
+    ),
+];
+
+#[test]
+fn values_are_refused(rt: HostRuntime) -> Result<(), Fail> {
+    let alloc = rt.alloc();
+    for (words, said) in WRONG_VALUES {
+        let (ran, left) = run_on(&rt, words, NO_DEFINITION)?;
+        assert_eq!(rt; ran.status, 2, "{words:?}");
+        assert_eq!(rt; left, NO_DEFINITION.len(), "{words:?}");
+        assert!(rt; ran.output.is_empty(), "{words:?}");
+        let whole = format!(in alloc; "error: {said}\n\nFor more information, try '--help'.\n")?;
+        assert_eq!(rt; ran.errors, whole, "{words:?}");
+    }
+    Ok(())
+}
+
 /// Whether the program, run by these words on bytes that are no definition, refuses them as such.
 fn refuses_no_definition<
     H: Files<File = File>
@@ -343,6 +410,62 @@ fn control_characters_of_words_are_escaped(rt: HostRuntime) -> Result<(), Fail> 
     Ok(())
 }
 
+/// Marks of direction, ends of lines and of paragraphs, and characters without a width.
+const UNSEEN: [char; 18] = [
+    '\u{61c}', '\u{200b}', '\u{200c}', '\u{200d}', '\u{200e}', '\u{200f}', '\u{2028}', '\u{2029}',
+    '\u{202a}', '\u{202b}', '\u{202c}', '\u{202d}', '\u{202e}', '\u{2060}', '\u{2066}', '\u{2067}',
+    '\u{2069}', '\u{feff}',
+];
+
+#[test]
+fn unseen_characters_are_escaped(rt: HostRuntime) -> Result<(), Fail> {
+    let alloc = rt.alloc();
+    for letter in UNSEEN {
+        let word = format!(in alloc; "no{letter}file")?;
+        let code = letter as u32;
+        let (ran, _) = run_at(&rt, &["hpb", word.as_str()], b"", false)?;
+        let said = format!(in alloc;
+            "error: unrecognized subcommand 'no\\u{{{code:x}}}file'\n\nUsage: hpb < SCRIPT"
+        )?;
+        assert!(rt; ran.errors.starts_with(said.as_str()), "{}", ran.errors);
+        assert!(rt; !ran.errors.contains(letter), "{}", ran.errors);
+        let (ran, _) = run_at(&rt, &["hpb", "check", "--file", word.as_str()], b"", false)?;
+        let said = format!(in alloc; "no\\u{{{code:x}}}file could not be opened")?;
+        assert!(rt; ran.errors.contains(said.as_str()), "{}", ran.errors);
+        assert!(rt; !ran.errors.contains(letter), "{}", ran.errors);
+    }
+    Ok(())
+}
+
+#[test]
+fn long_names_of_files_are_cut(rt: HostRuntime) -> Result<(), Fail> {
+    let alloc = rt.alloc();
+    let name = "n".repeat(alloc, 100)?;
+    let (ran, _) = run_at(&rt, &["hpb", "check", "--file", name.as_str()], b"", false)?;
+    let said = format!(in alloc; "{name} could not be opened")?;
+    assert!(rt; ran.errors.contains(said.as_str()), "{}", ran.errors);
+    let longer = format!(in alloc; "{name}n")?;
+    let (ran, _) = run_at(
+        &rt,
+        &["hpb", "check", "--file", longer.as_str()],
+        b"",
+        false,
+    )?;
+    let said = format!(in alloc; "{name}.. could not be opened")?;
+    assert!(rt; ran.errors.contains(said.as_str()), "{}", ran.errors);
+    Ok(())
+}
+
+#[test]
+fn the_version_names_the_kit(rt: HostRuntime) -> Result<(), Fail> {
+    let (ran, _) = run_on(&rt, &["hpb", "--version"], b"")?;
+    assert_eq!(rt;
+        ran.errors.as_str(),
+        "hpb 0.1.0\nrattle-kit-13f logic dac8208d650f15bf\n"
+    );
+    Ok(())
+}
+
 #[test]
 fn words_that_are_no_text_are_refused(rt: HostRuntime) -> Result<(), Fail> {
     let alloc = rt.alloc();
@@ -356,6 +479,23 @@ fn words_that_are_no_text_are_refused(rt: HostRuntime) -> Result<(), Fail> {
     assert_eq!(rt;
         errors.as_slice(),
         b"hpb: 90 memory: memory was refused\n".as_slice()
+    );
+    Ok(())
+}
+
+#[test]
+fn closed_streams_are_held(rt: HostRuntime) -> Result<(), Fail> {
+    libc::close(libc::STDIN_FILENO);
+    hold_streams(&rt)?;
+    let next = File::open(&rt, "/")?;
+    assert!(rt; next.as_raw_fd() > libc::STDERR_FILENO);
+    let mut errors = Vec::new(rt.alloc());
+    let missing = io::Error::from_raw_os_error(libc::ENOENT);
+    assert_eq!(rt; refuse_streams(rt.alloc(), &missing, &mut errors), 1);
+    let told = String::from_utf8(errors)?;
+    assert!(rt;
+        told.starts_with("hpb: 92 stream: a standard stream is closed"),
+        "{told}"
     );
     Ok(())
 }
@@ -403,7 +543,14 @@ fn jobs_are_read(rt: HostRuntime) -> Result<(), Fail> {
             &["hpb", "check", "--file", "format"],
             Job::Check { file: "format" },
         ),
-        (&["hpb", "check", "--file="], Job::Check { file: "" }),
+        (
+            &["hpb", "run", "--file", "a", "--batch=01", "--every", "007"],
+            Job::Run {
+                file: "a",
+                batch: 1,
+                every: 7,
+            },
+        ),
         (
             &["hpb", "run", "--file", "a"],
             Job::Run {
@@ -470,9 +617,9 @@ fn jobs_are_read(rt: HostRuntime) -> Result<(), Fail> {
             },
         ),
         (
-            &["hpb", "serve", "--port=65535", "--file=", "--sessions=32"],
+            &["hpb", "serve", "--port=65535", "--file=+1", "--sessions=32"],
             Job::Serve {
-                file: "",
+                file: "+1",
                 port: u16::MAX,
                 sessions: 32,
             },

@@ -2,12 +2,13 @@ ghost use Rattle.std.specs.Prelude.{◌≡◌, false, Some, IfErr, IfOk, map};
 ghost use Rattle.clap.specs.Values.{kind_of};
 ghost use Rattle.clap.specs.Words.{app_of, found_of, rows_of, rule_of, shape_of, subcommand_rows_of};
 ghost use Rattle.clap.specs.declared.builder.command.Command.TheViews.{out-Command};
-ghost use Rattle.hpb_program.specs.Words.{batch_rule, check_shape, every_rule, file_rule, format_shape, hpb, journal_rule, port_rule, run_shape, serve_shape, sessions_rule, AsksFor, HasKnownCommand, HasRanges, IsJobOf, IsKnownName, IsTold};
+ghost use Rattle.hpb_program.specs.Words.{batch_rule, check_shape, every_rule, file_rule, format_shape, hpb, journal_rule, port_rule, run_shape, serve_shape, sessions_rule, AsksFor, HasKnownCommand, HasRanges, IsJobOf, IsKnownName, IsTold, IsWrong};
 ghost use Rattle.hpb_program.specs.declared.words.WordsFault.TheVariants.{Memory};
 ghost use Rattle.hpb_program.specs.Program.{HasStatus};
 
-use crate::escaped::Escaped;
+use crate::escaped::{EscapedWord, is_escaped};
 use crate::status::{WELL, WRONG_WORDS};
+use crate::values::{ValueFault, check_values};
 use clap::error::ErrorKind;
 use clap::{Arg, ArgMatches, Command, value_parser};
 use hpb_rules::MOST_LETTERS;
@@ -16,7 +17,7 @@ use std::convert::AsStr;
 use thiserror::Error;
 
 /// The version, and the line of the kit that the program is proved with.
-const VERSION: &str = "0.1.0\nrattle-kit-13b logic dac8208d650f15bf";
+const VERSION: &str = "0.1.0\nrattle-kit-13f logic dac8208d650f15bf";
 
 const USAGE: &str = r#"hpb < SCRIPT
        hpb format --file F --journal J < DEFINITION
@@ -154,22 +155,22 @@ const RUN: &str = "run";
 const SERVE: &str = "serve";
 
 /// The option that names a file.
-const FILE: &str = "file";
+pub(crate) const FILE: &str = "file";
 
 /// The option that gives the number of pages of a journal.
-const JOURNAL: &str = "journal";
+pub(crate) const JOURNAL: &str = "journal";
 
 /// The option that gives the most commands of a batch.
-const BATCH: &str = "batch";
+pub(crate) const BATCH: &str = "batch";
 
 /// The option that gives the number of batches after which there is a checkpoint.
-const EVERY: &str = "every";
+pub(crate) const EVERY: &str = "every";
 
 /// The option that gives a port.
-const PORT: &str = "port";
+pub(crate) const PORT: &str = "port";
 
 /// The option that gives a number of sessions.
-const SESSIONS: &str = "sessions";
+pub(crate) const SESSIONS: &str = "sessions";
 
 /// As many commands as a batch may have.
 const MOST_BATCH: u32 = MOST_LETTERS as u32;
@@ -214,6 +215,19 @@ pub enum Job<'a> {
     },
 }
 
+impl<'a> Job<'a> {
+    /// The path of its file; a script has none.
+    pub(crate) fn file(self) -> Option<&'a str> {
+        match self {
+            Job::Script => None,
+            Job::Format { file, .. }
+            | Job::Check { file }
+            | Job::Run { file, .. }
+            | Job::Serve { file, .. } => Some(file),
+        }
+    }
+}
+
 /// Why words ask for no job.
 #[derive(Debug, Drop, Error)]
 pub enum WordsFault {
@@ -242,7 +256,10 @@ pub fn read_words<'a, S: AsStr>(alloc: Global, words: &'a [S]) -> Result<Job<'a>
 {
     let command = command(alloc)?;
     match command.try_get_matches_from(words) {
-        Ok(matches) => Ok(job_of(&matches)),
+        Ok(matches) => match check_values(&matches) {
+            Ok(()) => Ok(job_of(&matches)),
+            Err(fault) => Err(refused_value(alloc, fault)?),
+        },
         Err(error) => Err(refused(alloc, &error, words)?),
     }
 }
@@ -289,6 +306,17 @@ fn job_of_command<'a>(name: &str, options: &ArgMatches<'a>) -> Job<'a>
     }
 }
 
+/// What becomes of words with such a value.
+fn refused_value(alloc: Global, fault: ValueFault<'_>) -> Result<WordsFault, AllocError>
+    ensures { IfOk result IsWrong }
+{
+    let text = fault.to_string(alloc)?;
+    Ok(WordsFault::Refused {
+        text,
+        status: WRONG_WORDS,
+    })
+}
+
 /// What becomes of words that `clap` gives no matches for.
 fn refused<S: AsStr>(
     alloc: Global,
@@ -308,14 +336,14 @@ fn refused<S: AsStr>(
     Ok(WordsFault::Refused { text, status })
 }
 
-/// What is said of words: of those with a control character what is said of them once these are escaped, so that no
-/// terminal obeys them.
+/// What is said of words: of those with characters that a terminal obeys or doesn't show what is said of them once these
+/// are escaped.
 fn said_of<S: AsStr>(
     alloc: Global,
     error: &clap::Error,
     words: &[S],
 ) -> Result<String, AllocError> {
-    if !words.iter().any(|word| has_control(word.as_str())) {
+    if !words.iter().any(|word| has_escaped(word.as_str())) {
         return error.to_string(alloc);
     }
     let escaped = escaped_words(alloc, words)?;
@@ -325,14 +353,14 @@ fn said_of<S: AsStr>(
     }
 }
 
-fn has_control(word: &str) -> bool {
-    word.chars().any(char::is_control)
+fn has_escaped(word: &str) -> bool {
+    word.chars().any(is_escaped)
 }
 
 fn escaped_words<S: AsStr>(alloc: Global, words: &[S]) -> Result<Vec<String>, AllocError> {
     let mut escaped = Vec::new(alloc);
     for word in words {
-        escaped.push(Escaped(word.as_str()).to_string(alloc)?)?;
+        escaped.push(EscapedWord(word.as_str()).to_string(alloc)?)?;
     }
     Ok(escaped)
 }

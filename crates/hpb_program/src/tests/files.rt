@@ -220,11 +220,6 @@ fn what_is_no_file_is_refused(rt: HostRuntime) -> Result<(), Fail> {
         folder.is_refused("ERR 91 device\n", "no regular file"),
         "{folder:?}"
     );
-    let unnamed = run_words(&rt, &["hpb", "check", "--file", ""], b"")?;
-    assert!(rt;
-        unnamed.is_refused("ERR 91 device\n", "hpb: 91 device: "),
-        "{unnamed:?}"
-    );
     Ok(())
 }
 

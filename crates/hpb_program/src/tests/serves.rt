@@ -6,7 +6,7 @@ use crate::job_fault::Advice;
 use crate::noted::Failures;
 use crate::run_end::RunEnd;
 use crate::served_end::ServedAdvice;
-use hpb_disk::FileDisk;
+use hpb_disk::{FileDisk, FileFault};
 use hpb_server::Fault;
 use std::alloc::Global;
 use std::io::{Read, Write};
@@ -219,7 +219,33 @@ fn ends_of_serving_are_told(rt: HostRuntime) -> Result<(), Fail> {
 
 #[test]
 fn faults_of_serving_are_told(rt: HostRuntime) -> Result<(), Fail> {
+    let too_many = JobFault::Descriptors {
+        sessions: 32,
+        wanted: 38,
+        error: io::Error::from_raw_os_error(libc::EMFILE),
+    };
+    let limit = FileFault::Limit {
+        len: 69_632,
+        limit: 4_096,
+    };
     for (fault, number, said) in [
+        (too_many, 92, "32 sessions want 38 files and connections"),
+        (
+            JobFault::File(limit),
+            91,
+            "a.hpb wants 69632 bytes, and this process may write no more than 4096",
+        ),
+        (
+            JobFault::File(FileFault::Stream),
+            91,
+            "a standard stream leads to a.hpb",
+        ),
+        (JobFault::File(FileFault::Beside), 91, "a.hpb.new is there"),
+        (
+            JobFault::File(FileFault::Errors),
+            91,
+            "a standard stream leads to a.hpb",
+        ),
         (JobFault::Place, 94, "--sessions"),
         (JobFault::Order, 95, "hpb check --file a.hpb"),
         (JobFault::Counts, 96, "hpb check --file a.hpb"),

@@ -1,4 +1,4 @@
-use Rattle.std.proofs.Common.{refl}
+use Rattle.std.proofs.Common.{◌≡◌, true, false, refl}
 use Rattle.std.specs.Char.{encode_utf8}
 use Rattle.std.specs.Str.{chars}
 use Rattle.clap.specs.Faults.{defaults_fault, flags_fault, walk_fault}
@@ -29,6 +29,7 @@ returns c = record {
   checks = λ name. refl;
   check_help = λ name. refl;
   check_file = λ name. refl;
+  no_name = λ name given. given.0 refl;
   run = λ name. refl;
   runs = λ name. refl;
   run_alone = λ name. refl;
@@ -39,6 +40,8 @@ returns c = record {
   most_batch = λ name. refl;
   below_batch = λ name. refl;
   above_batch = λ name. refl;
+  signed_every = λ name given. let no : false ≡ true = given.3 in cc;
+  signed_port = λ name given. let no : false ≡ true = given.4 in cc;
   serve = λ name. refl;
   serves = λ name. refl;
   serve_help = λ name. refl;

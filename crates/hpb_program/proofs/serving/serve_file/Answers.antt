@@ -2,5 +2,5 @@ use denote.Param.Send.{sendable}
 use Rattle.hpb_program.proofs.Crossing.{File-send}
 use Rattle.hpb_program.proofs.serving.serve_file.Goals as goal
 
-pub serve_kept-requires-send-D : goal.serve_kept-requires-send-D
-serve_kept-requires-send-D g c κs within = search (sendable, File-send) depth 20
+pub serve_device-requires-send-D : goal.serve_device-requires-send-D
+serve_device-requires-send-D g c κs within = search (sendable, File-send) depth 20

@@ -1,0 +1,65 @@
+//! How many files and connections there may be at a time.
+ghost use Rattle.std.specs.Prelude.{IfErr};
+ghost use Rattle.hpb_program.specs.Serving.{IsOfDescriptors};
+
+use crate::job_fault::JobFault;
+use std::alloc::Global;
+use std::fs::{File, Files};
+use std::io;
+
+/// What is opened to see whether it can be: each process may read it.
+const TOP: &str = "/";
+
+/// How many are open beside the connections of sessions, and the files: the port.
+const BESIDE_SESSIONS: u32 = 1;
+
+/// Whether this process can have no more files open at a time.
+fn is_too_many(error: &io::Error) -> bool {
+    error.raw_os_error() == Some(libc::EMFILE)
+}
+
+/// How many files and connections this process may have open at a time.
+fn most_open() -> u64 {
+    let mut limit = libc::types::rlimit {
+        rlim_cur: 0,
+        rlim_max: 0,
+    };
+    libc::getrlimit(libc::RLIMIT_NOFILE, &mut limit);
+    limit.rlim_cur
+}
+
+/// Looks whether as many more files and connections may be open at a time as so many sessions take, by having as many open
+/// for a moment. Refused by 92, or by 90 where memory is refused.
+pub(crate) fn look_for_descriptors<R: Files<File = File>>(
+    rt: &R,
+    alloc: Global,
+    sessions: u8,
+) -> Result<(), JobFault>
+    ensures fault { IfErr result IsOfDescriptors }
+{
+    let wanted = BESIDE_SESSIONS + u32::from(sessions);
+    let mut held = match Vec::with_capacity(alloc, wanted as usize) {
+        Ok(held) => held,
+        Err(_) => return Err(JobFault::Memory),
+    };
+    for at in 0..wanted {
+        let opened = File::open(rt, TOP);
+        match opened {
+            Ok(file) => {
+                if held.push(file).is_err() {
+                    return Err(JobFault::Memory);
+                }
+            }
+            Err(error) if is_too_many(&error) => {
+                let missing = u64::from(wanted - at);
+                return Err(JobFault::Descriptors {
+                    sessions,
+                    wanted: most_open().saturating_add(missing),
+                    error,
+                });
+            }
+            Err(_) => return Ok(()),
+        }
+    }
+    Ok(())
+}

@@ -1,0 +1,122 @@
+//! What happens beside sessions that are served, told to people.
+
+use crate::escaped::Escaped;
+use hpb_disk::{FileDisk, FileFault};
+use hpb_serve::Watch;
+use std::alloc::{AllocError, Global};
+use std::fs::{File, Files};
+use std::io;
+use std::os::fd::AsRawFd;
+
+/// Where the system tells the names of the files that this process has open, by their descriptors.
+const NAMES: &str = "/proc/self/fd";
+
+/// The name and the length of an open file.
+#[derive(Drop)]
+struct Seen {
+    name: Vec<u8>,
+    len: u64,
+}
+
+impl Seen {
+    /// Those that it has now. The name is another one once the file was moved, removed or replaced. Where the system tells none
+    /// it is empty.
+    fn of(alloc: Global, file: &File) -> Result<Seen, AllocError> {
+        let len = match file.metadata() {
+            Ok(found) => found.len(),
+            Err(_) => 0,
+        };
+        Ok(Seen {
+            name: name_of(alloc, file)?,
+            len,
+        })
+    }
+}
+
+fn name_of(alloc: Global, file: &File) -> Result<Vec<u8>, AllocError> {
+    let link = format!(in alloc; "{NAMES}/{}", file.as_raw_fd())?;
+    let mut name = [0; libc::PATH_MAX];
+    let count = usize::try_from(os::readlink(link.as_bytes(), &mut name)).unwrap_or(0);
+    name[..count.min(libc::PATH_MAX)].to_vec(alloc)
+}
+
+/// A watch of the file that is served. It tells people by the descriptor of standard errors, as far as memory allows: the
+/// errors that the program was handed are written by the thread that has them alone.
+#[derive(Drop)]
+pub(crate) struct Lookout<'a> {
+    alloc: Global,
+    path: &'a str,
+    /// The file, opened once more.
+    file: File,
+    seen: Seen,
+}
+
+impl<'a> Lookout<'a> {
+    /// A watch of the file of a path, from which a device was opened. Refused by 91 where the path leads to another file by
+    /// now, and by 90 where memory is refused.
+    pub(crate) fn new<H: Files<File = File>>(
+        rt: &H,
+        alloc: Global,
+        path: &'a str,
+        disk: &FileDisk,
+    ) -> Result<Lookout<'a>, FileFault> {
+        if !disk.mark()?.is_at(rt, path) {
+            return Err(FileFault::Busy);
+        }
+        let file = File::open(rt, path)?;
+        let seen = Seen::of(alloc, &file)?;
+        Ok(Lookout {
+            alloc,
+            path,
+            file,
+            seen,
+        })
+    }
+}
+
+impl Watch for Lookout<'_> {
+    fn missed(&self, error: &io::Error) {
+        tell_errors(missed_line(self.alloc, error));
+    }
+
+    fn look(&self) -> bool {
+        match Seen::of(self.alloc, &self.file) {
+            Ok(seen) if seen.len != self.seen.len => {
+                tell_errors(cut_line(self.alloc, self.path));
+                false
+            }
+            Ok(seen) if seen.name.as_slice() != self.seen.name.as_slice() => {
+                tell_errors(moved_line(self.alloc, self.path));
+                false
+            }
+            _ => true,
+        }
+    }
+}
+
+fn missed_line(alloc: Global, error: &io::Error) -> Result<String, AllocError> {
+    format!(in alloc;
+        "hpb: a connection could not be accepted, and its session has ended: {error}\n"
+    )
+}
+
+fn moved_line(alloc: Global, path: &str) -> Result<String, AllocError> {
+    let path = Escaped(path);
+    format!(in alloc;
+        "hpb: {path} was moved, removed or replaced while it is served: what is answered by OK goes on into the file that was opened: see that it gets its name again\n"
+    )
+}
+
+fn cut_line(alloc: Global, path: &str) -> Result<String, AllocError> {
+    let path = Escaped(path);
+    format!(in alloc;
+        "hpb: {path} was cut or made longer while it is served: end the sessions, see it by hpb check, and take your newest copy if it is refused\n"
+    )
+}
+
+/// Writes a line to standard errors by one call. Where it fails there is nowhere left to say so.
+fn tell_errors(line: Result<String, AllocError>) {
+    if let Ok(line) = line {
+        let _ = libc::write(libc::STDERR_FILENO, line.as_bytes());
+    }
+}

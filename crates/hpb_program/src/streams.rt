@@ -1,0 +1,141 @@
+//! The standard streams.
+ghost use Rattle.std.specs.Prelude.{◌≡◌, ◌≤◌};
+ghost use Rattle.hpb_program.specs.declared.status.TheConstants.{ILL};
+ghost use Rattle.hpb_rules.specs.declared.refusal.Refusal.TheVariants as refusals;
+ghost use Rattle.hpb_rules.specs.Rendering.{refusal_text};
+ghost use Rattle.hpb_rules.specs.Text.{line_of};
+ghost use Rattle.hpb_server.specs.Telling.{Says, TellsOf};
+
+use crate::escaped::Escaped;
+use crate::status::ILL;
+use crate::telling::{advise, tell_refusal};
+use hpb_rules::Refusal;
+use std::alloc::Global;
+use std::fs::{self, File, Files, Metadata};
+use std::io::Write;
+use std::os::fd::IntoRawFd;
+use std::os::unix::fs::MetadataExt;
+use std::{fmt, io};
+
+/// What stands in for a stream that is closed: it reads as empty, and takes what is written.
+const NOTHING: &str = "/dev/null";
+
+/// Opens what is closed of the standard streams on /dev/null. To be called before anything else is opened: a file that were
+/// opened then would be given the number of a closed stream, and what is meant for that stream would be written into the
+/// file, or the file read as input.
+///
+/// An error says that a stream stays closed. Then nothing else is to be opened.
+pub fn hold_streams<R: Files<File = File>>(rt: &R) -> io::Result<()> {
+    hold_stream(rt, libc::STDIN_FILENO)?;
+    hold_stream(rt, libc::STDOUT_FILENO)?;
+    hold_stream(rt, libc::STDERR_FILENO)
+}
+
+/// The system gives the least number that is free: the streams before this one are held.
+fn hold_stream<R: Files<File = File>>(rt: &R, stream: i32) -> io::Result<()> {
+    if !is_closed(stream) {
+        return Ok(());
+    }
+    let file = File::options().read(true).write(true).open(rt, NOTHING)?;
+    if file.into_raw_fd() == stream {
+        Ok(())
+    } else {
+        Err(io::Error::from_raw_os_error(libc::EBADF))
+    }
+}
+
+/// Whether a number is no open file's. Advice on how it will be read changes none.
+fn is_closed(stream: i32) -> bool {
+    libc::posix_fadvise(stream, 0, 0, libc::POSIX_FADV_NORMAL) == libc::EBADF
+}
+
+/// What standard input, output and errors lead to, where the system tells it.
+const INPUT: &str = "/dev/fd/0";
+
+const OUTPUT: &str = "/dev/fd/1";
+
+const ERRORS: &str = "/dev/fd/2";
+
+/// Which of the standard streams lead to a file.
+#[derive(Clone, Copy, Debug, PartialEq, Eq)]
+pub(crate) struct Led {
+    pub(crate) input: bool,
+    pub(crate) output: bool,
+    pub(crate) errors: bool,
+}
+
+impl Led {
+    /// Those that lead to the file of a path. None leads to a file that isn't there, nor to none.
+    pub(crate) fn to<H: Files>(rt: &H, file: Option<&str>) -> Led {
+        match file.map(|path| fs::metadata(rt, path)) {
+            Some(Ok(found)) => Led {
+                input: leads_to(rt, INPUT, &found),
+                output: leads_to(rt, OUTPUT, &found),
+                errors: leads_to(rt, ERRORS, &found),
+            },
+            _ => Led {
+                input: false,
+                output: false,
+                errors: false,
+            },
+        }
+    }
+
+    /// Whether any does.
+    pub(crate) fn is_any(self) -> bool {
+        self.input || self.output || self.errors
+    }
+}
+
+/// Whether a path leads to a file, and that is a regular one: others may stand behind a stream and a path at once.
+fn leads_to<H: Files>(rt: &H, path: &str, file: &Metadata) -> bool {
+    match fs::metadata(rt, path) {
+        Ok(found) => file.is_file() && found.dev() == file.dev() && found.ino() == file.ino(),
+        Err(_) => false,
+    }
+}
+
+/// The status of a job whose file standard streams lead to: 1. It is told by 91, but not on a stream that leads there: it would
+/// stand in the auction.
+pub(crate) fn refuse_led<W: Write, E: Write>(
+    alloc: Global,
+    file: Option<&str>,
+    led: Led,
+    output: &mut W,
+    errors: &mut E,
+) -> u8
+    ensures status { result ≡ ILL }
+    ensures answered { Says (W.contents output.old) (W.contents output.new) (line_of (refusal_text refusals.Device)) }
+    ensures told { TellsOf (E.contents errors.old) (E.contents errors.new) refusals.Device }
+{
+    if !led.output {
+        tell_refusal(alloc, Refusal::Device, output);
+    }
+    if !led.errors {
+        let file = file.unwrap_or("");
+        advise(alloc, Refusal::Device, LedAdvice { file, led }, errors);
+    }
+    ILL
+}
+
+/// What is said of standard streams that lead to a job's file.
+#[derive(Clone, Copy)]
+struct LedAdvice<'a> {
+    file: &'a str,
+    led: Led,
+}
+
+impl fmt::Display for LedAdvice<'_> {
+    fn fmt<W: fmt::Write>(&self, f: &mut fmt::Formatter<W>) -> fmt::Result {
+        let (file, led) = (Escaped(self.file), self.led);
+        let stream = match (led.output, led.errors) {
+            (true, _) => "standard output",
+            (false, true) => "standard errors",
+            (false, false) => "standard input",
+        };
+        write!(
+            f,
+            "{stream} is {file}, the file of the auction itself: let it lead elsewhere"
+        )
+    }
+}
