@@ -1,0 +1,230 @@
+"""What the checks from outside share: how a program is run, served and compared."""
+import json
+import os
+import pathlib
+import shutil
+import socket
+import subprocess
+import sys
+import tempfile
+import time
+import traceback
+
+HERE = pathlib.Path(__file__).resolve().parent
+ADDRESS = "127.0.0.1"
+SECONDS = 20
+PAGE = 4096
+NOBODY = 65534
+
+DEFINITION = HERE.joinpath("package-beats-parts.txt").read_bytes().split(b"\n")[0] + b"\n"
+EMPTY = "ROUND 1 STAGE 1 OPEN REVENUE 0 COUNT 0"
+ONE_BID = "ROUND 1 STAGE 1 OPEN REVENUE 0 COUNT 1"
+
+faults = []
+left_out = []
+tried = 0
+
+
+def compare(what, found, wanted):
+    global tried
+    tried += 1
+    if found != wanted:
+        faults.append(f"{what}:\n    {shortened(found)}\n    wanted: {shortened(wanted)}")
+
+
+def shortened(value):
+    text = repr(value)
+    return text if len(text) <= 900 else f"{text[:600]}.. ({len(text)} in all) ..{text[-200:]}"
+
+
+def leave_out(what):
+    left_out.append(f"left out: {what}")
+
+
+class Ran:
+    """What a program answered and said, its status, and how many seconds it took."""
+
+    def __init__(self, output, errors, status, seconds):
+        self.output, self.errors, self.status, self.seconds = output, errors, status, seconds
+
+    def __repr__(self):
+        return repr((self.output, self.errors, self.status))
+
+
+def run(*words, text=b"", input=None, output=subprocess.PIPE, errors=subprocess.PIPE, before=None, seconds=SECONDS, **more):
+    """With this text, or on an input that is open here. One that takes too long is killed; its status is then None."""
+    began = time.monotonic()
+    process = subprocess.Popen(
+        ["hpb", *map(str, words)],
+        executable=PROGRAM,
+        stdin=subprocess.PIPE if input is None else input,
+        stdout=output,
+        stderr=errors,
+        preexec_fn=before,
+        **more,
+    )
+    try:
+        written, said = process.communicate(text if input is None else None, timeout=seconds)
+        status = process.returncode
+    except subprocess.TimeoutExpired:
+        process.kill()
+        written, said = process.communicate()
+        status = None
+    return Ran(shown(written), shown(said), status, time.monotonic() - began)
+
+
+def shown(data):
+    return (data or b"").decode(errors="backslashreplace")
+
+
+def format_words(file, journal=4):
+    return ["format", "--file", file, "--journal", journal]
+
+
+def new_file(folder, name="F", journal=4, definition=DEFINITION, lines=b""):
+    """A file that keeps an auction, which was run with these lines."""
+    file = folder / name
+    made = run(*format_words(file, journal), text=definition)
+    compare(f"format of {name}", (made.output, made.errors, made.status), (f"FORMATTED {13 + journal}\n", "", 0))
+    if lines:
+        ran = run("run", "--file", file, "--batch", 64, text=lines)
+        compare(f"a run of {name}", ran.status, 0)
+    return file
+
+
+def first_shown(file):
+    """What check shows first."""
+    return run("check", "--file", file).output.split("\n")[0]
+
+
+def count_kept(file):
+    """How many commands the file keeps."""
+    line = first_shown(file)
+    return int(line.rsplit(" ", 1)[1]) if " COUNT " in line else -1
+
+
+def free_port():
+    with socket.socket() as probe:
+        probe.bind((ADDRESS, 0))
+        return probe.getsockname()[1]
+
+
+class Session:
+    """A client with a connection of its own."""
+
+    def __init__(self, port, seconds=SECONDS):
+        self.socket = socket.create_connection((ADDRESS, port), timeout=seconds)
+        self.received = b""
+
+    def send(self, data):
+        self.socket.sendall(data)
+
+    def line(self):
+        """The next line; an empty text where the connection has ended."""
+        while b"\n" not in self.received:
+            part = self.socket.recv(65536)
+            if not part:
+                return ""
+            self.received += part
+        line, self.received = self.received.split(b"\n", 1)
+        return line.decode()
+
+    def ask(self, text):
+        self.send(text.encode() + b"\n")
+        return self.line()
+
+    def end(self):
+        """Sends no more, and waits until the server has ended the session, too."""
+        self.socket.shutdown(socket.SHUT_WR)
+        rest = self.line()
+        self.socket.close()
+        return rest
+
+
+def serve_words(file, port, sessions=1):
+    return ["serve", "--file", file, "--port", port, "--sessions", sessions]
+
+
+class Server:
+    """The program, serving a file to so many sessions. It is killed where a check stops."""
+
+    all = []
+
+    def __init__(self, file, sessions, before=None, cwd=None):
+        self.port = free_port()
+        words = ["hpb", *map(str, serve_words(file, self.port, sessions))]
+        self.process = subprocess.Popen(
+            words, executable=PROGRAM, stdin=subprocess.DEVNULL, stdout=subprocess.PIPE, stderr=subprocess.PIPE, preexec_fn=before, cwd=cwd
+        )
+        Server.all.append(self)
+        compare("first line", self.process.stdout.readline().decode(), f"LISTENING {self.port}\n")
+
+    def connect(self):
+        return Session(self.port)
+
+    def end(self, seconds=SECONDS):
+        """What it still writes, its status, and what it says."""
+        try:
+            written, said = self.process.communicate(timeout=seconds)
+        except subprocess.TimeoutExpired:
+            self.process.kill()
+            written, said = self.process.communicate()
+            return "it didn't end", written.decode(), shown(said)
+        return written.decode(), self.process.returncode, shown(said)
+
+    def waits(self):
+        """Returns once its first thread sleeps: it then waits for the next connection."""
+        stat = pathlib.Path(f"/proc/{self.process.pid}/task/{self.process.pid}/stat")
+        calm, end = 0, time.monotonic() + SECONDS
+        while calm < 20 and time.monotonic() < end:
+            calm = calm + 1 if stat.read_text().rsplit(")", 1)[1].split()[0] == "S" else 0
+            time.sleep(0.005)
+
+    def kill(self):
+        self.process.kill()
+        self.process.communicate()
+
+
+def great_definition():
+    """One with 64 licences and 64 bidders, each of whom may bid on all."""
+    nodes = [{"name": f"l{place}", "parent": None, "units": 1, "opening": 100} for place in range(64)]
+    bidders = [{"name": f"b{place}", "units": 64} for place in range(64)]
+    return json.dumps({"step": 10, "percent": 10, "stages": [80], "nodes": nodes, "bidders": bidders}, separators=(",", ":")).encode() + b"\n"
+
+
+def great_bids(count):
+    """So many bids under it, 4,096 at most, all of which are accepted."""
+    return b"".join(b"BID b%d %d l%d 100\n" % (place % 64, place // 64 + 1, place // 64) for place in range(count))
+
+
+def main(checks, what):
+    """Runs the program that is named on the command line through these checks, each of which has a folder of its own."""
+    global PROGRAM
+    if len(sys.argv) != 2:
+        sys.exit(f"usage: {sys.argv[0]} PROGRAM")
+    room = pathlib.Path(tempfile.mkdtemp(prefix="hpb-outside-"))
+    try:
+        os.chmod(room, 0o711)
+        PROGRAM = str(room / "hpb")
+        shutil.copyfile(sys.argv[1], PROGRAM)
+        os.chmod(PROGRAM, 0o755)
+        for place, check in enumerate(checks):
+            folder = room / str(place)
+            folder.mkdir()
+            began = time.monotonic()
+            try:
+                check(folder)
+            except Exception as error:
+                lines = [str(frame.lineno) for frame in traceback.extract_tb(error.__traceback__) if frame.filename == sys.argv[0]]
+                faults.append(f"{check.__name__}, line {' '.join(lines)}: {error!r}")
+            for server in Server.all:
+                if server.process.poll() is None:
+                    server.kill()
+            Server.all.clear()
+            if os.environ.get("TIMES"):
+                print(f"{check.__name__}: {time.monotonic() - began:.1f} s")
+    finally:
+        shutil.rmtree(room, ignore_errors=True)
+    print(*faults, *left_out, sep="\n", end="\n" if faults or left_out else "")
+    print(f"{tried} comparisons of {what}, {len(faults)} differ")
+    return 1 if faults or not tried else 0
