@@ -1,13 +1,16 @@
 -- What is read of page 0 of a head.
-use Rattle.std.specs.Prelude.{◌≡◌, ℕ, length}
+use Rattle.std.specs.Prelude.{◌≡◌, length}
 use Rattle.hpb_rules.specs.Tree.{Rules}
+use Rattle.hpb_codec.specs.Layouts.{layout_byte}
+use Rattle.hpb_codec.specs.declared.layout.JournalShape.{JournalShape}
 use Rattle.hpb_codec.specs.declared.head.Fields.{Fields}
 
--- What was read is what a definition and the pages of its journal say.
-pub record SaysFields (rules : Rules) (journal_pages : ℕ) (fields : Fields) : Type 0 where
+-- What was read is what a definition and the shape of its journal say.
+pub record SaysFields (rules : Rules) (journal : JournalShape) (fields : Fields) : Type 0 where
   pub nodes : fields.node_count ≡ length rules.nodes
   pub bidders : fields.bidder_count ≡ length rules.bidders
   pub percent : fields.percent ≡ rules.percent
   pub stages : fields.stages.now ≡ rules.stages
   pub step : fields.step ≡ rules.step
-  pub journal : fields.journal_pages ≡ journal_pages
+  pub layout : fields.layout ≡ layout_byte journal.layout
+  pub frames : fields.frames ≡ journal.frames

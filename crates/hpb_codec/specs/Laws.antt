@@ -4,8 +4,11 @@ use Rattle.hpb_rules.specs.declared.saved.Saved.{Saved}
 use Rattle.hpb_rules.specs.Tree.{Rules}
 use Rattle.hpb_codec.specs.declared.batch.Batch.{Batch}
 use Rattle.hpb_codec.specs.Batches.{SpellsBatch}
-use Rattle.hpb_codec.specs.Heads.{SpellsHead}
-use Rattle.hpb_codec.specs.Numbers.{leading}
+use Rattle.hpb_codec.specs.Cells.{BeginsCells, SpellsCells}
+use Rattle.hpb_codec.specs.Heads.{SpellsHead, magic}
+use Rattle.hpb_codec.specs.Layouts.{layout_byte}
+use Rattle.hpb_codec.specs.Numbers.{leading, rest}
+use Rattle.hpb_codec.specs.declared.head.Head.{Head}
 use Rattle.hpb_codec.specs.Records.{SpellsRecord}
 use Rattle.hpb_codec.specs.States.{SpellsState}
 
@@ -26,6 +29,15 @@ BatchesAreOne = (rules : Rules) → IsOneToOne (SpellsBatch rules)
 abbrev pub BatchBegins : Type 0
 BatchBegins = (rules : Rules) (bytes : List ℕ) (batch : Batch) → SpellsBatch rules bytes batch → leading 8 bytes ≡ batch.index
 
+-- So it is of cells.
+abbrev pub CellsAreOne : Type 0
+CellsAreOne = (rules : Rules) → IsOneToOne (SpellsCells rules)
+
+-- Of the body of a frame of cells, which may go on behind them with any bytes: it begins with the cells of one batch at most, and with the batch's index.
+pub record CellsBegin : Type 0 where
+  pub one : (rules : Rules) (bytes : List ℕ) (batch other : Batch) → BeginsCells rules bytes batch → BeginsCells rules bytes other → batch ≡ other
+  pub indexed : (rules : Rules) (bytes : List ℕ) (batch : Batch) → BeginsCells rules bytes batch → leading 8 bytes ≡ batch.index
+
 -- So it is of the bodies of slots, which spell what is saved and a batch index.
 abbrev pub StatesAreOne : Type 0
 StatesAreOne = (rules : Rules) → IsOneToOne {V = Saved × ℕ} (λ bytes state. SpellsState rules bytes state.0 state.1)
@@ -33,6 +45,10 @@ StatesAreOne = (rules : Rules) → IsOneToOne {V = Saved × ℕ} (λ bytes state
 -- So it is of heads.
 abbrev pub HeadsAreOne : Type 0
 HeadsAreOne = IsOneToOne SpellsHead
+
+-- Behind the text that it begins with a head has the byte of its layout.
+abbrev pub LayoutIsNamed : Type 0
+LayoutIsNamed = (bytes : List ℕ) (head : Head) → SpellsHead bytes head → leading 1 (rest (length magic) bytes) ≡ layout_byte head.journal.layout
 
 -- Chunk i of a body, a page of 4,096 bytes.
 unfoldable pub chunk_of : ℕ → List ℕ → List ℕ

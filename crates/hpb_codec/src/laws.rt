@@ -1,5 +1,5 @@
 //! The law of each table: a value has one spelling, and bytes spell at most one value.
-ghost use Rattle.hpb_codec.specs.Laws.{BatchBegins, BatchesAreOne, ChunksAreBody, HeadsAreOne, RecordsAreOne, StatesAreOne};
+ghost use Rattle.hpb_codec.specs.Laws.{BatchBegins, BatchesAreOne, CellsAreOne, CellsBegin, ChunksAreBody, HeadsAreOne, LayoutIsNamed, RecordsAreOne, StatesAreOne};
 
 /// A command has one record, and bytes are the record of at most one command.
 pub fn records_are_one()
@@ -16,14 +16,29 @@ pub fn batch_begins()
     ensures { BatchBegins }
 {}
 
+/// A batch has one spelling in cells, and bytes are the cells of at most one batch.
+pub fn cells_are_one()
+    ensures { CellsAreOne }
+{}
+
+/// The body of a frame of cells begins with the cells of one batch at most, and with the batch's index.
+pub fn cells_begin()
+    ensures { CellsBegin }
+{}
+
 /// What is saved, with a batch index, has one body, and bytes are the body of at most one such.
 pub fn states_are_one()
     ensures { StatesAreOne }
 {}
 
-/// A definition with the pages of its journal has one head, and bytes are the head of at most one such.
+/// A definition with the shape of its journal has one head, and bytes are the head of at most one such.
 pub fn heads_are_one()
     ensures { HeadsAreOne }
+{}
+
+/// A head names the layout of its journal by the byte behind the text that it begins with.
+pub fn layout_is_named()
+    ensures { LayoutIsNamed }
 {}
 
 /// The chunks of a state's body, one behind the other, are the body.

@@ -9,8 +9,10 @@
 mod batch;
 mod bidder_entry;
 mod bidders;
+mod cells;
 mod head;
 mod laws;
+mod layout;
 mod name;
 mod node_entry;
 mod nodes;
@@ -24,9 +26,14 @@ mod tests;
 mod writer;
 
 pub use batch::{BATCH_SIZE, Batch, batch_index, decode_batch, encode_batch};
+pub use cells::{CELLS_SIZE, decode_cells, encode_cells};
 pub use head::{HEAD_SIZE, Head, decode_head, encode_head, has_magic};
 pub use laws::{
-    batch_begins, batches_are_one, chunks_are_body, heads_are_one, records_are_one, states_are_one,
+    batch_begins, batches_are_one, cells_are_one, cells_begin, chunks_are_body, heads_are_one,
+    layout_is_named, records_are_one, states_are_one,
+};
+pub use layout::{
+    CELL_FRAMES_STEP, JournalLayout, JournalShape, LEAST_CELL_FRAMES, LEAST_FRAMES, MOST_FRAMES,
 };
 pub use record::RECORD_SIZE;
 pub use state::{CHUNK_SIZE, CHUNKS, STATE_SIZE, chunk, decode_state, encode_state};

@@ -1,5 +1,5 @@
 use crate::tests::examples::{body_with, change, scribbled, six_nodes};
-use crate::{HEAD_SIZE, Head, decode_head, encode_head, has_magic};
+use crate::{HEAD_SIZE, Head, JournalLayout, JournalShape, decode_head, encode_head, has_magic};
 use hpb_rules::{BidderId, NodeId};
 use hpb_tree::{BidderDraft, Definition, Draft, NodeDraft, TermsDraft};
 use std::alloc::{AllocError, Global};
@@ -61,8 +61,8 @@ const REFUSED: [(usize, &[u8]); 14] = [
     // The journal has 3 pages, and 1,025.
     (24, &[0, 0, 0, 3]),
     (24, &[0, 0, 4, 1]),
-    // Layout 2, and state format 2.
-    (8, &[2]),
+    // Layout 3, and state format 2.
+    (8, &[3]),
     (9, &[2]),
     // One node less, and one more; one bidder less, and one more.
     (10, &[5]),
@@ -86,13 +86,13 @@ fn written_out(alloc: Global) -> Result<Vec<u8>, AllocError> {
 }
 
 /// A head as it is encoded.
-fn encoded(
-    alloc: Global,
-    definition: &Definition,
-    journal_pages: u32,
-) -> Result<Vec<u8>, AllocError> {
+fn encoded(alloc: Global, definition: &Definition, frames: u32) -> Result<Vec<u8>, AllocError> {
     let mut bytes = scribbled(alloc, HEAD_SIZE)?;
-    encode_head(definition, journal_pages, &mut bytes);
+    let journal = JournalShape {
+        layout: JournalLayout::Pages,
+        frames,
+    };
+    encode_head(definition, journal, &mut bytes);
     Ok(bytes)
 }
 
@@ -113,11 +113,11 @@ fn part(bytes: &[u8], from: usize, to: usize) -> &[u8] {
     bytes.get(from..to).unwrap_or(&[])
 }
 
-/// The pages of a head's journal, and the places of a node and of a bidder by their names.
+/// The frames of a head's journal, and the places of a node and of a bidder by their names.
 fn found(head: &Head, node: &[u8], bidder: &[u8]) -> (u32, Option<usize>, Option<usize>) {
     let definition = &head.definition;
     (
-        head.journal_pages,
+        head.journal.frames,
         definition.find_node(node).map(NodeId::place),
         definition.find_bidder(bidder).map(BidderId::place),
     )
