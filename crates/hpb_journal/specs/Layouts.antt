@@ -4,7 +4,8 @@ use Rattle.hpb_rules.specs.Tree.{Rules}
 use Rattle.hpb_codec.specs.declared.batch.Batch.{Batch}
 use Rattle.hpb_codec.specs.Batches.{IsBatch}
 use Rattle.hpb_disk.specs.Images.{SameFrom}
-use Rattle.hpb_journal.specs.declared.limits.TheConstants.{JOURNAL_AT, LEAST_FRAMES, MOST_FRAMES}
+use Rattle.hpb_codec.specs.declared.layout.TheConstants.{LEAST_FRAMES, MOST_FRAMES}
+use Rattle.hpb_journal.specs.declared.limits.TheConstants.{JOURNAL_AT}
 
 -- The frame of a batch is named by the batch's index: a frame serves many batches, one after another.
 pub record Layout : Type 1 where

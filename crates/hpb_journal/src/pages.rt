@@ -1,8 +1,9 @@
 //! Frames of one page each.
 ghost use Rattle.std.specs.Prelude.{◌≡◌, ◌+◌, ◌*◌, ◌≤◌, ◌<◌, length};
-ghost use Rattle.hpb_journal.specs.declared.limits.TheConstants.{JOURNAL_AT, LEAST_FRAMES, MOST_FRAMES, PAGE_BYTES};
+ghost use Rattle.hpb_codec.specs.declared.layout.TheConstants.{LEAST_FRAMES, MOST_FRAMES};
+ghost use Rattle.hpb_journal.specs.declared.limits.TheConstants.{JOURNAL_AT, PAGE_BYTES};
 
-use crate::limits::{BODY_AT, JOURNAL_AT, LEAST_FRAMES, MOST_FRAMES, PAGE_BYTES};
+use crate::limits::{BODY_AT, JOURNAL_AT, PAGE_BYTES};
 use crate::page::frame_in;
 use crate::{Frame, Frames};
 use hpb_codec::{BATCH_SIZE, Batch, batch_begins, batches_are_one, encode_batch};
@@ -21,7 +22,7 @@ pub struct PageFrames {
 }
 
 impl PageFrames {
-    ghost use Rattle.hpb_journal.specs.Pages.{page_of};
+    ghost use Rattle.hpb_journal.specs.Strides.{frame_at};
 
     /// A journal of so many frames.
     pub fn new(count: u32) -> PageFrames
@@ -34,7 +35,7 @@ impl PageFrames {
 
     // The first byte of the page of a batch.
     fn page(&self, index: u64) -> usize
-        ensures value { result ≡ page_of self.now.count index }
+        ensures value { result ≡ frame_at PAGE_BYTES self.now.count index }
         ensures inside { result + PAGE_BYTES ≤ JOURNAL_AT + PAGE_BYTES * self.now.count }
     {
         JOURNAL_AT + PAGE_BYTES * (index % u64::from(self.count)) as usize

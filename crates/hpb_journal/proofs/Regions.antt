@@ -1,0 +1,106 @@
+-- What a write in a frame leaves as it was, where frames of one size stand one behind the other.
+use Rattle.std.proofs.Common.{◌≡◌, ◌⊎◌, inl, inr, ℕ, ◌+◌, ◌*◌, ◌%◌, ◌<◌, ◌≤◌, List, [], ◌∷◌, length, sym, ◌∙◌, ap, subst, arith}
+use Rattle.std.proofs.Math.Nat.{mul-le-mul_left}
+use Rattle.std.proofs.lemmas.Bool.{cases_lt}
+use Rattle.hpb_rules.specs.Tree.{Rules}
+use Rattle.hpb_codec.specs.declared.batch.Batch.{Batch}
+use Rattle.hpb_disk.specs.Images.{part, put, Torn, TornFrom, Within, Elapses}
+use Rattle.hpb_disk.specs.Laws.{ElsewhereStays, PutIsRead, PutIsTorn}
+use Rattle.hpb_journal.specs.Changes.{ChangesBody, ChangesGate, TornBody, TornGate}
+use Rattle.hpb_journal.specs.Layouts.{Layout}
+use Rattle.hpb_journal.specs.Strides.{frame_at, strided}
+
+-- A call leaves images of a greater set too.
+elapses_within : (before now : ℕ) (past since : ℕ → List ℕ → Type 0) (during images : List ℕ → Type 0) → Within during images → Elapses before now past since during → Elapses before now past since images
+elapses_within before now past since during images within time = record {
+  next = time.next;
+  nothing_else = λ moment image le left. elim (time.nothing_else moment image le left) [ inl was ↦ inl was | inr in_call ↦ inr (within image in_call) ];
+  keeps = time.keeps;
+}
+
+-- A frame before another ends where that begins, or before it.
+ends_before : (stride m n : ℕ) → m < n → stride * m + stride ≤ stride * n
+ends_before stride m n less = let le : stride * (m + 1) ≤ stride * n = mul-le-mul_left stride (omega (arith, less)) in omega arith
+
+module _ (stride body : ℕ) (fits : body + 16 ≤ stride) (spells : Rules → List ℕ → Batch → Type 0) (elsewhere : ElsewhereStays) (count b : ℕ) where
+  abbrev here : ℕ
+  here = frame_at stride count b
+
+  abbrev layout : Layout
+  layout = strided stride body spells count (frame_at stride count)
+
+  body_changes : (many : ℕ) → many ≤ body → (old new : List ℕ) → Torn (here + 16) many old new → ChangesBody layout b old new
+  body_changes many short old new torn =
+      let stays : (from n : ℕ) → (from + n ≤ here + 16) ⊎ (here + 16 + many ≤ from) → part from n new ≡ part from n old =
+      λ from n apart. elsewhere from n (here + 16) many old new torn apart in
+      record {
+        before = λ at n below. stays at n (inl (omega (arith, below)));
+        size = torn.size;
+        gates = λ other. stays (frame_at stride count other) 1 (elim (cases_lt (b % count) (other % count)) [
+          | inl less ↦ inr (omega (arith, fits, short, ends_before stride (b % count) (other % count) less))
+          | inr ge ↦ inl (let le : stride * (other % count) ≤ stride * (b % count) = mul-le-mul_left stride ge in omega arith)
+        ]);
+        bodies = λ other apart. stays (frame_at stride count other + 16) body (elim (cases_lt (b % count) (other % count)) [
+          | inl less ↦ inr (omega (arith, fits, short, ends_before stride (b % count) (other % count) less))
+          | inr ge ↦ inl (omega (arith, fits, ends_before stride (other % count) (b % count) (omega (arith, ge, apart))))
+        ]);
+      }
+
+  gate_changes : (old new : List ℕ) → Torn here 1 old new → ChangesGate layout b old new
+  gate_changes old new torn =
+      let stays : (from n : ℕ) → (from + n ≤ here) ⊎ (here + 1 ≤ from) → part from n new ≡ part from n old =
+      λ from n apart. elsewhere from n here 1 old new torn apart in
+      record {
+        before = λ at n below. stays at n (inl (omega (arith, below)));
+        size = torn.size;
+        gates = λ other apart. stays (frame_at stride count other) 1 (elim (cases_lt (b % count) (other % count)) [
+          | inl less ↦ inr (omega (arith, fits, ends_before stride (b % count) (other % count) less))
+          | inr ge ↦ inl (omega (arith, fits, ends_before stride (other % count) (b % count) (omega (arith, ge, apart))))
+        ]);
+        bodies = λ other. stays (frame_at stride count other + 16) body (elim (cases_lt (other % count) (b % count)) [
+          | inl less ↦ inl (omega (arith, fits, ends_before stride (other % count) (b % count) less))
+          | inr ge ↦ inr (let le : stride * (b % count) ≤ stride * (other % count) = mul-le-mul_left stride ge in omega arith)
+        ]);
+      }
+
+  torn_body : (many : ℕ) → many ≤ body → (images : List ℕ → Type 0) → Within (TornFrom (here + 16) many images) (TornBody layout b images)
+  torn_body many short images new torn = (torn.0, torn.1, body_changes many short torn.0 new torn.2)
+
+  torn_gate : (images : List ℕ → Type 0) → Within (TornFrom here 1 images) (TornGate layout b images)
+  torn_gate images new torn = (torn.0, torn.1, gate_changes torn.0 new torn.2)
+
+  -- A write at this offset, of which a call tells.
+  module _ (tears : PutIsTorn) (at : ℕ) where
+    module _ (there : at ≡ here) where
+      gate_within : (images : List ℕ → Type 0) → Within (TornFrom at 1 images) (TornGate layout b images)
+      gate_within images = subst (λ (from : ℕ). Within (TornFrom from 1 images) (TornGate layout b images)) (sym there) (torn_gate images)
+
+      pub gate_rest : (byte : ℕ) (old new : List ℕ) → at < length old → new ≡ put at (byte ∷ []) old → ChangesGate layout b old new
+      gate_rest byte old new inside written =
+          gate_changes old new (subst (λ (from : ℕ). Torn from 1 old new) there (subst (Torn at 1 old) (sym written) (tears at (byte ∷ []) old (omega (arith, inside)))))
+
+      pub gate_crash : (before after : List ℕ → Type 0) → Within after (TornFrom at 1 before) → Within after (TornGate layout b before)
+      gate_crash before after crash image left = gate_within before image (crash image left)
+
+      pub gate_time : (moment now : ℕ) (past since : ℕ → List ℕ → Type 0) (before : List ℕ → Type 0) → Elapses moment now past since (TornFrom at 1 before)
+          → Elapses moment now past since (TornGate layout b before)
+      gate_time moment now past since before = elapses_within moment now past since (TornFrom at 1 before) (TornGate layout b before) (gate_within before)
+
+    module _ (bytes : List ℕ) (there : at ≡ here + 16) (short : length bytes ≤ body) where
+      body_within : (images : List ℕ → Type 0) → Within (TornFrom at (length bytes) images) (TornBody layout b images)
+      body_within images = subst (λ (from : ℕ). Within (TornFrom from (length bytes) images) (TornBody layout b images)) (sym there) (torn_body (length bytes) short images)
+
+      pub body_rest : (old new : List ℕ) → at + length bytes ≤ length old → new ≡ put at bytes old → ChangesBody layout b old new
+      body_rest old new inside written =
+          body_changes (length bytes) short old new (subst (λ (from : ℕ). Torn from (length bytes) old new) there
+          (subst (Torn at (length bytes) old) (sym written) (tears at bytes old inside)))
+
+      pub body_crash : (before after : List ℕ → Type 0) → Within after (TornFrom at (length bytes) before) → Within after (TornBody layout b before)
+      body_crash before after crash image left = body_within before image (crash image left)
+
+      pub body_time : (moment now : ℕ) (past since : ℕ → List ℕ → Type 0) (before : List ℕ → Type 0) → Elapses moment now past since (TornFrom at (length bytes) before)
+          → Elapses moment now past since (TornBody layout b before)
+      body_time moment now past since before = elapses_within moment now past since (TornFrom at (length bytes) before) (TornBody layout b before) (body_within before)
+
+      pub body_says : (reads : PutIsRead) (old new : List ℕ) → at + length bytes ≤ length old → new ≡ put at bytes old → part (here + 16) (length bytes) new ≡ bytes
+      body_says reads old new inside written = sym (ap (λ (from : ℕ). part from (length bytes) new) there) ∙ ap (part at (length bytes)) written ∙ reads at bytes old inside

@@ -1,0 +1,7 @@
+use Rattle.hpb_journal.proofs.any.AnyFramesFrames.open_frame.Goals as goal
+
+pub returns-in-Pages-clause-crash : goal.returns-in-Pages-clause-crash
+returns-in-Pages-clause-crash g c = rw c.in-Pages.is c.open_frame.ensures.crash
+
+pub returns-in-Cells-clause-crash : goal.returns-in-Cells-clause-crash
+returns-in-Cells-clause-crash g c = rw c.in-Cells.is c.open_frame-in-Cells.ensures.crash
