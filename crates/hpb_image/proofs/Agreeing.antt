@@ -1,20 +1,19 @@
 -- What is read in one image agrees, however far it went.
-use Rattle.std.proofs.Common.{◌≡◌, ◌⊎◌, inl, inr, ⊎_elim, ℕ, suc, ◌+◌, ◌<◌, ◌≤◌, List, [], ◌∷◌, ◌++◌, length, refl, sym, ◌∙◌, ap, subst, arith, append_assoc}
+use Rattle.std.proofs.Common.{◌≡◌, inl, inr, ℕ, suc, ◌≤◌, List, [], ◌∷◌, ◌++◌, length, refl, sym, ◌∙◌, ap, subst, arith, append_assoc}
 use Rattle.std.proofs.lemmas.Bool.{cases_lt}
 use Rattle.hpb_rules.specs.declared.command.Command.{Command}
 use Rattle.hpb_rules.specs.declared.saved.Saved.{Saved}
-use Rattle.hpb_rules.specs.Tree.{Rules}
 use Rattle.hpb_rules.specs.AuctionValue.{AuctionValue}
 use Rattle.hpb_rules.specs.AcceptedRuns.{AllAccepted}
 use Rattle.hpb_rules.specs.Saved.{restored}
 use Rattle.hpb_disk.specs.Images.{part}
 use Rattle.hpb_journal.specs.Frames.{Kept, joined}
-use Rattle.hpb_journal.specs.Journals.{IsJournal, PagesAreJournal}
+use Rattle.hpb_journal.specs.Journals.{IsJournal, ShapesAreJournal}
 use Rattle.hpb_slots.specs.Newest.{IsNewest}
 use Rattle.hpb_slots.specs.Laws.{NewestIsOne}
 use Rattle.hpb_codec.specs.declared.head.Head.{Head}
 use Rattle.hpb_codec.specs.Laws.{HeadsAreOne}
-use Rattle.hpb_image.specs.Heads.{IsLaidOut, layout_of}
+use Rattle.hpb_image.specs.Heads.{layout_of}
 use Rattle.hpb_image.specs.Readings.{Found, Reaches, HasLater, layout_in, checkpoint, next_index}
 
 pub joined_both : (batches others : List (List Command)) → joined (batches ++ others) ≡ joined batches ++ joined others
@@ -22,7 +21,7 @@ joined_both [] others = refl
 joined_both (commands ∷ batches) others = ap (λ (l : List Command). commands ++ l) (joined_both batches others) ∙ sym (append_assoc commands (joined batches) (joined others))
 
 -- Two readings agree on all but how far they went.
-module _ (heads : HeadsAreOne) (newest : NewestIsOne) (pages : PagesAreJournal) (f g : Found) (image : List ℕ) (one : Reaches f image) (other : Reaches g image) where
+module _ (heads : HeadsAreOne) (newest : NewestIsOne) (shapes : ShapesAreJournal) (f g : Found) (image : List ℕ) (one : Reaches f image) (other : Reaches g image) where
   pub heads_agree : f.head ≡ g.head
   heads_agree = heads.one_value (part 16 12272 image) f.head g.head one.laid.spelled other.laid.spelled
 
@@ -58,7 +57,7 @@ module _ (heads : HeadsAreOne) (newest : NewestIsOne) (pages : PagesAreJournal) 
   accepted_here = subst (λ (v : AuctionValue). AllAccepted v (joined g.batches)) (sym checkpoints_agree) other.accepted
 
   journal : IsJournal (layout_in f)
-  journal = pages f.head.journal_pages one.laid.spelled.is.journal.0 one.laid.spelled.is.journal.1
+  journal = shapes f.head.journal one.laid.spelled.is.journal
 
   -- nothing goes past all that there is to be read
   module _ (ends : HasLater f image → ⊥) where

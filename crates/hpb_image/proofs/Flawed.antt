@@ -1,15 +1,13 @@
 -- An image has one flaw at most, and none where it can be read.
-use Rattle.std.proofs.Common.{◌≡◌, ℕ, suc, ◌+◌, ◌<◌, ◌≤◌, List, [], ◌∷◌, ◌++◌, length, refl, sym, ◌∙◌, ap, subst, arith}
+use Rattle.std.proofs.Common.{◌≡◌, ℕ, suc, ◌+◌, List, [], ◌∷◌, ◌++◌, length, refl, sym, ◌∙◌, ap, subst, arith}
 use Rattle.std.proofs.lemmas.List.{append-nil}
 use Rattle.hpb_rules.specs.declared.command.Command.{Command}
 use Rattle.hpb_rules.specs.AcceptedRuns.{AllAccepted}
-use Rattle.hpb_rules.specs.Values.{value_after}
 use Rattle.hpb_rules.proofs.RunLaws.{accepted_join, accepted_are_counted}
-use Rattle.hpb_rules.specs.declared.saved.Saved.{Saved}
 use Rattle.hpb_disk.specs.Images.{part}
 use Rattle.hpb_slots.specs.Laws.{NewestIsOne}
 use Rattle.hpb_journal.specs.Frames.{IsOwn, IsFrame, Kept, joined}
-use Rattle.hpb_journal.specs.Journals.{IsJournal, PagesAreJournal}
+use Rattle.hpb_journal.specs.Journals.{IsJournal, ShapesAreJournal}
 use Rattle.hpb_image.specs.declared.flaw.Flaw.{Flaw}
 use Rattle.hpb_image.specs.declared.flaw.Flaw.TheVariants.{Unformatted, Layout, Checkpoint, Frame}
 use Rattle.hpb_codec.specs.declared.head.Head.{Head}
@@ -22,7 +20,7 @@ use Rattle.hpb_image.specs.Flaws.{HasFlaw, IsDamaged}
 use Rattle.hpb_image.specs.Laws.{FlawIsOne, ReadIsFlawless}
 use Rattle.hpb_image.proofs.Agreeing.{joined_both, heads_agree, covered_agrees, counts_agree, kept_here, accepted_here, is_front}
 
-module _ (heads : HeadsAreOne) (newest : NewestIsOne) (pages : PagesAreJournal) (f g : Found) (image : List ℕ) (reads : Reads f image) (damaged : IsDamaged g image) where
+module _ (heads : HeadsAreOne) (newest : NewestIsOne) (shapes : ShapesAreJournal) (f g : Found) (image : List ℕ) (reads : Reads f image) (damaged : IsDamaged g image) where
   a : Reaches f image
   a = reads.reaches
 
@@ -30,7 +28,7 @@ module _ (heads : HeadsAreOne) (newest : NewestIsOne) (pages : PagesAreJournal) 
   b = damaged.reaches
 
   journal : IsJournal (layout_in g)
-  journal = pages g.head.journal_pages b.laid.spelled.is.journal.0 b.laid.spelled.is.journal.1
+  journal = shapes g.head.journal b.laid.spelled.is.journal
 
   -- the other reading went as far: then the later frame is later for both
   as_far : f.batches ≡ g.batches → ⊥
@@ -39,18 +37,18 @@ module _ (heads : HeadsAreOne) (newest : NewestIsOne) (pages : PagesAreJournal) 
       let count : length f.batches ≡ length g.batches = ap (λ (l : List (List Command)). length l) batches in
       reads.ends (
         later.0,
-        omega (arith, later.1, count, covered_agrees heads newest pages f g image a b),
-        omega (arith, later.2, covered_agrees heads newest pages f g image a b, counts_agree heads newest pages f g image a b),
-        subst (λ (head : Head). IsOwn (layout_of head) later.0 image) (sym (heads_agree heads newest pages f g image a b)) later.3,
+        omega (arith, later.1, count, covered_agrees heads newest shapes f g image a b),
+        omega (arith, later.2, covered_agrees heads newest shapes f g image a b, counts_agree heads newest shapes f g image a b),
+        subst (λ (head : Head). IsOwn (layout_of head) later.0 image) (sym (heads_agree heads newest shapes f g image a b)) later.3,
       )
 
   -- it went further: then its next batch goes on
   further : (commands : List Command) (rest : List (List Command)) → f.batches ≡ g.batches ++ commands ∷ rest → ⊥
   further commands rest is =
       let kept : Kept (layout_in g) g.head.definition g.covered (suc g.saved.count) (g.batches ++ commands ∷ rest) image =
-      subst (λ (l : List (List Command)). Kept (layout_in g) g.head.definition g.covered (suc g.saved.count) l image) is (kept_here heads newest pages g f image b a) in
+      subst (λ (l : List (List Command)). Kept (layout_in g) g.head.definition g.covered (suc g.saved.count) l image) is (kept_here heads newest shapes g f image b a) in
       let all : AllAccepted (checkpoint g) (joined g.batches ++ (commands ++ joined rest)) =
-      subst (AllAccepted (checkpoint g)) (ap joined is ∙ joined_both g.batches (commands ∷ rest)) (accepted_here heads newest pages g f image b a) in
+      subst (AllAccepted (checkpoint g)) (ap joined is ∙ joined_both g.batches (commands ∷ rest)) (accepted_here heads newest shapes g f image b a) in
       let behind : AllAccepted (last_value g) (commands ++ joined rest) = ((accepted_join (checkpoint g) (joined g.batches) (commands ++ joined rest)).0.0 all).1 in
       let number : suc g.saved.count + length (joined g.batches) ≡ suc (last_value g).count = omega (arith, (accepted_are_counted (checkpoint g) (joined g.batches) b.accepted).0) in
       let frame = (journal.cut g.head.definition g.covered (suc g.saved.count) g.batches (commands ∷ rest) image kept).1.0 in
@@ -59,7 +57,7 @@ module _ (heads : HeadsAreOne) (newest : NewestIsOne) (pages : PagesAreJournal) 
       ((accepted_join (last_value g) commands (joined rest)).0.0 behind).0
 
   pub undamaged : ⊥
-  undamaged = by (is_front heads newest pages f g image a b reads.ends).0 (is_front heads newest pages f g image a b reads.ends).1
+  undamaged = by (is_front heads newest shapes f g image a b reads.ends).0 (is_front heads newest shapes f g image a b reads.ends).1
     where
       by : (rest : List (List Command)) → f.batches ≡ g.batches ++ rest → ⊥
       by [] is = as_far (is ∙ append-nil g.batches)
@@ -78,11 +76,11 @@ module _ (heads : HeadsAreOne) (f : Found) (image : List ℕ) (reaches : Reaches
   reached Checkpoint why = absurd (has_state why.1 why.2 why.3)
   reached Frame why = refl
 
-pub read_is_flawless : HeadsAreOne → NewestIsOne → PagesAreJournal → ReadIsFlawless
-read_is_flawless heads newest pages f Unformatted image reads flaw = flaw reads.reaches.formatted
-read_is_flawless heads newest pages f Layout image reads flaw = flaw.1 f.head reads.reaches.laid
-read_is_flawless heads newest pages f Checkpoint image reads flaw = has_state heads f image reads.reaches flaw.1 flaw.2 flaw.3
-read_is_flawless heads newest pages f Frame image reads flaw = undamaged heads newest pages f flaw.0 image reads flaw.1
+pub read_is_flawless : HeadsAreOne → NewestIsOne → ShapesAreJournal → ReadIsFlawless
+read_is_flawless heads newest shapes f Unformatted image reads flaw = flaw reads.reaches.formatted
+read_is_flawless heads newest shapes f Layout image reads flaw = flaw.1 f.head reads.reaches.laid
+read_is_flawless heads newest shapes f Checkpoint image reads flaw = has_state heads f image reads.reaches flaw.1 flaw.2 flaw.3
+read_is_flawless heads newest shapes f Frame image reads flaw = undamaged heads newest shapes f flaw.0 image reads flaw.1
 
 pub flaw_is_one : HeadsAreOne → FlawIsOne
 flaw_is_one heads Unformatted Unformatted image one other = refl

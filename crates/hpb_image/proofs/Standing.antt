@@ -1,15 +1,13 @@
 -- An image stands for a list of commands where what is read in it shows a front of the list and spells the rest.
-use Rattle.std.proofs.Common.{◌≡◌, ◌↔◌, ℕ, suc, List, ◌++◌, length, refl, sym, ◌∙◌, ap, subst}
+use Rattle.std.proofs.Common.{◌≡◌, ℕ, suc, List, ◌++◌, length, sym, ◌∙◌, ap, subst}
 use Rattle.std.proofs.lemmas.List.{length-reverse}
 use Rattle.hpb_rules.specs.declared.command.Command.{Command}
 use Rattle.hpb_rules.specs.Answer.{IsHistory}
 use Rattle.hpb_rules.specs.AuctionValue.{AuctionValue, Shows}
-use Rattle.hpb_rules.specs.Saved.{restored}
-use Rattle.hpb_rules.specs.AcceptedRuns.{AllAccepted}
 use Rattle.hpb_rules.proofs.RunLaws.{rest_is_accepted, rest_is_shown}
 use Rattle.hpb_slots.specs.Laws.{NewestIsOne}
 use Rattle.hpb_journal.specs.Frames.{Kept, joined}
-use Rattle.hpb_journal.specs.Journals.{PagesAreJournal}
+use Rattle.hpb_journal.specs.Journals.{ShapesAreJournal}
 use Rattle.hpb_codec.specs.Laws.{HeadsAreOne}
 use Rattle.hpb_image.specs.Heads.{layout_of}
 use Rattle.hpb_image.specs.Standing.{Stands}
@@ -46,9 +44,9 @@ module _ (history : List Command) (image : List ℕ) (stands : Stands history im
   found_shows : Shows (last_value found) history
   found_shows = subst (Shows (last_value found)) (sym stands.cuts) (rest_is_shown (checkpoint found) stands.before (joined stands.batches) stands.shows found_reads.reaches.accepted)
 
-pub read_is_shown : HeadsAreOne → NewestIsOne → PagesAreJournal → ReadIsShown
-read_is_shown heads newest pages history other image stands reads =
-    subst (λ (f : Found). Shows (last_value f) history) (reading_is_one heads newest pages (found history image stands) other image (found_reads history image stands) reads)
+pub read_is_shown : HeadsAreOne → NewestIsOne → ShapesAreJournal → ReadIsShown
+read_is_shown heads newest shapes history other image stands reads =
+    subst (λ (f : Found). Shows (last_value f) history) (reading_is_one heads newest shapes (found history image stands) other image (found_reads history image stands) reads)
     (found_shows history image stands)
 
 stands_of : (history : List Command) (f : Found) (image : List ℕ) → Reads f image → IsTold history f → Stands history image
@@ -77,7 +75,7 @@ stands_is_read history image = (
   λ read. stands_of history read.0 image read.1 read.2,
 )
 
-pub stands_for_one : HeadsAreOne → NewestIsOne → PagesAreJournal → StandsForOne
-stands_for_one heads newest pages one other image stands stands' =
+pub stands_for_one : HeadsAreOne → NewestIsOne → ShapesAreJournal → StandsForOne
+stands_for_one heads newest shapes one other image stands stands' =
     let f = found one image stands in
-    (last_value f, found_shows one image stands, read_is_shown heads newest pages other f image stands' (found_reads one image stands))
+    (last_value f, found_shows one image stands, read_is_shown heads newest shapes other f image stands' (found_reads one image stands))

@@ -3,9 +3,9 @@ use Rattle.std.specs.Prelude.{◌≡◌, ℕ, suc, ◌+◌, ◌-◌, ◌<◌, �
 use Rattle.hpb_rules.specs.declared.limits.TheConstants.{MOST_COMMANDS}
 use Rattle.hpb_rules.specs.AuctionValue.{AuctionValue}
 use Rattle.hpb_codec.specs.declared.state.TheConstants.{STATE_SIZE}
-use Rattle.hpb_journal.specs.declared.limits.TheConstants.{LEAST_FRAMES, MOST_FRAMES}
+use Rattle.hpb_codec.specs.declared.layout.TheConstants.{LEAST_FRAMES, MOST_FRAMES}
 use Rattle.hpb_journal.specs.Layouts.{Layout}
-use Rattle.hpb_journal.specs.Pages.{page_layout}
+use Rattle.hpb_journal.specs.Shapes.{shape_of, shaped}
 use Rattle.hpb_progress.specs.declared.progress.Checkpoint.{Checkpoint}
 use Rattle.hpb_progress.specs.declared.progress.Commit.{Commit}
 use Rattle.hpb_progress.specs.declared.progress.Progress.{Progress}
@@ -14,26 +14,26 @@ use Rattle.hpb_progress.specs.declared.progress.Ring.{Ring}
 
 -- How many frames there are.
 abbrev pub count_of : Ring → ℕ
-count_of ring = ring.frames.count
+count_of ring = (shape_of ring.frames).frames
 
 -- Where they stand.
 abbrev pub layout_of : Ring → Layout
-layout_of ring = page_layout ring.frames.count
+layout_of ring = shaped (shape_of ring.frames)
 
 -- The end of the frames that serve the batches from the newest slot's index on.
 abbrev pub end_of : Ring → ℕ
-end_of ring = ring.covered + ring.frames.count
+end_of ring = ring.covered + count_of ring
 
 -- Whether the gate of a frame that isn't clean may be open: that of a batch that was there when the device was opened, or
 -- was committed since, is; any other is as it was then.
 abbrev pub may_be_open : Ring → ℕ → Bool
-may_be_open ring b = nat_le (ring.opened_at + ring.frames.count) b || slice_index_or ring.gates.items (b - ring.opened_at) false
+may_be_open ring b = nat_le (ring.opened_at + count_of ring) b || slice_index_or ring.gates.items (b - ring.opened_at) false
 
 -- The indexes follow each other, and all frames up to the end of the clean ones serve them.
 pub record RingFits (ring : Ring) : Type 0 where
-  pub least : LEAST_FRAMES ≤ ring.frames.count
-  pub most : ring.frames.count ≤ MOST_FRAMES
-  pub gates : length ring.gates.items ≡ ring.frames.count
+  pub least : LEAST_FRAMES ≤ count_of ring
+  pub most : count_of ring ≤ MOST_FRAMES
+  pub gates : length ring.gates.items ≡ count_of ring
   pub opened : ring.opened_at ≤ ring.covered
   pub covered : ring.covered ≤ ring.next
   pub clean : ring.next ≤ ring.clean_end

@@ -1,10 +1,10 @@
 ghost use Rattle.std.specs.Prelude.{◌≡◌, ◌+◌, ◌≤◌};
 ghost use Rattle.hpb_rules.specs.declared.limits.TheConstants.{MOST_COMMANDS};
-ghost use Rattle.hpb_journal.specs.declared.limits.TheConstants.{MOST_FRAMES};
+ghost use Rattle.hpb_codec.specs.declared.layout.TheConstants.{MOST_FRAMES};
 
 use hpb_auction::Auction;
 use hpb_codec::Batch;
-use hpb_journal::PageFrames;
+use hpb_journal::{AnyFrames, Frames};
 use hpb_rules::Answers;
 use hpb_slots::Slot;
 
@@ -23,7 +23,7 @@ pub struct Progress {
 #[derive(Drop)]
 pub struct Ring {
     /// Where the frames stand.
-    pub frames: PageFrames,
+    pub frames: AnyFrames,
     /// How many batches the newest slot covers.
     pub covered: u64,
     /// The index of the next batch.
@@ -44,7 +44,7 @@ impl Ring {
         requires { self.now.covered ≤ MOST_COMMANDS + MOST_COMMANDS + MOST_FRAMES }
         ensures { result ≡ end_of self.now }
     {
-        self.covered + u64::from(self.frames.count)
+        self.covered + u64::from(self.frames.count())
     }
 
     /// Whether the gate of a frame that isn't clean may be open.
@@ -53,7 +53,7 @@ impl Ring {
         ensures { result ≡ may_be_open self.now index }
     {
         let place = index - self.opened_at;
-        if place >= u64::from(self.frames.count) {
+        if place >= u64::from(self.frames.count()) {
             return true;
         }
         match self.gates.get(place as usize) {

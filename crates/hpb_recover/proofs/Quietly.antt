@@ -1,12 +1,41 @@
 -- Calls that only read or sync, one after another.
-use Rattle.std.proofs.Common.{◌≡◌, ◌∙◌, ⊎_elim, ℕ, ◌+◌, ◌-◌, ◌*◌, ◌/◌, ◌≤◌, List, length, refl, ap, arith}
+use Rattle.std.proofs.Common.{◌≡◌, ◌∙◌, ⊎_elim, ℕ, ◌+◌, ◌-◌, ◌*◌, ◌/◌, ◌≤◌, List, length, take, drop, refl, sym, ap, arith}
+use Rattle.std.specs.Prelude.{◌==◌, if◌then◌else◌}
 use Rattle.std.proofs.Math.Nat.{mul-div_cancel_left}
-use Rattle.hpb_disk.specs.Images.{Within, Elapses, LeavesOnly}
-use Rattle.hpb_recover.specs.Quiet.{IsQuiet, frames_in, reads_in}
+use Rattle.std.proofs.lemmas.List.{drop-take, drop-drop, take-take}
+use Rattle.hpb_disk.specs.Images.{part, Within, Elapses, LeavesOnly}
+use Rattle.hpb_codec.specs.Heads.{magic, SpellsHead}
+use Rattle.hpb_codec.specs.Laws.{LayoutIsNamed}
+use Rattle.hpb_codec.specs.Layouts.{layout_byte}
+use Rattle.hpb_codec.specs.Numbers.{leading, rest, value}
+use Rattle.hpb_codec.specs.declared.head.Head.{Head}
+use Rattle.hpb_codec.specs.declared.layout.JournalLayout.{JournalLayout}
+use Rattle.hpb_codec.specs.declared.layout.JournalLayout.TheVariants as layouts
+use Rattle.hpb_codec.specs.declared.layout.JournalShape.{JournalShape}
+use Rattle.hpb_journal.specs.Shapes.{frame_bytes, shaped}
+use Rattle.hpb_recover.specs.Quiet.{IsQuiet, frame_bytes_in, frames_in, layout_byte_in, reads_in}
 
--- In an image as long as so many frames want it, so many have room.
-pub frames_here : (image : List ℕ) (n : ℕ) → length image ≡ 53248 + 4096 * n → frames_in image ≡ n
-frames_here image n size = ap (λ (k : ℕ). (k - 53248) / 4096) size ∙ ap (λ (k : ℕ). k / 4096) (omega arith) ∙ mul-div_cancel_left n (omega arith)
+-- What a head names stands in its image behind the text that the head begins with.
+byte_there : (image : List ℕ) → leading 1 (rest (length magic) (part 16 12272 image)) ≡ layout_byte_in image
+unfolding leading rest
+byte_there image =
+    ap (λ (l : List ℕ). value (take 1 l)) (drop-take 8 12264 (drop 16 image) ∙ ap (λ (l : List ℕ). take 12264 l) (drop-drop 8 16 image))
+    ∙ ap value (take-take 1 12264 (drop 24 image) (omega arith))
+
+pub named_here : LayoutIsNamed → (head : Head) (image : List ℕ) → SpellsHead (part 16 12272 image) head → layout_byte_in image ≡ layout_byte head.journal.layout
+named_here law head image spelled = sym (byte_there image) ∙ law (part 16 12272 image) head spelled
+
+-- In an image as long as a journal of the shape that its head names wants it, all its frames have room, and no more.
+room_for : (layout : JournalLayout) (frames : ℕ) → (53248 + frame_bytes layout * frames - 53248) / (if layout_byte layout == 2 then 1536 else 4096) ≡ frames
+room_for layouts.Pages frames = ap (λ (k : ℕ). k / 4096) (omega arith) ∙ mul-div_cancel_left frames (omega arith)
+room_for layouts.Cells frames = ap (λ (k : ℕ). k / 1536) (omega arith) ∙ mul-div_cancel_left frames (omega arith)
+
+frames_here : (image : List ℕ) (shape : JournalShape) → layout_byte_in image ≡ layout_byte shape.layout → length image ≡ (shaped shape).size → frames_in image ≡ shape.frames
+unfolding frames_in
+frames_here image shape named size =
+    ap (λ (k : ℕ). (k - 53248) / frame_bytes_in image) size
+    ∙ ap (λ (byte : ℕ). (53248 + frame_bytes shape.layout * shape.frames - 53248) / (if byte == 2 then 1536 else 4096)) named
+    ∙ room_for shape.layout shape.frames
 
 module _ {D : Type 0} (seen : D → List ℕ) (may_leave : D → List ℕ → Type 0) (moment : D → ℕ) (left_since : D → ℕ → List ℕ → Type 0) where
   abbrev pub Quiet : ℕ → D → D → Type 0
@@ -42,10 +71,10 @@ module _ {D : Type 0} (seen : D → List ℕ) (may_leave : D → List ℕ → Ty
   pub begun_reads : (old head checkpoint : D) → Quiet 2 old head → Quiet 4 head checkpoint → Quiet 6 old checkpoint
   begun_reads old head checkpoint one two = more_calls 2 4 6 old head checkpoint (omega arith) one two
 
-  pub all_reads : (frames : ℕ) (old head checkpoint journal : D) → length (seen old) ≡ 53248 + 4096 * frames → Quiet 2 old head → Quiet 4 head checkpoint → Quiet frames checkpoint journal
+  pub all_reads : (shape : JournalShape) (old head checkpoint journal : D) → layout_byte_in (seen old) ≡ layout_byte shape.layout → length (seen old) ≡ (shaped shape).size → Quiet 2 old head → Quiet 4 head checkpoint → Quiet shape.frames checkpoint journal
       → Quiet (reads_in (seen old)) old journal
-  all_reads frames old head checkpoint journal size one two three =
-      more_calls 6 frames (reads_in (seen old)) old checkpoint journal (omega (arith, frames_here (seen old) frames size)) (begun_reads old head checkpoint one two) three
+  all_reads shape old head checkpoint journal named size one two three =
+      more_calls 6 shape.frames (reads_in (seen old)) old checkpoint journal (omega (arith, frames_here (seen old) shape named size)) (begun_reads old head checkpoint one two) three
 
   -- A sync, and then all reads.
   pub opened_calls : (old synced new : D) → Quiet 1 old synced → Quiet (reads_in (seen synced)) synced new → Quiet (1 + reads_in (seen old)) old new

@@ -1,8 +1,12 @@
 -- Calls that only read or sync.
-use Rattle.std.specs.Prelude.{◌≡◌, ℕ, ◌+◌, ◌-◌, ◌*◌, ◌/◌, ◌≤◌, List, length}
-use Rattle.hpb_disk.specs.Images.{Within}
+use Rattle.std.specs.Prelude.{◌≡◌, ℕ, ◌+◌, ◌-◌, ◌*◌, ◌/◌, ◌≤◌, ◌==◌, List, length, if◌then◌else◌}
+use Rattle.hpb_codec.specs.Layouts.{layout_byte}
+use Rattle.hpb_codec.specs.Numbers.{value}
+use Rattle.hpb_codec.specs.declared.layout.JournalLayout.TheVariants as layouts
+use Rattle.hpb_disk.specs.Images.{part, Within}
+use Rattle.hpb_journal.specs.Shapes.{frame_bytes}
 use Rattle.hpb_journal.specs.declared.limits.TheConstants.{JOURNAL_AT}
-use Rattle.hpb_image.specs.declared.limits.TheConstants.{PAGE_BYTES}
+use Rattle.hpb_image.specs.declared.limits.TheConstants.{HEAD_AT, MAGIC_BYTES}
 
 -- Since each earlier moment a crash may leave what it could have left before these calls, no more and no less.
 pub record LeavesNothingNew (before now : ℕ) (past since : ℕ → List ℕ → Type 0) : Type 0 where
@@ -17,9 +21,17 @@ pub record IsQuiet {D : Type 0} (seen : D → List ℕ) (may_leave : D → List 
   pub since : LeavesNothingNew (moment old) (moment new) (left_since old) (left_since new)
   pub few : moment new ≤ moment old + calls
 
--- So many frames have room in an image, a page each.
-abbrev pub frames_in : List ℕ → ℕ
-frames_in image = (length image - JOURNAL_AT) / PAGE_BYTES
+-- The byte of an image by which its head names a layout.
+abbrev pub layout_byte_in : List ℕ → ℕ
+layout_byte_in image = value (part (HEAD_AT + MAGIC_BYTES) 1 image)
+
+-- The bytes of a frame under that layout: three cells where it is that of cells, else a page.
+abbrev pub frame_bytes_in : List ℕ → ℕ
+frame_bytes_in image = if layout_byte_in image == layout_byte layouts.Cells then frame_bytes layouts.Cells else frame_bytes layouts.Pages
+
+-- So many such frames have room in an image.
+unfoldable pub frames_in : List ℕ → ℕ
+frames_in image = (length image - JOURNAL_AT) / frame_bytes_in image
 
 -- So many reads go over an image once: two of the head, two of each slot, and one of each frame.
 abbrev pub reads_in : List ℕ → ℕ

@@ -15,11 +15,12 @@ use crate::checkpoint::{Checkpoint, read_checkpoint};
 use crate::head::read_head;
 use crate::journal::read_journal;
 use crate::{Cause, OpenFault, Opened, Plan};
+use hpb_codec::layout_is_named;
 use hpb_disk::{Disk, DiskFailed};
 use hpb_image::{
     Flaw, flaw_is_one, read_is_flawless, read_is_shown, reading_is_one, stands_is_read,
 };
-use hpb_journal::PageFrames;
+use hpb_journal::AnyFrames;
 use std::alloc::Global;
 
 /// Syncs, so that a crash leaves what is then read.
@@ -43,8 +44,9 @@ fn read_plan<D: Disk>(alloc: Global, disk: &mut D) -> Result<Plan, Cause>
     ensures cause { IfErr result (IsCauseAt (D.seen disk.old) (D.failures disk.old) (D.failures disk.new)) }
 {
     reading_is_one();
+    layout_is_named();
     let head = read_head(alloc, disk)?;
-    let frames = PageFrames::new(head.journal_pages);
+    let frames = AnyFrames::new(head.journal);
     let Checkpoint {
         newest,
         mut auction,

@@ -1,5 +1,7 @@
-use Rattle.std.proofs.Common.{◌≡◌, ℕ, ◌+◌, ◌*◌, true, false, Option, Some, sym, ◌∙◌, ap}
+use Rattle.std.proofs.Common.{◌≡◌, true, false, Option, Some, sym, ◌∙◌, ap}
 use Rattle.hpb_codec.specs.declared.head.Head.{Head}
+use Rattle.hpb_codec.specs.declared.layout.JournalShape.{JournalShape}
+use Rattle.hpb_journal.specs.Shapes.{shaped}
 use Rattle.hpb_image.specs.Heads.{layout_of}
 use Rattle.hpb_recover.proofs.Heading.{is_formatted, not_formatted, is_laid_out, spelled_here}
 use Rattle.hpb_recover.proofs.head.head_in.Goals as goal
@@ -22,7 +24,7 @@ returns-then-len-device_len-clause-cause c image begins = (
   λ head laid.
       let is : ◌≡◌ {A = Option Head} (Some head) (Some c.in-Some.head) = sym (c.in_ok-head.ensures.only head (spelled_here c.args.bytes.now c.args.len image begins head laid)) ∙ c.in-Some.is in
       let same : head ≡ c.in-Some.head = cc in
-      c.if-len-device_len.true (sym begins.size ∙ laid.size ∙ ap (λ (h : Head). (layout_of h).size) same ∙ sym (c.device_len.ensures ∙ ap (λ (n : ℕ). 53248 + 4096 * n) c.new.ensures)),
+      c.if-len-device_len.true (sym begins.size ∙ laid.size ∙ ap (λ (h : Head). (layout_of h).size) same ∙ sym (c.device_len.ensures ∙ ap (λ (s : JournalShape). (shaped s).size) c.new.ensures)),
 )
 
 pub returns-clause-formatted : goal.returns-clause-formatted
@@ -32,4 +34,4 @@ pub returns-clause-laid : goal.returns-clause-laid
 returns-clause-laid c image begins =
     let spells = rw c.in-Some.is at c.in_ok-head.ensures.found in
     is_laid_out c.args.bytes.now c.args.len image begins c.in-Some.head spells
-    (c.if-len-device_len.false ∙ c.device_len.ensures ∙ ap (λ (n : ℕ). 53248 + 4096 * n) c.new.ensures)
+    (c.if-len-device_len.false ∙ c.device_len.ensures ∙ ap (λ (s : JournalShape). (shaped s).size) c.new.ensures)

@@ -1,11 +1,12 @@
-use Rattle.std.proofs.Common.{ℕ, ◌+◌, ◌*◌, List, refl, sym, ◌∙◌, ap, subst, arith}
-use Rattle.hpb_journal.specs.Pages.{page_layout}
+use Rattle.std.proofs.Common.{ℕ, List, refl, sym, ◌∙◌, ap, subst, arith}
+use Rattle.hpb_codec.specs.declared.layout.JournalShape.{JournalShape}
+use Rattle.hpb_journal.specs.Shapes.{shape_of, shaped}
 use Rattle.hpb_image.specs.Heads.{layout_of}
 use Rattle.hpb_recover.specs.declared.plan.Plan.{Plan}
 use Rattle.hpb_recover.specs.Checkpoints.{IsCheckpoint, IsUnlessWithout}
 use Rattle.hpb_recover.specs.Replaying.{IsBroken, IsWhole}
 use Rattle.hpb_recover.specs.Quiet.{IsQuiet, reads_in}
-use Rattle.hpb_recover.proofs.Quietly.{at_most, begun_reads, all_reads}
+use Rattle.hpb_recover.proofs.Quietly.{at_most, begun_reads, all_reads, named_here}
 use Rattle.hpb_recover.proofs.Planning.{damaged, found, reads, is_plan_of, plan_of_one, cause_of_checkpoint, cause_of_journal}
 use Rattle.hpb_recover.proofs.opening.read_plan.Goals as goal
 
@@ -33,9 +34,9 @@ returns-in-Err-clause-cause g c =
 pub returns-in-Err-read_journal-clause-quiet : goal.returns-in-Err-read_journal-clause-quiet
 returns-in-Err-read_journal-clause-quiet g c =
     let d = g.D.Disk in
-    all_reads d.seen d.may_leave d.moment d.left_since c.in_ok-head.head.journal_pages c.args.disk.now c.read_head.new.disk c.read_checkpoint.new.disk c.read_journal.new.disk
-    c.in_ok-head.ensures.laid.size c.read_head.ensures.quiet c.read_checkpoint.ensures.quiet
-    (subst (λ (n : ℕ). IsQuiet d.seen d.may_leave d.moment d.left_since n c.read_checkpoint.new.disk c.read_journal.new.disk) c.new-frames.ensures c.read_journal.ensures.quiet)
+    all_reads d.seen d.may_leave d.moment d.left_since c.in_ok-head.head.journal c.args.disk.now c.read_head.new.disk c.read_checkpoint.new.disk c.read_journal.new.disk
+    (named_here c.layout_is_named.ensures c.in_ok-head.head (d.seen c.args.disk.now) c.in_ok-head.ensures.laid.spelled) c.in_ok-head.ensures.laid.size c.read_head.ensures.quiet c.read_checkpoint.ensures.quiet
+    (subst (λ (s : JournalShape). IsQuiet d.seen d.may_leave d.moment d.left_since s.frames c.read_checkpoint.new.disk c.read_journal.new.disk) c.new-frames.ensures c.read_journal.ensures.quiet)
 
 pub returns-in-Err-read_journal-clause-cause : goal.returns-in-Err-read_journal-clause-cause
 returns-in-Err-read_journal-clause-cause g c =
@@ -46,9 +47,9 @@ returns-in-Err-read_journal-clause-cause g c =
 pub returns-in-Ok-None-clause-quiet : goal.returns-in-Ok-None-clause-quiet
 returns-in-Ok-None-clause-quiet g c =
     let d = g.D.Disk in
-    all_reads d.seen d.may_leave d.moment d.left_since c.in_ok-head.head.journal_pages c.args.disk.now c.read_head.new.disk c.read_checkpoint.new.disk c.read_journal.new.disk
-    c.in_ok-head.ensures.laid.size c.read_head.ensures.quiet c.read_checkpoint.ensures.quiet
-    (subst (λ (n : ℕ). IsQuiet d.seen d.may_leave d.moment d.left_since n c.read_checkpoint.new.disk c.read_journal.new.disk) c.new-frames.ensures c.read_journal.ensures.quiet)
+    all_reads d.seen d.may_leave d.moment d.left_since c.in_ok-head.head.journal c.args.disk.now c.read_head.new.disk c.read_checkpoint.new.disk c.read_journal.new.disk
+    (named_here c.layout_is_named.ensures c.in_ok-head.head (d.seen c.args.disk.now) c.in_ok-head.ensures.laid.spelled) c.in_ok-head.ensures.laid.size c.read_head.ensures.quiet c.read_checkpoint.ensures.quiet
+    (subst (λ (s : JournalShape). IsQuiet d.seen d.may_leave d.moment d.left_since s.frames c.read_checkpoint.new.disk c.read_journal.new.disk) c.new-frames.ensures c.read_journal.ensures.quiet)
 
 pub returns-in-Ok-None-clause-cause : goal.returns-in-Ok-None-clause-cause
 returns-in-Ok-None-clause-cause g c =
@@ -59,9 +60,9 @@ returns-in-Ok-None-clause-cause g c =
     let value = c.in-Ok.checkpoint.auction in
     let checkpoint = subst (IsCheckpoint head.definition newest value) c.read_head.ensures.quiet.same c.in-Ok.ensures.checkpoint in
     let broken = rw c.in-Ok-None.field-0-is at c.in-Ok-None.ensures.journal in
-    let here = subst (IsBroken (page_layout c.new-frames.result.count) newest.index value) (c.read_checkpoint.ensures.quiet.same ∙ c.read_head.ensures.quiet.same) broken in
+    let here = subst (IsBroken (shaped (shape_of c.new-frames.result)) newest.index value) (c.read_checkpoint.ensures.quiet.same ∙ c.read_head.ensures.quiet.same) broken in
     damaged head newest image c.in_ok-head.ensures.formatted c.in_ok-head.ensures.laid value checkpoint
-    (subst (λ (n : ℕ). IsBroken (page_layout n) newest.index value image) c.new-frames.ensures here)
+    (subst (λ (s : JournalShape). IsBroken (shaped s) newest.index value image) c.new-frames.ensures here)
 
 pub returns-clause-found : goal.returns-clause-found
 returns-clause-found g c =
@@ -74,10 +75,10 @@ returns-clause-found g c =
     let checkpoint = subst (IsCheckpoint head.definition newest value) c.read_head.ensures.quiet.same c.in-Ok.ensures.checkpoint in
     let plan : Plan = record { frames = c.new-frames.result; slot = newest.slot; other_open = newest.other_open; covered = newest.index; next = journal.next; clean_end = journal.clean_end; gates = journal.gates; auction = c.read_journal.new.auction } in
     let was = rw c.in-Ok-Some.field-0-is at c.in-Ok-Some.ensures.journal in
-    let there = subst (λ (l : List ℕ). IsWhole (page_layout c.new-frames.result.count) newest.index value l plan.next plan.clean_end plan.gates.items plan.auction)
+    let there = subst (λ (l : List ℕ). IsWhole (shaped (shape_of c.new-frames.result)) newest.index value l plan.next plan.clean_end plan.gates.items plan.auction)
     (c.read_checkpoint.ensures.quiet.same ∙ c.read_head.ensures.quiet.same) was in
     let whole : IsWhole (layout_of head) newest.index value image plan.next plan.clean_end plan.gates.items plan.auction =
-    subst (λ (n : ℕ). IsWhole (page_layout n) newest.index value image plan.next plan.clean_end plan.gates.items plan.auction) c.new-frames.ensures there in
+    subst (λ (s : JournalShape). IsWhole (shaped s) newest.index value image plan.next plan.clean_end plan.gates.items plan.auction) c.new-frames.ensures there in
     let f = c.in_ok-head.ensures.formatted in
     let l = c.in_ok-head.ensures.laid in
     let one = c.reading_is_one.ensures in (
@@ -97,14 +98,14 @@ returns-clause-plan g c =
     let checkpoint = subst (IsCheckpoint head.definition newest value) c.read_head.ensures.quiet.same c.in-Ok.ensures.checkpoint in
     let plan : Plan = record { frames = c.new-frames.result; slot = newest.slot; other_open = newest.other_open; covered = newest.index; next = journal.next; clean_end = journal.clean_end; gates = journal.gates; auction = c.read_journal.new.auction } in
     let was = rw c.in-Ok-Some.field-0-is at c.in-Ok-Some.ensures.journal in
-    let there = subst (λ (l : List ℕ). IsWhole (page_layout c.new-frames.result.count) newest.index value l plan.next plan.clean_end plan.gates.items plan.auction)
+    let there = subst (λ (l : List ℕ). IsWhole (shaped (shape_of c.new-frames.result)) newest.index value l plan.next plan.clean_end plan.gates.items plan.auction)
     (c.read_checkpoint.ensures.quiet.same ∙ c.read_head.ensures.quiet.same) was in
     let whole : IsWhole (layout_of head) newest.index value image plan.next plan.clean_end plan.gates.items plan.auction =
-    subst (λ (n : ℕ). IsWhole (page_layout n) newest.index value image plan.next plan.clean_end plan.gates.items plan.auction) c.new-frames.ensures there in
+    subst (λ (s : JournalShape). IsWhole (shaped s) newest.index value image plan.next plan.clean_end plan.gates.items plan.auction) c.new-frames.ensures there in
     let f = c.in_ok-head.ensures.formatted in
     let l = c.in_ok-head.ensures.laid in
     record {
-      size = l.size ∙ ap (λ (n : ℕ). 53248 + 4096 * n) (sym c.new-frames.ensures);
+      size = l.size ∙ ap (λ (s : JournalShape). (shaped s).size) (sym c.new-frames.ensures);
       few = checkpoint.covered;
       follows = omega (arith, whole.leads.count);
       clean = there.clean_ones;
@@ -117,6 +118,6 @@ returns-clause-plan g c =
 pub returns-clause-quiet : goal.returns-clause-quiet
 returns-clause-quiet g c =
     let d = g.D.Disk in
-    all_reads d.seen d.may_leave d.moment d.left_since c.in_ok-head.head.journal_pages c.args.disk.now c.read_head.new.disk c.read_checkpoint.new.disk c.read_journal.new.disk
-    c.in_ok-head.ensures.laid.size c.read_head.ensures.quiet c.read_checkpoint.ensures.quiet
-    (subst (λ (n : ℕ). IsQuiet d.seen d.may_leave d.moment d.left_since n c.read_checkpoint.new.disk c.read_journal.new.disk) c.new-frames.ensures c.read_journal.ensures.quiet)
+    all_reads d.seen d.may_leave d.moment d.left_since c.in_ok-head.head.journal c.args.disk.now c.read_head.new.disk c.read_checkpoint.new.disk c.read_journal.new.disk
+    (named_here c.layout_is_named.ensures c.in_ok-head.head (d.seen c.args.disk.now) c.in_ok-head.ensures.laid.spelled) c.in_ok-head.ensures.laid.size c.read_head.ensures.quiet c.read_checkpoint.ensures.quiet
+    (subst (λ (s : JournalShape). IsQuiet d.seen d.may_leave d.moment d.left_since s.frames c.read_checkpoint.new.disk c.read_journal.new.disk) c.new-frames.ensures c.read_journal.ensures.quiet)
