@@ -4,8 +4,8 @@ use crate::bodies::{batch, definition, saved};
 use anyhow::Result;
 use hpb_auction::Auction;
 use hpb_codec::{
-    BATCH_SIZE, HEAD_SIZE, STATE_SIZE, decode_batch, decode_state, encode_batch, encode_head,
-    encode_state,
+    BATCH_SIZE, HEAD_SIZE, JournalLayout, JournalShape, STATE_SIZE, decode_batch, decode_state,
+    encode_batch, encode_head, encode_state,
 };
 use hpb_rules::{Answer, Answers, Command, Letter, Letters, MOST_LETTERS, Reply, Saved};
 use std::alloc::Global;
@@ -18,8 +18,8 @@ const INDEX_IN_BATCH: usize = 7;
 
 const INDEX_IN_STATE: usize = 23;
 
-/// The place of the lowest byte of the journal's pages in a head.
-const PAGES_IN_HEAD: usize = 27;
+/// The place of the lowest byte of the number of the journal's frames in a head.
+const FRAMES_IN_HEAD: usize = 27;
 
 pub(crate) fn encode_batches(alloc: Global, rounds: u64) -> Result<u64> {
     let mut batch = batch();
@@ -84,10 +84,14 @@ pub(crate) fn encode_heads(alloc: Global, rounds: u64) -> Result<u64> {
     let definition = definition(alloc)?;
     let mut head = vec![in alloc; 0; HEAD_SIZE]?;
     let head = head.as_mut_slice();
+    let journal = JournalShape {
+        layout: JournalLayout::Pages,
+        frames: 4,
+    };
     let mut sum = 0_u64;
     for _ in 0..rounds {
-        encode_head(&definition, 4, head);
-        sum = sum.wrapping_add(u64::from(head[PAGES_IN_HEAD]));
+        encode_head(&definition, journal, head);
+        sum = sum.wrapping_add(u64::from(head[FRAMES_IN_HEAD]));
     }
     Ok(sum)
 }

@@ -1,10 +1,13 @@
 -- What a device is after it was formatted, and why it was not.
-use Rattle.std.specs.Prelude.{◌≡◌, ◌⊎◌, ℕ, ◌<◌, ◌≤◌, List, [], length, Result, Ok, Err}
+use Rattle.std.specs.Prelude.{◌≡◌, ◌⊎◌, ◌↔◌, ℕ, ◌<◌, List, [], length, Result, Ok, Err, IfOk}
+use Rattle.hpb_disk.specs.Images.{LeavesOnly, Only, Within}
 use Rattle.hpb_rules.specs.declared.refusal.Refusal.{Refusal}
 use Rattle.hpb_rules.specs.declared.refusal.Refusal.TheVariants as refusals
 use Rattle.hpb_rules.specs.Tree.{Rules}
-use Rattle.hpb_journal.specs.declared.limits.TheConstants.{LEAST_FRAMES, MOST_FRAMES}
-use Rattle.hpb_journal.specs.Pages.{page_layout}
+use Rattle.hpb_codec.specs.Layouts.{layout_byte, IsShape}
+use Rattle.hpb_codec.specs.declared.layout.JournalLayout.TheVariants.{Pages}
+use Rattle.hpb_codec.specs.declared.layout.JournalShape.{JournalShape}
+use Rattle.hpb_journal.specs.Shapes.{shaped}
 use Rattle.hpb_image.specs.Heads.{IsFormatted, IsLaidOut}
 use Rattle.hpb_image.specs.Standing.{Stands}
 use Rattle.hpb_format.specs.declared.fault.FormatCause.{FormatCause}
@@ -18,24 +21,32 @@ refusal_of causes.Formatted = refusals.Formatted
 refusal_of causes.Device = refusals.Device
 refusal_of causes.Memory = refusals.Memory
 
--- There may be so many frames, and the image is as long as they want it.
-pub record HasLength (frames : ℕ) (image : List ℕ) : Type 0 where
-  pub least : LEAST_FRAMES ≤ frames
-  pub most : frames ≤ MOST_FRAMES
-  pub size : length image ≡ (page_layout frames).size
+-- A layout of a page for each frame, and so many frames.
+abbrev pub paged : ℕ → JournalShape
+paged frames = record { layout = Pages; frames = frames }
 
--- The image stands for no command, under this definition and with so many frames.
-pub record IsNew (rules : Rules) (frames : ℕ) (image : List ℕ) : Type 0 where
-  pub laid : IsLaidOut (record { definition = rules; journal_pages = frames }) image
+-- These numbers name a shape: the byte of its layout, and how many frames it has.
+pub record Names (layout frames : ℕ) (journal : JournalShape) : Type 0 where
+  pub layout_is : layout ≡ layout_byte journal.layout
+  pub frames_are : frames ≡ journal.frames
+
+-- A journal may have this shape, and the image is as long as it wants it.
+pub record HasLength (journal : JournalShape) (image : List ℕ) : Type 0 where
+  pub allowed : IsShape journal
+  pub size : length image ≡ (shaped journal).size
+
+-- The image stands for no command, under this definition and with a journal of this shape.
+pub record IsNew (rules : Rules) (journal : JournalShape) (image : List ℕ) : Type 0 where
+  pub laid : IsLaidOut (record { definition = rules; journal = journal }) image
   pub stands : Stands [] image
 
 -- The image isn't that of a formatted device, or it is new.
-abbrev pub IsBlank : Rules → ℕ → List ℕ → Type 0
-IsBlank rules frames image = (IsFormatted image → ⊥) ⊎ IsNew rules frames image
+abbrev pub IsBlank : Rules → JournalShape → List ℕ → Type 0
+IsBlank rules journal image = (IsFormatted image → ⊥) ⊎ IsNew rules journal image
 
 -- It is one that a crash could leave of a device before, or it is blank.
-abbrev pub WasOrIsBlank : {D : Type 0} → (D → List ℕ → Type 0) → D → Rules → ℕ → List ℕ → Type 0
-WasOrIsBlank may_leave before rules frames image = may_leave before image ⊎ IsBlank rules frames image
+abbrev pub WasOrIsBlank : {D : Type 0} → (D → List ℕ → Type 0) → D → Rules → JournalShape → List ℕ → Type 0
+WasOrIsBlank may_leave before rules journal image = may_leave before image ⊎ IsBlank rules journal image
 
 -- A call failed for this cause.
 abbrev pub FailsBy : {T : Type 0} → Result T FormatCause → FormatCause → Type 0
@@ -62,3 +73,26 @@ abbrev pub CountsCause : {T : Type 0} → Result T FormatCause → (old new : �
 CountsCause (Ok _) old new = new ≡ old
 CountsCause (Err causes.Device) old new = old < new
 CountsCause (Err _) old new = new ≡ old
+
+-- What a call did that was to format a device for a journal of this shape: the device before it, and its result.
+pub record FormatsAs {D : Type 0} (seen : D → List ℕ) (may_leave : D → List ℕ → Type 0) (moment : D → ℕ) (left_since : D → ℕ → List ℕ → Type 0) (failures : D → ℕ)
+    (rules : Rules) (journal : JournalShape) (disk : D) (result : Result D (FormatFault D)) : Type 0 where
+  -- At `Ok` each crash leaves an image that stands for no command, under this definition and with such a journal.
+  pub stands : IfOk result (λ new. Within (may_leave new) (IsNew rules journal))
+  -- 43 is told exactly where no journal has this shape, or the device isn't as long as it wants it.
+  pub length : FailsBy (answer_of result) causes.Length ↔ (HasLength journal (seen disk) → ⊥)
+  -- 41 is told only where the device is formatted, and there nothing else is but for a want of memory or a failure.
+  pub formatted : FailsBy (answer_of result) causes.Formatted → IsFormatted (seen disk)
+  pub refused : HasLength journal (seen disk) → IsFormatted (seen disk) → FailsAtMostBy (answer_of result) causes.Formatted
+  -- Before 43 and 90 no call of the device was made.
+  pub untouched : FailsBy (answer_of result) causes.Length ⊎ FailsBy (answer_of result) causes.Memory → given result ≡ disk
+  -- A formatted device is left as it was, at any moment.
+  pub same : IsFormatted (seen disk) → seen (given result) ≡ seen disk
+  pub kept : IsFormatted (seen disk) → LeavesOnly (moment disk) (moment (given result)) (left_since disk) (left_since (given result)) (may_leave (given result)) (may_leave disk)
+  -- Of any other a crash at any moment leaves what it could before, or an image that isn't formatted or is new,
+  pub any_moment : LeavesOnly (moment disk) (moment (given result)) (left_since disk) (left_since (given result)) (may_leave (given result)) (WasOrIsBlank may_leave disk rules journal)
+  -- and where nothing was pending only such.
+  pub blank : Only (seen disk) (may_leave disk) → (IsFormatted (seen disk) → ⊥)
+      → LeavesOnly (moment disk) (moment (given result)) (left_since disk) (left_since (given result)) (may_leave (given result)) (IsBlank rules journal)
+  -- 91 is told exactly where a call failed.
+  pub cause : CountsCause (answer_of result) (failures disk) (failures (given result))

@@ -6,17 +6,19 @@ ghost use Rattle.hpb_image.specs.Heads.{IsFormatted, IsHeaded};
 ghost use Rattle.hpb_codec.specs.declared.head.TheConstants.{HEAD_SIZE};
 ghost use Rattle.hpb_image.specs.declared.limits.TheConstants.{HEAD_AT, MAGIC_BYTES};
 ghost use Rattle.hpb_format.specs.Beginnings.{IsFirstHead, IsFirstState};
-ghost use Rattle.hpb_format.specs.Outcomes.{answer_of, given, CountsCause, FailsAtMostBy, FailsBy, HasLength, IsBlank, IsNew, WasOrIsBlank};
+ghost use Rattle.hpb_codec.specs.declared.layout.JournalShape.{JournalShape};
+ghost use Rattle.hpb_journal.specs.Shapes.{shape_of};
+ghost use Rattle.hpb_format.specs.Outcomes.{answer_of, given, paged, CountsCause, FailsAtMostBy, FailsBy, FormatsAs, HasLength, IsNew, Names, WasOrIsBlank};
 ghost use Rattle.hpb_format.specs.declared.fault.FormatCause.TheVariants.{Formatted, Length, Memory};
 
 use crate::fault::{FormatCause, FormatFault};
 use crate::new_device::NewDevice;
 use crate::place::HEAD_GATE;
 use crate::writing::write_new;
-use hpb_codec::has_magic;
+use hpb_codec::{JournalLayout, JournalShape, has_magic};
 use hpb_disk::{Disk, DiskFailed, gate_is_open};
 use hpb_image::{HEAD_AT, MAGIC_BYTES};
-use hpb_journal::{Frames, LEAST_FRAMES, MOST_FRAMES, PageFrames};
+use hpb_journal::{AnyFrames, Frames};
 use hpb_slots::holds_one;
 use hpb_tree::Definition;
 use std::alloc::Global;
@@ -40,15 +42,15 @@ fn is_headed<D: Disk>(disk: &mut D) -> Result<bool, DiskFailed>
     }
 }
 
-/// The frames of a journal, if there may be so many and a device of this length has them.
-fn page_frames(frames: u32, len: usize) -> Option<PageFrames>
-    ensures found { IfSome result (λ found. (found.count ≡ frames) × ((image : List ℕ) → length image ≡ len → HasLength frames image)) }
-    ensures none { IsNone result → (image : List ℕ) → length image ≡ len → HasLength frames image → ⊥ }
+/// The frames of a journal of this shape, if it may have it and a device of this length has room for just these.
+fn frames_of(journal: JournalShape, len: usize) -> Option<AnyFrames>
+    ensures found { IfSome result (λ found. (shape_of found ≡ journal) × ((image : List ℕ) → length image ≡ len → HasLength journal image)) }
+    ensures none { IsNone result → (image : List ℕ) → length image ≡ len → HasLength journal image → ⊥ }
 {
-    if frames < LEAST_FRAMES || MOST_FRAMES < frames {
+    if !journal.is_allowed() {
         return None;
     }
-    let found = PageFrames::new(frames);
+    let found = AnyFrames::new(journal);
     if len == found.device_len() {
         Some(found)
     } else {
@@ -76,16 +78,16 @@ fn settle_and_read<D: Disk>(disk: &mut D) -> Result<bool, DiskFailed>
 /// Formats a device of the length that these frames want.
 fn format_fitting<D: Disk>(
     disk: &mut D,
-    frames: &PageFrames,
+    frames: &AnyFrames,
     definition: &Definition,
     new: &NewDevice,
 ) -> Result<(), FormatCause>
-    requires length { HasLength frames.now.count (D.seen disk.old) }
-    requires head { IsFirstHead definition.now frames.now.count new.now.head.items }
+    requires length { HasLength (shape_of frames.now) (D.seen disk.old) }
+    requires head { IsFirstHead definition.now (shape_of frames.now) new.now.head.items }
     requires head_size { length new.now.head.items ≡ HEAD_SIZE }
     requires state { IsFirstState definition.now new.now.state.items }
     requires state_size { length new.now.state.items ≡ STATE_SIZE }
-    ensures stands { OnOk result (Within (D.may_leave disk.new) (IsNew definition.now frames.now.count)) }
+    ensures stands { OnOk result (Within (D.may_leave disk.new) (IsNew definition.now (shape_of frames.now))) }
     ensures length { FailsBy result Length → ⊥ }
     ensures memory { FailsBy result Memory → ⊥ }
     ensures formatted { FailsBy result Formatted → IsFormatted (D.seen disk.old) }
@@ -94,7 +96,7 @@ fn format_fitting<D: Disk>(
     ensures kept { IsFormatted (D.seen disk.old)
         → LeavesOnly (D.moment disk.old) (D.moment disk.new) (D.left_since disk.old) (D.left_since disk.new) (D.may_leave disk.new) (D.may_leave disk.old) }
     ensures any_moment { LeavesOnly (D.moment disk.old) (D.moment disk.new) (D.left_since disk.old) (D.left_since disk.new) (D.may_leave disk.new)
-        (WasOrIsBlank D.may_leave disk.old definition.now frames.now.count) }
+        (WasOrIsBlank D.may_leave disk.old definition.now (shape_of frames.now)) }
     ensures cause { CountsCause result (D.failures disk.old) (D.failures disk.new) }
 {
     frames.laws();
@@ -116,27 +118,43 @@ fn format_in_place<D: Disk>(
     alloc: Global,
     disk: &mut D,
     definition: &Definition,
-    frames: u32,
+    journal: JournalShape,
 ) -> Result<(), FormatCause>
-    ensures stands { OnOk result (Within (D.may_leave disk.new) (IsNew definition.now frames)) }
-    ensures length { FailsBy result Length ↔ (HasLength frames (D.seen disk.old) → ⊥) }
+    ensures stands { OnOk result (Within (D.may_leave disk.new) (IsNew definition.now journal)) }
+    ensures length { FailsBy result Length ↔ (HasLength journal (D.seen disk.old) → ⊥) }
     ensures formatted { FailsBy result Formatted → IsFormatted (D.seen disk.old) }
-    ensures refused { HasLength frames (D.seen disk.old) → IsFormatted (D.seen disk.old) → FailsAtMostBy result Formatted }
+    ensures refused { HasLength journal (D.seen disk.old) → IsFormatted (D.seen disk.old) → FailsAtMostBy result Formatted }
     ensures untouched { FailsBy result Length ⊎ FailsBy result Memory → disk.new ≡ disk.old }
     ensures same { IsFormatted (D.seen disk.old) → D.seen disk.new ≡ D.seen disk.old }
     ensures kept { IsFormatted (D.seen disk.old)
         → LeavesOnly (D.moment disk.old) (D.moment disk.new) (D.left_since disk.old) (D.left_since disk.new) (D.may_leave disk.new) (D.may_leave disk.old) }
     ensures any_moment { LeavesOnly (D.moment disk.old) (D.moment disk.new) (D.left_since disk.old) (D.left_since disk.new) (D.may_leave disk.new)
-        (WasOrIsBlank D.may_leave disk.old definition.now frames) }
+        (WasOrIsBlank D.may_leave disk.old definition.now journal) }
     ensures cause { CountsCause result (D.failures disk.old) (D.failures disk.new) }
 {
-    let Some(frames) = page_frames(frames, disk.len()) else {
+    let Some(frames) = frames_of(journal, disk.len()) else {
         return Err(FormatCause::Length);
     };
-    let Ok(new) = NewDevice::new(alloc, definition, frames.count) else {
+    let Ok(new) = NewDevice::new(alloc, definition, journal) else {
         return Err(FormatCause::Memory);
     };
     format_fitting(disk, &frames, definition, &new)
+}
+
+/// Formats a device with a journal of this shape.
+fn format_shape<D: Disk + Drop>(
+    alloc: Global,
+    disk: D,
+    definition: &Definition,
+    journal: JournalShape,
+) -> Result<D, FormatFault<D>>
+    ensures { FormatsAs D.seen D.may_leave D.moment D.left_since D.failures definition.now journal disk result }
+{
+    let mut disk = disk;
+    match format_in_place(alloc, &mut disk, definition, journal) {
+        Ok(()) => Ok(disk),
+        Err(cause) => Err(FormatFault { disk, cause }),
+    }
 }
 
 /// Makes a device that stands for the auction of a definition before its first command, with so many frames, from 4 to
@@ -154,29 +172,33 @@ pub fn format<D: Disk + Drop>(
     definition: &Definition,
     frames: u32,
 ) -> Result<D, FormatFault<D>>
-    // At `Ok` each crash leaves an image that stands for no command, under this definition and with so many frames.
-    ensures stands { IfOk result (λ new. Within (D.may_leave new) (IsNew definition.now frames)) }
-    ensures length { FailsBy (answer_of result) Length ↔ (HasLength frames (D.seen disk) → ⊥) }
-    ensures formatted { FailsBy (answer_of result) Formatted → IsFormatted (D.seen disk) }
-    ensures refused { HasLength frames (D.seen disk) → IsFormatted (D.seen disk) → FailsAtMostBy (answer_of result) Formatted }
-    // Before 43 and 90 no call of the device was made.
-    ensures untouched { FailsBy (answer_of result) Length ⊎ FailsBy (answer_of result) Memory → given result ≡ disk }
-    // A formatted device is left as it was, at any moment.
-    ensures same { IsFormatted (D.seen disk) → D.seen (given result) ≡ D.seen disk }
-    ensures kept { IsFormatted (D.seen disk) → LeavesOnly (D.moment disk) (D.moment (given result)) (D.left_since disk) (D.left_since (given result))
-        (D.may_leave (given result)) (D.may_leave disk) }
-    // Of any other a crash at any moment leaves what it could before, or an image that isn't formatted or is new,
-    ensures any_moment { LeavesOnly (D.moment disk) (D.moment (given result)) (D.left_since disk) (D.left_since (given result))
-        (D.may_leave (given result)) (WasOrIsBlank D.may_leave disk definition.now frames) }
-    // and where nothing was pending only such.
-    ensures blank { Only (D.seen disk) (D.may_leave disk) → (IsFormatted (D.seen disk) → ⊥)
-        → LeavesOnly (D.moment disk) (D.moment (given result)) (D.left_since disk) (D.left_since (given result)) (D.may_leave (given result)) (IsBlank definition.now frames) }
-    // 91 is told exactly where a call failed.
-    ensures cause { CountsCause (answer_of result) (D.failures disk) (D.failures (given result)) }
+    ensures formats { FormatsAs D.seen D.may_leave D.moment D.left_since D.failures definition.now (paged frames) disk result }
 {
-    let mut disk = disk;
-    match format_in_place(alloc, &mut disk, definition, frames) {
-        Ok(()) => Ok(disk),
-        Err(cause) => Err(FormatFault { disk, cause }),
+    let layout = JournalLayout::Pages;
+    format_shape(alloc, disk, definition, JournalShape { layout, frames })
+}
+
+/// Makes a device as `format` does, in the layout that a number names: 1 of a page for each frame, from 4 to 1,024 of them,
+/// or 2 of three cells for each, from 16 to 1,024 in eights. 43 comes for any other number, too, or where the number of frames
+/// isn't one of its layout, or the device isn't as long as that wants it.
+pub fn format_layout<D: Disk + Drop>(
+    alloc: Global,
+    disk: D,
+    definition: &Definition,
+    frames: u32,
+    layout: u8,
+) -> Result<D, FormatFault<D>>
+    // A number that names no layout is told by 43, before any call of the device,
+    ensures unnamed { ((journal : JournalShape) → Names layout frames journal → ⊥) → FailsBy (answer_of result) Length × (given result ≡ disk) }
+    // and by any other the device is formatted in that layout.
+    ensures formats { (journal : JournalShape) → Names layout frames journal
+        → FormatsAs D.seen D.may_leave D.moment D.left_since D.failures definition.now journal disk result }
+{
+    match JournalLayout::of_byte(layout) {
+        Some(layout) => format_shape(alloc, disk, definition, JournalShape { layout, frames }),
+        None => Err(FormatFault {
+            disk,
+            cause: FormatCause::Length,
+        }),
     }
 }

@@ -1,12 +1,12 @@
 //! What stands on a new device behind its gates.
-ghost use Rattle.std.specs.Prelude.{◌≡◌, ◌≤◌, length, IfOk};
+ghost use Rattle.std.specs.Prelude.{◌≡◌, length, IfOk};
 ghost use Rattle.hpb_codec.specs.declared.state.TheConstants.{STATE_SIZE};
 ghost use Rattle.hpb_codec.specs.declared.head.TheConstants.{HEAD_SIZE};
-ghost use Rattle.hpb_journal.specs.declared.limits.TheConstants.{LEAST_FRAMES, MOST_FRAMES};
+ghost use Rattle.hpb_codec.specs.Layouts.{IsShape};
 ghost use Rattle.hpb_format.specs.Beginnings.{IsFirstHead, IsFirstState};
 
 use hpb_auction::Auction;
-use hpb_codec::{HEAD_SIZE, STATE_SIZE, encode_head, encode_state};
+use hpb_codec::{HEAD_SIZE, JournalShape, STATE_SIZE, encode_head, encode_state};
 use hpb_rules::{MOST_BIDDERS, MOST_NODES, Saved, SavedBidder, SavedNode};
 use hpb_tree::Definition;
 use std::alloc::{AllocError, Global};
@@ -32,21 +32,20 @@ pub(crate) struct NewDevice {
 }
 
 impl NewDevice {
-    /// Those of a device of so many frames, with the auction before its first command. Fails only where memory is refused.
+    /// Those of a device with a journal of this shape, with the auction before its first command. Fails only where memory is refused.
     pub(crate) fn new(
         alloc: Global,
         definition: &Definition,
-        frames: u32,
+        journal: JournalShape,
     ) -> Result<NewDevice, AllocError>
-        requires least { LEAST_FRAMES ≤ frames }
-        requires most { frames ≤ MOST_FRAMES }
-        ensures head { IfOk result (λ new. IsFirstHead definition.now frames new.head.items) }
+        requires { IsShape journal }
+        ensures head { IfOk result (λ new. IsFirstHead definition.now journal new.head.items) }
         ensures head_size { IfOk result (λ new. length new.head.items ≡ HEAD_SIZE) }
         ensures state { IfOk result (λ new. IsFirstState definition.now new.state.items) }
         ensures state_size { IfOk result (λ new. length new.state.items ≡ STATE_SIZE) }
     {
         Ok(NewDevice {
-            head: first_head(alloc, definition, frames)?,
+            head: first_head(alloc, definition, journal)?,
             state: first_state(alloc, definition)?,
         })
     }
@@ -73,15 +72,18 @@ fn first_state(alloc: Global, definition: &Definition) -> Result<Vec<u8>, AllocE
     Ok(bytes)
 }
 
-/// The head of a device with this definition and so many frames.
-fn first_head(alloc: Global, definition: &Definition, frames: u32) -> Result<Vec<u8>, AllocError>
-    requires least { LEAST_FRAMES ≤ frames }
-    requires most { frames ≤ MOST_FRAMES }
-    ensures head { IfOk result (λ bytes. IsFirstHead definition.now frames bytes.items) }
+/// The head of a device with this definition and a journal of this shape.
+fn first_head(
+    alloc: Global,
+    definition: &Definition,
+    journal: JournalShape,
+) -> Result<Vec<u8>, AllocError>
+    requires { IsShape journal }
+    ensures head { IfOk result (λ bytes. IsFirstHead definition.now journal bytes.items) }
     ensures size { IfOk result (λ bytes. length bytes.items ≡ HEAD_SIZE) }
 {
     definition.is_accepted_draft();
     let mut bytes = vec![in alloc; 0; HEAD_SIZE]?;
-    encode_head(definition, frames, &mut bytes);
+    encode_head(definition, journal, &mut bytes);
     Ok(bytes)
 }
