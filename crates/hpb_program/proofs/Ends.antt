@@ -3,6 +3,8 @@ use Rattle.std.proofs.Common.{◌≡◌, ◌∙◌, ℕ, suc, ◌<◌, List, ◌
 use Rattle.std.specs.Bool.{⊤}
 use Rattle.std.specs.Io.KnownBytes.{Appends, IsAtEnd, Keeps}
 use Rattle.std.proofs.KnownBytes.{Keeps-refl}
+use Rattle.hpb_codec.specs.Layouts.{IsShape}
+use Rattle.hpb_codec.specs.declared.layout.JournalShape.{JournalShape}
 use Rattle.hpb_rules.specs.declared.limits.TheConstants.{MOST_DEFINITION_BYTES}
 use Rattle.hpb_rules.specs.AuctionValue.{AuctionValue}
 use Rattle.hpb_rules.specs.Fronts.{IsFront}
@@ -21,7 +23,7 @@ use Rattle.hpb_server.specs.Streams.{Streams, streams}
 use Rattle.hpb_server.specs.Writing.{Puts}
 use Rattle.hpb_program.specs.declared.job_fault.JobFault.{JobFault}
 use Rattle.hpb_program.specs.declared.job_fault.JobFault.TheVariants as faults
-use Rattle.hpb_program.specs.Jobs.{check_text, line_of_journal, made_by, made_of_definition, made_of_file, made_of_formatting, nodes_text, Checks, Formats, GivesText, IsDefined, IsJournal, IsKept, IsOfFile, IsRefused, MayFormat, ShowsKept}
+use Rattle.hpb_program.specs.Jobs.{check_text, line_of_journal, made_by, made_of_definition, made_of_file, made_of_formatting, nodes_text, Checks, Formats, GivesText, IsDefined, IsKept, IsOfFile, IsRefused, MayFormat, ShowsKept}
 use Rattle.hpb_program.specs.Program.{ChecksFile, RunsToEnd, TellsEnd}
 use Rattle.hpb_server.proofs.Fronts.{put_front}
 
@@ -60,7 +62,7 @@ defined a b text rules gives answers = record {
   defines = answers;
 }
 
-module _ (journal : ℕ) (before after : Streams) (text : List ℕ) (gives : GivesText before.remaining after.remaining text) (kept : Keeps before.contents after.contents) where
+module _ (journal : JournalShape) (before after : Streams) (text : List ℕ) (gives : GivesText before.remaining after.remaining text) (kept : Keeps before.contents after.contents) where
   pub refused_definition : (fault : DefineFault) (made : JobFault) → made ≡ made_of_definition fault → Answers text (Err fault.cause) → Formats journal before after (Err made)
   refused_definition fault made is answers = subst (λ (m : JobFault). Formats journal before after (Err m)) (sym is) (go fault.cause refl)
     where
@@ -74,10 +76,10 @@ module _ (journal : ℕ) (before after : Streams) (text : List ℕ) (gives : Giv
       go defining.Number same = (told defining.Number same refl, kept)
       go (defining.Refused f) same = (told (defining.Refused f) same refl, kept)
 
-  pub out_of_range : (rules : Rules) → Answers text (Ok rules) → (IsJournal journal → ⊥) → Formats journal before after (Err faults.Journal)
+  pub out_of_range : (rules : Rules) → Answers text (Ok rules) → (IsShape journal → ⊥) → Formats journal before after (Err faults.Journal)
   out_of_range rules answers out = (defined before.remaining after.remaining text rules gives answers, out, kept)
 
-  pub failed_file : (rules : Rules) (fault : JobFault) → Answers text (Ok rules) → IsJournal journal → IsOfFile fault → Formats journal before after (Err fault)
+  pub failed_file : (rules : Rules) (fault : JobFault) → Answers text (Ok rules) → IsShape journal → IsOfFile fault → Formats journal before after (Err fault)
   failed_file rules fault answers journal_is of = go fault of
     where
       may : MayFormat journal before after
@@ -99,8 +101,8 @@ module _ (journal : ℕ) (before after : Streams) (text : List ℕ) (gives : Giv
       go faults.Counts of = absurd of
 
 -- the line of a formatted file is written in part
-pub told_short : {E : Type 0} (journal : ℕ) (before after : Streams) (text line : List ℕ) (rules : Rules) (e : E) → GivesText before.remaining after.remaining text → Answers text (Ok rules)
-    → IsJournal journal → line ≡ line_of_journal journal → Puts before.contents after.contents line (Err e) → Formats journal before after (Err faults.Writer)
+pub told_short : {E : Type 0} (journal : JournalShape) (before after : Streams) (text line : List ℕ) (rules : Rules) (e : E) → GivesText before.remaining after.remaining text → Answers text (Ok rules)
+    → IsShape journal → line ≡ line_of_journal journal → Puts before.contents after.contents line (Err e) → Formats journal before after (Err faults.Writer)
 told_short journal before after text line rules e gives answers journal_is is put =
     let front = put_front before.contents after.contents line (Err e) put in
     ((defined before.remaining after.remaining text rules gives answers, journal_is), (front.0, front.1, subst (IsFront front.0) is front.2))

@@ -29,8 +29,8 @@ sign_read f id o s read is not given =
     cc
 
 -- all values are given well where the last of them is
-pub by_last : {E : Type 0} (rows : List Row) (r : Result ⊤ E) → text_in rows (codes "file") ≢ [] → IsGivenByDigits rows (codes "journal") → IsGivenByDigits rows (codes "batch")
-    → IsGivenByDigits rows (codes "every") → IsGivenByDigits rows (codes "port")
+pub by_last : {E : Type 0} (rows : List Row) (r : Result ⊤ E) → text_in rows (codes "file") ≢ [] → IsGivenByDigits rows (codes "journal") → IsGivenByDigits rows (codes "layout")
+    → IsGivenByDigits rows (codes "batch") → IsGivenByDigits rows (codes "every") → IsGivenByDigits rows (codes "port")
     → MatchResult r (λ _. IsGivenByDigits rows (codes "sessions")) (λ _. IsGivenByDigits rows (codes "sessions") → ⊥) → MatchResult r (λ _. AreWellGivenIn rows) (λ _. AreWellGivenIn rows → ⊥)
-by_last rows (Ok done) named journal batch every port sessions = (named, journal, batch, every, port, sessions)
-by_last rows (Err fault) named journal batch every port ill = λ given. ill given.5
+by_last rows (Ok done) named journal layout batch every port sessions = (named, journal, layout, batch, every, port, sessions)
+by_last rows (Err fault) named journal layout batch every port ill = λ given. ill given.6

@@ -1,5 +1,5 @@
 -- What jobs on files read and write.
-use Rattle.std.specs.Prelude.{◌≡◌, ◌⊎◌, ℕ, Bool, true, false, zero, suc, ◌+◌, ◌<◌, ◌≤◌, List, [], ◌++◌, length, codes, decimal, Option, Result, Ok, Err, ⊤}
+use Rattle.std.specs.Prelude.{◌≡◌, ◌⊎◌, ℕ, Bool, true, false, zero, suc, ◌+◌, ◌*◌, ◌/◌, ◌<◌, ◌≤◌, List, [], ◌++◌, length, codes, decimal, Option, Result, Ok, Err, ⊤}
 use Rattle.std.specs.Io.KnownBytes.{Appends, Consumes, IsAtEnd, Keeps}
 use Rattle.hpb_rules.specs.declared.command.Command.{Command}
 use Rattle.hpb_rules.specs.declared.limits.TheConstants.{MOST_DEFINITION_BYTES}
@@ -23,7 +23,10 @@ use Rattle.hpb_format.specs.Outcomes as formats
 use Rattle.hpb_image.specs.Flaws.{HasFlaw}
 use Rattle.hpb_image.specs.Standing.{Stands}
 use Rattle.hpb_house.specs.declared.starting.StartCause.TheVariants as starting
-use Rattle.hpb_journal.specs.declared.limits.TheConstants.{LEAST_FRAMES, MOST_FRAMES}
+use Rattle.hpb_codec.specs.Layouts.{IsShape}
+use Rattle.hpb_codec.specs.declared.layout.JournalLayout.{JournalLayout}
+use Rattle.hpb_codec.specs.declared.layout.JournalLayout.TheVariants.{Pages, Cells}
+use Rattle.hpb_codec.specs.declared.layout.JournalShape.{JournalShape}
 use Rattle.hpb_recover.specs.declared.cause.Cause.{Cause}
 use Rattle.hpb_recover.specs.declared.cause.Cause.TheVariants as opening
 use Rattle.hpb_recover.specs.Causes as causes
@@ -161,25 +164,29 @@ pub record IsRefused (old new : Option (List ℕ)) (fault : DefineFault) : Type 
   pub answers : Answers text (Err fault.cause)
   pub told : made_of_definition fault ≡ faults.Definition fault
 
--- A journal may have so many pages.
-abbrev pub IsJournal : ℕ → Type 0
-IsJournal journal = (LEAST_FRAMES ≤ journal) × (journal ≤ MOST_FRAMES)
+-- The pages of a journal of this shape: one for each frame, or three for each eight.
+abbrev pub pages_by : JournalLayout → ℕ → ℕ
+pages_by Pages frames = frames
+pages_by Cells frames = frames / 8 * 3
 
--- The line of a formatted file with a journal of so many pages.
-abbrev pub line_of_journal : ℕ → List ℕ
-line_of_journal journal = formatted_line (FIRST_PAGES + journal)
+abbrev pub pages_of : JournalShape → ℕ
+pages_of journal = pages_by journal.layout journal.frames
 
-module _ (journal : ℕ) (before after : Streams) where
+-- The line of a formatted file with a journal of this shape.
+abbrev pub line_of_journal : JournalShape → List ℕ
+line_of_journal journal = formatted_line (FIRST_PAGES + pages_of journal)
+
+module _ (journal : JournalShape) (before after : Streams) where
   -- A file is opened, made or formatted only by a definition, and with a journal that may be.
   abbrev pub MayFormat : Type 0
-  MayFormat = IsDefined before.remaining after.remaining × IsJournal journal
+  MayFormat = IsDefined before.remaining after.remaining × IsShape journal
 
   -- A file was formatted and its line was written; or the writer failed; or nothing was written, and of the faults the first was found.
   abbrev pub Formats : Result ⊤ JobFault → Type 0
   Formats (Ok done) = MayFormat × Appends before.contents after.contents (line_of_journal journal)
   Formats (Err faults.Writer) = MayFormat × StopsWriting before.contents after.contents (line_of_journal journal)
   Formats (Err (faults.Definition fault)) = IsRefused before.remaining after.remaining fault × Keeps before.contents after.contents
-  Formats (Err faults.Journal) = IsDefined before.remaining after.remaining × (IsJournal journal → ⊥) × Keeps before.contents after.contents
+  Formats (Err faults.Journal) = IsDefined before.remaining after.remaining × (IsShape journal → ⊥) × Keeps before.contents after.contents
   Formats (Err (faults.File fault)) = MayFormat × Keeps before.contents after.contents
   Formats (Err (faults.Format cause)) = MayFormat × Keeps before.contents after.contents
   Formats (Err fault) = ReadsSome before.remaining after.remaining × Keeps before.contents after.contents

@@ -9,6 +9,8 @@ use Rattle.clap.specs.Faults.{fault_of}
 use Rattle.clap.specs.declared.builder.value_parser.ValueParser.TheVariants as parsers
 use Rattle.clap.specs.declared.error.kind.ErrorKind.{ErrorKind}
 use Rattle.clap.specs.declared.error.kind.ErrorKind.TheVariants.{DisplayHelp, DisplayVersion, InvalidSubcommand, MissingRequiredArgument, OutOfMemory, UnknownArgument, ValueValidation}
+use Rattle.hpb_codec.specs.Layouts.{layout_byte}
+use Rattle.hpb_codec.specs.declared.layout.JournalLayout.{JournalLayout}
 use Rattle.hpb_rules.specs.declared.limits.TheConstants.{MOST_LETTERS}
 use Rattle.hpb_program.specs.declared.status.TheConstants.{WELL, WRONG_WORDS}
 use Rattle.hpb_program.specs.declared.words.Job.{Job}
@@ -21,9 +23,13 @@ use Rattle.hpb_program.specs.declared.words.WordsFault.TheVariants.{Memory, Refu
 abbrev pub file_rule : Rule
 file_rule = record (new_rule (codes "file")) { long = Some (codes "file"); value_names = 1; required = true }
 
--- The option that gives a number of pages, of 32 bits.
+-- The option that gives a number of frames, of 32 bits.
 abbrev pub journal_rule : Rule
 journal_rule = record (new_rule (codes "journal")) { long = Some (codes "journal"); value_names = 1; required = true; parser = Some (parsers.Signed (pos 0) (pos 4294967295)) }
+
+-- The option that gives the number of a layout.
+abbrev pub layout_rule : Rule
+layout_rule = record (new_rule (codes "layout")) { long = Some (codes "layout"); value_names = 1; defaults = codes "1" ∷ []; parser = Some (parsers.Signed (pos 1) (pos 2)) }
 
 -- The option that gives the most commands of a batch.
 abbrev pub batch_rule : Rule
@@ -43,7 +49,7 @@ sessions_rule = record (new_rule (codes "sessions")) { long = Some (codes "sessi
 
 -- The command that makes a file.
 abbrev pub format_shape : Shape
-format_shape = (with_rule (with_rule (new_app (codes "format")) file_rule) journal_rule).top
+format_shape = (with_rule (with_rule (with_rule (new_app (codes "format")) file_rule) journal_rule) layout_rule).top
 
 -- The command that shows what a file keeps.
 abbrev pub check_shape : Shape
@@ -84,7 +90,7 @@ IsGivenByDigits rows name = IfSome (first_of name rows) (λ text. all_ascii_digi
 -- The file's name has a character at least, and each number is given by digits alone, without a sign.
 abbrev pub AreWellGivenIn : List Row → Type 0
 AreWellGivenIn rows =
-    (text_in rows (codes "file") ≢ []) × IsGivenByDigits rows (codes "journal") × IsGivenByDigits rows (codes "batch")
+    (text_in rows (codes "file") ≢ []) × IsGivenByDigits rows (codes "journal") × IsGivenByDigits rows (codes "layout") × IsGivenByDigits rows (codes "batch")
     × IsGivenByDigits rows (codes "every") × IsGivenByDigits rows (codes "port") × IsGivenByDigits rows (codes "sessions")
 
 -- So are the values of a command, if there is one.
@@ -107,6 +113,10 @@ IsNumberOr bits other (Some text) number =
 abbrev pub IsNumberOf : Option (List ℕ) → ℕ → Type 0
 IsNumberOf text number = IsNumberOr 32 0 text number
 
+-- A layout is the one that is named by the number that a text spells, or by 1 where it spells no number.
+abbrev pub IsLayoutOf : Option (List ℕ) → JournalLayout → Type 0
+IsLayoutOf text layout = (number : ℕ) × IsNumberOr 8 1 text number × ((named : JournalLayout) → number ≡ layout_byte named → layout ≡ named)
+
 -- A batch has as many commands as a text spells, or 1 where it spells no number: 1 at least, and as many as any batch may have at most.
 abbrev pub IsBatchOf : Option (List ℕ) → ℕ → Type 0
 IsBatchOf text batch = (number : ℕ) × IsNumberOr 32 1 text number × (batch ≡ max 1 (min number MOST_LETTERS))
@@ -123,7 +133,9 @@ AreSessionsOf text sessions = (number : ℕ) × IsNumberOr 8 1 text number × (s
 abbrev pub IsJobOf : Option (List ℕ × List Row) → Job → Type 0
 IsJobOf None job = job ≡ Script
 IsJobOf (Some found) Script = ⊥
-IsJobOf (Some found) (Format file journal) = (found.0 ≡ codes "format") × (file.now ≡ text_in found.1 (codes "file")) × IsNumberOf (one_of (codes "journal") found.1) journal
+IsJobOf (Some found) (Format file journal) =
+    (found.0 ≡ codes "format") × (file.now ≡ text_in found.1 (codes "file"))
+    × IsNumberOf (one_of (codes "journal") found.1) journal.frames × IsLayoutOf (one_of (codes "layout") found.1) journal.layout
 IsJobOf (Some found) (Check file) = (found.0 ≡ codes "check") × (file.now ≡ text_in found.1 (codes "file"))
 IsJobOf (Some found) (Run file batch every) =
     (found.0 ≡ codes "run") × (file.now ≡ text_in found.1 (codes "file"))
@@ -173,6 +185,10 @@ IsWrong (Refused text status) = status ≡ WRONG_WORDS
 abbrev pub options_in : Option (List ℕ × List Row) → Option (List ℕ × Option (List ℕ) × Option (List ℕ))
 options_in = option_map (λ found. (found.0, first_of (codes "file") found.1, one_of (codes "journal") found.1))
 
+-- A command with the texts of its file, its journal and its layout.
+abbrev pub format_options_in : Option (List ℕ × List Row) → Option (List ℕ × Option (List ℕ) × Option (List ℕ) × Option (List ℕ))
+format_options_in = option_map (λ found. (found.0, first_of (codes "file") found.1, one_of (codes "journal") found.1, one_of (codes "layout") found.1))
+
 -- A command with the texts of its file and its two numbers.
 abbrev pub run_options_in : Option (List ℕ × List Row) → Option (List ℕ × Option (List ℕ) × Option (List ℕ) × Option (List ℕ))
 run_options_in = option_map (λ found. (found.0, first_of (codes "file") found.1, one_of (codes "batch") found.1, one_of (codes "every") found.1))
@@ -195,8 +211,13 @@ pub record WordsAskFor : Type 0 where
   pub letter : (name : List ℕ) → fault_of hpb (name ∷ codes "-b" ∷ []) ≡ UnknownArgument ∷ []
   pub first : (name : List ℕ) → fault_of hpb (name ∷ codes "bogus" ∷ codes "--help" ∷ []) ≡ UnknownArgument ∷ InvalidSubcommand ∷ []
   pub format : (name : List ℕ) → fault_of hpb (name ∷ codes "format" ∷ codes "--file" ∷ codes "a.hpb" ∷ codes "--journal" ∷ codes "4" ∷ []) ≡ []
-  pub formats : (name : List ℕ) → options_in (subcommand_of hpb (name ∷ codes "format" ∷ codes "--file" ∷ codes "a.hpb" ∷ codes "--journal" ∷ codes "4" ∷ []))
-      ≡ Some (codes "format", Some (codes "a.hpb"), Some (codes "4"))
+  pub formats : (name : List ℕ) → format_options_in (subcommand_of hpb (name ∷ codes "format" ∷ codes "--file" ∷ codes "a.hpb" ∷ codes "--journal" ∷ codes "4" ∷ []))
+      ≡ Some (codes "format", Some (codes "a.hpb"), Some (codes "4"), Some (codes "1"))
+  pub formats_cells : (name : List ℕ) → format_options_in (subcommand_of hpb (name ∷ codes "format" ∷ codes "--file=a.hpb" ∷ codes "--journal=16" ∷ codes "--layout=2" ∷ []))
+      ≡ Some (codes "format", Some (codes "a.hpb"), Some (codes "16"), Some (codes "2"))
+  pub below_layout : (name : List ℕ) → fault_of hpb (name ∷ codes "format" ∷ codes "--file=a.hpb" ∷ codes "--journal=16" ∷ codes "--layout=0" ∷ []) ≡ ValueValidation ∷ []
+  pub above_layout : (name : List ℕ) → fault_of hpb (name ∷ codes "format" ∷ codes "--file=a.hpb" ∷ codes "--journal=16" ∷ codes "--layout=3" ∷ []) ≡ ValueValidation ∷ []
+  pub signed_layout : (name : List ℕ) → AreWellGiven (subcommand_of hpb (name ∷ codes "format" ∷ codes "--file=a.hpb" ∷ codes "--journal=16" ∷ codes "--layout=+1" ∷ [])) → ⊥
   pub format_help : (name : List ℕ) → fault_of hpb (name ∷ codes "format" ∷ codes "--help" ∷ []) ≡ DisplayHelp ∷ []
   pub no_file : (name : List ℕ) → fault_of hpb (name ∷ codes "format" ∷ codes "--journal=4" ∷ []) ≡ MissingRequiredArgument ∷ []
   pub no_journal : (name : List ℕ) → fault_of hpb (name ∷ codes "format" ∷ codes "--file=a.hpb" ∷ []) ≡ MissingRequiredArgument ∷ []

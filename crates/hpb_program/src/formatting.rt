@@ -1,17 +1,19 @@
 //! Making a file that keeps an auction.
-ghost use Rattle.std.specs.Prelude.{◌≡◌, ◌<◌, ◌↔◌, length, IfErr, IfOk, IsTrue, string_bytes};
+ghost use Rattle.std.specs.Prelude.{◌≡◌, ◌<◌, ◌≤◌, length, IfErr, IfOk, string_bytes};
+ghost use Rattle.hpb_codec.specs.Layouts.{IsShape};
 ghost use Rattle.hpb_disk.specs.FileDisks.{file_left};
 ghost use Rattle.hpb_disk.specs.Images.{Within};
 ghost use Rattle.hpb_format.specs.Outcomes.{IsNew};
-ghost use Rattle.hpb_program.specs.Jobs.{Formats, GivesText, IsJournal, IsOfFile, ReadsPart, StopsPart, StopsReading, formatted_line};
+ghost use Rattle.hpb_program.specs.Jobs.{Formats, GivesText, IsOfFile, ReadsPart, StopsPart, StopsReading, formatted_line, pages_of};
 ghost use Rattle.hpb_server.specs.Streams.{streams};
 
 use crate::job_fault::JobFault;
+use hpb_codec::{JournalLayout, JournalShape};
 use hpb_define::read_definition;
 use hpb_disk::FileDisk;
-use hpb_format::format;
+use hpb_format::format_layout;
 use hpb_image::PAGE_BYTES;
-use hpb_journal::{Frames, JOURNAL_AT, LEAST_FRAMES, MOST_FRAMES, PageFrames};
+use hpb_journal::{AnyFrames, Frames, JOURNAL_AT};
 use hpb_rules::MOST_DEFINITION_BYTES;
 use hpb_server::{read_some, send_bytes};
 use hpb_tree::Definition;
@@ -34,7 +36,7 @@ pub(crate) fn run_format<H: Files<File = File>, R: Read, W: Write>(
     rt: &H,
     alloc: Global,
     file: &str,
-    journal: u32,
+    journal: JournalShape,
     input: &mut R,
     output: &mut W,
 ) -> Result<(), JobFault>
@@ -48,11 +50,11 @@ pub(crate) fn run_format<H: Files<File = File>, R: Read, W: Write>(
         Ok(definition) => definition,
         Err(fault) => return Err(JobFault::from(fault)),
     };
-    let is_journal = may_be_journal(journal);
+    let is_journal = journal.is_allowed();
     if !is_journal {
         return Err(JobFault::Journal);
     }
-    let line = match line_of_pages(alloc, FIRST_PAGES + journal) {
+    let line = match line_of_pages(alloc, FIRST_PAGES + pages_of(journal)) {
         Ok(line) => line,
         Err(_) => return Err(JobFault::Memory),
     };
@@ -102,11 +104,16 @@ fn read_part<R: Read>(input: &mut R, text: &mut Vec<u8>) -> Result<bool, JobFaul
     }
 }
 
-/// Whether a journal may have so many pages.
-fn may_be_journal(pages: u32) -> bool
-    ensures { IsTrue result ↔ IsJournal pages }
+/// The pages of a journal of this shape, up to 1,024.
+fn pages_of(journal: JournalShape) -> u32
+    requires { IsShape journal }
+    ensures pages { result ≡ pages_of journal }
+    ensures most { result ≤ 1_024 }
 {
-    LEAST_FRAMES <= pages && pages <= MOST_FRAMES
+    match journal.layout {
+        JournalLayout::Pages => journal.frames,
+        JournalLayout::Cells => journal.frames / 8 * 3,
+    }
 }
 
 fn line_of_pages(alloc: Global, pages: u32) -> Result<String, AllocError>
@@ -122,18 +129,19 @@ fn format_file<H: Files<File = File>>(
     alloc: Global,
     file: &str,
     definition: &Definition,
-    journal: u32,
+    journal: JournalShape,
 ) -> Result<FileDisk, JobFault>
-    requires { IsJournal journal }
+    requires { IsShape journal }
     ensures fault { IfErr result IsOfFile }
     ensures new { IfOk result (λ disk. Within (file_left disk) (IsNew definition.now journal)) }
 {
-    let len = PageFrames::new(journal).device_len();
+    let len = AnyFrames::new(journal).device_len();
     let disk = match FileDisk::open_or_make(rt, alloc, file, len) {
         Ok(disk) => disk,
         Err(fault) => return Err(JobFault::from(fault)),
     };
-    match format(alloc, disk, definition, journal) {
+    let layout = journal.layout.byte();
+    match format_layout(alloc, disk, definition, journal.frames, layout) {
         Ok(disk) => Ok(disk),
         Err(fault) => Err(JobFault::from(fault.cause)),
     }

@@ -27,7 +27,7 @@ pub enum JobFault {
     Writer,
     /// 50 to 57, 60 to 62: the definition is refused.
     Definition(DefineFault),
-    /// 43: there can't be a journal of so many pages.
+    /// 43: a journal of this layout can't have so many frames.
     Journal,
     /// 91: the file was not opened or made.
     File(FileFault),
@@ -161,7 +161,7 @@ impl fmt::Display for Advice<'_> {
             JobFault::Definition(fault) => f.write_str(fault.said()),
             JobFault::Journal => write!(
                 f,
-                "a journal has 4 to 1024 pages: give one of these numbers to --journal"
+                "a journal has 4 to 1024 pages, and by --layout 2 a multiple of 8 from 16 to 1024 frames: give one of these numbers to --journal"
             ),
             JobFault::File(fault) => advise_of_file(f, file, fault),
             JobFault::Format(cause) => advise_of_format(f, file, *cause),

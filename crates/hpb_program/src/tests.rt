@@ -5,6 +5,7 @@ mod serves;
 mod using;
 
 use super::*;
+use hpb_codec::{JournalLayout, JournalShape};
 use hpb_rules::Refusal;
 use std::fs::{File, Files};
 use std::io;
@@ -22,8 +23,13 @@ const NO_DEFINITION: &[u8] = b"{";
 #[test]
 fn words_are_read(rt: HostRuntime) -> Result<(), Fail> {
     let alloc = rt.alloc();
-    let table: [(&[&str], u8, &str); 51] = [
+    let table: [(&[&str], u8, &str); 59] = [
         (&["hpb", "--help"], 0, "Usage: hpb"),
+        (
+            &["hpb", "--help"],
+            0,
+            "hpb format --file F --journal J [--layout 1|2] < DEFINITION",
+        ),
         (&["hpb", "--version"], 0, "hpb 0."),
         (&["hpb", "bogus"], 2, "error: "),
         (&["hpb", "--bogus"], 2, "error: "),
@@ -39,6 +45,35 @@ fn words_are_read(rt: HostRuntime) -> Result<(), Fail> {
             "hpb format --file auction.hpb --journal 64 < definition.json",
         ),
         (&["hpb", "format", "--help"], 0, "Status: 0 "),
+        (&["hpb", "format", "--help"], 0, "--layout <L>"),
+        (&["hpb", "format", "--help"], 0, "[default: 1]"),
+        (
+            &["hpb", "format", "--file=a", "--journal=16", "--layout=3"],
+            2,
+            "3 is not in 1..=2",
+        ),
+        (
+            &["hpb", "format", "--file=a", "--journal=16", "--layout", "0"],
+            2,
+            "0 is not in 1..=2",
+        ),
+        (
+            &[
+                "hpb",
+                "format",
+                "--file=a",
+                "--journal=16",
+                "--layout=cells",
+            ],
+            2,
+            "invalid value 'cells' for '--layout <L>'",
+        ),
+        (
+            &["hpb", "format", "--file=a", "--journal=16", "--layout"],
+            2,
+            "--layout <L>",
+        ),
+        (&["hpb", "check", "--file=a", "--layout=1"], 2, "error: "),
         (&["hpb", "format"], 2, "--file <F>"),
         (&["hpb", "format", "--file", "a"], 2, "--journal <J>"),
         (
@@ -266,7 +301,7 @@ fn words_are_read(rt: HostRuntime) -> Result<(), Fail> {
 const NO_NAME: &str = "invalid value '' for '--file <F>': a file's name has a character at least";
 
 /// Words with a value that is refused, and what is said of it.
-const WRONG_VALUES: [(&[&str], &str); 10] = [
+const WRONG_VALUES: [(&[&str], &str); 11] = [
     (&["hpb", "format", "--file=", "--journal=+4"], NO_NAME),
     (&["hpb", "check", "--file", ""], NO_NAME),
     (&["hpb", "run", "--file="], NO_NAME),
@@ -277,6 +312,10 @@ const WRONG_VALUES: [(&[&str], &str); 10] = [
     (
         &["hpb", "format", "--file", "a", "--journal", "+8"],
         "invalid value '+8' for '--journal <J>': a number is given by digits alone",
+    ),
+    (
+        &["hpb", "format", "--file=a", "--journal=16", "--layout=+1"],
+        "invalid value '+1' for '--layout <L>': a number is given by digits alone",
     ),
     (
         &["hpb", "run", "--file", "a", "--batch", "+1"],
@@ -513,30 +552,67 @@ fn faults_are_told(rt: HostRuntime) -> Result<(), Fail> {
     Ok(())
 }
 
+/// A journal of so many pages.
+const fn pages(frames: u32) -> JournalShape {
+    JournalShape {
+        layout: JournalLayout::Pages,
+        frames,
+    }
+}
+
+/// A journal of so many frames of cells.
+const fn cells(frames: u32) -> JournalShape {
+    JournalShape {
+        layout: JournalLayout::Cells,
+        frames,
+    }
+}
+
 #[test]
 fn jobs_are_read(rt: HostRuntime) -> Result<(), Fail> {
-    let table: [(&[&str], Job<'_>); 14] = [
+    let table: [(&[&str], Job<'_>); 17] = [
         (&["hpb"], Job::Script),
         (&["hpb", "--"], Job::Script),
         (
             &["hpb", "format", "--file", "a", "--journal", "4"],
             Job::Format {
                 file: "a",
-                journal: 4,
+                journal: pages(4),
             },
         ),
         (
             &["hpb", "format", "--journal=4294967295", "--file=b c"],
             Job::Format {
                 file: "b c",
-                journal: u32::MAX,
+                journal: pages(u32::MAX),
             },
         ),
         (
             &["hpb", "format", "--journal=0", "--file=--journal"],
             Job::Format {
                 file: "--journal",
-                journal: 0,
+                journal: pages(0),
+            },
+        ),
+        (
+            &["hpb", "format", "--file=a", "--journal=16", "--layout=1"],
+            Job::Format {
+                file: "a",
+                journal: pages(16),
+            },
+        ),
+        (
+            &["hpb", "format", "--layout", "2", "--file=a", "--journal=16"],
+            Job::Format {
+                file: "a",
+                journal: cells(16),
+            },
+        ),
+        (
+            &["hpb", "format", "--file=a", "--journal=5", "--layout=002"],
+            Job::Format {
+                file: "a",
+                journal: cells(5),
             },
         ),
         (

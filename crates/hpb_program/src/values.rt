@@ -6,7 +6,7 @@ ghost use Rattle.std.specs.Str.{all_ascii_digits};
 ghost use Rattle.clap.specs.Words.{found_of, rows_of, subcommand_rows_of};
 ghost use Rattle.hpb_program.specs.Words.{AreWellGiven, AreWellGivenIn, IsGivenByDigits};
 
-use crate::words::{BATCH, EVERY, FILE, JOURNAL, PORT, SESSIONS};
+use crate::words::{BATCH, EVERY, FILE, JOURNAL, LAYOUT, PORT, SESSIONS};
 use clap::ArgMatches;
 use thiserror::Error;
 
@@ -38,6 +38,7 @@ fn check_options<'a>(options: &ArgMatches<'a>) -> Result<(), ValueFault<'a>>
         return Err(ValueFault::NoName);
     }
     check_number(options, JOURNAL, "--journal <J>")?;
+    check_number(options, LAYOUT, "--layout <L>")?;
     check_number(options, BATCH, "--batch <N>")?;
     check_number(options, EVERY, "--every <K>")?;
     check_number(options, PORT, "--port <P>")?;

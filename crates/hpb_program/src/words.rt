@@ -2,7 +2,7 @@ ghost use Rattle.std.specs.Prelude.{◌≡◌, false, Some, IfErr, IfOk, map};
 ghost use Rattle.clap.specs.Values.{kind_of};
 ghost use Rattle.clap.specs.Words.{app_of, found_of, rows_of, rule_of, shape_of, subcommand_rows_of};
 ghost use Rattle.clap.specs.declared.builder.command.Command.TheViews.{out-Command};
-ghost use Rattle.hpb_program.specs.Words.{batch_rule, check_shape, every_rule, file_rule, format_shape, hpb, journal_rule, port_rule, run_shape, serve_shape, sessions_rule, AsksFor, HasKnownCommand, HasRanges, IsJobOf, IsKnownName, IsTold, IsWrong};
+ghost use Rattle.hpb_program.specs.Words.{batch_rule, check_shape, every_rule, file_rule, format_shape, hpb, journal_rule, layout_rule, port_rule, run_shape, serve_shape, sessions_rule, AsksFor, HasKnownCommand, HasRanges, IsJobOf, IsKnownName, IsTold, IsWrong};
 ghost use Rattle.hpb_program.specs.declared.words.WordsFault.TheVariants.{Memory};
 ghost use Rattle.hpb_program.specs.Program.{HasStatus};
 
@@ -11,6 +11,7 @@ use crate::status::{WELL, WRONG_WORDS};
 use crate::values::{ValueFault, check_values};
 use clap::error::ErrorKind;
 use clap::{Arg, ArgMatches, Command, value_parser};
+use hpb_codec::{JournalLayout, JournalShape};
 use hpb_rules::MOST_LETTERS;
 use std::alloc::{AllocError, Global};
 use std::convert::AsStr;
@@ -20,7 +21,7 @@ use thiserror::Error;
 const VERSION: &str = "0.1.0\nrattle-kit-13f logic dac8208d650f15bf";
 
 const USAGE: &str = r#"hpb < SCRIPT
-       hpb format --file F --journal J < DEFINITION
+       hpb format --file F --journal J [--layout 1|2] < DEFINITION
        hpb run --file F [--batch N] [--every K] < LINES
        hpb check --file F
        hpb serve --file F --port P --sessions N"#;
@@ -61,16 +62,24 @@ const FORMAT_ABOUT: &str = "Makes a file that keeps an auction, before its first
 const FORMAT_HELP: &str =
     r#"Standard input is the definition in JSON, in as many lines as you like. A file that isn't there is made. One that
 is there must have the same number of bytes as one that is made so, and must not keep an auction yet; what it holds
-is lost. The journal has J pages of 4,096 bytes, and the file 13 pages more. The more it has, the more rarely a
-checkpoint is needed.
+is lost. The journal has J frames, each for a batch of commands. The more it has, the more rarely a checkpoint is
+needed.
+
+--layout 1: a frame is a page of 4,096 bytes. J is from 4 to 1,024, and the file has 13 + J pages.
+
+--layout 2: a frame is three cells of 512 bytes, of which a batch takes as many as it needs, so a journal of as many
+batches has three eighths of the pages. J is a multiple of 8 from 16 to 1,024, and the file has 13 + 3J/8 pages.
+
+Both keep the same promises. The layout is in the file's head, where the other commands find it.
 
 What is written is FORMATTED with the number of pages, or ERR with a number and a word.
 
 Status: 0 the file keeps the auction; 1 it doesn't, and why is written; 2 the words were wrong.
 
-Example: a file of 77 pages
+Example: a file of 77 pages, and one of 37 for as many batches
 
   hpb format --file auction.hpb --journal 64 < definition.json
+  hpb format --file cells.hpb --journal 64 --layout 2 < definition.json
 
 docs/OPERATIONS.md says how to size, copy and move a file, and what each refusal means."#;
 
@@ -157,8 +166,11 @@ const SERVE: &str = "serve";
 /// The option that names a file.
 pub(crate) const FILE: &str = "file";
 
-/// The option that gives the number of pages of a journal.
+/// The option that gives the number of frames of a journal.
 pub(crate) const JOURNAL: &str = "journal";
+
+/// The option that gives the number of a journal's layout.
+pub(crate) const LAYOUT: &str = "layout";
 
 /// The option that gives the most commands of a batch.
 pub(crate) const BATCH: &str = "batch";
@@ -189,11 +201,11 @@ const MOST_SESSIONS: u8 = 32;
 pub enum Job<'a> {
     /// An auction in memory: a definition and lines from the input.
     Script,
-    /// A file that keeps an auction, by the definition from the input: the file's path, and the number of pages of
-    /// its journal, which may be out of range.
+    /// A file that keeps an auction, by the definition from the input: the file's path, and the layout and the number of
+    /// frames of its journal, which may be out of the layout's range.
     Format {
         file: &'a str,
-        journal: u32,
+        journal: JournalShape,
     },
     /// The auction that the file of this path keeps, shown.
     Check {
@@ -284,7 +296,10 @@ fn job_of_command<'a>(name: &str, options: &ArgMatches<'a>) -> Job<'a>
 {
     let file = options.get_str(FILE).unwrap_or("");
     if name == FORMAT {
-        let journal = options.get_one::<u32>(JOURNAL).unwrap_or(0);
+        let frames = options.get_one::<u32>(JOURNAL).unwrap_or(0);
+        let byte = options.get_one::<u8>(LAYOUT).unwrap_or(1);
+        let layout = JournalLayout::of_byte(byte).unwrap_or(JournalLayout::Pages);
+        let journal = JournalShape { layout, frames };
         Job::Format { file, journal }
     } else if name == RUN {
         let wanted = options.get_one::<u32>(BATCH).unwrap_or(1);
@@ -388,7 +403,8 @@ fn format_command<'a>(alloc: Global) -> Result<Command<'a>, AllocError>
         .about(FORMAT_ABOUT)
         .after_help(FORMAT_HELP)
         .arg(file_option(alloc))?
-        .arg(journal_option(alloc))
+        .arg(journal_option(alloc))?
+        .arg(layout_option(alloc))
 }
 
 fn check_command<'a>(alloc: Global) -> Result<Command<'a>, AllocError>
@@ -445,7 +461,21 @@ fn journal_option<'a>(alloc: Global) -> Arg<'a>
         .value_name("J")
         .required(true)
         .value_parser(value_parser!(u32))
-        .help("The number of pages of the journal, from 4 to 1024")
+        .help(
+            "The number of frames of the journal: 4 to 1024, and of cells a multiple of 8 from 16",
+        )
+}
+
+fn layout_option<'a>(alloc: Global) -> Arg<'a>
+    ensures rule { rule_of result ≡ layout_rule }
+    ensures local { result.global ≡ false }
+{
+    Arg::new(alloc, LAYOUT)
+        .long(LAYOUT)
+        .value_name("L")
+        .default_value("1")
+        .value_parser(value_parser!(u8).range(1..=2))
+        .help("The layout of the journal: 1, a page for each frame, or 2, cells")
 }
 
 fn batch_option<'a>(alloc: Global) -> Arg<'a>

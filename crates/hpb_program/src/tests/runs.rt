@@ -1,7 +1,8 @@
 //! Files that are run, and what is told of how that ended.
 
 use super::using::{
-    FailingReader, FailingWriter, Ran, SIX_NODES, new_file, run_on, run_over, run_words,
+    BOTH, FOUR_PAGES, FailingReader, FailingWriter, Ran, SIX_NODES, SIXTEEN_CELLS, new_file,
+    run_on, run_over, run_words,
 };
 use crate::noted::Failures;
 use crate::run_end::{RunAdvice, RunEnd};
@@ -85,18 +86,20 @@ fn a_file_is_run_as_a_script(rt: HostRuntime) -> Result<(), Fail> {
         &rt,
         "BID x 1 a 100\nBID y 1 b 150\nBID z 1 all 500\nBID w 1 c 100\nCLOSE 1\nBID y 2 b 600\nCLOSE 2\nSHOW\nNODE all\nNODE east\nNODE a\nNODE b\nNODE c\nNODE d\n",
     )?;
-    for (batch, every) in [("1", "0"), ("2", "1"), ("64", "3")] {
-        new_file(&rt, path, "4")?;
-        let run = run_words(&rt, &words_of_run(path, batch, every), LINES.as_bytes())?;
-        assert_eq!(rt;
-            run,
-            Ran::well(rt.alloc(), wanted.as_str())?,
-            "{batch} {every}"
-        );
-        let checked = run_words(&rt, &["hpb", "check", "--file", path], b"")?;
-        assert_eq!(rt; checked.status, 0);
-        assert!(rt; shown.ends_with(checked.output.as_str()), "{checked:?}");
-        fs::remove_file(&rt, path)?;
+    for journal in BOTH {
+        for (batch, every) in [("1", "0"), ("2", "1"), ("64", "3")] {
+            new_file(&rt, path, journal)?;
+            let run = run_words(&rt, &words_of_run(path, batch, every), LINES.as_bytes())?;
+            assert_eq!(rt;
+                run,
+                Ran::well(rt.alloc(), wanted.as_str())?,
+                "{journal:?} {batch} {every}"
+            );
+            let checked = run_words(&rt, &["hpb", "check", "--file", path], b"")?;
+            assert_eq!(rt; checked.status, 0);
+            assert!(rt; shown.ends_with(checked.output.as_str()), "{checked:?}");
+            fs::remove_file(&rt, path)?;
+        }
     }
     Ok(())
 }
@@ -105,36 +108,38 @@ fn a_file_is_run_as_a_script(rt: HostRuntime) -> Result<(), Fail> {
 fn a_run_goes_on_where_one_ended(rt: HostRuntime) -> Result<(), Fail> {
     let alloc = rt.alloc();
     let path = "hpb_program_on";
-    new_file(&rt, path, "4")?;
     let words = ["hpb", "run", "--file", path];
-    let first = run_words(&rt, &words, b"BID x 1 a 100\nBID y 1 b 150\n")?;
-    assert_eq!(rt; first, Ran::well(alloc, "OK 1\nOK 2\n")?);
-    let nothing = run_words(&rt, &words, b"")?;
-    assert_eq!(rt; nothing, Ran::well(alloc, "")?);
-    // The last commands again, the next one, and a line that was cut off.
-    let second = run_words(
-        &rt,
-        &words,
-        b"BID y 1 b 150\nBID x 1 a 100\nBID z 1 all 500\nCLOSE 1",
-    )?;
-    assert_eq!(rt;
-        second,
-        Ran::well(alloc, "OK 2\nOK 1\nOK 3\nERR 10 line\n")?
-    );
-    let third = run_words(&rt, &words, b"SHOW\nWHO z\n")?;
-    assert_eq!(rt;
-        third,
-        Ran::well(
-            alloc,
-            "ROUND 1 STAGE 1 OPEN REVENUE 0 COUNT 3\nWHO z ELIGIBILITY 40 ACTIVITY 40 TICKET 1\n"
-        )?
-    );
-    fs::remove_file(&rt, path)?;
+    for journal in BOTH {
+        new_file(&rt, path, journal)?;
+        let first = run_words(&rt, &words, b"BID x 1 a 100\nBID y 1 b 150\n")?;
+        assert_eq!(rt; first, Ran::well(alloc, "OK 1\nOK 2\n")?);
+        let nothing = run_words(&rt, &words, b"")?;
+        assert_eq!(rt; nothing, Ran::well(alloc, "")?);
+        // The last commands again, the next one, and a line that was cut off.
+        let second = run_words(
+            &rt,
+            &words,
+            b"BID y 1 b 150\nBID x 1 a 100\nBID z 1 all 500\nCLOSE 1",
+        )?;
+        assert_eq!(rt;
+            second,
+            Ran::well(alloc, "OK 2\nOK 1\nOK 3\nERR 10 line\n")?
+        );
+        let third = run_words(&rt, &words, b"SHOW\nWHO z\n")?;
+        assert_eq!(rt;
+            third,
+            Ran::well(
+                alloc,
+                "ROUND 1 STAGE 1 OPEN REVENUE 0 COUNT 3\nWHO z ELIGIBILITY 40 ACTIVITY 40 TICKET 1\n"
+            )?
+        );
+        fs::remove_file(&rt, path)?;
+    }
     Ok(())
 }
 
 #[test]
-fn a_journal_of_four_pages_takes_any_number_of_batches(rt: HostRuntime) -> Result<(), Fail> {
+fn the_smallest_journals_take_any_number_of_batches(rt: HostRuntime) -> Result<(), Fail> {
     let path = "hpb_program_many";
     let mut lines = String::new(rt.alloc());
     for ticket in 1..11_u32 {
@@ -144,12 +149,14 @@ fn a_journal_of_four_pages_takes_any_number_of_batches(rt: HostRuntime) -> Resul
         )?.as_str())?;
     }
     let wanted = answers_in_memory(&rt, lines.as_str())?;
-    for every in ["0", "1", "7"] {
-        new_file(&rt, path, "4")?;
-        let run = run_words(&rt, &words_of_run(path, "1", every), lines.as_bytes())?;
-        assert_eq!(rt; run, Ran::well(rt.alloc(), wanted.as_str())?, "{every}");
-        assert_eq!(rt; fs::read(&rt, path)?.len(), 17 * PAGE);
-        fs::remove_file(&rt, path)?;
+    for (journal, pages) in [(FOUR_PAGES, 17), (SIXTEEN_CELLS, 19)] {
+        for every in ["0", "1", "7"] {
+            new_file(&rt, path, journal)?;
+            let run = run_words(&rt, &words_of_run(path, "1", every), lines.as_bytes())?;
+            assert_eq!(rt; run, Ran::well(rt.alloc(), wanted.as_str())?, "{every}");
+            assert_eq!(rt; fs::read(&rt, path)?.len(), pages * PAGE);
+            fs::remove_file(&rt, path)?;
+        }
     }
     Ok(())
 }
@@ -157,7 +164,7 @@ fn a_journal_of_four_pages_takes_any_number_of_batches(rt: HostRuntime) -> Resul
 #[test]
 fn a_file_in_use_is_not_run(rt: HostRuntime) -> Result<(), Fail> {
     let path = "hpb_program_running";
-    let before = new_file(&rt, path, "4")?;
+    let before = new_file(&rt, path, FOUR_PAGES)?;
     for is_written in [true, false] {
         let held = if is_written {
             FileDisk::open(&rt, rt.alloc(), path)?
@@ -181,27 +188,29 @@ fn a_file_in_use_is_not_run(rt: HostRuntime) -> Result<(), Fail> {
 fn files_that_keep_no_auction_are_not_run(rt: HostRuntime) -> Result<(), Fail> {
     let path = "hpb_program_flawed";
     let words = ["hpb", "run", "--file", path];
-    // The head's gate, its layout, the slot's gate, and a frame that is open and holds nothing.
-    for (at, byte, line, said) in [
-        (
-            0,
-            0,
-            "ERR 40 unformatted\n",
-            "hpb format --file F --journal J",
-        ),
-        (24, 9, "ERR 42 layout\n", "head"),
-        (3 * PAGE, 0, "ERR 44 checkpoint\n", "checkpoint"),
-        (13 * PAGE, 0xa5, "ERR 45 frame\n", "batch"),
-    ] {
-        let mut bytes = new_file(&rt, path, "4")?;
-        if let Some(place) = bytes.get_mut(at) {
-            *place = byte;
+    for journal in BOTH {
+        // The head's gate, its layout, the slot's gate, and a frame that is open and holds nothing.
+        for (at, byte, line, said) in [
+            (
+                0,
+                0,
+                "ERR 40 unformatted\n",
+                "hpb format --file F --journal J",
+            ),
+            (24, 9, "ERR 42 layout\n", "head"),
+            (3 * PAGE, 0, "ERR 44 checkpoint\n", "checkpoint"),
+            (13 * PAGE, 0xa5, "ERR 45 frame\n", "batch"),
+        ] {
+            let mut bytes = new_file(&rt, path, journal)?;
+            if let Some(place) = bytes.get_mut(at) {
+                *place = byte;
+            }
+            fs::write(&rt, path, bytes.as_slice())?;
+            let (end, left) = run_on(&rt, &words, b"SHOW\n")?;
+            assert!(rt; end.is_refused(line, said), "{end:?}");
+            assert_eq!(rt; left, 5);
+            assert_eq!(rt; fs::read(&rt, path)?, bytes);
         }
-        fs::write(&rt, path, bytes.as_slice())?;
-        let (end, left) = run_on(&rt, &words, b"SHOW\n")?;
-        assert!(rt; end.is_refused(line, said), "{end:?}");
-        assert_eq!(rt; left, 5);
-        assert_eq!(rt; fs::read(&rt, path)?, bytes);
     }
     fs::remove_file(&rt, path)?;
     let end = run_words(&rt, &words, b"")?;
@@ -217,7 +226,7 @@ fn files_that_keep_no_auction_are_not_run(rt: HostRuntime) -> Result<(), Fail> {
 fn streams_of_a_run_fail(rt: HostRuntime) -> Result<(), Fail> {
     let alloc = rt.alloc();
     let path = "hpb_program_cut_off";
-    new_file(&rt, path, "4")?;
+    new_file(&rt, path, FOUR_PAGES)?;
     let words = ["hpb", "run", "--file", path];
     let mut output = Vec::new(alloc);
     let (status, said) = run_over(&rt, &words, FailingReader, &mut output)?;
@@ -318,18 +327,20 @@ fn kept_with(
 fn each_call_of_a_run_fails_in_turn(rt: HostRuntime) -> Result<(), Fail> {
     let alloc = rt.alloc();
     let path = "hpb_program_fused";
-    let bytes = new_file(&rt, path, "4")?;
-    fs::remove_file(&rt, path)?;
-    let mut last = None;
-    for call in 1..100 {
-        let kept = kept_with(&rt, alloc, bytes.as_slice(), call)?;
-        assert!(rt; kept >= last, "{call}");
-        last = kept;
-        if kept == Some(3) {
-            break;
+    for journal in BOTH {
+        let bytes = new_file(&rt, path, journal)?;
+        fs::remove_file(&rt, path)?;
+        let mut last = None;
+        for call in 1..100 {
+            let kept = kept_with(&rt, alloc, bytes.as_slice(), call)?;
+            assert!(rt; kept >= last, "{call}");
+            last = kept;
+            if kept == Some(3) {
+                break;
+            }
         }
+        assert_eq!(rt; last, Some(3));
     }
-    assert_eq!(rt; last, Some(3));
     Ok(())
 }
 

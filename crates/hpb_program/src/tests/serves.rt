@@ -1,6 +1,6 @@
 //! Files that are served, and what is told of how that ended.
 
-use super::using::{FailingWriter, Ran, new_file, run_over, run_words};
+use super::using::{BOTH, FOUR_PAGES, FailingWriter, Ran, new_file, run_over, run_words};
 use crate::JobFault;
 use crate::job_fault::Advice;
 use crate::noted::Failures;
@@ -77,38 +77,40 @@ fn answers<H: Net<Listener = TcpListener, Stream = TcpStream> + Clock>(
 fn a_file_is_served(rt: HostRuntime) -> Result<(), Fail> {
     let alloc = rt.alloc();
     let path = "hpb_program_served";
-    new_file(&rt, path, "4")?;
-    let (listener, port) = any_listener(&rt)?;
-    drop(listener);
-    let client = thread::spawn(&rt, move || {
-        answers(
-            &rt,
-            alloc,
-            port,
-            b"BID x 1 a 100\nBID x 1 a 100\nCLOSE 2\nSHOW\n",
-        )
-        .ok()
-    })?;
-    let number = format!(in alloc; "{port}")?;
-    let words = words_of_serve(path, number.as_str(), "1");
-    let served = run_words(&rt, &words, b"SHOW\n")?;
-    let wanted = format!(in alloc; "LISTENING {port}\nCLOSED 1\n")?;
-    assert_eq!(rt; served, Ran::well(alloc, wanted.as_str())?);
-    assert_eq!(rt;
-        client.join(&rt),
-        Some(String::from_str(
-            alloc,
-            "OK 1\nOK 1\nERR 15 gap\nROUND 1 STAGE 1 OPEN REVENUE 0 COUNT 1\n"
-        )?)
-    );
-    let shown = run_words(&rt, &["hpb", "check", "--file", path], b"")?;
-    assert!(rt;
-        shown
-            .output
-            .starts_with("ROUND 1 STAGE 1 OPEN REVENUE 0 COUNT 1\n"),
-        "{shown:?}"
-    );
-    fs::remove_file(&rt, path)?;
+    for journal in BOTH {
+        new_file(&rt, path, journal)?;
+        let (listener, port) = any_listener(&rt)?;
+        drop(listener);
+        let client = thread::spawn(&rt, move || {
+            answers(
+                &rt,
+                alloc,
+                port,
+                b"BID x 1 a 100\nBID x 1 a 100\nCLOSE 2\nSHOW\n",
+            )
+            .ok()
+        })?;
+        let number = format!(in alloc; "{port}")?;
+        let words = words_of_serve(path, number.as_str(), "1");
+        let served = run_words(&rt, &words, b"SHOW\n")?;
+        let wanted = format!(in alloc; "LISTENING {port}\nCLOSED 1\n")?;
+        assert_eq!(rt; served, Ran::well(alloc, wanted.as_str())?);
+        assert_eq!(rt;
+            client.join(&rt),
+            Some(String::from_str(
+                alloc,
+                "OK 1\nOK 1\nERR 15 gap\nROUND 1 STAGE 1 OPEN REVENUE 0 COUNT 1\n"
+            )?)
+        );
+        let shown = run_words(&rt, &["hpb", "check", "--file", path], b"")?;
+        assert!(rt;
+            shown
+                .output
+                .starts_with("ROUND 1 STAGE 1 OPEN REVENUE 0 COUNT 1\n"),
+            "{shown:?}"
+        );
+        fs::remove_file(&rt, path)?;
+    }
     Ok(())
 }
 
@@ -116,7 +118,7 @@ fn a_file_is_served(rt: HostRuntime) -> Result<(), Fail> {
 fn a_port_in_use_is_refused(rt: HostRuntime) -> Result<(), Fail> {
     let alloc = rt.alloc();
     let path = "hpb_program_port";
-    let before = new_file(&rt, path, "4")?;
+    let before = new_file(&rt, path, FOUR_PAGES)?;
     let (listener, port) = any_listener(&rt)?;
     let number = format!(in alloc; "{port}")?;
     let words = words_of_serve(path, number.as_str(), "2");
@@ -145,7 +147,7 @@ fn the_port_is_asked_for_last(rt: HostRuntime) -> Result<(), Fail> {
         "{none:?}"
     );
     assert!(rt; fs::metadata(&rt, path).is_err());
-    let mut bytes = new_file(&rt, path, "4")?;
+    let mut bytes = new_file(&rt, path, FOUR_PAGES)?;
     let held = FileDisk::open(&rt, alloc, path)?;
     let used = run_words(&rt, &words, b"")?;
     assert!(rt;
@@ -171,7 +173,7 @@ fn the_port_is_asked_for_last(rt: HostRuntime) -> Result<(), Fail> {
 fn the_listening_line_is_not_taken(rt: HostRuntime) -> Result<(), Fail> {
     let alloc = rt.alloc();
     let path = "hpb_program_unheard";
-    let before = new_file(&rt, path, "4")?;
+    let before = new_file(&rt, path, FOUR_PAGES)?;
     let (listener, port) = any_listener(&rt)?;
     drop(listener);
     let number = format!(in alloc; "{port}")?;

@@ -41,9 +41,52 @@ impl Ran {
     }
 }
 
+/// A journal as words ask for it: by the number of its layout, and the number of its frames.
+#[derive(Clone, Copy, Debug)]
+pub(crate) struct Asked<'a> {
+    layout: &'a str,
+    frames: &'a str,
+}
+
+pub(crate) fn in_pages(frames: &str) -> Asked<'_> {
+    Asked {
+        layout: "1",
+        frames,
+    }
+}
+
+pub(crate) fn in_cells(frames: &str) -> Asked<'_> {
+    Asked {
+        layout: "2",
+        frames,
+    }
+}
+
+/// The smallest journals: of pages, and of cells.
+pub(crate) const FOUR_PAGES: Asked<'static> = Asked {
+    layout: "1",
+    frames: "4",
+};
+
+pub(crate) const SIXTEEN_CELLS: Asked<'static> = Asked {
+    layout: "2",
+    frames: "16",
+};
+
+pub(crate) const BOTH: [Asked<'static>; 2] = [FOUR_PAGES, SIXTEEN_CELLS];
+
 /// The words that ask for a file with such a journal.
-pub(crate) fn format_words<'a>(path: &'a str, journal: &'a str) -> [&'a str; 6] {
-    ["hpb", "format", "--file", path, "--journal", journal]
+pub(crate) fn format_words<'a>(path: &'a str, journal: Asked<'a>) -> [&'a str; 8] {
+    [
+        "hpb",
+        "format",
+        "--file",
+        path,
+        "--journal",
+        journal.frames,
+        "--layout",
+        journal.layout,
+    ]
 }
 
 /// Runs the program, and tells how much of the input is left.
@@ -132,7 +175,7 @@ pub(crate) fn new_file<
         + Wait
         + Sync
         + AllocGlobal,
->(rt: &H, path: &str, journal: &str) -> Result<Vec<u8>, Fail> {
+>(rt: &H, path: &str, journal: Asked<'_>) -> Result<Vec<u8>, Fail> {
     let _ = fs::remove_file(rt, path);
     let made = run_words(rt, &format_words(path, journal), SIX_NODES)?;
     if made.status != 0 {

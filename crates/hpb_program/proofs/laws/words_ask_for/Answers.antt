@@ -21,6 +21,10 @@ returns c = record {
   first = λ name. refl;
   format = λ name. refl;
   formats = λ name. refl;
+  formats_cells = λ name. refl;
+  below_layout = λ name. refl;
+  above_layout = λ name. refl;
+  signed_layout = λ name given. let no : false ≡ true = given.2 in cc;
   format_help = λ name. refl;
   no_file = λ name. refl;
   no_journal = λ name. refl;
@@ -40,8 +44,8 @@ returns c = record {
   most_batch = λ name. refl;
   below_batch = λ name. refl;
   above_batch = λ name. refl;
-  signed_every = λ name given. let no : false ≡ true = given.3 in cc;
-  signed_port = λ name given. let no : false ≡ true = given.4 in cc;
+  signed_every = λ name given. let no : false ≡ true = given.4 in cc;
+  signed_port = λ name given. let no : false ≡ true = given.5 in cc;
   serve = λ name. refl;
   serves = λ name. refl;
   serve_help = λ name. refl;

@@ -17,5 +17,5 @@ pub returns : goal.returns
 returns c =
     let text = text_read (found_of c.args.options.now) (codes "file") c.get_str.result _ c.unwrap_or.result refl c.unwrap_or.ensures c.get_str.ensures in
     let some : 0 < length c.unwrap_or.result.now = grind (arith, nat_tests, c.is_empty.ensures, c.if-is_empty.false) in
-    by_last (rows_of (found_of c.args.options.now)) c.check_number-5.result (λ empty. absurd (omega (arith, some, ap length (text ∙ empty))))
-    c.in_ok-check_number.ensures c.in_ok-check_number-2.ensures c.in_ok-check_number-3.ensures c.in_ok-check_number-4.ensures c.check_number-5.ensures
+    by_last (rows_of (found_of c.args.options.now)) c.check_number-6.result (λ empty. absurd (omega (arith, some, ap length (text ∙ empty))))
+    c.in_ok-check_number.ensures c.in_ok-check_number-2.ensures c.in_ok-check_number-3.ensures c.in_ok-check_number-4.ensures c.in_ok-check_number-5.ensures c.check_number-6.ensures

@@ -1,6 +1,10 @@
-use Rattle.std.proofs.Common.{rules, refl, codes}
+use Rattle.std.proofs.Common.{◌≡◌, ◌∙◌, Option, ap, rules, refl, codes}
+use Rattle.std.specs.Prelude.{unwrap_or}
 use Rattle.std.specs.Str.Parse.{ParsesUnsigned, ExplainsUnsignedError, HasUnsignedDigitsIfOk}
 use Rattle.clap.specs.Matches.{found_of}
+use Rattle.hpb_codec.specs.Layouts.{layout_byte}
+use Rattle.hpb_codec.specs.declared.layout.JournalLayout.{JournalLayout}
+use Rattle.hpb_codec.specs.declared.layout.JournalLayout.TheVariants.{Pages}
 use Rattle.hpb_program.specs.declared.words.TheConstants.{LEAST_PORT}
 use Rattle.hpb_program.proofs.Options.{text_read, number_read}
 use Rattle.hpb_program.proofs.words.job_of_command.Goals as goal
@@ -9,9 +13,13 @@ pub returns-then-eq-clause-job : goal.returns-then-eq-clause-job
 returns-then-eq-clause-job c =
     let found = found_of c.args.options.now in
     let text = text_read found (codes "file") c.get_str.result _ c.unwrap_or-file.result refl c.unwrap_or-file.ensures c.get_str.ensures in
-    let number = number_read 32 (λ bs r. ParsesUnsigned 32 10 bs r × ExplainsUnsignedError 10 bs r × HasUnsignedDigitsIfOk bs r) found (codes "journal") c.get_one.result 0 c.unwrap_or-journal.result (λ t r g. g.0)
-    c.get_one.ensures.none c.get_one.ensures.value c.unwrap_or-journal.ensures in
-    (search rules, text, number)
+    let number = number_read 32 (λ bs r. ParsesUnsigned 32 10 bs r × ExplainsUnsignedError 10 bs r × HasUnsignedDigitsIfOk bs r) found (codes "journal") c.get_one.result 0 c.unwrap_or-frames.result (λ t r g. g.0)
+    c.get_one.ensures.none c.get_one.ensures.value c.unwrap_or-frames.ensures in
+    let layout = number_read 8 (λ bs r. ParsesUnsigned 8 10 bs r × ExplainsUnsignedError 10 bs r × HasUnsignedDigitsIfOk bs r) found (codes "layout") c.get_one-then-eq.result 1 c.unwrap_or-byte.result (λ t r g. g.0)
+    c.get_one-then-eq.ensures.none c.get_one-then-eq.ensures.value c.unwrap_or-byte.ensures in
+    let is : (named : JournalLayout) → c.unwrap_or-byte.result ≡ layout_byte named → c.unwrap_or-layout.result ≡ named =
+    λ named byte. c.unwrap_or-layout.ensures ∙ ap (λ (o : Option JournalLayout). unwrap_or o Pages) (c.of_byte.ensures.only named byte) in
+    (search rules, text, number, (c.unwrap_or-byte.result, layout, is))
 
 pub returns-then-eq-2-clause-job : goal.returns-then-eq-2-clause-job
 returns-then-eq-2-clause-job c =
