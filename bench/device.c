@@ -1,10 +1,11 @@
 /* The calls of the device that an engine makes for so many batches, and nothing else.
  *
- *     device FILE JOURNAL BATCHES EVERY
+ *     device FILE LAYOUT JOURNAL BATCHES RECORDS EVERY
  *
- * FILE has just been formatted with a journal of JOURNAL pages. EVERY is the number of batches between two checkpoints,
- * 0 where one is made only when the journal is full, and -1 where none is ever made. Written are the number of calls and
- * the seconds that they took. docs/FORMATS.md has the order of the calls, docs/DEVICE.md the pages. */
+ * FILE has just been formatted in this layout, 1 pages or 2 cells, with a journal of JOURNAL frames. A batch has RECORDS
+ * records. EVERY is the number of batches between two checkpoints, 0 where one is made only when the journal is full, and -1
+ * where none is ever made. Written are the number of calls, the seconds that they took, and those of the first JOURNAL
+ * batches. docs/FORMATS.md has the order of the calls, docs/DEVICE.md the pages and cells. */
 #include <fcntl.h>
 #include <stdio.h>
 #include <stdlib.h>
@@ -12,12 +13,12 @@
 #include <time.h>
 #include <unistd.h>
 
-enum { PAGE = 4096, BODY_AT = 16, BODY = PAGE - BODY_AT };
-enum { SLOT_PAGE = 3, SLOT_PAGES = 5, CHUNKS = 4, JOURNAL_PAGE = 13, MOST_FRAMES = 1024 };
+enum { PAGE = 4096, CELL = 512, CELLS = 3, BODY_AT = 16 };
+enum { SLOT_PAGE = 3, SLOT_PAGES = 5, CHUNKS = 4, JOURNAL_PAGE = 13, MOST_FRAMES = 1024, MOST_RECORDS = 64 };
 
 static int file;
 static long calls;
-static long journal, covered, next_batch, clean_end;
+static long stride, body, journal, covered, next_batch, clean_end;
 static int newest, slot_is_open[2] = {1, 0}, frame_is_open[MOST_FRAMES];
 static unsigned char page[PAGE];
 
@@ -31,7 +32,9 @@ static void put(off_t at, const void *bytes, size_t count) {
     if (pwrite(file, bytes, count, at) != (ssize_t)count) fail("pwrite");
 }
 
-static void put_gate(long page_number, unsigned char gate) { put((off_t)page_number * PAGE, &gate, 1); }
+static void put_gate(off_t at, unsigned char gate) { put(at, &gate, 1); }
+
+static off_t frame_at(long frame) { return (off_t)JOURNAL_PAGE * PAGE + frame * stride; }
 
 static void sync_file(void) {
     calls++;
@@ -41,9 +44,9 @@ static void sync_file(void) {
 static void batch(void) {
     long frame = next_batch % journal;
     memcpy(page, &next_batch, sizeof next_batch);
-    put((off_t)(JOURNAL_PAGE + frame) * PAGE + BODY_AT, page, BODY);
+    put(frame_at(frame) + BODY_AT, page, body);
     sync_file();
-    put_gate(JOURNAL_PAGE + frame, 0xA5);
+    put_gate(frame_at(frame), 0xA5);
     sync_file();
     frame_is_open[frame] = 1;
     next_batch++;
@@ -54,7 +57,7 @@ static void retire(void) {
     if (clean_end == covered + journal) return;
     for (; clean_end < covered + journal; clean_end++) {
         long frame = clean_end % journal;
-        if (frame_is_open[frame]) put_gate(JOURNAL_PAGE + frame, 0);
+        if (frame_is_open[frame]) put_gate(frame_at(frame), 0);
         frame_is_open[frame] = 0;
     }
     sync_file();
@@ -63,11 +66,11 @@ static void retire(void) {
 static void checkpoint(void) {
     int slot = 1 - newest;
     long first = SLOT_PAGE + slot * SLOT_PAGES;
-    if (slot_is_open[slot]) put_gate(first, 0);
+    if (slot_is_open[slot]) put_gate((off_t)first * PAGE, 0);
     sync_file();
     for (long chunk = 1; chunk <= CHUNKS; chunk++) put((off_t)(first + chunk) * PAGE, page, PAGE);
     sync_file();
-    put_gate(first, 0xA5);
+    put_gate((off_t)first * PAGE, 0xA5);
     sync_file();
     slot_is_open[slot] = 1;
     newest = slot;
@@ -81,27 +84,35 @@ static double now(void) {
     return time.tv_sec + time.tv_nsec / 1e9;
 }
 
+/* Those of the bodies of a layout, of which a batch of cells takes as many as it needs. */
+static void lay_out(long layout, long records) {
+    stride = layout == 1 ? PAGE : CELLS * CELL;
+    body = layout == 1 ? PAGE - BODY_AT : CELL - BODY_AT + (records + 1) / 31 * CELL;
+}
+
 int main(int count, char **words) {
-    if (count != 5) {
-        fprintf(stderr, "device FILE JOURNAL BATCHES EVERY\n");
+    if (count != 7) {
+        fprintf(stderr, "device FILE LAYOUT JOURNAL BATCHES RECORDS EVERY\n");
         return 2;
     }
-    journal = atol(words[2]);
-    long batches = atol(words[3]), every = atol(words[4]);
-    if (journal < 4 || journal > MOST_FRAMES) {
-        fprintf(stderr, "a journal has 4 to 1024 pages\n");
+    long layout = atol(words[2]), batches = atol(words[4]), records = atol(words[5]), every = atol(words[6]);
+    journal = atol(words[3]);
+    if (layout < 1 || layout > 2 || journal < 4 || journal > MOST_FRAMES || records < 1 || records > MOST_RECORDS) {
+        fprintf(stderr, "a layout is 1 or 2, a journal has 4 to 1024 frames, a batch 1 to 64 records\n");
         return 2;
     }
+    lay_out(layout, records);
     file = open(words[1], O_RDWR);
     if (file < 0) fail(words[1]);
     memset(page, 0x5A, sizeof page);
     clean_end = journal;
-    double start = now();
+    double start = now(), first = 0;
     for (long made = 1; made <= batches; made++) {
         if (every >= 0 && clean_end == next_batch) checkpoint();
         batch();
         if (every > 0 && made % every == 0) checkpoint();
+        if (made == journal) first = now() - start;
     }
-    printf("%ld %.9f\n", calls, now() - start);
+    printf("%ld %.9f %.9f\n", calls, now() - start, first);
     return 0;
 }

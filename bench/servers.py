@@ -12,11 +12,11 @@ import time
 
 sys.dont_write_bytecode = True
 from auctions import Auction
+from layouts import LAYOUTS, add_layouts
 
 HERE = pathlib.Path(__file__).resolve().parent
 ADDRESS = "127.0.0.1"
 PATIENCE = 60
-PAGES = 13
 # An auction accepts no more than 1,000,000 commands; some are closes.
 MOST_ANSWERS = 950_000
 TICKS = os.sysconf("SC_CLK_TCK")
@@ -61,11 +61,10 @@ def seconds_used(process):
     return (int(fields[11]) + int(fields[12])) / TICKS
 
 
-def format_file(program, auction, file, journal):
+def format_file(program, auction, file, journal, layout):
     """A new file that keeps an auction before its first command."""
-    words = [program, "format", "--file", file, "--journal", str(journal)]
-    made = subprocess.run(words, input=auction.definition(), capture_output=True, text=True)
-    if (made.stdout, made.returncode) != (f"FORMATTED {PAGES + journal}\n", 0):
+    made, is_made = LAYOUTS[layout].format(program, auction.definition(), file, journal)
+    if not is_made:
         raise Fails(f"format ended with {made.returncode}: {made.stdout}{made.stderr}")
 
 
@@ -196,7 +195,7 @@ class Load:
 
     def new_file(self):
         file = os.path.join(self.new_folder(), "auction")
-        format_file(self.given.program, self.auction, file, self.given.journal)
+        format_file(self.given.program, self.auction, file, self.given.journal, self.given.layout)
         return file
 
     def serve(self, sessions):
@@ -234,7 +233,7 @@ class Load:
         batches, seconds = 100, 0
         while seconds < self.given.seconds / 2:
             batches = batches * 4 if seconds < self.given.seconds / 16 else int(batches * self.given.seconds / seconds)
-            words = [self.calls, self.new_file(), str(self.given.journal), str(batches), "-1"]
+            words = [self.calls, self.new_file(), *map(str, (self.given.layout, self.given.journal, batches, 1, -1))]
             seconds = float(subprocess.run(words, stdout=subprocess.PIPE, check=True).stdout.split()[1])
         return batches / seconds
 
@@ -247,6 +246,7 @@ def add_options(words):
     words.add_argument("--seconds", type=float, default=3, help="how long a run is counted (default 3)")
     words.add_argument("--warm", type=float, default=0.5, help="how long it runs before (default 0.5)")
     words.add_argument("--folder", default=".", help="where the data are (default: the current one)")
-    words.add_argument("--journal", type=int, default=1_024, help="pages of the journal (default 1024)")
+    words.add_argument("--journal", type=int, default=1_024, help="frames of the journal (default 1024)")
+    add_layouts(words, both=False)
     words.add_argument("--levels", type=int, default=7, help="of the auction's nodes (default 7: 127 nodes)")
     words.add_argument("--bidders", type=int, default=64, help="of the auction (default 64)")

@@ -77,19 +77,54 @@ def shown(data):
     return (data or b"").decode(errors="backslashreplace")
 
 
-def format_words(file, journal=4):
-    return ["format", "--file", file, "--journal", journal]
+# The layouts of a journal: pages, and cells.
+PAGES, CELLS = 1, 2
+LEAST = {PAGES: 4, CELLS: 16}
 
 
-def new_file(folder, name="F", journal=4, definition=DEFINITION, lines=b""):
+def format_words(file, journal=4, layout=PAGES):
+    """The first layout needs no word."""
+    chosen = [] if layout == PAGES else ["--layout", layout]
+    return ["format", "--file", file, "--journal", journal, *chosen]
+
+
+def pages_of(journal, layout=PAGES):
+    """How many a file has with so many frames: a page for each, or three for each eight."""
+    return 13 + (journal if layout == PAGES else journal * 3 // 8)
+
+
+def new_file(folder, name="F", journal=4, definition=DEFINITION, lines=b"", layout=PAGES, batch=64):
     """A file that keeps an auction, which was run with these lines."""
     file = folder / name
-    made = run(*format_words(file, journal), text=definition)
-    compare(f"format of {name}", (made.output, made.errors, made.status), (f"FORMATTED {13 + journal}\n", "", 0))
+    made = run(*format_words(file, journal, layout), text=definition)
+    compare(f"format of {name}", (made.output, made.errors, made.status), (f"FORMATTED {pages_of(journal, layout)}\n", "", 0))
     if lines:
-        ran = run("run", "--file", file, "--batch", 64, text=lines)
+        ran = run("run", "--file", file, "--batch", batch, text=lines)
         compare(f"a run of {name}", ran.status, 0)
     return file
+
+
+# The first round, and on which nodes each bidder may bid in each later one, by its units; and how many licences each of them has.
+FIRST_ROUND = ["BID x 1 a 100", "BID y 1 b 150", "BID z 1 all 500", "BID w 1 c 100", "CLOSE 1"]
+BIDS = {"x": "a", "y": "b", "z": "all east a b c", "w": "c d"}
+LICENCES = {"all": 3, "east": 2}
+
+
+def rounds(count):
+    """The ten commands of each of so many rounds behind the first, all of which are accepted."""
+    tickets = dict.fromkeys(BIDS, 1)
+    lines = []
+    for number in range(1, count + 1):
+        for bidder, nodes in BIDS.items():
+            for node in nodes.split():
+                tickets[bidder] += 1
+                lines.append(f"BID {bidder} {tickets[bidder]} {node} {1000 * number * LICENCES.get(node, 1)}")
+        lines.append(f"CLOSE {number + 1}")
+    return lines
+
+
+def text_of(lines):
+    return "".join(line + "\n" for line in lines).encode()
 
 
 def first_shown(file):
