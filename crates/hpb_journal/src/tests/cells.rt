@@ -23,9 +23,9 @@ fn batch(index: u64, count: usize) -> Batch {
     }
 }
 
-/// Whether bytes are as they were before anything was written.
-fn is_untouched(bytes: &[u8]) -> bool {
-    bytes.iter().all(|byte| *byte == 0x5a)
+/// Whether bytes from an offset to another are as they were before anything was written.
+fn is_untouched(bytes: &[u8], from: usize, to: usize) -> bool {
+    from <= to && to <= bytes.len() && bytes[from..to].iter().all(|byte| *byte == 0x5a)
 }
 
 /// Whether a byte was written at an offset of a device.
@@ -54,13 +54,13 @@ fn cells_on_the_device(rt: HostRuntime) -> Result<(), Fail> {
     let mut all = vec![in alloc; 0; 77_824]?;
     assert!(rt; is_there(&mut disk, 0, &mut all));
     // The gate, 15 bytes that aren't written, the body of two cells, and nothing behind it.
-    assert!(rt; is_untouched(&all[..60_928]));
+    assert!(rt; is_untouched(&all, 0, 60_928));
     assert_eq!(rt; all[60_928], 0xa5);
-    assert!(rt; is_untouched(&all[60_929..60_944]));
+    assert!(rt; is_untouched(&all, 60_929, 60_944));
     assert!(rt; all[60_944..60_952] == [0, 0, 0, 0, 0, 0, 0, 5]);
     assert!(rt; all[61_440..61_456] == [0, 0, 0, 0, 0, 0, 0, 5, 1, 0, 0, 0, 0, 0, 0, 0]);
     assert!(rt; all[61_456..61_464] == [1, 1, 5, 0, 0, 0, 0, 30]);
-    assert!(rt; is_untouched(&all[61_952..]));
+    assert!(rt; is_untouched(&all, 61_952, 77_824));
     assert_eq!(rt; said(&frames, &mut disk, 5, &definition), Word::Batch(5, 6));
     assert_eq!(rt; said(&frames, &mut disk, 21, &definition), Word::Other);
     // Another number of the second cell, and a byte of the third, which isn't read.
