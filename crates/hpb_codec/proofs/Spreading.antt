@@ -10,7 +10,7 @@ use Rattle.hpb_codec.specs.Records.{record_of}
 use Rattle.hpb_codec.specs.declared.batch.Batch.{Batch}
 use Rattle.hpb_codec.specs.Batches.{batch_of, batch_fields, IsBatch, SpellsBatch}
 use Rattle.hpb_codec.specs.Cells.{cells_of, further_cells, further_in, further_of, gathered, size_of_cells, BeginsCells}
-use Rattle.hpb_codec.specs.Laws.{CellsAreOne, CellsBegin}
+use Rattle.hpb_codec.specs.Laws.{CellsAreFewest, CellsAreOne, CellsBegin}
 use Rattle.hpb_codec.proofs.Batches.{body_is, fields_sized, records_sized}
 use Rattle.hpb_codec.proofs.Numbers.{before_none, leading-number, rest-number, number-zero}
 use Rattle.hpb_codec.proofs.OneToOne.{one_batch}
@@ -71,6 +71,11 @@ filled_sized size text fits = length-append text (number (size - length text) 0)
 pub enough : (count : ℕ) → count ≤ 64 → (further_cells count ≤ 2) × (24 + count * 16 ≤ 488 + 496 * further_cells count)
 unfolding further_cells
 enough count most = (omega (arith, most), omega (arith, most))
+
+-- and there is no room for them in fewer
+pub cells_are_fewest : CellsAreFewest
+unfolding further_cells
+cells_are_fewest count further = (λ less. omega (arith, less), λ fits. omega (arith, fits))
 
 -- Bytes that begin with the cells of a batch.
 module _ (rules : Rules) (batch : Batch) (is : IsBatch rules batch) (bytes back : List ℕ) (begins : bytes ≡ cells_of batch ++ back) where

@@ -1,10 +1,10 @@
 -- The law of each table.
-use Rattle.std.specs.Prelude.{◌≡◌, ℕ, ◌*◌, List, ◌++◌, length, take, drop}
+use Rattle.std.specs.Prelude.{◌≡◌, ◌↔◌, ℕ, ◌+◌, ◌*◌, ◌≤◌, List, ◌++◌, length, take, drop}
 use Rattle.hpb_rules.specs.declared.saved.Saved.{Saved}
 use Rattle.hpb_rules.specs.Tree.{Rules}
 use Rattle.hpb_codec.specs.declared.batch.Batch.{Batch}
 use Rattle.hpb_codec.specs.Batches.{SpellsBatch}
-use Rattle.hpb_codec.specs.Cells.{BeginsCells, SpellsCells}
+use Rattle.hpb_codec.specs.Cells.{further_cells, BeginsCells, SpellsCells}
 use Rattle.hpb_codec.specs.Heads.{SpellsHead, magic}
 use Rattle.hpb_codec.specs.Layouts.{layout_byte}
 use Rattle.hpb_codec.specs.Numbers.{leading, rest}
@@ -37,6 +37,10 @@ CellsAreOne = (rules : Rules) → IsOneToOne (SpellsCells rules)
 pub record CellsBegin : Type 0 where
   pub one : (rules : Rules) (bytes : List ℕ) (batch other : Batch) → BeginsCells rules bytes batch → BeginsCells rules bytes other → batch ≡ other
   pub indexed : (rules : Rules) (bytes : List ℕ) (batch : Batch) → BeginsCells rules bytes batch → leading 8 bytes ≡ batch.index
+
+-- A batch takes as few cells as hold its fields and records: 24 bytes and 16 for each record, of which 488 fit into the first cell and 496 into each one behind it.
+abbrev pub CellsAreFewest : Type 0
+CellsAreFewest = (count further : ℕ) → (further_cells count ≤ further) ↔ (24 + 16 * count ≤ 488 + 496 * further)
 
 -- So it is of the bodies of slots, which spell what is saved and a batch index.
 abbrev pub StatesAreOne : Type 0

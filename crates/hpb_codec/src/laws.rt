@@ -1,5 +1,5 @@
 //! The law of each table: a value has one spelling, and bytes spell at most one value.
-ghost use Rattle.hpb_codec.specs.Laws.{BatchBegins, BatchesAreOne, CellsAreOne, CellsBegin, ChunksAreBody, HeadsAreOne, LayoutIsNamed, RecordsAreOne, StatesAreOne};
+ghost use Rattle.hpb_codec.specs.Laws.{BatchBegins, BatchesAreOne, CellsAreFewest, CellsAreOne, CellsBegin, ChunksAreBody, HeadsAreOne, LayoutIsNamed, RecordsAreOne, StatesAreOne};
 
 /// A command has one record, and bytes are the record of at most one command.
 pub fn records_are_one()
@@ -24,6 +24,11 @@ pub fn cells_are_one()
 /// The body of a frame of cells begins with the cells of one batch at most, and with the batch's index.
 pub fn cells_begin()
     ensures { CellsBegin }
+{}
+
+/// A batch takes as few cells as hold its fields and records.
+pub fn cells_are_fewest()
+    ensures { CellsAreFewest }
 {}
 
 /// What is saved, with a batch index, has one body, and bytes are the body of at most one such.

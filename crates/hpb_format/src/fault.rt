@@ -7,7 +7,8 @@ use thiserror::Error;
 /// Why a device was not formatted. The words are those of an `ERR` line.
 #[derive(Clone, Copy, Debug, PartialEq, Eq, Error)]
 pub enum FormatCause {
-    /// 43: the number of frames is out of range, or the device isn't as long as they want it.
+    /// 43: the number names no layout, the number of frames isn't one of that layout, or the device isn't as long as they
+    /// want it.
     #[error("length")]
     Length,
     /// 41: the device is formatted already.

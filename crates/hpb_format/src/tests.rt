@@ -1,25 +1,48 @@
 //! The bytes of a new device, what is refused, and what a stop leaves.
 
-use crate::{FormatCause, format};
+use crate::{FormatCause, format, format_layout};
 use hpb_disk::{Disk, Fate, FuseDisk, MemoryDisk};
 use hpb_tree::{BidderDraft, Definition, Draft, NodeDraft, TermsDraft};
 use std::alloc::{AllocError, Global};
+use std::process::Abort;
 use std::test::*;
 
-/// The bytes of a device with 4 frames: 17 pages.
-const DEVICE_BYTES: usize = 69_632;
+/// A device to make: the number of its layout, its frames, its bytes, and from one gate of a frame to the next.
+#[derive(Clone, Copy)]
+struct Kind {
+    layout: u8,
+    frames: u32,
+    device_bytes: usize,
+    frame_bytes: usize,
+}
+
+/// 4 frames of a page each behind 13 pages, and 16 of three cells each.
+const PAGES: Kind = Kind {
+    layout: 1,
+    frames: 4,
+    device_bytes: 69_632,
+    frame_bytes: 4_096,
+};
+
+const CELLS: Kind = Kind {
+    layout: 2,
+    frames: 16,
+    device_bytes: 77_824,
+    frame_bytes: 1_536,
+};
+
+const KINDS: [Kind; 2] = [PAGES, CELLS];
 
 const OPEN: u8 = 0xa5;
 
 /// What is written whole: the head from behind its gate, and the body of the first slot.
 const WRITTEN: [(usize, usize); 2] = [(16, 12_272), (16_384, 16_384)];
 
-/// What of that isn't zero, for six nodes and 4 frames.
-const PARTS: [(usize, &[u8]); 31] = [
+/// What of that isn't zero, for six nodes, beside the layout and the number of frames.
+const PARTS: [(usize, &[u8]); 30] = [
     (16, b"HPBAUCT1"),
-    (24, &[1, 1, 6, 4, 10, 2, 80, 95]),
+    (25, &[1, 6, 4, 10, 2, 80, 95]),
     (36, &[0, 0, 0, 10]),
-    (40, &[0, 0, 0, 4]),
     // The nodes.
     (4_096, b"all"),
     (4_112, &[0xff, 0]),
@@ -55,10 +78,12 @@ const PARTS: [(usize, &[u8]); 31] = [
 /// The same of the last two bidders.
 const LAST_PARTS: [(usize, &[u8]); 2] = [(19_576, &[0, 0, 0, 40]), (19_624, &[0, 0, 0, 25])];
 
-/// The gates that are open, and those that aren't.
+/// The gates that are open, the one of the second slot, which isn't, and the first one of a frame, of which none is.
 const OPENED: [usize; 2] = [0, 12_288];
 
-const CLOSED: [usize; 5] = [32_768, 53_248, 57_344, 61_440, 65_536];
+const SECOND_SLOT: usize = 32_768;
+
+const FIRST_FRAME: usize = 53_248;
 
 const PICKS: [Fate; 3] = [Fate::Kept, Fate::Lost, Fate::Filled(OPEN)];
 
@@ -107,9 +132,20 @@ fn put(bytes: &mut [u8], at: usize, part: &[u8]) {
     }
 }
 
+/// Closes the gates that aren't open in a new device: where one isn't as an open gate is, it stays as it was.
+fn put_closed(bytes: &mut [u8], kind: Kind, byte: u8) {
+    let gate = if byte == OPEN { 0 } else { byte };
+    put(bytes, SECOND_SLOT, &[gate]);
+    let mut at = FIRST_FRAME;
+    for _ in 0..kind.frames {
+        put(bytes, at, &[gate]);
+        at = at.saturating_add(kind.frame_bytes);
+    }
+}
+
 /// The device that is made of one with this byte everywhere. What isn't written is as it was; an open gate is closed.
-fn new_bytes(alloc: Global, byte: u8) -> Result<Vec<u8>, AllocError> {
-    let mut bytes = vec![in alloc; byte; DEVICE_BYTES]?;
+fn new_bytes(alloc: Global, kind: Kind, byte: u8) -> Result<Vec<u8>, AllocError> {
+    let mut bytes = vec![in alloc; byte; kind.device_bytes]?;
     for (at, count) in WRITTEN {
         let zeros = vec![in alloc; 0; count]?;
         put(&mut bytes, at, &zeros);
@@ -120,12 +156,12 @@ fn new_bytes(alloc: Global, byte: u8) -> Result<Vec<u8>, AllocError> {
     for (at, part) in LAST_PARTS {
         put(&mut bytes, at, part);
     }
+    put(&mut bytes, 24, &[kind.layout]);
+    put(&mut bytes, 40, &kind.frames.to_be_bytes());
     for at in OPENED {
         put(&mut bytes, at, &[OPEN]);
     }
-    for at in CLOSED {
-        put(&mut bytes, at, &[if byte == OPEN { 0 } else { byte }]);
-    }
+    put_closed(&mut bytes, kind, byte);
     Ok(bytes)
 }
 
@@ -136,16 +172,35 @@ fn all_of<D: Disk>(alloc: Global, disk: &mut D) -> Result<Vec<u8>, Fail> {
     Ok(bytes)
 }
 
-/// The cause for which a device of so many bytes is not formatted with so many frames.
+/// The cause for which a device of these bytes is not formatted with so many frames of a layout.
 fn cause(
     alloc: Global,
     bytes: Vec<u8>,
     definition: &Definition,
     frames: u32,
+    layout: u8,
 ) -> Result<Option<FormatCause>, Fail> {
-    match format(alloc, MemoryDisk::of(alloc, bytes)?, definition, frames) {
+    let disk = MemoryDisk::of(alloc, bytes)?;
+    match format_layout(alloc, disk, definition, frames, layout) {
         Ok(_) => Ok(None),
         Err(fault) => Ok(Some(fault.cause)),
+    }
+}
+
+/// All bytes of a new device, if it is formatted.
+fn formatted(
+    alloc: Global,
+    definition: &Definition,
+    kind: Kind,
+    byte: u8,
+) -> Result<Option<Vec<u8>>, Fail> {
+    let disk = MemoryDisk::of(alloc, vec![in alloc; byte; kind.device_bytes]?)?;
+    match format_layout(alloc, disk, definition, kind.frames, kind.layout) {
+        Ok(disk) => {
+            let mut disk = disk;
+            Ok(Some(all_of(alloc, &mut disk)?))
+        }
+        Err(_) => Ok(None),
     }
 }
 
@@ -153,57 +208,89 @@ fn cause(
 fn new_device_bytes(rt: HostRuntime) -> Result<(), Fail> {
     let alloc = rt.alloc();
     let definition = six_nodes(alloc)?;
-    for byte in [0, 7, OPEN] {
-        let disk = MemoryDisk::of(alloc, vec![in alloc; byte; DEVICE_BYTES]?)?;
-        match format(alloc, disk, &definition, 4) {
-            Ok(disk) => {
-                let mut disk = disk;
-                assert!(rt;
-                    all_of(alloc, &mut disk)? == new_bytes(alloc, byte)?,
-                    "{byte}"
-                );
-            }
-            Err(_) => assert!(rt; false, "{byte}"),
+    for kind in KINDS {
+        for byte in [0, 7, OPEN] {
+            let wanted = new_bytes(alloc, kind, byte)?;
+            let found = formatted(alloc, &definition, kind, byte)?;
+            assert!(rt; found == Some(wanted), "{} {byte}", kind.layout);
         }
     }
     Ok(())
 }
 
 #[test]
-fn refused_devices(rt: HostRuntime) -> Result<(), Fail> {
+fn format_makes_pages(rt: HostRuntime) -> Result<(), Fail> {
     let alloc = rt.alloc();
     let definition = six_nodes(alloc)?;
-    // As long as 3, 4, 1,024 and 1,025 frames want it, and a byte or a page more or less.
-    let devices = [
-        (65_536, 3, Some(FormatCause::Length)),
-        (69_632, 4, None),
-        (69_631, 4, Some(FormatCause::Length)),
-        (69_633, 4, Some(FormatCause::Length)),
-        (73_728, 4, Some(FormatCause::Length)),
-        (69_632, 5, Some(FormatCause::Length)),
-        (4_247_552, 1_024, None),
-        (4_251_648, 1_025, Some(FormatCause::Length)),
-        (0, 4, Some(FormatCause::Length)),
-    ];
-    for (len, frames, wanted) in devices {
-        let bytes = vec![in alloc; 0; len]?;
-        assert_eq!(rt;
-            cause(alloc, bytes, &definition, frames)?,
-            wanted,
-            "{len} {frames}"
-        );
+    let disk = MemoryDisk::zeros(alloc, PAGES.device_bytes)?;
+    match format(alloc, disk, &definition, PAGES.frames) {
+        Ok(disk) => {
+            let mut disk = disk;
+            let wanted = new_bytes(alloc, PAGES, 0)?;
+            assert!(rt; all_of(alloc, &mut disk)? == wanted);
+        }
+        Err(_) => assert!(rt; false),
     }
-    // A formatted device: its length comes first.
-    let bytes = new_bytes(alloc, 0)?;
-    assert_eq!(rt;
-        cause(alloc, bytes, &definition, 5)?,
-        Some(FormatCause::Length)
-    );
-    let bytes = new_bytes(alloc, 0)?;
-    assert_eq!(rt;
-        cause(alloc, bytes, &definition, 4)?,
-        Some(FormatCause::Formatted)
-    );
+    Ok(())
+}
+
+/// Devices of so many bytes, frames and layout, and whether each is as long as they want it.
+const LENGTHS: [(usize, u32, u8, bool); 20] = [
+    // As long as 3, 4, 1,024 and 1,025 pages want it, and a byte or a page more or less.
+    (65_536, 3, 1, false),
+    (69_632, 4, 1, true),
+    (69_631, 4, 1, false),
+    (69_633, 4, 1, false),
+    (73_728, 4, 1, false),
+    (69_632, 5, 1, false),
+    (4_247_552, 1_024, 1, true),
+    (4_251_648, 1_025, 1, false),
+    (0, 4, 1, false),
+    // As long as 8, 16, 20, 24, 1,024 and 1,032 frames of three cells want it, and a byte more or less.
+    (65_536, 8, 2, false),
+    (77_824, 16, 2, true),
+    (77_823, 16, 2, false),
+    (77_825, 16, 2, false),
+    (83_968, 20, 2, false),
+    (90_112, 24, 2, true),
+    (1_626_112, 1_024, 2, true),
+    (1_638_400, 1_032, 2, false),
+    // As long as the other layout wants it, and layouts that there aren't.
+    (118_784, 16, 2, false),
+    (69_632, 4, 0, false),
+    (77_824, 16, 3, false),
+];
+
+#[test]
+fn refused_lengths(rt: HostRuntime) -> Result<(), Fail> {
+    let alloc = rt.alloc();
+    let definition = six_nodes(alloc)?;
+    for (len, frames, layout, is_taken) in LENGTHS {
+        let bytes = vec![in alloc; 0; len]?;
+        let found = cause(alloc, bytes, &definition, frames, layout)?;
+        let wanted = if is_taken {
+            None
+        } else {
+            Some(FormatCause::Length)
+        };
+        assert_eq!(rt; found, wanted, "{len} {frames} {layout}");
+    }
+    Ok(())
+}
+
+#[test]
+fn length_comes_before_formatted(rt: HostRuntime) -> Result<(), Fail> {
+    let alloc = rt.alloc();
+    let definition = six_nodes(alloc)?;
+    for kind in KINDS {
+        let bytes = new_bytes(alloc, kind, 0)?;
+        let frames = kind.frames.saturating_add(8);
+        let found = cause(alloc, bytes, &definition, frames, kind.layout)?;
+        assert_eq!(rt; found, Some(FormatCause::Length));
+        let bytes = new_bytes(alloc, kind, 0)?;
+        let found = cause(alloc, bytes, &definition, kind.frames, kind.layout)?;
+        assert_eq!(rt; found, Some(FormatCause::Formatted));
+    }
     Ok(())
 }
 
@@ -218,12 +305,14 @@ fn is_unformatted_or(bytes: &[u8], new: &[u8]) -> bool {
 fn stopped_at(
     alloc: Global,
     definition: &Definition,
+    kind: Kind,
     byte: u8,
     k: u64,
 ) -> Result<(bool, bool), Fail> {
-    let disk = MemoryDisk::of(alloc, vec![in alloc; byte; DEVICE_BYTES]?)?;
-    let new = new_bytes(alloc, byte)?;
-    let fault = match format(alloc, FuseDisk::new(disk, k), definition, 4) {
+    let disk = MemoryDisk::of(alloc, vec![in alloc; byte; kind.device_bytes]?)?;
+    let new = new_bytes(alloc, kind, byte)?;
+    let disk = FuseDisk::new(disk, k);
+    let fault = match format_layout(alloc, disk, definition, kind.frames, kind.layout) {
         Ok(_) => return Ok((true, true)),
         Err(fault) => fault,
     };
@@ -237,21 +326,35 @@ fn stopped_at(
     Ok((right, false))
 }
 
+/// How many calls of formatting were stopped at, each of which left what it may.
+fn stops(
+    rt: &impl Abort,
+    alloc: Global,
+    definition: &Definition,
+    kind: Kind,
+    byte: u8,
+) -> Result<u64, Fail> {
+    let mut stops = 0;
+    for k in 1..100 {
+        let (right, formatted) = stopped_at(alloc, definition, kind, byte, k)?;
+        assert!(rt; right, "{byte} {k}");
+        if formatted {
+            break;
+        }
+        stops = k;
+    }
+    Ok(stops)
+}
+
 #[test]
 fn format_stopped_anywhere(rt: HostRuntime) -> Result<(), Fail> {
     let alloc = rt.alloc();
     let definition = six_nodes(alloc)?;
-    for byte in [0, OPEN] {
-        let mut stops = 0;
-        for k in 1..100 {
-            let (right, formatted) = stopped_at(alloc, &definition, byte, k)?;
-            assert!(rt; right, "{byte} {k}");
-            if formatted {
-                break;
-            }
-            stops = k;
+    for kind in KINDS {
+        for byte in [0, OPEN] {
+            let stops = stops(&rt, alloc, &definition, kind, byte)?;
+            assert!(rt; 10 < stops && stops < 99, "{byte} {stops}");
         }
-        assert!(rt; 10 < stops && stops < 99, "{byte} {stops}");
     }
     Ok(())
 }

@@ -24,13 +24,13 @@ use Rattle.hpb_image.specs.Flaws.{HasFlaw}
 use Rattle.hpb_image.specs.Standing.{Stands}
 use Rattle.hpb_house.specs.declared.starting.StartCause.TheVariants as starting
 use Rattle.hpb_codec.specs.Layouts.{IsShape}
-use Rattle.hpb_codec.specs.declared.layout.JournalLayout.{JournalLayout}
-use Rattle.hpb_codec.specs.declared.layout.JournalLayout.TheVariants.{Pages, Cells}
 use Rattle.hpb_codec.specs.declared.layout.JournalShape.{JournalShape}
+use Rattle.hpb_image.specs.declared.limits.TheConstants.{PAGE_BYTES}
+use Rattle.hpb_journal.specs.Shapes.{shaped}
 use Rattle.hpb_recover.specs.declared.cause.Cause.{Cause}
 use Rattle.hpb_recover.specs.declared.cause.Cause.TheVariants as opening
 use Rattle.hpb_recover.specs.Causes as causes
-use Rattle.hpb_program.specs.declared.formatting.TheConstants.{FIRST_PAGES, KEPT_BYTES}
+use Rattle.hpb_program.specs.declared.formatting.TheConstants.{KEPT_BYTES}
 use Rattle.hpb_program.specs.declared.job_fault.JobFault.{JobFault}
 use Rattle.hpb_program.specs.declared.job_fault.JobFault.TheVariants as faults
 use Rattle.hpb_serve.specs.declared.fault.ServeFault.{ServeFault}
@@ -164,17 +164,13 @@ pub record IsRefused (old new : Option (List ℕ)) (fault : DefineFault) : Type 
   pub answers : Answers text (Err fault.cause)
   pub told : made_of_definition fault ≡ faults.Definition fault
 
--- The pages of a journal of this shape: one for each frame, or three for each eight.
-abbrev pub pages_by : JournalLayout → ℕ → ℕ
-pages_by Pages frames = frames
-pages_by Cells frames = frames / 8 * 3
-
+-- How many pages a device has whose journal has this shape.
 abbrev pub pages_of : JournalShape → ℕ
-pages_of journal = pages_by journal.layout journal.frames
+pages_of journal = (shaped journal).size / PAGE_BYTES
 
 -- The line of a formatted file with a journal of this shape.
 abbrev pub line_of_journal : JournalShape → List ℕ
-line_of_journal journal = formatted_line (FIRST_PAGES + pages_of journal)
+line_of_journal journal = formatted_line (pages_of journal)
 
 module _ (journal : JournalShape) (before after : Streams) where
   -- A file is opened, made or formatted only by a definition, and with a journal that may be.

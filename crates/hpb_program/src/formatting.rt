@@ -8,21 +8,18 @@ ghost use Rattle.hpb_program.specs.Jobs.{Formats, GivesText, IsOfFile, ReadsPart
 ghost use Rattle.hpb_server.specs.Streams.{streams};
 
 use crate::job_fault::JobFault;
-use hpb_codec::{JournalLayout, JournalShape};
+use hpb_codec::JournalShape;
 use hpb_define::read_definition;
 use hpb_disk::FileDisk;
 use hpb_format::format_layout;
 use hpb_image::PAGE_BYTES;
-use hpb_journal::{AnyFrames, Frames, JOURNAL_AT};
+use hpb_journal::{AnyFrames, Frames};
 use hpb_rules::MOST_DEFINITION_BYTES;
 use hpb_server::{read_some, send_bytes};
 use hpb_tree::Definition;
 use std::alloc::{AllocError, Global};
 use std::fs::{File, Files};
 use std::io::{Read, Write};
-
-/// The pages before a journal.
-const FIRST_PAGES: u32 = (JOURNAL_AT / PAGE_BYTES) as u32;
 
 /// One byte more than a definition may have, which shows that it is too long.
 const KEPT_BYTES: usize = MOST_DEFINITION_BYTES + 1;
@@ -54,7 +51,7 @@ pub(crate) fn run_format<H: Files<File = File>, R: Read, W: Write>(
     if !is_journal {
         return Err(JobFault::Journal);
     }
-    let line = match line_of_pages(alloc, FIRST_PAGES + pages_of(journal)) {
+    let line = match line_of_pages(alloc, pages_of(journal)) {
         Ok(line) => line,
         Err(_) => return Err(JobFault::Memory),
     };
@@ -104,19 +101,15 @@ fn read_part<R: Read>(input: &mut R, text: &mut Vec<u8>) -> Result<bool, JobFaul
     }
 }
 
-/// The pages of a journal of this shape, up to 1,024.
-fn pages_of(journal: JournalShape) -> u32
+/// How many pages a device has whose journal has this shape.
+fn pages_of(journal: JournalShape) -> usize
     requires { IsShape journal }
-    ensures pages { result ≡ pages_of journal }
-    ensures most { result ≤ 1_024 }
+    ensures { result ≡ pages_of journal }
 {
-    match journal.layout {
-        JournalLayout::Pages => journal.frames,
-        JournalLayout::Cells => journal.frames / 8 * 3,
-    }
+    AnyFrames::new(journal).device_len() / PAGE_BYTES
 }
 
-fn line_of_pages(alloc: Global, pages: u32) -> Result<String, AllocError>
+fn line_of_pages(alloc: Global, pages: usize) -> Result<String, AllocError>
     ensures { IfOk result (λ line. string_bytes line ≡ formatted_line pages) }
 {
     format!(in alloc; "FORMATTED {pages}\n")

@@ -85,13 +85,32 @@ fn written_out(alloc: Global) -> Result<Vec<u8>, AllocError> {
     body_with(alloc, HEAD_SIZE, &SIX_NODES)
 }
 
+/// A journal of so many frames of a page each.
+fn pages(frames: u32) -> JournalShape {
+    let layout = JournalLayout::Pages;
+    JournalShape { layout, frames }
+}
+
+/// A journal of so many frames of three cells each.
+fn cells(frames: u32) -> JournalShape {
+    let layout = JournalLayout::Cells;
+    JournalShape { layout, frames }
+}
+
+/// The head of six nodes and a journal of so many frames of three cells each.
+fn written_out_with_cells(alloc: Global, frames: u32) -> Result<Vec<u8>, AllocError> {
+    let mut bytes = written_out(alloc)?;
+    change(&mut bytes, &[(8, &[2]), (24, &frames.to_be_bytes())]);
+    Ok(bytes)
+}
+
 /// A head as it is encoded.
-fn encoded(alloc: Global, definition: &Definition, frames: u32) -> Result<Vec<u8>, AllocError> {
+fn encoded(
+    alloc: Global,
+    definition: &Definition,
+    journal: JournalShape,
+) -> Result<Vec<u8>, AllocError> {
     let mut bytes = scribbled(alloc, HEAD_SIZE)?;
-    let journal = JournalShape {
-        layout: JournalLayout::Pages,
-        frames,
-    };
     encode_head(definition, journal, &mut bytes);
     Ok(bytes)
 }
@@ -113,11 +132,11 @@ fn part(bytes: &[u8], from: usize, to: usize) -> &[u8] {
     bytes.get(from..to).unwrap_or(&[])
 }
 
-/// The frames of a head's journal, and the places of a node and of a bidder by their names.
-fn found(head: &Head, node: &[u8], bidder: &[u8]) -> (u32, Option<usize>, Option<usize>) {
+/// The shape of a head's journal, and the places of a node and of a bidder by their names.
+fn found(head: &Head, node: &[u8], bidder: &[u8]) -> (JournalShape, Option<usize>, Option<usize>) {
     let definition = &head.definition;
     (
-        head.journal.frames,
+        head.journal,
         definition.find_node(node).map(NodeId::place),
         definition.find_bidder(bidder).map(BidderId::place),
     )
@@ -127,10 +146,32 @@ fn found(head: &Head, node: &[u8], bidder: &[u8]) -> (u32, Option<usize>, Option
 fn head_bytes(rt: HostRuntime) -> Result<(), Fail> {
     let alloc = rt.alloc();
     let wanted = written_out(alloc)?;
-    assert!(rt; encoded(alloc, &six_nodes(alloc)?, 1_024)? == wanted);
+    assert!(rt; encoded(alloc, &six_nodes(alloc)?, pages(1_024))? == wanted);
     let head = decoded(alloc, &wanted)?;
     let found = head.as_ref().map(|head| found(head, b"d", b"w"));
-    assert_eq!(rt; found, Some((1_024, Some(5), Some(3))));
+    assert_eq!(rt; found, Some((pages(1_024), Some(5), Some(3))));
+    Ok(())
+}
+
+#[test]
+fn heads_of_cells(rt: HostRuntime) -> Result<(), Fail> {
+    let alloc = rt.alloc();
+    let definition = six_nodes(alloc)?;
+    for frames in [16, 24, 1_024] {
+        let wanted = written_out_with_cells(alloc, frames)?;
+        assert!(rt;
+            encoded(alloc, &definition, cells(frames))? == wanted,
+            "{frames}"
+        );
+        let head = decoded(alloc, &wanted)?;
+        let found = head.as_ref().map(|head| found(head, b"d", b"w"));
+        assert_eq!(rt; found, Some((cells(frames), Some(5), Some(3))));
+    }
+    // Fewer than 16 frames, no multiple of 8, and more than 1,024.
+    for frames in [4, 8, 20, 1_032] {
+        let bytes = written_out_with_cells(alloc, frames)?;
+        assert!(rt; decoded(alloc, &bytes)?.is_none(), "{frames}");
+    }
     Ok(())
 }
 
@@ -248,7 +289,7 @@ fn greatest(alloc: Global) -> Result<Definition, Fail> {
 #[test]
 fn greatest_definition_comes_back(rt: HostRuntime) -> Result<(), Fail> {
     let alloc = rt.alloc();
-    let bytes = encoded(alloc, &greatest(alloc)?, 4)?;
+    let bytes = encoded(alloc, &greatest(alloc)?, pages(4))?;
     assert!(rt; part(&bytes, 10, 20) == [127, 64, 50, 4, 50, 60, 70, 100, 0, 0].as_slice());
     assert!(rt; part(&bytes, 8_112, 8_128) == b"a_long_node_0126".as_slice());
     assert!(rt; part(&bytes, 8_128, 8_136) == [62, 1, 0, 0, 0, 0x0f, 0x42, 0x40].as_slice());
@@ -257,6 +298,6 @@ fn greatest_definition_comes_back(rt: HostRuntime) -> Result<(), Fail> {
     assert!(rt; part(&bytes, 9_704, 9_712) == [0x03, 0xd0, 0x90, 0, 0, 0, 0, 0].as_slice());
     let head = decoded(alloc, &bytes)?;
     let found = head.as_ref().map(|head| found(head, b"a_long_node_0126", b"a_bidder_0000063"));
-    assert_eq!(rt; found, Some((4, Some(126), Some(63))));
+    assert_eq!(rt; found, Some((pages(4), Some(126), Some(63))));
     Ok(())
 }

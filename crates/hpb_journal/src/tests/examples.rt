@@ -1,7 +1,7 @@
-use crate::{Frame, Frames};
-use hpb_codec::Batch;
+use crate::{AnyFrames, Frame, Frames};
+use hpb_codec::{Batch, JournalLayout, JournalShape};
 use hpb_disk::{Disk, MemoryDisk};
-use hpb_rules::{BidderId, Command, Commands, NodeId};
+use hpb_rules::{BidderId, Command, Commands, MOST_LETTERS, NodeId};
 use hpb_tree::{BidderDraft, Definition, Draft, NodeDraft, TermsDraft};
 use std::alloc::{AllocError, Global};
 use std::test::Fail;
@@ -62,6 +62,34 @@ pub(crate) fn batch(index: u64, first: u64) -> Batch {
         index,
         first,
         commands,
+    }
+}
+
+/// A batch of so many bids, 64 at most.
+pub(crate) fn batch_of(index: u64, count: usize) -> Batch {
+    let mut commands = Commands::new();
+    for i in 0..count.min(MOST_LETTERS) {
+        let _ = commands.push(Command::Bid {
+            bidder: BidderId::new(i % 4),
+            ticket: i as u32 + 1,
+            node: NodeId::new(i % 6),
+            amount: i as u64 + 100,
+        });
+    }
+    Batch {
+        index,
+        first: index.saturating_add(1),
+        commands,
+    }
+}
+
+/// The frames of a journal of so many of this layout, where there may be one.
+pub(crate) fn frames_of(layout: JournalLayout, frames: u32) -> Option<AnyFrames> {
+    let journal = JournalShape { layout, frames };
+    if journal.is_allowed() {
+        Some(AnyFrames::new(journal))
+    } else {
+        None
     }
 }
 

@@ -1,9 +1,8 @@
-use Rattle.std.proofs.Common.{◌∙◌, ◌+◌, ℕ, List, Err, Ok, ap, rules, subst}
+use Rattle.std.proofs.Common.{◌∙◌, ℕ, List, Err, Ok, ap, rules, subst}
 use Rattle.std.proofs.KnownBytes.{Keeps-refl}
 use Rattle.hpb_define.specs.Text.{Answers}
 use Rattle.hpb_server.specs.Streams.{streams}
 use Rattle.hpb_program.specs.Jobs.{formatted_line}
-use Rattle.hpb_program.specs.declared.formatting.TheConstants.{FIRST_PAGES}
 use Rattle.hpb_program.proofs.Ends.{failed_file, out_of_range, refused_definition, told_short}
 use Rattle.hpb_program.proofs.formatting.run_format.Goals as goal
 
@@ -33,4 +32,4 @@ returns g c =
     let definition = c.in-Ok-read_definition.definition in
     let answers = subst (λ (t : List ℕ). Answers t (Ok definition)) c.as_slice.ensures.value c.in-Ok-read_definition.ensures in
     told_short c.args.journal (streams _ _) (streams _ _) c.in-Ok.text.items c.as_bytes.result.now definition c.in-Err-send_bytes.field-0 c.in-Ok.ensures.ok answers (search rules)
-    (c.as_bytes.ensures.value ∙ c.in-Ok-line_of_pages.ensures ∙ ap (λ (pages : ℕ). formatted_line (FIRST_PAGES + pages)) c.pages_of.ensures.pages) c.in-Err-send_bytes.ensures.bytes
+    (c.as_bytes.ensures.value ∙ c.in-Ok-line_of_pages.ensures ∙ ap formatted_line c.pages_of.ensures) c.in-Err-send_bytes.ensures.bytes
