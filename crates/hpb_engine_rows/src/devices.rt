@@ -1,19 +1,48 @@
-//! Devices in memory, engines over them, and what is opened of what is left.
+//! Devices in memory of each layout, engines over them, and what is opened of what is left.
 
 use anyhow::{Error, Result, bail};
+use hpb_codec::{JournalLayout, JournalShape};
 use hpb_disk::{Disk, Fate, MemoryDisk};
 use hpb_engine::Engine;
-use hpb_format::format;
+use hpb_format::format_layout;
 use hpb_recover::{OpenFault, Opened, open};
 use hpb_slots::Slot;
 use hpb_tree::{BidderDraft, Definition, Draft, NodeDraft, TermsDraft};
 use std::alloc::{AllocError, Global};
 
-/// The frames of the devices here.
-pub const FRAMES: u32 = 4;
+/// The journals that rows over devices are tried with: one of each layout, with as few frames as it may have.
+pub const LAYOUTS: [JournalShape; 2] = [
+    JournalShape {
+        layout: JournalLayout::Pages,
+        frames: 4,
+    },
+    JournalShape {
+        layout: JournalLayout::Cells,
+        frames: 16,
+    },
+];
 
-/// The bytes of a device with so many frames.
-const DEVICE_BYTES: usize = 69_632;
+/// Where the journal begins: behind 13 pages of 4,096 bytes.
+const JOURNAL_AT: usize = 53_248;
+
+/// The bytes of a frame: a page, or three cells of 512.
+fn frame_bytes(layout: JournalLayout) -> usize {
+    match layout {
+        JournalLayout::Pages => 4_096,
+        JournalLayout::Cells => 1_536,
+    }
+}
+
+/// Where the frame of this place begins.
+pub fn frame_at(layout: JournalLayout, place: u32) -> usize {
+    let before = frame_bytes(layout).saturating_mul(place as usize);
+    JOURNAL_AT.saturating_add(before)
+}
+
+/// The bytes of a device with such a journal, which ends behind the last frame.
+pub fn device_bytes(shape: JournalShape) -> usize {
+    frame_at(shape.layout, shape.frames)
+}
 
 fn node(
     alloc: Global,
@@ -63,19 +92,19 @@ pub fn six_nodes(alloc: Global) -> Result<Definition> {
     Ok(Definition::check(alloc, &draft)?)
 }
 
-/// A device that was formatted.
-fn formatted(alloc: Global) -> Result<MemoryDisk> {
+/// A device that was formatted with such a journal.
+fn formatted(alloc: Global, shape: JournalShape) -> Result<MemoryDisk> {
     let definition = six_nodes(alloc)?;
-    let disk = MemoryDisk::zeros(alloc, DEVICE_BYTES)?;
-    match format(alloc, disk, &definition, FRAMES) {
+    let disk = MemoryDisk::zeros(alloc, device_bytes(shape))?;
+    match format_layout(alloc, disk, &definition, shape.frames, shape.layout.byte()) {
         Ok(disk) => Ok(disk),
         Err(fault) => Err(Error::from(fault.cause)),
     }
 }
 
-/// A new device, which had no call yet.
-pub fn new_device(alloc: Global) -> Result<MemoryDisk> {
-    let bytes = bytes_of(alloc, formatted(alloc)?)?;
+/// A new device with such a journal, which had no call yet.
+pub fn new_device(alloc: Global, shape: JournalShape) -> Result<MemoryDisk> {
+    let bytes = bytes_of(alloc, formatted(alloc, shape)?)?;
     Ok(MemoryDisk::of(alloc, bytes)?)
 }
 
@@ -111,9 +140,9 @@ pub fn engine_over<D: Disk + Drop>(alloc: Global, disk: D) -> Result<Engine<D>> 
     }
 }
 
-/// An engine over a new device.
-pub fn new_engine(alloc: Global) -> Result<Engine<MemoryDisk>> {
-    engine_over(alloc, new_device(alloc)?)
+/// An engine over a new device with such a journal.
+pub fn new_engine(alloc: Global, shape: JournalShape) -> Result<Engine<MemoryDisk>> {
+    engine_over(alloc, new_device(alloc, shape)?)
 }
 
 /// What a stop leaves of the device of an engine, by the fates of the writes that no sync covers, opened.

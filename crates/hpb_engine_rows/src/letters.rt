@@ -107,6 +107,21 @@ pub fn stage(ticket: u32) -> Letter
     }
 }
 
+/// Bids of x on the licence a, one in each round, with the close of each round: the one of this place.
+pub fn in_round(place: u32) -> Letter {
+    let round = (place / 2).saturating_add(1);
+    if place % 2 == 0 {
+        bid(
+            Bidder::X,
+            round,
+            Node::A,
+            u64::from(round).saturating_mul(100),
+        )
+    } else {
+        close(round)
+    }
+}
+
 /// Letters in this order, as many as there is room for.
 pub fn list_of(items: &[Letter]) -> Letters {
     let mut letters = Letters::new();

@@ -1,13 +1,14 @@
 //! What is answered to a batch, and when.
 
-use crate::calls::{Turn, commit, count, steps_to_whole};
-use crate::devices::new_engine;
+use crate::calls::{Turn, commit, count, steps_retiring, steps_to_whole};
+use crate::devices::{LAYOUTS, new_engine};
 use crate::expecting::{
     answers_at_once, commits, commits_one, hands_back, steps, takes, turns, turns_last,
 };
 use crate::letters::Bidder::{X, Y};
 use crate::letters::Node::{A, B};
-use crate::letters::{accepted, bid, close, full_of, list_of, one, refused, two};
+use crate::letters::{accepted, bid, close, full_of, in_round, list_of, one, refused, two};
+use hpb_codec::JournalShape;
 use hpb_disk::{Disk, MemoryDisk};
 use hpb_engine::{Engine, Rest, Weight};
 use hpb_rules::{Answer, Letter, Refusal, Reply};
@@ -45,7 +46,9 @@ fn answer_together(rt: &impl Abort, engine: &mut Engine<MemoryDisk>) {
 
 #[test]
 fn batch_answers_together(rt: HostRuntime) -> Result<(), Fail> {
-    answer_together(&rt, &mut new_engine(rt.alloc())?);
+    for shape in LAYOUTS {
+        answer_together(&rt, &mut new_engine(rt.alloc(), shape)?);
+    }
     Ok(())
 }
 
@@ -75,7 +78,9 @@ fn repeat(rt: &impl Abort, engine: &mut Engine<MemoryDisk>) {
 
 #[test]
 fn repeat_makes_no_device_call(rt: HostRuntime) -> Result<(), Fail> {
-    repeat(&rt, &mut new_engine(rt.alloc())?);
+    for shape in LAYOUTS {
+        repeat(&rt, &mut new_engine(rt.alloc(), shape)?);
+    }
     Ok(())
 }
 
@@ -97,7 +102,9 @@ fn offer_nothing_new(rt: &impl Abort, engine: &mut Engine<MemoryDisk>) {
 
 #[test]
 fn letters_without_a_new_command(rt: HostRuntime) -> Result<(), Fail> {
-    offer_nothing_new(&rt, &mut new_engine(rt.alloc())?);
+    for shape in LAYOUTS {
+        offer_nothing_new(&rt, &mut new_engine(rt.alloc(), shape)?);
+    }
     Ok(())
 }
 
@@ -113,32 +120,29 @@ fn fill_batch(rt: &impl Abort, engine: &mut Engine<MemoryDisk>) {
 
 #[test]
 fn greatest_batch(rt: HostRuntime) -> Result<(), Fail> {
-    fill_batch(&rt, &mut new_engine(rt.alloc())?);
+    for shape in LAYOUTS {
+        fill_batch(&rt, &mut new_engine(rt.alloc(), shape)?);
+    }
     Ok(())
 }
 
-/// Bids of x on the licence a, one in each round, with the close of each round.
-fn four() -> [Letter; 4] {
-    [bid(X, 1, A, 100), close(1), bid(X, 2, A, 200), close(2)]
-}
-
-/// Whether the four are accepted, a batch each.
-fn commits_four<D: Disk + Drop>(engine: &mut Engine<D>) -> bool {
-    for (letter, at) in four().iter().zip(0..) {
-        if !commits_one(engine, accepted(*letter, at)) {
+/// Whether each frame takes a batch of one command, and all are accepted.
+fn fills_frames<D: Disk + Drop>(engine: &mut Engine<D>, shape: JournalShape) -> bool {
+    for at in 0..shape.frames {
+        if !commits_one(engine, accepted(in_round(at), at)) {
             return false;
         }
     }
     true
 }
 
-fn fill_journal(rt: &impl Abort, engine: &mut Engine<MemoryDisk>) {
-    assert!(rt; commits_four(engine));
-    let letters = [bid(X, 3, A, 300), bid(X, 4, B, 0)];
+/// With a batch in each frame the next one finds the journal full, until a checkpoint has retired them all.
+fn fill_journal(rt: &impl Abort, engine: &mut Engine<MemoryDisk>, shape: JournalShape) {
+    assert!(rt; fills_frames(engine, shape));
+    let letters = [in_round(shape.frames), bid(Y, 1, B, 0)];
     assert!(rt; hands_back(engine, &letters, Weight::Full));
     assert!(rt; turns(engine, Ok(Turn::Idle)));
-    // Four frames are retired.
-    assert_eq!(rt; steps_to_whole(engine, 100), 14);
+    assert_eq!(rt; steps_to_whole(engine, 100), steps_retiring(shape.frames));
     assert!(rt; steps(engine, Ok(Rest::Idle)));
     assert!(rt; takes(engine, list_of(&letters)));
     assert!(rt; hands_back(engine, &letters, Weight::Busy));
@@ -146,6 +150,8 @@ fn fill_journal(rt: &impl Abort, engine: &mut Engine<MemoryDisk>) {
 
 #[test]
 fn journal_full(rt: HostRuntime) -> Result<(), Fail> {
-    fill_journal(&rt, &mut new_engine(rt.alloc())?);
+    for shape in LAYOUTS {
+        fill_journal(&rt, &mut new_engine(rt.alloc(), shape)?, shape);
+    }
     Ok(())
 }

@@ -1,13 +1,14 @@
 //! What is opened after a stop.
 
-use crate::calls::{Turn, steps_to_whole, take_step};
-use crate::devices::{Found, found_in, new_engine, opened_after, six_nodes, started};
+use crate::calls::{Turn, steps_retiring, steps_to_whole, take_step};
+use crate::devices::{Found, LAYOUTS, found_in, new_engine, opened_after, six_nodes, started};
 use crate::expecting::{commits_one, hands_back, steps, takes, turns};
 use crate::letters::Bidder::{W, X, Y};
 use crate::letters::Node::{A, B, C};
-use crate::letters::{accepted, bid, close, list_of, one};
+use crate::letters::{accepted, bid, close, in_round, list_of, one};
 use crate::states::same;
 use hpb_auction::Auction;
+use hpb_codec::JournalShape;
 use hpb_disk::{Disk, Fate, MemoryDisk};
 use hpb_engine::{Engine, Part, Rest, Weight};
 use hpb_recover::Opened;
@@ -25,20 +26,15 @@ fn three() -> [Letter; 3] {
     [bid(X, 1, A, 100), bid(Y, 1, B, 150), close(1)]
 }
 
-/// A new device, and one with three commands in the first frame.
-const NONE: Found = Found {
-    count: 0,
-    clean: 4,
-    covered: 0,
-    slot: Slot::First,
-};
-
-const ALL: Found = Found {
-    count: 3,
-    clean: 3,
-    covered: 0,
-    slot: Slot::First,
-};
+/// A device without a checkpoint: so many commands in so many batches, each of which takes a frame.
+fn uncovered(shape: JournalShape, count: u32, batches: u32) -> Found {
+    Found {
+        count,
+        clean: u64::from(shape.frames.saturating_sub(batches)),
+        covered: 0,
+        slot: Slot::First,
+    }
+}
 
 /// Whether three turns of a batch are made.
 fn writes_gate<D: Disk + Drop>(engine: &mut Engine<D>, letters: Letters) -> bool {
@@ -48,14 +44,20 @@ fn writes_gate<D: Disk + Drop>(engine: &mut Engine<D>, letters: Letters) -> bool
         && turns(engine, Ok(Turn::Went))
 }
 
-fn write_gate(rt: &impl Abort, alloc: Global, engine: &mut Engine<MemoryDisk>) -> Result<(), Fail> {
+fn write_gate(
+    rt: &impl Abort,
+    alloc: Global,
+    engine: &mut Engine<MemoryDisk>,
+    shape: JournalShape,
+) -> Result<(), Fail> {
     assert!(rt; writes_gate(engine, list_of(&three())));
+    let (none, all) = (uncovered(shape, 0, 0), uncovered(shape, 3, 1));
     for (fate, wanted) in [
-        (Fate::Kept, ALL),
-        (Fate::Lost, NONE),
-        (Fate::Filled(0), NONE),
-        (Fate::Filled(OPEN), ALL),
-        (Fate::Filled(0xa4), NONE),
+        (Fate::Kept, all),
+        (Fate::Lost, none),
+        (Fate::Filled(0), none),
+        (Fate::Filled(OPEN), all),
+        (Fate::Filled(0xa4), none),
     ] {
         let opened = opened_after(alloc, engine, &[fate])?;
         assert_eq!(rt; found_in(&opened), wanted);
@@ -66,7 +68,10 @@ fn write_gate(rt: &impl Abort, alloc: Global, engine: &mut Engine<MemoryDisk>) -
 #[test]
 fn stop_in_the_gate_write(rt: HostRuntime) -> Result<(), Fail> {
     let alloc = rt.alloc();
-    write_gate(&rt, alloc, &mut new_engine(alloc)?)
+    for shape in LAYOUTS {
+        write_gate(&rt, alloc, &mut new_engine(alloc, shape)?, shape)?;
+    }
+    Ok(())
 }
 
 /// Whether a checkpoint is begun, and its first two pages are written.
@@ -101,9 +106,10 @@ fn write_third_page(
     rt: &impl Abort,
     alloc: Global,
     engine: &mut Engine<MemoryDisk>,
+    shape: JournalShape,
 ) -> Result<(), Fail> {
     assert!(rt; writes_third_page(engine));
-    let old = Found { clean: 1, ..ALL };
+    let old = uncovered(shape, 3, 3);
     let wanted = state_after(alloc, &three())?;
     for fate in [Fate::Kept, Fate::Lost, Fate::Filled(0), Fate::Filled(OPEN)] {
         let opened = opened_after(alloc, engine, &[fate])?;
@@ -116,7 +122,10 @@ fn write_third_page(
 #[test]
 fn stop_in_the_third_page(rt: HostRuntime) -> Result<(), Fail> {
     let alloc = rt.alloc();
-    write_third_page(&rt, alloc, &mut new_engine(alloc)?)
+    for shape in LAYOUTS {
+        write_third_page(&rt, alloc, &mut new_engine(alloc, shape)?, shape)?;
+    }
+    Ok(())
 }
 
 /// Four commands, for a batch each.
@@ -143,46 +152,64 @@ fn retires_two<D: Disk + Drop>(engine: &mut Engine<D>) -> bool {
     steps(engine, Ok(Rest::Went(Part::Retired))) && steps(engine, Ok(Rest::Went(Part::Retired)))
 }
 
+/// How many frames may be open after a stop while the four are retired, of which the first is closed.
+const OLD: u32 = 3;
+
+/// A device with a checkpoint of the four batches: so many frames aren't clean.
+fn covering_four(shape: JournalShape, unclean: u32) -> Found {
+    Found {
+        count: 4,
+        clean: u64::from(shape.frames.saturating_sub(unclean)),
+        covered: 4,
+        slot: Slot::Second,
+    }
+}
+
 /// What is opened after a stop while frames are retired: the first frame is closed, and the second is open with its old
 /// batch.
 fn stop_retiring(
     rt: &impl Abort,
     alloc: Global,
-    engine: &mut Engine<MemoryDisk>,
+    shape: JournalShape,
 ) -> Result<Opened<MemoryDisk>, Fail> {
-    assert!(rt; retires_two(engine));
-    let opened = opened_after(alloc, engine, &[Fate::Kept, Fate::Lost])?;
-    let wanted = Found {
-        count: 4,
-        clean: 1,
-        covered: 4,
-        slot: Slot::Second,
-    };
-    assert_eq!(rt; found_in(&opened), wanted);
+    let mut engine = new_engine(alloc, shape)?;
+    assert!(rt; retires_two(&mut engine));
+    let opened = opened_after(alloc, &engine, &[Fate::Kept, Fate::Lost])?;
+    assert_eq!(rt; found_in(&opened), covering_four(shape, OLD));
     let state = state_after(alloc, &four())?;
     assert!(rt; same(opened.auction(), &state));
     Ok(opened)
 }
 
-/// One frame is clean: a batch is taken, and the next one after a checkpoint.
-fn go_on(rt: &impl Abort, engine: &mut Engine<MemoryDisk>) {
-    assert!(rt; commits_one(engine, accepted(bid(X, 2, A, 200), 4)));
-    assert!(rt; hands_back(engine, &[close(2)], Weight::Full));
-    assert_eq!(rt; steps_to_whole(engine, 100), 14);
-    assert!(rt; takes(engine, one(close(2))));
+/// The command that comes after so many, the four of them at first.
+fn later(at: u32) -> Letter {
+    in_round(at.saturating_sub(2))
+}
+
+/// A batch is taken for each frame that is clean, and the next one after a checkpoint, which retires them all.
+fn go_on(rt: &impl Abort, engine: &mut Engine<MemoryDisk>, shape: JournalShape) {
+    let full = shape.frames.saturating_add(4).saturating_sub(OLD);
+    for at in 4..full {
+        assert!(rt; commits_one(engine, accepted(later(at), at)));
+    }
+    assert!(rt; hands_back(engine, &[later(full)], Weight::Full));
+    assert_eq!(rt; steps_to_whole(engine, 100), steps_retiring(shape.frames));
+    assert!(rt; takes(engine, one(later(full))));
 }
 
 #[test]
 fn stop_while_retiring(rt: HostRuntime) -> Result<(), Fail> {
     let alloc = rt.alloc();
-    let opened = stop_retiring(&rt, alloc, &mut new_engine(alloc)?)?;
-    go_on(&rt, &mut started(alloc, opened)?);
+    for shape in LAYOUTS {
+        let opened = stop_retiring(&rt, alloc, shape)?;
+        go_on(&rt, &mut started(alloc, opened)?, shape);
+    }
     Ok(())
 }
 
 /// The three frames that may be open are retired without a new checkpoint.
 fn retire(rt: &impl Abort, engine: &mut Engine<MemoryDisk>) {
-    for _ in 0..3 {
+    for _ in 0..OLD {
         assert!(rt; steps(engine, Ok(Rest::Went(Part::Retired))));
     }
     assert!(rt; steps(engine, Ok(Rest::Whole)));
@@ -190,22 +217,24 @@ fn retire(rt: &impl Abort, engine: &mut Engine<MemoryDisk>) {
 }
 
 /// All frames are clean.
-fn find_clean(rt: &impl Abort, alloc: Global, engine: &mut Engine<MemoryDisk>) -> Result<(), Fail> {
+fn find_clean(
+    rt: &impl Abort,
+    alloc: Global,
+    engine: &mut Engine<MemoryDisk>,
+    shape: JournalShape,
+) -> Result<(), Fail> {
     retire(rt, engine);
     let opened = opened_after(alloc, engine, &[])?;
-    let wanted = Found {
-        count: 4,
-        clean: 4,
-        covered: 4,
-        slot: Slot::Second,
-    };
-    assert_eq!(rt; found_in(&opened), wanted);
+    assert_eq!(rt; found_in(&opened), covering_four(shape, 0));
     Ok(())
 }
 
 #[test]
 fn retirement_alone(rt: HostRuntime) -> Result<(), Fail> {
     let alloc = rt.alloc();
-    let opened = stop_retiring(&rt, alloc, &mut new_engine(alloc)?)?;
-    find_clean(&rt, alloc, &mut started(alloc, opened)?)
+    for shape in LAYOUTS {
+        let opened = stop_retiring(&rt, alloc, shape)?;
+        find_clean(&rt, alloc, &mut started(alloc, opened)?, shape)?;
+    }
+    Ok(())
 }
