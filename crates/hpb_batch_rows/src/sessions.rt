@@ -1,9 +1,10 @@
-//! Sessions whose auction is kept on a device with a journal of four frames.
+//! Sessions whose auction is kept on a device.
 
+use hpb_codec::JournalShape;
 use hpb_disk::{Disk, MemoryDisk, OnceDisk};
 use hpb_engine::Engine;
 use hpb_engine_rows::calls::count;
-use hpb_engine_rows::devices::{count_on, engine_over, new_device, new_engine};
+use hpb_engine_rows::devices::{LAYOUTS, count_on, faulty_engine, new_engine};
 use hpb_run::{Ran, run_device};
 use std::alloc::Global;
 use std::process::Abort;
@@ -39,8 +40,14 @@ fn run_lines<D: Disk + Drop>(
 }
 
 /// Runs the lines over a new device, and gives how many calls that took.
-fn calls(rt: &impl Abort, alloc: Global, batch: usize, every: u32) -> Result<usize, Fail> {
-    let engine = new_engine(alloc)?;
+fn calls(
+    rt: &impl Abort,
+    alloc: Global,
+    shape: JournalShape,
+    batch: usize,
+    every: u32,
+) -> Result<usize, Fail> {
+    let engine = new_engine(alloc, shape)?;
     let before = engine.disk.calls();
     let Session { ran, written } = run_lines(alloc, engine, LINES, batch, every);
     assert_eq!(rt; written.as_slice(), ANSWERS, "{batch} {every}");
@@ -50,13 +57,21 @@ fn calls(rt: &impl Abort, alloc: Global, batch: usize, every: u32) -> Result<usi
     Ok(after.saturating_sub(before))
 }
 
+/// The text is the same for each pair of these numbers.
+fn write_same_text(rt: &impl Abort, alloc: Global, shape: JournalShape) -> Result<(), Fail> {
+    for batch in [1, 2, 64] {
+        for every in [0, 1, 3] {
+            let _ = calls(rt, alloc, shape, batch, every)?;
+        }
+    }
+    Ok(())
+}
+
 #[test]
 fn same_text_on_a_device(rt: HostRuntime) -> Result<(), Fail> {
     let alloc = rt.alloc();
-    for batch in [1, 2, 64] {
-        for every in [0, 1, 3] {
-            let _ = calls(&rt, alloc, batch, every)?;
-        }
+    for shape in LAYOUTS {
+        write_same_text(&rt, alloc, shape)?;
     }
     Ok(())
 }
@@ -64,33 +79,56 @@ fn same_text_on_a_device(rt: HostRuntime) -> Result<(), Fail> {
 #[test]
 fn a_session_makes_so_many_calls(rt: HostRuntime) -> Result<(), Fail> {
     let alloc = rt.alloc();
-    // Two batches; the same with a checkpoint after each; seven batches with a checkpoint before the fifth.
-    assert_eq!(rt; calls(&rt, alloc, 64, 0)?, 8);
-    assert_eq!(rt; calls(&rt, alloc, 64, 1)?, 29);
-    assert_eq!(rt; calls(&rt, alloc, 1, 0)?, 41);
+    // Seven batches, with a checkpoint before the fifth where there are four frames, and without one where there are more.
+    for (shape, seven) in LAYOUTS.iter().zip([41, 28]) {
+        // Two batches; the same with a checkpoint after each.
+        assert_eq!(rt; calls(&rt, alloc, *shape, 64, 0)?, 8);
+        assert_eq!(rt; calls(&rt, alloc, *shape, 64, 1)?, 29);
+        assert_eq!(rt; calls(&rt, alloc, *shape, 1, 0)?, seven);
+    }
     Ok(())
 }
 
-/// An engine over a device of which one call fails: so many after it was opened.
-fn faulty(alloc: Global, call: u64) -> Result<Engine<OnceDisk<MemoryDisk>>, Fail> {
-    let opening = new_engine(alloc)?.finish().calls() as u64;
-    let disk = OnceDisk::new(new_device(alloc)?, opening.saturating_add(call));
-    Ok(engine_over(alloc, disk)?)
+/// Runs lines over a device of which one call fails: so many after it was opened.
+fn run_faulty(
+    alloc: Global,
+    (shape, call): (JournalShape, u64),
+    lines: &[u8],
+    batch: usize,
+    every: u32,
+) -> Result<Session<OnceDisk<MemoryDisk>>, Fail> {
+    let engine = faulty_engine(alloc, shape, call)?;
+    Ok(run_lines(alloc, engine, lines, batch, every))
+}
+
+/// What a session of batches of two writes where a call of the second one fails.
+const FAULT_IN_SECOND_BATCH: &[u8] = b"OK 1\nOK 2\nERR 91 device\nERR 91 device\nERR 93 failed\n\
+    ROUND 1 STAGE 1 OPEN REVENUE 0 COUNT 2\nERR 93 failed\nERR 93 failed\n\
+    ROUND 1 STAGE 1 OPEN REVENUE 0 COUNT 2\nNODE a HIGH 0 - PRICE 0 MIN 100 WIN no\n";
+
+/// The second batch of a session ends with a fault.
+fn fail_second_batch(
+    rt: &impl Abort,
+    alloc: Global,
+    shape: JournalShape,
+    call: u64,
+) -> Result<(), Fail> {
+    let Session { ran, written } = run_faulty(alloc, (shape, call), LINES, 2, 0)?;
+    assert_eq!(rt; written.as_slice(), FAULT_IN_SECOND_BATCH, "{call}");
+    assert_eq!(rt; ran.end, Ok(()), "{call}");
+    assert!(rt; ran.engine.failed, "{call}");
+    assert_eq!(rt; count(&ran.engine), 2, "{call}");
+    Ok(())
 }
 
 #[test]
 fn fault_in_second_batch(rt: HostRuntime) -> Result<(), Fail> {
     let alloc = rt.alloc();
-    let wanted = b"OK 1\nOK 2\nERR 91 device\nERR 91 device\nERR 93 failed\n\
-        ROUND 1 STAGE 1 OPEN REVENUE 0 COUNT 2\nERR 93 failed\nERR 93 failed\n\
-        ROUND 1 STAGE 1 OPEN REVENUE 0 COUNT 2\nNODE a HIGH 0 - PRICE 0 MIN 100 WIN no\n";
-    // Each of the four calls of the second commit.
-    for call in 5..9 {
-        let Session { ran, written } = run_lines(alloc, faulty(alloc, call)?, LINES, 2, 0);
-        assert_eq!(rt; written.as_slice(), wanted.as_slice(), "{call}");
-        assert_eq!(rt; ran.end, Ok(()), "{call}");
-        assert!(rt; ran.engine.failed, "{call}");
-        assert_eq!(rt; count(&ran.engine), 2, "{call}");
+    for shape in LAYOUTS {
+        // Each of the four calls of the second commit.
+        for call in 5..9 {
+            fail_second_batch(&rt, alloc, shape, call)?;
+        }
     }
     Ok(())
 }
@@ -98,29 +136,31 @@ fn fault_in_second_batch(rt: HostRuntime) -> Result<(), Fail> {
 #[test]
 fn second_sync_fails(rt: HostRuntime) -> Result<(), Fail> {
     let alloc = rt.alloc();
-    let Session { ran, written } = run_lines(
-        alloc,
-        faulty(alloc, 4)?,
-        b"BID x 1 a 100\nBID y 1 b 150\nSHOW\n",
-        1,
-        0,
-    );
+    let lines = b"BID x 1 a 100\nBID y 1 b 150\nSHOW\n";
     let wanted = b"ERR 91 device\nERR 93 failed\nROUND 1 STAGE 1 OPEN REVENUE 0 COUNT 0\n";
-    assert_eq!(rt; written.as_slice(), wanted.as_slice());
-    assert_eq!(rt; count(&ran.engine), 0);
+    for shape in LAYOUTS {
+        let Session { ran, written } = run_faulty(alloc, (shape, 4), lines, 1, 0)?;
+        assert_eq!(rt; written.as_slice(), wanted.as_slice());
+        assert_eq!(rt; count(&ran.engine), 0);
+    }
     Ok(())
 }
+
+/// What a session writes of which the checkpoint after the first batch fails: no command gets 91.
+const FAULT_IN_A_CHECKPOINT: &[u8] =
+    b"OK 1\nOK 2\nOK 3\nOK 4\nOK 5\nROUND 2 STAGE 1 OPEN REVENUE 500 COUNT 5\n\
+    ERR 93 failed\nERR 93 failed\nROUND 2 STAGE 1 OPEN REVENUE 500 COUNT 5\n\
+    NODE a HIGH 100 x PRICE 138 MIN 160 WIN no\n";
 
 #[test]
 fn fault_in_a_checkpoint(rt: HostRuntime) -> Result<(), Fail> {
     let alloc = rt.alloc();
-    // The checkpoint after the first batch has calls five and later: no command gets 91.
-    let Session { ran, written } = run_lines(alloc, faulty(alloc, 6)?, LINES, 64, 1);
-    let wanted = b"OK 1\nOK 2\nOK 3\nOK 4\nOK 5\nROUND 2 STAGE 1 OPEN REVENUE 500 COUNT 5\n\
-        ERR 93 failed\nERR 93 failed\nROUND 2 STAGE 1 OPEN REVENUE 500 COUNT 5\n\
-        NODE a HIGH 100 x PRICE 138 MIN 160 WIN no\n";
-    assert_eq!(rt; written.as_slice(), wanted.as_slice());
-    assert_eq!(rt; ran.end, Ok(()));
-    assert!(rt; ran.engine.failed);
+    for shape in LAYOUTS {
+        // The checkpoint has calls five and later.
+        let Session { ran, written } = run_faulty(alloc, (shape, 6), LINES, 64, 1)?;
+        assert_eq!(rt; written.as_slice(), FAULT_IN_A_CHECKPOINT);
+        assert_eq!(rt; ran.end, Ok(()));
+        assert!(rt; ran.engine.failed);
+    }
     Ok(())
 }

@@ -1,11 +1,14 @@
 //! A call of the device fails.
 
 use crate::mixed_run::{Moment, events, moments};
-use crate::runs::{calls_of_opening, driven};
+use crate::runs::driven;
+use hpb_codec::JournalShape;
 use hpb_disk::{Disk, Fate, FuseDisk, MemoryDisk, OnceDisk};
 use hpb_engine::{Driven, Engine, Event, Fault, Weight};
 use hpb_engine_rows::calls::{Turn, commit, count, take_step};
-use hpb_engine_rows::devices::{count_on, engine_over, new_device, new_engine, opened, started};
+use hpb_engine_rows::devices::{
+    CELLS, LAYOUTS, PAGES, count_on, faulty_engine, new_device, new_engine, opened, started,
+};
 use hpb_engine_rows::expecting::{commits_one, hands_back, steps, takes, turns};
 use hpb_engine_rows::letters::Bidder::{X, Y};
 use hpb_engine_rows::letters::Node::{A, B};
@@ -135,41 +138,34 @@ fn number_of(place: usize) -> u64 {
     (place as u64).saturating_add(1)
 }
 
-/// A device of which all calls fail from this one on, after the run.
-fn left_by_fuse(
-    alloc: Global,
-    place: usize,
-    events: &[Event],
-    moment: Moment,
-) -> Result<MemoryDisk, Fail> {
-    let disk = FuseDisk::new(new_device(alloc)?, number_of(place));
-    let disk = run_into_fault(alloc, disk, events, moment)?;
-    Ok(disk.into_inner())
-}
-
 /// Where each call of the run comes.
-fn moments_of_run(alloc: Global, events: &[Event]) -> Result<Vec<Moment>, Fail> {
-    moments(alloc, &mut new_engine(alloc)?, events)
+fn moments_of_run(
+    alloc: Global,
+    shape: JournalShape,
+    events: &[Event],
+) -> Result<Vec<Moment>, Fail> {
+    moments(alloc, &mut new_engine(alloc, shape)?, events)
 }
 
-/// Whether the batch in flight has landed after a stop, where all calls fail from this one on.
+/// Whether the batch in flight has landed after a stop, where all calls of this device fail from the one at this moment on.
 fn lands_after_fuse(
     alloc: Global,
-    place: usize,
+    disk: FuseDisk<MemoryDisk>,
     events: &[Event],
     moment: Moment,
 ) -> Result<bool, Fail> {
-    has_landed(alloc, &left_by_fuse(alloc, place, events, moment)?, moment)
+    let disk = run_into_fault(alloc, disk, events, moment)?;
+    has_landed(alloc, &disk.into_inner(), moment)
 }
 
-#[test]
-fn fuse_at_every_call(rt: HostRuntime) -> Result<(), Fail> {
-    let alloc = rt.alloc();
+/// The run over a device of which all calls fail from one on, for each call of it.
+fn try_every_fuse(rt: &impl Abort, alloc: Global, shape: JournalShape) -> Result<(), Fail> {
     let events = events(alloc)?;
-    let moments = moments_of_run(alloc, &events)?;
+    let moments = moments_of_run(alloc, shape, &events)?;
     let mut landed = 0_usize;
     for (place, moment) in moments.iter().enumerate() {
-        if lands_after_fuse(alloc, place, &events, *moment)? {
+        let disk = FuseDisk::new(new_device(alloc, shape)?, number_of(place));
+        if lands_after_fuse(alloc, disk, &events, *moment)? {
             landed = landed.saturating_add(1);
         }
     }
@@ -179,40 +175,50 @@ fn fuse_at_every_call(rt: HostRuntime) -> Result<(), Fail> {
     Ok(())
 }
 
-/// A device of which this call alone fails, after the run.
-fn left_by_fault(
-    alloc: Global,
-    place: usize,
-    events: &[Event],
-    moment: Moment,
-) -> Result<MemoryDisk, Fail> {
-    let disk = OnceDisk::new(new_device(alloc)?, number_of(place));
-    let disk = run_into_fault(alloc, disk, events, moment)?;
-    Ok(disk.into_inner())
+#[test]
+fn fuse_at_every_call_over_pages(rt: HostRuntime) -> Result<(), Fail> {
+    try_every_fuse(&rt, rt.alloc(), PAGES)
 }
 
-/// How many commands are opened without a stop where this call alone fails, after stops were tried.
+#[test]
+fn fuse_at_every_call_over_cells(rt: HostRuntime) -> Result<(), Fail> {
+    try_every_fuse(&rt, rt.alloc(), CELLS)
+}
+
+/// How many commands are opened without a stop where the call of this device at this moment alone fails, after stops were
+/// tried.
 fn count_after_fault(
     alloc: Global,
-    place: usize,
+    disk: OnceDisk<MemoryDisk>,
     events: &[Event],
     moment: Moment,
 ) -> Result<u32, Fail> {
-    let disk = left_by_fault(alloc, place, events, moment)?;
+    let disk = run_into_fault(alloc, disk, events, moment)?;
+    let disk = disk.into_inner();
     let _ = has_landed(alloc, &disk, moment)?;
     Ok(count_on(alloc, disk)?)
 }
 
-#[test]
-fn one_fault_at_every_call(rt: HostRuntime) -> Result<(), Fail> {
-    let alloc = rt.alloc();
+/// The run over a device of which one call fails, for each call of it.
+fn try_every_fault(rt: &impl Abort, alloc: Global, shape: JournalShape) -> Result<(), Fail> {
     let events = events(alloc)?;
-    let moments = moments_of_run(alloc, &events)?;
+    let moments = moments_of_run(alloc, shape, &events)?;
     for (place, moment) in moments.iter().enumerate() {
-        let found = count_after_fault(alloc, place, &events, *moment)?;
+        let disk = OnceDisk::new(new_device(alloc, shape)?, number_of(place));
+        let found = count_after_fault(alloc, disk, &events, *moment)?;
         assert!(rt; moment.may_leave(found), "{place}: {found}");
     }
     Ok(())
+}
+
+#[test]
+fn one_fault_at_every_call_over_pages(rt: HostRuntime) -> Result<(), Fail> {
+    try_every_fault(&rt, rt.alloc(), PAGES)
+}
+
+#[test]
+fn one_fault_at_every_call_over_cells(rt: HostRuntime) -> Result<(), Fail> {
+    try_every_fault(&rt, rt.alloc(), CELLS)
 }
 
 /// The letters of two batches.
@@ -222,12 +228,6 @@ fn first() -> Letter {
 
 fn second() -> Letter {
     bid(Y, 1, B, 150)
-}
-
-/// An engine over a device of which this call of its own fails.
-fn failing(alloc: Global, call: u64) -> Result<Engine<OnceDisk<MemoryDisk>>, Fail> {
-    let fault = calls_of_opening(alloc)?.saturating_add(call);
-    Ok(engine_over(alloc, OnceDisk::new(new_device(alloc)?, fault))?)
 }
 
 /// Whether an engine answers turns, steps and offers by 93.
@@ -251,8 +251,12 @@ fn fail_second_sync(rt: &impl Abort, engine: &mut Engine<OnceDisk<MemoryDisk>>) 
 }
 
 /// The device of an engine whose second sync failed.
-fn left_by_second_sync(rt: &impl Abort, alloc: Global) -> Result<MemoryDisk, Fail> {
-    let mut engine = failing(alloc, 8)?;
+fn left_by_second_sync(
+    rt: &impl Abort,
+    alloc: Global,
+    shape: JournalShape,
+) -> Result<MemoryDisk, Fail> {
+    let mut engine = faulty_engine(alloc, shape, 8)?;
     fail_second_sync(rt, &mut engine);
     Ok(engine.finish().into_inner())
 }
@@ -260,11 +264,13 @@ fn left_by_second_sync(rt: &impl Abort, alloc: Global) -> Result<MemoryDisk, Fai
 #[test]
 fn second_sync_fails(rt: HostRuntime) -> Result<(), Fail> {
     let alloc = rt.alloc();
-    let disk = left_by_second_sync(&rt, alloc)?;
-    for (fate, wanted) in FATES.iter().zip([2, 1, 1, 2]) {
-        assert_eq!(rt; count_after(alloc, &disk, *fate)?, wanted);
+    for shape in LAYOUTS {
+        let disk = left_by_second_sync(&rt, alloc, shape)?;
+        for (fate, wanted) in FATES.iter().zip([2, 1, 1, 2]) {
+            assert_eq!(rt; count_after(alloc, &disk, *fate)?, wanted);
+        }
+        assert_eq!(rt; count_on(alloc, disk)?, 2);
     }
-    assert_eq!(rt; count_on(alloc, disk)?, 2);
     Ok(())
 }
 
@@ -287,21 +293,33 @@ fn fail_step(rt: &impl Abort, engine: &mut Engine<OnceDisk<MemoryDisk>>, before:
 
 /// The device of an engine of which the step of a checkpoint after so many failed. The first step makes no call, as the
 /// second slot is closed from the first on.
-fn left_by_step(rt: &impl Abort, alloc: Global, before: u64) -> Result<MemoryDisk, Fail> {
-    let mut engine = failing(alloc, before.saturating_add(4))?;
+fn left_by_step(
+    rt: &impl Abort,
+    alloc: Global,
+    shape: JournalShape,
+    before: u64,
+) -> Result<MemoryDisk, Fail> {
+    let mut engine = faulty_engine(alloc, shape, before.saturating_add(4))?;
     fail_step(rt, &mut engine, before);
     Ok(engine.finish().into_inner())
+}
+
+/// Two commands are found on a device after each stop, and without one.
+fn find_two(rt: &impl Abort, alloc: Global, disk: MemoryDisk) -> Result<(), Fail> {
+    for fate in FATES {
+        assert_eq!(rt; count_after(alloc, &disk, fate)?, 2);
+    }
+    assert_eq!(rt; count_on(alloc, disk)?, 2);
+    Ok(())
 }
 
 #[test]
 fn fault_at_each_step_of_a_checkpoint(rt: HostRuntime) -> Result<(), Fail> {
     let alloc = rt.alloc();
-    for before in 1..11 {
-        let disk = left_by_step(&rt, alloc, before)?;
-        for fate in FATES {
-            assert_eq!(rt; count_after(alloc, &disk, fate)?, 2, "{before}");
+    for shape in LAYOUTS {
+        for before in 1..11 {
+            find_two(&rt, alloc, left_by_step(&rt, alloc, shape, before)?)?;
         }
-        assert_eq!(rt; count_on(alloc, disk)?, 2);
     }
     Ok(())
 }

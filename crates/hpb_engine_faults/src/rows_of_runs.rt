@@ -1,10 +1,13 @@
 //! Events one after another, and what is found after a stop.
 
-use crate::runs::{calls_of_opening, driven};
+use crate::runs::driven;
+use hpb_codec::JournalShape;
 use hpb_disk::{Fate, FuseDisk, MemoryDisk};
 use hpb_engine::{Driven, Engine, Event, Fault, open_after};
 use hpb_engine_rows::calls::count;
-use hpb_engine_rows::devices::{Found, engine_over, found_in, new_device, new_engine};
+use hpb_engine_rows::devices::{
+    Found, LAYOUTS, calls_of_opening, engine_over, found_in, new_device, new_engine,
+};
 use hpb_engine_rows::letters::Bidder::X;
 use hpb_engine_rows::letters::Node::A;
 use hpb_engine_rows::letters::{accepted, bid, refused, two};
@@ -54,11 +57,16 @@ fn ends_well(driven: &Driven<MemoryDisk>) -> bool {
         && count(&driven.engine) == 1
 }
 
-fn stop(rt: &impl Abort, alloc: Global, driven: &Driven<MemoryDisk>) -> Result<(), Fail> {
+fn stop(
+    rt: &impl Abort,
+    alloc: Global,
+    driven: &Driven<MemoryDisk>,
+    shape: JournalShape,
+) -> Result<(), Fail> {
     assert!(rt; ends_well(driven));
     let wanted = Found {
         count: 1,
-        clean: 4,
+        clean: u64::from(shape.frames),
         covered: 1,
         slot: Slot::Second,
     };
@@ -71,13 +79,22 @@ fn events_are_driven(rt: HostRuntime) -> Result<(), Fail> {
     let alloc = rt.alloc();
     // A first checkpoint of one batch takes eleven steps; the twelfth is idle.
     let events = events(alloc, 12)?;
-    stop(&rt, alloc, &driven(alloc, new_engine(alloc)?, &events)?)
+    for shape in LAYOUTS {
+        let driven = driven(alloc, new_engine(alloc, shape)?, &events)?;
+        stop(&rt, alloc, &driven, shape)?;
+    }
+    Ok(())
 }
 
 /// An engine over a device that fails from this call of the run on.
-fn failing(alloc: Global, call: u64) -> Result<Engine<FuseDisk<MemoryDisk>>, Fail> {
-    let fault = calls_of_opening(alloc)?.saturating_add(call);
-    Ok(engine_over(alloc, FuseDisk::new(new_device(alloc)?, fault))?)
+fn failing(
+    alloc: Global,
+    shape: JournalShape,
+    call: u64,
+) -> Result<Engine<FuseDisk<MemoryDisk>>, Fail> {
+    let fault = calls_of_opening(alloc, shape)?.saturating_add(call);
+    let disk = FuseDisk::new(new_device(alloc, shape)?, fault);
+    Ok(engine_over(alloc, disk)?)
 }
 
 /// Whether a fault came before any answer.
@@ -88,9 +105,11 @@ fn ends_early(driven: &Driven<FuseDisk<MemoryDisk>>) -> bool {
 #[test]
 fn no_event_is_taken_after_a_fault(rt: HostRuntime) -> Result<(), Fail> {
     let alloc = rt.alloc();
-    // The fourth call of a commit is its second sync.
-    let engine = failing(alloc, 4)?;
     let events = events(alloc, 3)?;
-    assert!(rt; ends_early(&driven(alloc, engine, &events)?));
+    for shape in LAYOUTS {
+        // The fourth call of a commit is its second sync.
+        let engine = failing(alloc, shape, 4)?;
+        assert!(rt; ends_early(&driven(alloc, engine, &events)?));
+    }
     Ok(())
 }

@@ -2,7 +2,7 @@
 
 use anyhow::{Error, Result, bail};
 use hpb_codec::{JournalLayout, JournalShape};
-use hpb_disk::{Disk, Fate, MemoryDisk};
+use hpb_disk::{Disk, Fate, MemoryDisk, OnceDisk};
 use hpb_engine::Engine;
 use hpb_format::format_layout;
 use hpb_recover::{OpenFault, Opened, open};
@@ -10,17 +10,19 @@ use hpb_slots::Slot;
 use hpb_tree::{BidderDraft, Definition, Draft, NodeDraft, TermsDraft};
 use std::alloc::{AllocError, Global};
 
-/// The journals that rows over devices are tried with: one of each layout, with as few frames as it may have.
-pub const LAYOUTS: [JournalShape; 2] = [
-    JournalShape {
-        layout: JournalLayout::Pages,
-        frames: 4,
-    },
-    JournalShape {
-        layout: JournalLayout::Cells,
-        frames: 16,
-    },
-];
+/// A journal of pages, and one of cells, each with as few frames as it may have.
+pub const PAGES: JournalShape = JournalShape {
+    layout: JournalLayout::Pages,
+    frames: 4,
+};
+
+pub const CELLS: JournalShape = JournalShape {
+    layout: JournalLayout::Cells,
+    frames: 16,
+};
+
+/// The journals that rows over devices are tried with.
+pub const LAYOUTS: [JournalShape; 2] = [PAGES, CELLS];
 
 /// Where the journal begins: behind 13 pages of 4,096 bytes.
 const JOURNAL_AT: usize = 53_248;
@@ -143,6 +145,22 @@ pub fn engine_over<D: Disk + Drop>(alloc: Global, disk: D) -> Result<Engine<D>> 
 /// An engine over a new device with such a journal.
 pub fn new_engine(alloc: Global, shape: JournalShape) -> Result<Engine<MemoryDisk>> {
     engine_over(alloc, new_device(alloc, shape)?)
+}
+
+/// How many calls opening a new device has, behind which an engine's own are counted.
+pub fn calls_of_opening(alloc: Global, shape: JournalShape) -> Result<u64> {
+    let engine = new_engine(alloc, shape)?;
+    Ok(engine.disk.calls() as u64)
+}
+
+/// An engine over a new device of which one call fails: so many after it was opened, from 1.
+pub fn faulty_engine(
+    alloc: Global,
+    shape: JournalShape,
+    call: u64,
+) -> Result<Engine<OnceDisk<MemoryDisk>>> {
+    let fault = calls_of_opening(alloc, shape)?.saturating_add(call);
+    engine_over(alloc, OnceDisk::new(new_device(alloc, shape)?, fault))
 }
 
 /// What a stop leaves of the device of an engine, by the fates of the writes that no sync covers, opened.

@@ -107,19 +107,39 @@ pub fn stage(ticket: u32) -> Letter
     }
 }
 
-/// Bids of x on the licence a, one in each round, with the close of each round: the one of this place.
+/// Bids of x on the licence a, one in each of 32 rounds and twice the one before, with the close of each round: the one of
+/// this place.
 pub fn in_round(place: u32) -> Letter {
-    let round = (place / 2).saturating_add(1);
+    let before = (place / 2).min(31);
     if place % 2 == 0 {
-        bid(
-            Bidder::X,
-            round,
-            Node::A,
-            u64::from(round).saturating_mul(100),
-        )
+        bid(Bidder::X, before + 1, Node::A, 100 << before)
     } else {
-        close(round)
+        close(before + 1)
     }
+}
+
+/// So many of them, from the first on. Each is accepted.
+pub fn first_of_rounds(count: u32) -> Letters {
+    let mut letters = Letters::new();
+    for place in 0..count {
+        let _ = letters.push(in_round(place));
+    }
+    letters
+}
+
+/// The bids of three bidders and the close of the first round.
+pub fn four() -> [Letter; 4] {
+    [
+        bid(Bidder::X, 1, Node::A, 100),
+        bid(Bidder::Y, 1, Node::B, 150),
+        bid(Bidder::W, 1, Node::C, 100),
+        close(1),
+    ]
+}
+
+/// The command that comes after so many, of which these four are the first: bids of x and closes, round by round.
+pub fn after_four(count: u32) -> Letter {
+    in_round(count.saturating_sub(2))
 }
 
 /// Letters in this order, as many as there is room for.

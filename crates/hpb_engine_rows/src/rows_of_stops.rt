@@ -3,9 +3,9 @@
 use crate::calls::{Turn, steps_retiring, steps_to_whole, take_step};
 use crate::devices::{Found, LAYOUTS, found_in, new_engine, opened_after, six_nodes, started};
 use crate::expecting::{commits_one, hands_back, steps, takes, turns};
-use crate::letters::Bidder::{W, X, Y};
-use crate::letters::Node::{A, B, C};
-use crate::letters::{accepted, bid, close, in_round, list_of, one};
+use crate::letters::Bidder::{X, Y};
+use crate::letters::Node::{A, B};
+use crate::letters::{accepted, after_four, bid, close, four, list_of, one};
 use crate::states::same;
 use hpb_auction::Auction;
 use hpb_codec::JournalShape;
@@ -128,16 +128,6 @@ fn stop_in_the_third_page(rt: HostRuntime) -> Result<(), Fail> {
     Ok(())
 }
 
-/// Four commands, for a batch each.
-fn four() -> [Letter; 4] {
-    [
-        bid(X, 1, A, 100),
-        bid(Y, 1, B, 150),
-        bid(W, 1, C, 100),
-        close(1),
-    ]
-}
-
 /// Whether four batches are committed and a checkpoint of them is written, of which two frames are retired, and no sync
 /// covers that.
 fn retires_two<D: Disk + Drop>(engine: &mut Engine<D>) -> bool {
@@ -181,20 +171,15 @@ fn stop_retiring(
     Ok(opened)
 }
 
-/// The command that comes after so many, the four of them at first.
-fn later(at: u32) -> Letter {
-    in_round(at.saturating_sub(2))
-}
-
 /// A batch is taken for each frame that is clean, and the next one after a checkpoint, which retires them all.
 fn go_on(rt: &impl Abort, engine: &mut Engine<MemoryDisk>, shape: JournalShape) {
     let full = shape.frames.saturating_add(4).saturating_sub(OLD);
     for at in 4..full {
-        assert!(rt; commits_one(engine, accepted(later(at), at)));
+        assert!(rt; commits_one(engine, accepted(after_four(at), at)));
     }
-    assert!(rt; hands_back(engine, &[later(full)], Weight::Full));
+    assert!(rt; hands_back(engine, &[after_four(full)], Weight::Full));
     assert_eq!(rt; steps_to_whole(engine, 100), steps_retiring(shape.frames));
-    assert!(rt; takes(engine, one(later(full))));
+    assert!(rt; takes(engine, one(after_four(full))));
 }
 
 #[test]
