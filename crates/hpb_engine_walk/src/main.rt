@@ -8,6 +8,7 @@ mod walk;
 
 use crate::walk::walk_from;
 use anyhow::{Result, bail};
+use hpb_engine_rows::devices::LAYOUTS;
 use std::process::ExitCode;
 
 fn main(rt: HostRuntime) -> ExitCode {
@@ -20,7 +21,7 @@ fn main(rt: HostRuntime) -> ExitCode {
     }
 }
 
-/// Makes so many stops as the words say. All that can happen has to have happened often.
+/// Makes so many stops as the words say, over devices of each layout. All that can happen has to have happened often.
 fn run(rt: &HostRuntime) -> Result<()> {
     let alloc = rt.alloc();
     let words: Vec<String> = std::env::args(rt)?.collect(alloc)?;
@@ -32,10 +33,12 @@ fn run(rt: &HostRuntime) -> Result<()> {
         Some(seed) => seed.parse::<u64>()?,
         None => 1,
     };
-    let tally = walk_from(alloc, stops, seed)?;
-    if !tally.is_full() {
-        bail!("too seldom: {tally}");
+    for shape in LAYOUTS {
+        let tally = walk_from(alloc, shape, stops, seed)?;
+        if !tally.is_full() {
+            bail!("too seldom: {tally}");
+        }
+        println!(rt; "{} stops", tally.stops)?;
     }
-    println!(rt; "{} stops", tally.stops)?;
     Ok(())
 }

@@ -5,7 +5,7 @@ use hpb_auction::{Auction, run_commands};
 use hpb_disk::MemoryDisk;
 use hpb_engine::{Part, Rest, Weight};
 use hpb_engine_rows::calls::Turn;
-use hpb_engine_rows::devices::{FRAMES, six_nodes};
+use hpb_engine_rows::devices::six_nodes;
 use hpb_engine_rows::states::same;
 use hpb_recover::{Opened, Plan};
 use hpb_rules::{Answer, Answers, Command, Letters};
@@ -41,6 +41,8 @@ pub(crate) struct Model {
     acknowledged: Vec<Command>,
     flight: Option<Flight>,
     phase: Phase,
+    /// How many frames there are.
+    frames: u64,
     /// How many batches are acknowledged, how many the newest state covers, and the end of the clean frames.
     next: u64,
     covered: u64,
@@ -48,15 +50,17 @@ pub(crate) struct Model {
 }
 
 impl Model {
-    /// A new device.
-    pub(crate) fn new(alloc: Global) -> Model {
+    /// A new device with so many frames.
+    pub(crate) fn new(alloc: Global, frames: u32) -> Model {
+        let frames = u64::from(frames);
         Model {
             acknowledged: Vec::new(alloc),
             flight: None,
             phase: Phase::Rest,
+            frames,
             next: 0,
             covered: 0,
-            clean_end: u64::from(FRAMES),
+            clean_end: frames,
         }
     }
 
@@ -79,7 +83,7 @@ impl Model {
     }
 
     fn end(&self) -> u64 {
-        self.covered.saturating_add(u64::from(FRAMES))
+        self.covered.saturating_add(self.frames)
     }
 
     /// An offer: what becomes of it, and the answers that leave with it.
@@ -200,7 +204,7 @@ impl Model {
         self.may_cover(plan.covered)
             && plan.next <= plan.clean_end
             && self.clean_end <= plan.clean_end
-            && plan.clean_end <= plan.covered.saturating_add(u64::from(FRAMES))
+            && plan.clean_end <= plan.covered.saturating_add(self.frames)
     }
 
     /// Whether the newest state may cover so many batches: as it did, or as the state whose gate is written.

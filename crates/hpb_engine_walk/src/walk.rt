@@ -5,6 +5,7 @@ use crate::model::{Model, Standing};
 use crate::random::Random;
 use crate::tally::{Tally, count_one};
 use anyhow::{Result, bail};
+use hpb_codec::JournalShape;
 use hpb_disk::MemoryDisk;
 use hpb_engine::{Engine, Rest, Weight};
 use hpb_engine_rows::calls::{Offered, Turn, offer, take_step, take_turn};
@@ -30,11 +31,11 @@ struct Walk {
 }
 
 impl Walk {
-    fn new(alloc: Global, tally: Tally) -> Result<Walk> {
+    fn new(alloc: Global, shape: JournalShape, tally: Tally) -> Result<Walk> {
         Ok(Walk {
             alloc,
-            engine: new_engine(alloc)?,
-            model: Model::new(alloc),
+            engine: new_engine(alloc, shape)?,
+            model: Model::new(alloc, shape.frames),
             tally,
         })
     }
@@ -145,9 +146,14 @@ fn is_offered(offered: &Offered, weight: Weight, answers: &Answers, sent: &[Lett
         && offered.answers.as_slice() == answers.as_slice()
 }
 
-/// Walks over one device after another, up to so many stops. Checkpoints are seldom, or as many steps as of commits, or
-/// more.
-pub(crate) fn walk_from(alloc: Global, stops: u64, seed: u64) -> Result<Tally> {
+/// Walks over one device with such a journal after another, up to so many stops. Checkpoints are seldom, or as many steps as
+/// of commits, or more.
+pub(crate) fn walk_from(
+    alloc: Global,
+    shape: JournalShape,
+    stops: u64,
+    seed: u64,
+) -> Result<Tally> {
     let mut random = Random::new(seed);
     let mut tally = Tally::new();
     for device in 0..stops {
@@ -156,7 +162,7 @@ pub(crate) fn walk_from(alloc: Global, stops: u64, seed: u64) -> Result<Tally> {
             1 => 4,
             _ => 2,
         };
-        let mut walk = Walk::new(alloc, tally)?;
+        let mut walk = Walk::new(alloc, shape, tally)?;
         for _ in 0..EVENTS {
             if walk.tally.stops < stops {
                 walk.event(&mut random, steps)?;
