@@ -8,7 +8,7 @@ use hpb_engine_rows::calls::{Turn, commit, count, offer, take_step, take_turn};
 use hpb_engine_rows::devices::{LAYOUTS, frame_at, new_engine, opened_after, started};
 use hpb_engine_rows::letters::Bidder::{X, Y};
 use hpb_engine_rows::letters::Node::{A, B};
-use hpb_engine_rows::letters::{after_four, bid, first_of_rounds, four, one};
+use hpb_engine_rows::letters::{after_four, bid, first_of_rounds, four, in_round, one};
 use hpb_recover::Opened;
 use hpb_rules::Letters;
 use std::alloc::Global;
@@ -214,13 +214,12 @@ fn write_two_checkpoints(
     engine: &mut Engine<MemoryDisk>,
     shape: JournalShape,
 ) -> Result<(), Fail> {
-    let [first, second, third, last] = four();
-    let _ = commit(engine, one(first));
-    let _ = commit(engine, one(second));
+    let _ = commit(engine, one(in_round(0)));
+    let _ = commit(engine, one(in_round(1)));
     make_steps(rt, alloc, engine, &nine_steps(SECOND_SLOT, Call::Nothing))?;
     make_steps(rt, alloc, engine, &last_steps(shape, 0))?;
-    let _ = commit(engine, one(third));
-    let _ = commit(engine, one(last));
+    let _ = commit(engine, one(in_round(2)));
+    let _ = commit(engine, one(in_round(3)));
     let closing = gate(FIRST_SLOT, CLOSED);
     make_steps(rt, alloc, engine, &nine_steps(FIRST_SLOT, closing))?;
     make_steps(rt, alloc, engine, &last_steps(shape, 2))
@@ -314,8 +313,8 @@ fn half_retired(
     Ok(opened_after(alloc, engine, &fates)?)
 }
 
-/// Frames that are closed already are passed over. Then batches are put into all that were closed before, and into the first
-/// of those that were closed now.
+/// Frames that are closed already are passed over. Then batches are put into one frame after another, up to the first of those
+/// that were closed now.
 fn retire_half(
     rt: &impl Abort,
     alloc: Global,
@@ -330,7 +329,7 @@ fn retire_half(
         (Rest::Idle, Call::Nothing),
     ];
     make_steps(rt, alloc, engine, &steps)?;
-    // The second frame is the second one of the journal's next round.
+    // That is the second frame, which the second batch of the journal's next round takes.
     let end = shape.frames.saturating_add(2);
     for at in 4..end {
         let _ = commit(engine, one(after_four(at)));
