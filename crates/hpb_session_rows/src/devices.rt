@@ -1,6 +1,7 @@
-//! What is opened for a house: six nodes, four bidders and four frames.
+//! What is opened for a house: six nodes, four bidders and a journal of a given shape.
 
 use anyhow::Error;
+use hpb_codec::JournalShape;
 use hpb_disk::{FileDisk, MemoryDisk, OnceDisk};
 use hpb_engine_rows::devices::{bytes_of, new_device, new_engine, opened};
 use hpb_recover::Opened;
@@ -10,8 +11,8 @@ use std::fs::{File, Files};
 use std::test::Fail;
 
 /// A new device in memory, opened.
-pub(crate) fn new_opened(alloc: Global) -> Result<Opened<MemoryDisk>, Fail> {
-    match opened(alloc, new_device(alloc)?) {
+pub(crate) fn new_opened(alloc: Global, shape: JournalShape) -> Result<Opened<MemoryDisk>, Fail> {
+    match opened(alloc, new_device(alloc, shape)?) {
         Ok(opened) => Ok(opened),
         Err(fault) => Err(Fail::from(Error::from(fault.cause))),
     }
@@ -20,10 +21,11 @@ pub(crate) fn new_opened(alloc: Global) -> Result<Opened<MemoryDisk>, Fail> {
 /// The same, of which one call fails: so many after it was opened, from 1.
 pub(crate) fn faulty_opened(
     alloc: Global,
+    shape: JournalShape,
     call: u64,
 ) -> Result<Opened<OnceDisk<MemoryDisk>>, Fail> {
-    let opening = new_engine(alloc)?.finish().calls() as u64;
-    let disk = OnceDisk::new(new_device(alloc)?, opening.saturating_add(call));
+    let opening = new_engine(alloc, shape)?.finish().calls() as u64;
+    let disk = OnceDisk::new(new_device(alloc, shape)?, opening.saturating_add(call));
     match opened(alloc, disk) {
         Ok(opened) => Ok(opened),
         Err(fault) => Err(Fail::from(Error::from(fault.cause))),
@@ -34,9 +36,10 @@ pub(crate) fn faulty_opened(
 pub(crate) fn make_file<H: Files<File = File>>(
     rt: &H,
     alloc: Global,
+    shape: JournalShape,
     path: &str,
 ) -> Result<(), Fail> {
-    let bytes = bytes_of(alloc, new_device(alloc)?)?;
+    let bytes = bytes_of(alloc, new_device(alloc, shape)?)?;
     fs::write(rt, path, bytes.as_slice())?;
     Ok(())
 }

@@ -6,6 +6,7 @@ ghost use Rattle.hpb_house.specs.Starts.{AreBegun};
 ghost use Rattle.hpb_sessions.specs.Ends.{viewer_of};
 
 use crate::devices::{faulty_opened, new_opened};
+use hpb_codec::JournalShape;
 use hpb_disk::Disk;
 use hpb_house::{Halt, House, OpenGate, Started, checkpointer, committer};
 use hpb_recover::Opened;
@@ -132,19 +133,21 @@ fn run_on_house<D: Disk + Drop + Send, R: Threads + Wait + Sync, O: Write>(
 pub(crate) fn run_on_new_device<R: Threads + Wait + Sync, O: Write>(
     rt: &R,
     alloc: Global,
+    shape: JournalShape,
     lines: &str,
     output: &mut O,
 ) -> Result<Outcome, Fail> {
-    run_on_house(rt, alloc, new_opened(alloc)?, lines, output)
+    run_on_house(rt, alloc, new_opened(alloc, shape)?, lines, output)
 }
 
 /// The same over a device of which one call fails: so many after it was opened, from 1.
 pub(crate) fn run_on_faulty_device<R: Threads + Wait + Sync, O: Write>(
     rt: &R,
     alloc: Global,
+    shape: JournalShape,
     call: u64,
     lines: &str,
     output: &mut O,
 ) -> Result<Outcome, Fail> {
-    run_on_house(rt, alloc, faulty_opened(alloc, call)?, lines, output)
+    run_on_house(rt, alloc, faulty_opened(alloc, shape, call)?, lines, output)
 }

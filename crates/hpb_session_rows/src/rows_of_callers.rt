@@ -2,6 +2,8 @@
 
 use crate::caller::Caller;
 use crate::serving::{Serving, serve_new_device, well};
+use hpb_codec::JournalShape;
+use hpb_engine_rows::devices::LAYOUTS;
 use std::alloc::Global;
 use std::io;
 use std::io::{ErrorKind, Write};
@@ -27,8 +29,8 @@ fn call_two<
         + Send
         + Copy
         + 'static,
->(rt: &H, alloc: Global) -> Result<Two, Fail> {
-    let serving = serve_new_device(rt, alloc, 2, Vec::new(alloc))?;
+>(rt: &H, alloc: Global, shape: JournalShape) -> Result<Two, Fail> {
+    let serving = serve_new_device(rt, alloc, shape, 2, Vec::new(alloc))?;
     let odd = Caller::connect(rt, alloc, serving.port)?;
     let other = Caller::connect(rt, alloc, serving.port)?;
     Ok(Two {
@@ -67,37 +69,41 @@ fn fill(caller: &Caller) -> io::Result<bool> {
 
 #[test]
 fn client_that_never_reads(rt: HostRuntime) -> Result<(), Fail> {
-    let Two {
-        serving,
-        odd,
-        mut other,
-    } = call_two(&rt, rt.alloc())?;
-    assert!(rt; fill(&odd)?);
-    assert_eq!(rt; other.ask(&BIDS)?.as_str(), ANSWERS);
-    assert_eq!(rt; other.end()?.as_str(), "");
-    drop(odd);
-    assert_eq!(rt; serving.ended(&rt)?.served, well(2));
+    for shape in LAYOUTS {
+        let Two {
+            serving,
+            odd,
+            mut other,
+        } = call_two(&rt, rt.alloc(), shape)?;
+        assert!(rt; fill(&odd)?);
+        assert_eq!(rt; other.ask(&BIDS)?.as_str(), ANSWERS);
+        assert_eq!(rt; other.end()?.as_str(), "");
+        drop(odd);
+        assert_eq!(rt; serving.ended(&rt)?.served, well(2));
+    }
     Ok(())
 }
 
 #[test]
 fn half_a_line_that_stays(rt: HostRuntime) -> Result<(), Fail> {
-    let Two {
-        serving,
-        mut odd,
-        mut other,
-    } = call_two(&rt, rt.alloc())?;
-    odd.send(b"BID x 1 a")?;
-    assert_eq!(rt; other.ask(&BIDS)?.as_str(), ANSWERS);
-    odd.send(b" 100\nBID x 2 a")?;
-    assert_eq!(rt; odd.answer()?.as_str(), "OK 3\n");
-    assert_eq!(rt; odd.end()?.as_str(), "ERR 10 line\n");
-    assert_eq!(rt;
-        other.ask(&["SHOW"])?.as_str(),
-        "ROUND 1 STAGE 1 OPEN REVENUE 0 COUNT 3\n"
-    );
-    assert_eq!(rt; other.end()?.as_str(), "");
-    assert_eq!(rt; serving.ended(&rt)?.served, well(3));
+    for shape in LAYOUTS {
+        let Two {
+            serving,
+            mut odd,
+            mut other,
+        } = call_two(&rt, rt.alloc(), shape)?;
+        odd.send(b"BID x 1 a")?;
+        assert_eq!(rt; other.ask(&BIDS)?.as_str(), ANSWERS);
+        odd.send(b" 100\nBID x 2 a")?;
+        assert_eq!(rt; odd.answer()?.as_str(), "OK 3\n");
+        assert_eq!(rt; odd.end()?.as_str(), "ERR 10 line\n");
+        assert_eq!(rt;
+            other.ask(&["SHOW"])?.as_str(),
+            "ROUND 1 STAGE 1 OPEN REVENUE 0 COUNT 3\n"
+        );
+        assert_eq!(rt; other.end()?.as_str(), "");
+        assert_eq!(rt; serving.ended(&rt)?.served, well(3));
+    }
     Ok(())
 }
 
@@ -106,54 +112,60 @@ const HALF: usize = 500_000;
 
 #[test]
 fn million_bytes_without_line_feed(rt: HostRuntime) -> Result<(), Fail> {
-    let Two {
-        serving,
-        mut odd,
-        mut other,
-    } = call_two(&rt, rt.alloc())?;
-    let half = vec![in rt.alloc(); b'a'; HALF]?;
-    odd.send(&half)?;
-    assert_eq!(rt; other.ask(&BIDS)?.as_str(), ANSWERS);
-    odd.send(&half)?;
-    odd.send(b"\nBID x 1 a 100\n")?;
-    assert_eq!(rt; odd.answer()?.as_str(), "ERR 10 line\n");
-    assert_eq!(rt; odd.answer()?.as_str(), "OK 3\n");
-    assert_eq!(rt; odd.end()?.as_str(), "");
-    assert_eq!(rt; other.end()?.as_str(), "");
-    assert_eq!(rt; serving.ended(&rt)?.served, well(3));
+    for shape in LAYOUTS {
+        let Two {
+            serving,
+            mut odd,
+            mut other,
+        } = call_two(&rt, rt.alloc(), shape)?;
+        let half = vec![in rt.alloc(); b'a'; HALF]?;
+        odd.send(&half)?;
+        assert_eq!(rt; other.ask(&BIDS)?.as_str(), ANSWERS);
+        odd.send(&half)?;
+        odd.send(b"\nBID x 1 a 100\n")?;
+        assert_eq!(rt; odd.answer()?.as_str(), "ERR 10 line\n");
+        assert_eq!(rt; odd.answer()?.as_str(), "OK 3\n");
+        assert_eq!(rt; odd.end()?.as_str(), "");
+        assert_eq!(rt; other.end()?.as_str(), "");
+        assert_eq!(rt; serving.ended(&rt)?.served, well(3));
+    }
     Ok(())
 }
 
 #[test]
 fn client_that_resets(rt: HostRuntime) -> Result<(), Fail> {
-    let Two {
-        serving,
-        odd,
-        mut other,
-    } = call_two(&rt, rt.alloc())?;
-    odd.send(b"BID x 1 a 100\nSHOW\n")?;
-    assert_eq!(rt; odd.stream().peek(&mut [0; 1])?, 1);
-    // What it was answered is not read: so its connection is reset.
-    drop(odd);
-    assert_eq!(rt;
-        other.ask(&["SHOW", "BID y 1 b 150"])?.as_str(),
-        "ROUND 1 STAGE 1 OPEN REVENUE 0 COUNT 1\nOK 2\n"
-    );
-    assert_eq!(rt; other.end()?.as_str(), "");
-    assert_eq!(rt; serving.ended(&rt)?.served, well(2));
+    for shape in LAYOUTS {
+        let Two {
+            serving,
+            odd,
+            mut other,
+        } = call_two(&rt, rt.alloc(), shape)?;
+        odd.send(b"BID x 1 a 100\nSHOW\n")?;
+        assert_eq!(rt; odd.stream().peek(&mut [0; 1])?, 1);
+        // What it was answered is not read: so its connection is reset.
+        drop(odd);
+        assert_eq!(rt;
+            other.ask(&["SHOW", "BID y 1 b 150"])?.as_str(),
+            "ROUND 1 STAGE 1 OPEN REVENUE 0 COUNT 1\nOK 2\n"
+        );
+        assert_eq!(rt; other.end()?.as_str(), "");
+        assert_eq!(rt; serving.ended(&rt)?.served, well(2));
+    }
     Ok(())
 }
 
 #[test]
 fn client_that_says_nothing(rt: HostRuntime) -> Result<(), Fail> {
-    let Two {
-        serving,
-        odd,
-        mut other,
-    } = call_two(&rt, rt.alloc())?;
-    assert_eq!(rt; other.ask(&BIDS)?.as_str(), ANSWERS);
-    assert_eq!(rt; other.end()?.as_str(), "");
-    assert_eq!(rt; odd.end()?.as_str(), "");
-    assert_eq!(rt; serving.ended(&rt)?.served, well(2));
+    for shape in LAYOUTS {
+        let Two {
+            serving,
+            odd,
+            mut other,
+        } = call_two(&rt, rt.alloc(), shape)?;
+        assert_eq!(rt; other.ask(&BIDS)?.as_str(), ANSWERS);
+        assert_eq!(rt; other.end()?.as_str(), "");
+        assert_eq!(rt; odd.end()?.as_str(), "");
+        assert_eq!(rt; serving.ended(&rt)?.served, well(2));
+    }
     Ok(())
 }

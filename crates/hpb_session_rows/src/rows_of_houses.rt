@@ -2,6 +2,7 @@
 
 use crate::one_session::{Outcome, run_on_faulty_device, run_on_new_device};
 use crate::outputs::Deaf;
+use hpb_engine_rows::devices::LAYOUTS;
 use hpb_server::Fault;
 use std::test::*;
 
@@ -15,13 +16,17 @@ const ACCEPTED: Outcome = Outcome {
 
 #[test]
 fn session_on_a_house(rt: HostRuntime) -> Result<(), Fail> {
-    let mut answers = Vec::new(rt.alloc());
-    let outcome = run_on_new_device(&rt, rt.alloc(), "BID x 1 a 100\nSHOW\n", &mut answers)?;
-    assert_eq!(rt; outcome, ACCEPTED);
-    assert_eq!(rt;
-        String::from_utf8(answers)?.as_str(),
-        "OK 1\nROUND 1 STAGE 1 OPEN REVENUE 0 COUNT 1\n"
-    );
+    let alloc = rt.alloc();
+    let lines = "BID x 1 a 100\nSHOW\n";
+    for shape in LAYOUTS {
+        let mut answers = Vec::new(alloc);
+        let outcome = run_on_new_device(&rt, alloc, shape, lines, &mut answers)?;
+        assert_eq!(rt; outcome, ACCEPTED);
+        assert_eq!(rt;
+            String::from_utf8(answers)?.as_str(),
+            "OK 1\nROUND 1 STAGE 1 OPEN REVENUE 0 COUNT 1\n"
+        );
+    }
     Ok(())
 }
 
@@ -46,28 +51,30 @@ ERR 93 failed
 #[test]
 fn session_cut_short(rt: HostRuntime) -> Result<(), Fail> {
     let alloc = rt.alloc();
-    // In the middle of a line.
-    let mut answers = Vec::new(alloc);
-    let outcome = run_on_new_device(&rt, alloc, "BID x 1 a", &mut answers)?;
-    assert_eq!(rt; outcome, NOTHING);
-    assert_eq!(rt; String::from_utf8(answers)?.as_str(), "ERR 10 line\n");
-    // By the writer, at its first answer.
-    let outcome = run_on_new_device(&rt, alloc, "BID x 1 a 100\n", &mut Deaf)?;
-    let wanted = Outcome {
-        fault: Err(Fault::Writer),
-        ..ACCEPTED
-    };
-    assert_eq!(rt; outcome, wanted);
-    // By the device, at each of the four calls of the first commit.
-    let wanted = Outcome {
-        has_failed: true,
-        ..NOTHING
-    };
-    for call in 1..5 {
+    for shape in LAYOUTS {
+        // In the middle of a line.
         let mut answers = Vec::new(alloc);
-        let outcome = run_on_faulty_device(&rt, alloc, call, LINES, &mut answers)?;
-        assert_eq!(rt; outcome, wanted, "{call}");
-        assert_eq!(rt; String::from_utf8(answers)?.as_str(), FAILED, "{call}");
+        let outcome = run_on_new_device(&rt, alloc, shape, "BID x 1 a", &mut answers)?;
+        assert_eq!(rt; outcome, NOTHING);
+        assert_eq!(rt; String::from_utf8(answers)?.as_str(), "ERR 10 line\n");
+        // By the writer, at its first answer.
+        let outcome = run_on_new_device(&rt, alloc, shape, "BID x 1 a 100\n", &mut Deaf)?;
+        let wanted = Outcome {
+            fault: Err(Fault::Writer),
+            ..ACCEPTED
+        };
+        assert_eq!(rt; outcome, wanted);
+        // By the device, at each of the four calls of the first commit.
+        let wanted = Outcome {
+            has_failed: true,
+            ..NOTHING
+        };
+        for call in 1..5 {
+            let mut answers = Vec::new(alloc);
+            let outcome = run_on_faulty_device(&rt, alloc, shape, call, LINES, &mut answers)?;
+            assert_eq!(rt; outcome, wanted, "{call}");
+            assert_eq!(rt; String::from_utf8(answers)?.as_str(), FAILED, "{call}");
+        }
     }
     Ok(())
 }

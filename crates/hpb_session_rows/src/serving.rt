@@ -3,6 +3,7 @@ ghost use Rattle.std.specs.Prelude.{◌≤◌};
 ghost use Rattle.std.specs.Thread.{IsSend, IsSync};
 
 use crate::devices::{faulty_opened, file_opened, new_opened};
+use hpb_codec::JournalShape;
 use hpb_disk::Disk;
 use hpb_recover::Opened;
 use hpb_serve::{ServeFault, Served, serve_opened};
@@ -120,10 +121,10 @@ pub(crate) fn serve_new_device<
         + Copy
         + 'static,
     W: Write + Drop + Send + 'static,
->(rt: &H, alloc: Global, sessions: u8, output: W) -> Result<Serving<W>, Fail>
+>(rt: &H, alloc: Global, shape: JournalShape, sessions: u8, output: W) -> Result<Serving<W>, Fail>
     requires { (1 ≤ sessions) × (sessions ≤ 32) }
 {
-    serve_over(rt, alloc, new_opened(alloc)?, sessions, output)
+    serve_over(rt, alloc, new_opened(alloc, shape)?, sessions, output)
 }
 
 /// Serves two sessions with a new device in memory of which one call fails: so many after it was opened, from 1.
@@ -135,8 +136,9 @@ pub(crate) fn serve_faulty_device<
         + Send
         + Copy
         + 'static,
->(rt: &H, alloc: Global, call: u64) -> Result<Serving<Vec<u8>>, Fail> {
-    serve_over(rt, alloc, faulty_opened(alloc, call)?, 2, Vec::new(alloc))
+>(rt: &H, alloc: Global, shape: JournalShape, call: u64) -> Result<Serving<Vec<u8>>, Fail> {
+    let opened = faulty_opened(alloc, shape, call)?;
+    serve_over(rt, alloc, opened, 2, Vec::new(alloc))
 }
 
 /// Serves so many sessions with the device in a file.
