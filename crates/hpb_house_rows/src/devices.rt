@@ -1,17 +1,21 @@
 //! What is opened for a house.
 
 use anyhow::Error;
+use hpb_codec::{JournalLayout, JournalShape};
 use hpb_disk::{MemoryDisk, OnceDisk};
-use hpb_engine_rows::devices::{new_device, new_engine, opened};
-use hpb_format::format;
+use hpb_engine_rows::devices::{device_bytes, new_device, new_engine, opened};
+use hpb_format::format_layout;
 use hpb_recover::Opened;
 use hpb_tree::{BidderDraft, Definition, Draft, NodeDraft, TermsDraft};
 use std::alloc::{AllocError, Global};
 use std::test::Fail;
 
-/// A new device of six nodes, four bidders and four frames, opened.
-pub(crate) fn six_nodes_opened(alloc: Global) -> Result<Opened<MemoryDisk>, Fail> {
-    match opened(alloc, new_device(alloc)?) {
+/// A new device of six nodes and four bidders with such a journal, opened.
+pub(crate) fn six_nodes_opened(
+    alloc: Global,
+    shape: JournalShape,
+) -> Result<Opened<MemoryDisk>, Fail> {
+    match opened(alloc, new_device(alloc, shape)?) {
         Ok(opened) => Ok(opened),
         Err(fault) => Err(Fail::from(Error::from(fault.cause))),
     }
@@ -20,10 +24,11 @@ pub(crate) fn six_nodes_opened(alloc: Global) -> Result<Opened<MemoryDisk>, Fail
 /// The same, of which one call fails: so many after it was opened, from 1.
 pub(crate) fn faulty_opened(
     alloc: Global,
+    shape: JournalShape,
     call: u64,
 ) -> Result<Opened<OnceDisk<MemoryDisk>>, Fail> {
-    let opening = new_engine(alloc)?.finish().calls() as u64;
-    let disk = OnceDisk::new(new_device(alloc)?, opening.saturating_add(call));
+    let opening = new_engine(alloc, shape)?.finish().calls() as u64;
+    let disk = OnceDisk::new(new_device(alloc, shape)?, opening.saturating_add(call));
     match opened(alloc, disk) {
         Ok(opened) => Ok(opened),
         Err(fault) => Err(Fail::from(Error::from(fault.cause))),
@@ -35,9 +40,6 @@ pub(crate) const WIDE: u8 = 32;
 
 /// The frames of the wide device.
 const FRAMES: u32 = 64;
-
-/// The bytes of a device with so many frames.
-const DEVICE_BYTES: usize = 315_392;
 
 /// Licences, and bidders that may bid on all of them.
 fn wide_draft(alloc: Global) -> Result<Draft, AllocError> {
@@ -63,12 +65,19 @@ fn wide_draft(alloc: Global) -> Result<Draft, AllocError> {
     Ok(draft)
 }
 
-/// A new device of 32 licences, 32 bidders and 64 frames, opened.
-pub(crate) fn wide_opened(alloc: Global) -> Result<Opened<MemoryDisk>, Fail> {
+/// A new device of 32 licences, 32 bidders and 64 frames of this layout, opened.
+pub(crate) fn wide_opened(
+    alloc: Global,
+    layout: JournalLayout,
+) -> Result<Opened<MemoryDisk>, Fail> {
     let draft = wide_draft(alloc)?;
     let definition = Definition::check(alloc, &draft)?;
-    let disk = MemoryDisk::zeros(alloc, DEVICE_BYTES)?;
-    let disk = match format(alloc, disk, &definition, FRAMES) {
+    let shape = JournalShape {
+        layout,
+        frames: FRAMES,
+    };
+    let disk = MemoryDisk::zeros(alloc, device_bytes(shape))?;
+    let disk = match format_layout(alloc, disk, &definition, FRAMES, layout.byte()) {
         Ok(disk) => disk,
         Err(fault) => return Err(Fail::from(Error::from(fault.cause))),
     };

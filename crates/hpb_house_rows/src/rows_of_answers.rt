@@ -5,7 +5,7 @@ ghost use Rattle.hpb_house.specs.Boards.{SameBoard};
 use crate::devices::six_nodes_opened;
 use crate::harness::{Outcome, Session, run_in_memory};
 use crate::turns::{TURNS, ask, pause, post, take_within};
-use hpb_engine_rows::devices::count_on;
+use hpb_engine_rows::devices::{LAYOUTS, count_on};
 use hpb_engine_rows::letters::Bidder::{W, X, Y, Z};
 use hpb_engine_rows::letters::Node::{A, All, B, C};
 use hpb_engine_rows::letters::{bid, close};
@@ -80,20 +80,22 @@ impl Session for Tickets {
 #[test]
 fn tickets_through_a_client(rt: HostRuntime) -> Result<(), Fail> {
     let alloc = rt.alloc();
-    let session = Tickets {
-        right: AtomicU32::new(0),
-    };
-    let opened = six_nodes_opened(alloc)?;
-    let run = run_in_memory(&rt, alloc, opened, 1, &OpenGate, &session)?;
-    assert_eq!(rt; session.right.load(Ordering::SeqCst), ROWS);
-    let wanted = Outcome {
-        is_closed: true,
-        committed: 5,
-        taken: 9,
-        accepted: 5,
-    };
-    assert_eq!(rt; run.outcome, wanted);
-    assert_eq!(rt; count_on(alloc, run.disk)?, 5);
+    for shape in LAYOUTS {
+        let session = Tickets {
+            right: AtomicU32::new(0),
+        };
+        let opened = six_nodes_opened(alloc, shape)?;
+        let run = run_in_memory(&rt, alloc, opened, 1, &OpenGate, &session)?;
+        assert_eq!(rt; session.right.load(Ordering::SeqCst), ROWS);
+        let wanted = Outcome {
+            is_closed: true,
+            committed: 5,
+            taken: 9,
+            accepted: 5,
+        };
+        assert_eq!(rt; run.outcome, wanted);
+        assert_eq!(rt; count_on(alloc, run.disk)?, 5);
+    }
     Ok(())
 }
 
@@ -127,13 +129,15 @@ impl Session for OwnBid {
 #[test]
 fn own_bid_in_next_view(rt: HostRuntime) -> Result<(), Fail> {
     let alloc = rt.alloc();
-    let session = OwnBid {
-        is_seen: AtomicBool::new(false),
-    };
-    let opened = six_nodes_opened(alloc)?;
-    let run = run_in_memory(&rt, alloc, opened, 1, &OpenGate, &session)?;
-    assert!(rt; session.is_seen.load(Ordering::SeqCst));
-    assert_eq!(rt; run.outcome.committed, 1);
+    for shape in LAYOUTS {
+        let session = OwnBid {
+            is_seen: AtomicBool::new(false),
+        };
+        let opened = six_nodes_opened(alloc, shape)?;
+        let run = run_in_memory(&rt, alloc, opened, 1, &OpenGate, &session)?;
+        assert!(rt; session.is_seen.load(Ordering::SeqCst));
+        assert_eq!(rt; run.outcome.committed, 1);
+    }
     Ok(())
 }
 
@@ -184,20 +188,22 @@ impl Session for FullRing {
 #[test]
 fn full_ring(rt: HostRuntime) -> Result<(), Fail> {
     let alloc = rt.alloc();
-    let session = FullRing {
-        posted: AtomicU32::new(0),
-        goes_on: AtomicBool::new(false),
-    };
-    let opened = six_nodes_opened(alloc)?;
-    let run = run_in_memory(&rt, alloc, opened, 1, &OpenGate, &session)?;
-    assert_eq!(rt; session.posted.load(Ordering::SeqCst), 16);
-    assert!(rt; session.goes_on.load(Ordering::SeqCst));
-    let wanted = Outcome {
-        is_closed: true,
-        committed: 1,
-        taken: 17,
-        accepted: 1,
-    };
-    assert_eq!(rt; run.outcome, wanted);
+    for shape in LAYOUTS {
+        let session = FullRing {
+            posted: AtomicU32::new(0),
+            goes_on: AtomicBool::new(false),
+        };
+        let opened = six_nodes_opened(alloc, shape)?;
+        let run = run_in_memory(&rt, alloc, opened, 1, &OpenGate, &session)?;
+        assert_eq!(rt; session.posted.load(Ordering::SeqCst), 16);
+        assert!(rt; session.goes_on.load(Ordering::SeqCst));
+        let wanted = Outcome {
+            is_closed: true,
+            committed: 1,
+            taken: 17,
+            accepted: 1,
+        };
+        assert_eq!(rt; run.outcome, wanted);
+    }
     Ok(())
 }

@@ -7,7 +7,7 @@ use crate::harness::{Outcome, Session, run_in_memory};
 use crate::hold::Hold;
 use crate::script::{accepted_command, ask_places};
 use crate::turns::{TURNS, pause, post, take_within};
-use hpb_engine_rows::devices::count_on;
+use hpb_engine_rows::devices::{LAYOUTS, count_on};
 use hpb_house::{Halt, Point};
 use hpb_rings::Client;
 use hpb_rules::Reply;
@@ -28,9 +28,10 @@ fn is_accepted<R: Wait>(rt: &R, client: &mut Client<Halt>, number: u32, turns: u
     }
 }
 
-/// Fills the journal while the checkpointer is held.
+/// Fills the journal while the checkpointer is held, and posts one command more.
 #[derive(Drop)]
 struct FullJournal {
+    frames: u32,
     hold: Hold,
     first: AtomicU64,
     waits: AtomicBool,
@@ -40,14 +41,14 @@ struct FullJournal {
 impl Session for FullJournal {
     fn run<R: Wait>(&self, rt: &R, client: Client<Halt>) -> Client<Halt> {
         let mut client = client;
-        let first = ask_places(rt, &mut client, 0, 4);
+        let first = ask_places(rt, &mut client, 0, self.frames);
         self.first.store(first, Ordering::SeqCst);
-        let is_posted = post(&mut client, accepted_command(4));
+        let is_posted = post(&mut client, accepted_command(self.frames));
         let comes = take_within(rt, &mut client, LOOKS).is_some();
         let waits = is_posted && !comes && self.hold.was_entered();
         self.waits.store(waits, Ordering::SeqCst);
         self.hold.open();
-        let goes_on = is_accepted(rt, &mut client, 5, TURNS);
+        let goes_on = is_accepted(rt, &mut client, self.frames.saturating_add(1), TURNS);
         self.goes_on.store(goes_on, Ordering::SeqCst);
         client
     }
@@ -56,19 +57,26 @@ impl Session for FullJournal {
 #[test]
 fn full_journal_waits(rt: HostRuntime) -> Result<(), Fail> {
     let alloc = rt.alloc();
-    let session = FullJournal {
-        hold: Hold::at_point(Point::Page(0)),
-        first: AtomicU64::new(0),
-        waits: AtomicBool::new(false),
-        goes_on: AtomicBool::new(false),
-    };
-    let opened = six_nodes_opened(alloc)?;
-    let run = run_in_memory(&rt, alloc, opened, 1, &session.hold, &session)?;
-    assert_eq!(rt; session.first.load(Ordering::SeqCst), 4);
-    assert!(rt; session.waits.load(Ordering::SeqCst));
-    assert!(rt; session.goes_on.load(Ordering::SeqCst));
-    assert_eq!(rt; run.outcome.committed, 5);
-    assert_eq!(rt; count_on(alloc, run.disk)?, 5);
+    for shape in LAYOUTS {
+        let session = FullJournal {
+            frames: shape.frames,
+            hold: Hold::at_point(Point::Page(0)),
+            first: AtomicU64::new(0),
+            waits: AtomicBool::new(false),
+            goes_on: AtomicBool::new(false),
+        };
+        let opened = six_nodes_opened(alloc, shape)?;
+        let run = run_in_memory(&rt, alloc, opened, 1, &session.hold, &session)?;
+        assert_eq!(rt;
+            session.first.load(Ordering::SeqCst),
+            u64::from(shape.frames)
+        );
+        assert!(rt; session.waits.load(Ordering::SeqCst));
+        assert!(rt; session.goes_on.load(Ordering::SeqCst));
+        let all = shape.frames.saturating_add(1);
+        assert_eq!(rt; run.outcome.committed, u64::from(all));
+        assert_eq!(rt; count_on(alloc, run.disk)?, all);
+    }
     Ok(())
 }
 
@@ -110,24 +118,26 @@ impl Session for Beside {
 #[test]
 fn commits_beside_a_checkpoint(rt: HostRuntime) -> Result<(), Fail> {
     let alloc = rt.alloc();
-    let session = Beside {
-        hold: Hold::at_point(Point::Page(1)),
-        is_entered: AtomicBool::new(false),
-        beside: AtomicU64::new(0),
-        after: AtomicU64::new(0),
-    };
-    let opened = six_nodes_opened(alloc)?;
-    let run = run_in_memory(&rt, alloc, opened, 1, &session.hold, &session)?;
-    assert!(rt; session.is_entered.load(Ordering::SeqCst));
-    assert_eq!(rt; session.beside.load(Ordering::SeqCst), 2);
-    assert_eq!(rt; session.after.load(Ordering::SeqCst), 7);
-    let wanted = Outcome {
-        is_closed: true,
-        committed: 10,
-        taken: 10,
-        accepted: 10,
-    };
-    assert_eq!(rt; run.outcome, wanted);
-    assert_eq!(rt; count_on(alloc, run.disk)?, 10);
+    for shape in LAYOUTS {
+        let session = Beside {
+            hold: Hold::at_point(Point::Page(1)),
+            is_entered: AtomicBool::new(false),
+            beside: AtomicU64::new(0),
+            after: AtomicU64::new(0),
+        };
+        let opened = six_nodes_opened(alloc, shape)?;
+        let run = run_in_memory(&rt, alloc, opened, 1, &session.hold, &session)?;
+        assert!(rt; session.is_entered.load(Ordering::SeqCst));
+        assert_eq!(rt; session.beside.load(Ordering::SeqCst), 2);
+        assert_eq!(rt; session.after.load(Ordering::SeqCst), 7);
+        let wanted = Outcome {
+            is_closed: true,
+            committed: 10,
+            taken: 10,
+            accepted: 10,
+        };
+        assert_eq!(rt; run.outcome, wanted);
+        assert_eq!(rt; count_on(alloc, run.disk)?, 10);
+    }
     Ok(())
 }

@@ -5,16 +5,20 @@ ghost use Rattle.hpb_house.specs.Boards.{SameBoard};
 use crate::devices::{WIDE, six_nodes_opened, wide_opened};
 use crate::harness::{Outcome, Session, run_in_memory};
 use crate::turns::{ask, post};
-use hpb_engine_rows::devices::count_on;
+use hpb_codec::JournalLayout;
+use hpb_engine_rows::devices::{LAYOUTS, count_on};
 use hpb_engine_rows::letters::Bidder::{W, X, Y, Z};
 use hpb_engine_rows::letters::Node::{A, B, C, D};
 use hpb_engine_rows::letters::bid;
 use hpb_house::{Halt, OpenGate};
 use hpb_rings::Client;
 use hpb_rules::{BidderId, Command, NodeId};
+use std::alloc::Global;
+use std::process::Abort;
 use std::sync::Wait;
 use std::sync::atomic::{AtomicU64, Ordering};
 use std::test::*;
+use std::thread::Threads;
 
 /// Two clients, of which each bids on licences of its own.
 #[derive(Drop)]
@@ -37,16 +41,18 @@ impl Session for TwoClients {
 #[test]
 fn two_clients_counted(rt: HostRuntime) -> Result<(), Fail> {
     let alloc = rt.alloc();
-    let opened = six_nodes_opened(alloc)?;
-    let run = run_in_memory(&rt, alloc, opened, 2, &OpenGate, &TwoClients)?;
-    let wanted = Outcome {
-        is_closed: true,
-        committed: 4,
-        taken: 4,
-        accepted: 4,
-    };
-    assert_eq!(rt; run.outcome, wanted);
-    assert_eq!(rt; count_on(alloc, run.disk)?, 4);
+    for shape in LAYOUTS {
+        let opened = six_nodes_opened(alloc, shape)?;
+        let run = run_in_memory(&rt, alloc, opened, 2, &OpenGate, &TwoClients)?;
+        let wanted = Outcome {
+            is_closed: true,
+            committed: 4,
+            taken: 4,
+            accepted: 4,
+        };
+        assert_eq!(rt; run.outcome, wanted);
+        assert_eq!(rt; count_on(alloc, run.disk)?, 4);
+    }
     Ok(())
 }
 
@@ -128,14 +134,17 @@ impl Session for ManyClients {
     }
 }
 
-#[test]
-fn thirty_two_clients(rt: HostRuntime) -> Result<(), Fail> {
-    let alloc = rt.alloc();
+/// Many clients of a house over a device of this layout.
+fn count_many<R: Threads + Wait + Sync + Abort>(
+    rt: &R,
+    alloc: Global,
+    layout: JournalLayout,
+) -> Result<(), Fail> {
     let session = ManyClients {
         whole: AtomicU64::new(0),
     };
-    let opened = wide_opened(alloc)?;
-    let run = run_in_memory(&rt, alloc, opened, WIDE, &OpenGate, &session)?;
+    let opened = wide_opened(alloc, layout)?;
+    let run = run_in_memory(rt, alloc, opened, WIDE, &OpenGate, &session)?;
     assert_eq!(rt; session.whole.load(Ordering::SeqCst), 32);
     let wanted = Outcome {
         is_closed: true,
@@ -146,4 +155,14 @@ fn thirty_two_clients(rt: HostRuntime) -> Result<(), Fail> {
     assert_eq!(rt; run.outcome, wanted);
     assert_eq!(rt; count_on(alloc, run.disk)?, 1_024);
     Ok(())
+}
+
+#[test]
+fn thirty_two_clients_over_pages(rt: HostRuntime) -> Result<(), Fail> {
+    count_many(&rt, rt.alloc(), JournalLayout::Pages)
+}
+
+#[test]
+fn thirty_two_clients_over_cells(rt: HostRuntime) -> Result<(), Fail> {
+    count_many(&rt, rt.alloc(), JournalLayout::Cells)
 }

@@ -6,6 +6,7 @@ use crate::devices::faulty_opened;
 use crate::harness::{Outcome, Session, run_with_fault};
 use crate::script::accepted_command;
 use crate::turns::{TURNS, ask, pause, post};
+use hpb_engine_rows::devices::LAYOUTS;
 use hpb_house::{Halt, OpenGate};
 use hpb_rings::Client;
 use std::sync::Wait;
@@ -78,43 +79,47 @@ impl Session for Resting {
 #[test]
 fn halted_client(rt: HostRuntime) -> Result<(), Fail> {
     let alloc = rt.alloc();
-    let wanted = Outcome {
-        is_closed: true,
-        committed: 0,
-        taken: 0,
-        accepted: 0,
-    };
-    let session = Halted {
-        right: AtomicU32::new(0),
-    };
-    // Each of the four calls of the first commit.
-    for call in 1..5 {
-        let opened = faulty_opened(alloc, call)?;
-        let run = run_with_fault(&rt, alloc, opened, 2, &OpenGate, &session)?;
-        assert_eq!(rt; run.outcome, wanted, "{call}");
+    for shape in LAYOUTS {
+        let wanted = Outcome {
+            is_closed: true,
+            committed: 0,
+            taken: 0,
+            accepted: 0,
+        };
+        let session = Halted {
+            right: AtomicU32::new(0),
+        };
+        // Each of the four calls of the first commit.
+        for call in 1..5 {
+            let opened = faulty_opened(alloc, shape, call)?;
+            let run = run_with_fault(&rt, alloc, opened, 2, &OpenGate, &session)?;
+            assert_eq!(rt; run.outcome, wanted, "{call}");
+        }
+        assert_eq!(rt; session.right.load(Ordering::SeqCst), 8);
     }
-    assert_eq!(rt; session.right.load(Ordering::SeqCst), 8);
     Ok(())
 }
 
 #[test]
 fn fault_in_a_checkpoint(rt: HostRuntime) -> Result<(), Fail> {
     let alloc = rt.alloc();
-    let wanted = Outcome {
-        is_closed: true,
-        committed: 1,
-        taken: 1,
-        accepted: 1,
-    };
-    let session = Resting {
-        right: AtomicU32::new(0),
-    };
-    // Calls behind the four of the first commit.
-    for call in 5..8 {
-        let opened = faulty_opened(alloc, call)?;
-        let run = run_with_fault(&rt, alloc, opened, 1, &OpenGate, &session)?;
-        assert_eq!(rt; run.outcome, wanted, "{call}");
+    for shape in LAYOUTS {
+        let wanted = Outcome {
+            is_closed: true,
+            committed: 1,
+            taken: 1,
+            accepted: 1,
+        };
+        let session = Resting {
+            right: AtomicU32::new(0),
+        };
+        // Calls behind the four of the first commit.
+        for call in 5..8 {
+            let opened = faulty_opened(alloc, shape, call)?;
+            let run = run_with_fault(&rt, alloc, opened, 1, &OpenGate, &session)?;
+            assert_eq!(rt; run.outcome, wanted, "{call}");
+        }
+        assert_eq!(rt; session.right.load(Ordering::SeqCst), 3);
     }
-    assert_eq!(rt; session.right.load(Ordering::SeqCst), 3);
     Ok(())
 }

@@ -3,6 +3,7 @@ ghost use Rattle.std.specs.Prelude.{◌≡◌, ◌<◌, []};
 
 use crate::devices::six_nodes_opened;
 use hpb_board::{Publisher, Viewer};
+use hpb_engine_rows::devices::LAYOUTS;
 use hpb_engine_rows::letters::Bidder::X;
 use hpb_engine_rows::letters::Node::A;
 use hpb_engine_rows::letters::bid;
@@ -31,13 +32,16 @@ fn count_seen(viewer: &mut Viewer) -> Option<u32> {
 
 #[test]
 fn view_is_none_where_the_publisher_has_ended(rt: HostRuntime) -> Result<(), Fail> {
-    let opened = six_nodes_opened(rt.alloc())?;
-    let mut publisher = Publisher::open(&rt, rt.alloc(), opened.auction(), 2, 2)?;
-    let mut viewer = publisher.introduce(rt.alloc())?;
-    publish_bid(&mut publisher)?;
-    assert_eq!(rt; count_seen(&mut viewer), Some(1));
-    drop(publisher);
-    assert_eq!(rt; count_seen(&mut viewer), None);
-    assert_eq!(rt; viewer.auction().count(), 1);
+    let alloc = rt.alloc();
+    for shape in LAYOUTS {
+        let opened = six_nodes_opened(alloc, shape)?;
+        let mut publisher = Publisher::open(&rt, alloc, opened.auction(), 2, 2)?;
+        let mut viewer = publisher.introduce(alloc)?;
+        publish_bid(&mut publisher)?;
+        assert_eq!(rt; count_seen(&mut viewer), Some(1));
+        drop(publisher);
+        assert_eq!(rt; count_seen(&mut viewer), None);
+        assert_eq!(rt; viewer.auction().count(), 1);
+    }
     Ok(())
 }

@@ -12,7 +12,19 @@ use hpb_rings::Client;
 use hpb_rules::{Command, Reply};
 use std::sync::Wait;
 
-/// The command of this place, from 0. Those from 0 to 9 are accepted in turn.
+/// The command of this place behind three rounds, from 0: in each further round z bids on the greatest package, and it is
+/// closed.
+fn in_later_round(place: u32) -> Command {
+    let rounds = place / 2;
+    if place % 2 == 0 {
+        let amount = u64::from(rounds).saturating_mul(100).saturating_add(700);
+        bid(Z, rounds.saturating_add(3), All, amount).command
+    } else {
+        close(rounds.saturating_add(5)).command
+    }
+}
+
+/// The command of this place, from 0. Those from 0 to 17 are accepted in turn.
 pub(crate) fn accepted_command(place: u32) -> Command {
     match place {
         0 => bid(X, 1, A, 100).command,
@@ -24,7 +36,8 @@ pub(crate) fn accepted_command(place: u32) -> Command {
         6 => close(2).command,
         7 => bid(Z, 2, All, 600).command,
         8 => stage(3).command,
-        _ => close(4).command,
+        9 => close(4).command,
+        _ => in_later_round(place.saturating_sub(10)),
     }
 }
 
