@@ -1,25 +1,70 @@
 //! Devices to try, and what comes of opening them.
 
+use hpb_codec::{JournalLayout, JournalShape};
 use hpb_disk::{Disk, MemoryDisk};
-use hpb_format::{FormatCause, format};
+use hpb_format::{FormatCause, format_layout};
 use hpb_image::Flaw;
 use hpb_recover::{Cause, open};
 use hpb_tree::{BidderDraft, Definition, Draft, NodeDraft, TermsDraft};
 use std::alloc::{AllocError, Global};
 use std::test::Fail;
 
-/// The bytes of a device with 4 frames, of one with 8, and of the largest one, with 1,024.
-pub(crate) const FOUR_FRAMES: usize = 69_632;
+/// Journals of pages, with as few frames as there may be, with twice as many, and with the most.
+pub(crate) const FOUR_PAGES: JournalShape = JournalShape {
+    layout: JournalLayout::Pages,
+    frames: 4,
+};
 
-pub(crate) const EIGHT_FRAMES: usize = 86_016;
+pub(crate) const EIGHT_PAGES: JournalShape = JournalShape {
+    layout: JournalLayout::Pages,
+    frames: 8,
+};
 
-pub(crate) const MOST_FRAMES: usize = 4_247_552;
+pub(crate) const MOST_PAGES: JournalShape = JournalShape {
+    layout: JournalLayout::Pages,
+    frames: 1_024,
+};
+
+/// Journals of cells, with as few frames as there may be, and with the most.
+pub(crate) const SIXTEEN_CELLS: JournalShape = JournalShape {
+    layout: JournalLayout::Cells,
+    frames: 16,
+};
+
+pub(crate) const MOST_CELLS: JournalShape = JournalShape {
+    layout: JournalLayout::Cells,
+    frames: 1_024,
+};
+
+/// The journals that rows over devices are tried with.
+pub(crate) const LAYOUTS: [JournalShape; 3] = [FOUR_PAGES, EIGHT_PAGES, SIXTEEN_CELLS];
+
+/// Where the journal begins.
+pub(crate) const JOURNAL: usize = 53_248;
 
 /// The bytes of a page.
 pub(crate) const PAGE: usize = 4_096;
 
 /// The byte of an open gate.
 pub(crate) const OPEN: u8 = 0xa5;
+
+/// The bytes of a frame: a page, or three cells of 512 bytes.
+fn frame_bytes(layout: JournalLayout) -> usize {
+    match layout {
+        JournalLayout::Pages => PAGE,
+        JournalLayout::Cells => 1_536,
+    }
+}
+
+/// Where a frame begins, from 0.
+pub(crate) fn frame_at(layout: JournalLayout, frame: u32) -> usize {
+    JOURNAL.saturating_add(frame_bytes(layout).saturating_mul(frame as usize))
+}
+
+/// The bytes of a device with such a journal, which ends behind the last frame.
+pub(crate) fn device_bytes(shape: JournalShape) -> usize {
+    frame_at(shape.layout, shape.frames)
+}
 
 /// What is opened: how many commands and clean frames, or why not.
 pub(crate) type Found = Result<(u32, u64), Cause>;
@@ -74,25 +119,48 @@ pub(crate) fn six_nodes(alloc: Global) -> Result<Definition, Fail> {
     Ok(Definition::check(alloc, &draft)?)
 }
 
-/// Formats a device. The device is given back with the cause of a fault.
-pub(crate) fn formatted<D: Disk + Drop>(
+/// What comes of a device that was to be formatted: the device, with the cause of a fault.
+pub(crate) type Formatted<D> = (D, Option<FormatCause>);
+
+/// Formats a device with so many frames, in the layout of this number.
+pub(crate) fn formatted_as<D: Disk + Drop>(
     alloc: Global,
     disk: D,
     definition: &Definition,
     frames: u32,
-) -> (D, Option<FormatCause>) {
-    match format(alloc, disk, definition, frames) {
+    layout: u8,
+) -> Formatted<D> {
+    match format_layout(alloc, disk, definition, frames, layout) {
         Ok(disk) => (disk, None),
         Err(fault) => (fault.disk, Some(fault.cause)),
     }
 }
 
-/// The bytes of a new device of so many bytes.
-pub(crate) fn new_device(alloc: Global, len: usize, frames: u32) -> Result<Vec<u8>, Fail> {
+/// Formats a device with such a journal.
+pub(crate) fn formatted<D: Disk + Drop>(
+    alloc: Global,
+    disk: D,
+    definition: &Definition,
+    shape: JournalShape,
+) -> Formatted<D> {
+    formatted_as(alloc, disk, definition, shape.frames, shape.layout.byte())
+}
+
+/// The bytes of a new device with such a journal, which had this byte everywhere.
+pub(crate) fn new_device_over(
+    alloc: Global,
+    shape: JournalShape,
+    byte: u8,
+) -> Result<Vec<u8>, Fail> {
     let definition = six_nodes(alloc)?;
-    let disk = MemoryDisk::zeros(alloc, len)?;
-    let (mut disk, _) = formatted(alloc, disk, &definition, frames);
+    let disk = MemoryDisk::of(alloc, vec![in alloc; byte; device_bytes(shape)]?)?;
+    let (mut disk, _) = formatted(alloc, disk, &definition, shape);
     all_of(alloc, &mut disk)
+}
+
+/// The bytes of a new device with such a journal, which had zeros everywhere.
+pub(crate) fn new_device(alloc: Global, shape: JournalShape) -> Result<Vec<u8>, Fail> {
+    new_device_over(alloc, shape, 0)
 }
 
 /// All bytes of a device.

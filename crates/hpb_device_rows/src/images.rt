@@ -1,9 +1,12 @@
 //! What stands in frames and slots, byte by byte.
 ghost use Rattle.std.specs.Prelude.{◌<◌};
 
-use crate::devices::{OPEN, PAGE, opened_with, six_nodes};
+use crate::devices::{OPEN, PAGE, frame_at, six_nodes};
 use hpb_auction::Auction;
-use hpb_codec::{BATCH_SIZE, Batch, STATE_SIZE, encode_batch, encode_state};
+use hpb_codec::{
+    BATCH_SIZE, Batch, CELLS_SIZE, JournalLayout, STATE_SIZE, encode_batch, encode_cells,
+    encode_state,
+};
 use hpb_disk::MemoryDisk;
 use hpb_recover::open;
 use hpb_rules::{BidderId, Command, Commands, NodeId, Reply, Saved};
@@ -30,9 +33,7 @@ pub(crate) const C: usize = 4;
 
 pub(crate) const D: usize = 5;
 
-/// Where the first frame begins, and in a frame its body.
-const JOURNAL: usize = 53_248;
-
+/// Where in a frame its body begins.
 const BODY: usize = 16;
 
 /// Where each slot begins. Its body begins a page later.
@@ -67,6 +68,18 @@ pub(crate) fn three_rounds() -> [Command; 9] {
         bid(Z, 2, D, 100),
         close(3),
     ]
+}
+
+/// 64 commands that are accepted: 32 rounds of one bid each.
+pub(crate) fn sixty_four() -> [Command; 64] {
+    let mut commands = [close(1); 64];
+    for round in 0_u8..32 {
+        let place = usize::from(round) * 2;
+        let ticket = u32::from(round) + 1;
+        commands[place] = bid(X, ticket, A, 100 << round);
+        commands[place + 1] = close(ticket);
+    }
+    commands
 }
 
 /// 129 rounds of 8 commands, in which all bidders bid on what they have units for.
@@ -118,18 +131,38 @@ pub(crate) fn put(bytes: &mut [u8], at: usize, part: &[u8]) {
     }
 }
 
+/// What is written into a frame's body of a batch: all of it in pages, and in cells those that the batch takes.
+fn body_of(alloc: Global, layout: JournalLayout, batch: &Batch) -> Result<Vec<u8>, AllocError> {
+    match layout {
+        JournalLayout::Pages => {
+            let mut body = vec![in alloc; 0; BATCH_SIZE]?;
+            encode_batch(batch, &mut body);
+            Ok(body)
+        }
+        JournalLayout::Cells => {
+            let mut body = vec![in alloc; 0; CELLS_SIZE]?;
+            let size = encode_cells(batch, &mut body);
+            body.truncate(size);
+            Ok(body)
+        }
+    }
+}
+
 /// Puts a batch into a frame, from 0, whose gate is open then.
 pub(crate) fn put_batch(
     alloc: Global,
     bytes: &mut [u8],
-    frame: u16,
+    layout: JournalLayout,
+    frame: u32,
     batch: &Batch,
 ) -> Result<(), AllocError> {
-    let at = JOURNAL + usize::from(frame) * PAGE;
-    let mut body = vec![in alloc; 0; BATCH_SIZE]?;
-    encode_batch(batch, &mut body);
+    let at = frame_at(layout, frame);
     put(bytes, at, &[OPEN]);
-    put(bytes, at + BODY, &body);
+    put(
+        bytes,
+        at.saturating_add(BODY),
+        &body_of(alloc, layout, batch)?,
+    );
     Ok(())
 }
 
@@ -175,14 +208,6 @@ pub(crate) fn put_state(
     Ok(())
 }
 
-/// The state of the auction that is opened, but that it covers no batch.
-fn opened_state(alloc: Global, bytes: &[u8]) -> Result<Vec<u8>, Fail> {
-    match open(alloc, MemoryDisk::of(alloc, bytes.to_vec(alloc)?)?) {
-        Ok(opened) => Ok(state_of(alloc, opened.auction(), 0)?),
-        Err(fault) => Err(fault.cause)?,
-    }
-}
-
 /// Whether a device with these bytes is opened with the auction after these commands, and so many clean frames.
 pub(crate) fn opens_as(
     alloc: Global,
@@ -190,11 +215,13 @@ pub(crate) fn opens_as(
     commands: &[Command],
     clean: u64,
 ) -> Result<bool, Fail> {
-    if opened_state(alloc, bytes)? != state_after(alloc, commands, 0)? {
-        return Ok(false);
-    }
-    match opened_with(alloc, bytes, &[])? {
-        Ok((count, frames)) => Ok(count as usize == commands.len() && frames == clean),
-        Err(_) => Ok(false),
+    match open(alloc, MemoryDisk::of(alloc, bytes.to_vec(alloc)?)?) {
+        Ok(opened) => {
+            let auction = opened.auction();
+            let is_counted = auction.count() as usize == commands.len() && opened.clean() == clean;
+            let state = state_of(alloc, auction, 0)?;
+            Ok(is_counted && state == state_after(alloc, commands, 0)?)
+        }
+        Err(fault) => Err(fault.cause)?,
     }
 }

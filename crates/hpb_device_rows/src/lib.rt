@@ -6,6 +6,8 @@ mod devices;
 #[cfg(test)]
 mod images;
 #[cfg(test)]
+mod rows_of_bytes;
+#[cfg(test)]
 mod rows_of_formatting;
 #[cfg(test)]
 mod rows_of_frames;

@@ -1,33 +1,59 @@
 //! What is told of frames that no writer made.
 
 use crate::devices::{
-    EIGHT_FRAMES, FRAME, Found, OPEN, new_device, opened, opened_bytes, opened_with,
+    EIGHT_PAGES, FRAME, Found, JOURNAL, LAYOUTS, OPEN, SIXTEEN_CELLS, new_device, opened,
+    opened_bytes, opened_with,
 };
-use crate::images::{A, B, C, X, Y, Z, batch, bid, close, put, put_batch};
-use hpb_codec::Batch;
+use crate::images::{A, B, C, X, Y, Z, batch, bid, front, put, put_batch, sixty_four};
+use hpb_codec::{Batch, JournalLayout, JournalShape};
 use hpb_disk::{Disk, Fate, MemoryDisk};
 use hpb_rules::Command;
-use std::alloc::{AllocError, Global};
+use std::alloc::Global;
+use std::process::Abort;
 use std::test::Fail;
 
-/// The page of the first frame.
-const FIRST: usize = 53_248;
-
-/// In a frame's page: the lowest bytes of the index and of the count, and where a 65th record would begin.
+/// In a frame: the lowest bytes of the index and of the count.
 const INDEX: usize = 23;
 
 const COUNT: usize = 33;
 
-const BEHIND_64: usize = 1_064;
+/// In a frame: where a 65th record would begin. In cells it is the fifth record of the third cell.
+fn behind_64(layout: JournalLayout) -> usize {
+    match layout {
+        JournalLayout::Pages => 1_064,
+        JournalLayout::Cells => 1_104,
+    }
+}
 
-/// A new device of 8 frames, with these batches in the first frames.
-fn with_batches(alloc: Global, batches: &[Batch]) -> Result<Vec<u8>, Fail> {
-    let mut bytes = new_device(alloc, EIGHT_FRAMES, 8)?;
-    for (frame, batch) in (0..8).zip(batches) {
-        put_batch(alloc, &mut bytes, frame, batch)?;
+/// In a frame: the last byte of a batch of one record.
+fn last_of_one(layout: JournalLayout) -> usize {
+    match layout {
+        JournalLayout::Pages => 4_095,
+        JournalLayout::Cells => 511,
+    }
+}
+
+/// A new device, with these batches in the first frames.
+fn with_batches(alloc: Global, shape: JournalShape, batches: &[Batch]) -> Result<Vec<u8>, Fail> {
+    let mut bytes = new_device(alloc, shape)?;
+    for (frame, batch) in (0..shape.frames).zip(batches) {
+        put_batch(alloc, &mut bytes, shape.layout, frame, batch)?;
     }
     Ok(bytes)
 }
+
+/// What is opened of a new device with these batches.
+fn opened_batches(alloc: Global, shape: JournalShape, batches: &[Batch]) -> Result<Found, Fail> {
+    opened_bytes(alloc, with_batches(alloc, shape, batches)?)
+}
+
+/// So many commands, and so many frames that aren't clean.
+fn found(shape: JournalShape, count: u32, unclean: u32) -> Found {
+    Ok((count, u64::from(shape.frames.saturating_sub(unclean))))
+}
+
+/// No command, and no clean frame.
+const NONE_CLEAN: Found = Ok((0, 0));
 
 /// Batches that can't be the first of all, and what is wrong with them.
 fn wrong_batches() -> [(&'static str, Batch); 8] {
@@ -50,36 +76,25 @@ fn wrong_batches() -> [(&'static str, Batch); 8] {
     ]
 }
 
-/// What is opened of a new device with these batches.
-fn opened_batches(alloc: Global, batches: &[Batch]) -> Result<Found, Fail> {
-    opened_bytes(alloc, with_batches(alloc, batches)?)
-}
-
 #[test]
 fn damaged_frames(rt: HostRuntime) -> Result<(), Fail> {
     let alloc = rt.alloc();
-    let sound = [batch(0, 1, &[bid(X, 1, A, 100)])];
-    assert_eq!(rt; opened_batches(alloc, &sound)?, Ok((1, 7)));
-    for (wrong, first) in wrong_batches() {
-        let mut batches = [first];
-        assert_eq!(rt; opened_batches(alloc, &batches)?, FRAME, "{wrong}");
-        // Under another index the frame is of another batch, and only not clean.
-        batches[0].index = 1;
-        assert_eq!(rt; opened_batches(alloc, &batches)?, Ok((0, 0)), "{wrong}");
+    for shape in LAYOUTS {
+        let sound = [batch(0, 1, &[bid(X, 1, A, 100)])];
+        assert_eq!(rt; opened_batches(alloc, shape, &sound)?, found(shape, 1, 1));
+        for (wrong, first) in wrong_batches() {
+            let mut batches = [first];
+            assert_eq!(rt; opened_batches(alloc, shape, &batches)?, FRAME, "{wrong}");
+            // Under another index the frame is of another batch, and only not clean.
+            batches[0].index = 1;
+            assert_eq!(rt;
+                opened_batches(alloc, shape, &batches)?,
+                NONE_CLEAN,
+                "{wrong}"
+            );
+        }
     }
     Ok(())
-}
-
-/// 64 commands that are accepted: 32 rounds of one bid each.
-fn sixty_four() -> [Command; 64] {
-    let mut commands = [close(1); 64];
-    for round in 0_u8..32 {
-        let place = usize::from(round) * 2;
-        let ticket = u32::from(round) + 1;
-        commands[place] = bid(X, ticket, A, 100 << round);
-        commands[place + 1] = close(ticket);
-    }
-    commands
 }
 
 /// The record of the next one: a bid of the first bidder on the third node, with ticket 33 and 100 * 2^32 dollars.
@@ -88,21 +103,27 @@ const SIXTY_FIFTH: [u8; 16] = [1, 0, 2, 0, 0, 0, 0, 33, 0, 0, 0, 0x64, 0, 0, 0, 
 #[test]
 fn damaged_by_a_record_more(rt: HostRuntime) -> Result<(), Fail> {
     let alloc = rt.alloc();
-    let first = batch(0, 1, &sixty_four());
-    let next = batch(1, 65, &[bid(X, 33, A, 429_496_729_600)]);
-    assert_eq!(rt; opened_batches(alloc, &[first, next])?, Ok((65, 6)));
-    // The same commands, all in one frame.
-    let mut bytes = with_batches(alloc, &[batch(0, 1, &sixty_four())])?;
-    put(&mut bytes, FIRST + BEHIND_64, &SIXTY_FIFTH);
-    let count = (FIRST + COUNT, 65);
-    assert_eq!(rt; opened_with(alloc, &bytes, &[count])?, FRAME);
-    let other = opened_with(alloc, &bytes, &[count, (FIRST + INDEX, 1)])?;
-    assert_eq!(rt; other, Ok((0, 0)));
+    for shape in LAYOUTS {
+        let first = batch(0, 1, &sixty_four());
+        let next = batch(1, 65, &[bid(X, 33, A, 429_496_729_600)]);
+        assert_eq!(rt;
+            opened_batches(alloc, shape, &[first, next])?,
+            found(shape, 65, 2)
+        );
+        // The same commands, all in one frame.
+        let mut bytes = with_batches(alloc, shape, &[batch(0, 1, &sixty_four())])?;
+        let behind = JOURNAL.saturating_add(behind_64(shape.layout));
+        put(&mut bytes, behind, &SIXTY_FIFTH);
+        let count = (JOURNAL + COUNT, 65);
+        assert_eq!(rt; opened_with(alloc, &bytes, &[count])?, FRAME);
+        let other = opened_with(alloc, &bytes, &[count, (JOURNAL + INDEX, 1)])?;
+        assert_eq!(rt; other, NONE_CLEAN);
+    }
     Ok(())
 }
 
-/// Bytes in the page of a batch of one bid, each of which makes another body of it.
-const CHANGES: [(u16, u8); 14] = [
+/// Bytes in the frame of a batch of one bid, each of which makes another body of it. So does its last byte.
+const CHANGES: [(usize, u8); 13] = [
     // The number of the first command, and no record or one more than there is.
     (24, 1),
     (31, 2),
@@ -112,7 +133,6 @@ const CHANGES: [(u16, u8); 14] = [
     (34, 1),
     (39, 1),
     (56, 1),
-    (4_095, 1),
     // The kind, the bidder, the node, the zero byte and the ticket of the record.
     (40, 0),
     (40, 4),
@@ -122,80 +142,161 @@ const CHANGES: [(u16, u8); 14] = [
     (47, 0),
 ];
 
+/// What is opened where a byte of the first frame is changed, and where its index is, too.
+fn damaged_at(alloc: Global, sound: &[u8], at: usize, byte: u8) -> Result<(Found, Found), Fail> {
+    let change = (JOURNAL.saturating_add(at), byte);
+    let own = opened_with(alloc, sound, &[change])?;
+    let other = opened_with(alloc, sound, &[change, (JOURNAL + INDEX, 1)])?;
+    Ok((own, other))
+}
+
 #[test]
 fn damaged_by_a_byte(rt: HostRuntime) -> Result<(), Fail> {
     let alloc = rt.alloc();
-    let sound = with_batches(alloc, &[batch(0, 1, &[bid(X, 1, A, 100)])])?;
-    for (at, byte) in CHANGES {
-        let change = (FIRST + usize::from(at), byte);
-        assert_eq!(rt; opened_with(alloc, &sound, &[change])?, FRAME, "{at}");
-        let other = opened_with(alloc, &sound, &[change, (FIRST + INDEX, 1)])?;
-        assert_eq!(rt; other, Ok((0, 0)), "{at}");
-    }
-    // Between the gate and the body nothing is read.
-    for at in 1_u16..16 {
-        let unread = (FIRST + usize::from(at), 0xa5);
-        assert_eq!(rt; opened_with(alloc, &sound, &[unread])?, Ok((1, 7)), "{at}");
+    for shape in LAYOUTS {
+        let sound = with_batches(alloc, shape, &[batch(0, 1, &[bid(X, 1, A, 100)])])?;
+        for (at, byte) in CHANGES {
+            let damaged = damaged_at(alloc, &sound, at, byte)?;
+            assert_eq!(rt; damaged, (FRAME, NONE_CLEAN), "{at}");
+        }
+        let damaged = damaged_at(alloc, &sound, last_of_one(shape.layout), 1)?;
+        assert_eq!(rt; damaged, (FRAME, NONE_CLEAN));
+        // Between the gate and the body nothing is read.
+        for at in 1_usize..16 {
+            let unread = opened_with(alloc, &sound, &[(JOURNAL.saturating_add(at), OPEN)])?;
+            assert_eq!(rt; unread, found(shape, 1, 1), "{at}");
+        }
     }
     Ok(())
+}
+
+/// Bytes in the further cells of a batch of 61 commands, each of which makes another body of it.
+const IN_FURTHER_CELLS: [(usize, u8); 13] = [
+    // What is zero at the end of the first cell.
+    (504, 1),
+    (511, 1),
+    // In the second cell the index, the cell's number, what is zero behind it, and a record's kind.
+    (519, 1),
+    (520, 2),
+    (521, 1),
+    (527, 1),
+    (528, 4),
+    // In the third cell the same, and what is zero behind the last record.
+    (1_031, 1),
+    (1_032, 1),
+    (1_039, 1),
+    (1_040, 4),
+    (1_056, 1),
+    (1_535, 1),
+];
+
+#[test]
+fn damaged_further_cells(rt: HostRuntime) -> Result<(), Fail> {
+    let alloc = rt.alloc();
+    let commands = sixty_four();
+    let sound = with_batches(alloc, SIXTEEN_CELLS, &[batch(0, 1, front(&commands, 61))])?;
+    assert_eq!(rt; opened_with(alloc, &sound, &[])?, Ok((61, 15)));
+    for (at, byte) in IN_FURTHER_CELLS {
+        let damaged = damaged_at(alloc, &sound, at, byte)?;
+        assert_eq!(rt; damaged, (FRAME, NONE_CLEAN), "{at}");
+    }
+    Ok(())
+}
+
+/// Two batches of a command each: the number and the command of the second one, and what is opened.
+fn wanted_of_two(shape: JournalShape) -> [(u64, Command, Found); 5] {
+    let first = bid(X, 1, A, 100);
+    let second = bid(Y, 1, B, 150);
+    [
+        (2, second, found(shape, 2, 2)),
+        // A repeat is answered, but not newly accepted, whatever its number.
+        (2, first, FRAME),
+        (1, first, FRAME),
+        // A number that was given already, and one that is left out.
+        (1, second, FRAME),
+        (3, second, FRAME),
+    ]
 }
 
 #[test]
 fn repeat_of_the_frame_before(rt: HostRuntime) -> Result<(), Fail> {
     let alloc = rt.alloc();
-    let first = bid(X, 1, A, 100);
-    for (number, second, wanted) in [
-        (2, bid(Y, 1, B, 150), Ok((2, 6))),
-        // A repeat is answered, but not newly accepted, whatever its number.
-        (2, first, FRAME),
-        (1, first, FRAME),
-        // A number that was given already, and one that is left out.
-        (1, bid(Y, 1, B, 150), FRAME),
-        (3, bid(Y, 1, B, 150), FRAME),
-    ] {
-        let batches = [batch(0, 1, &[first]), batch(1, number, &[second])];
-        assert_eq!(rt; opened_batches(alloc, &batches)?, wanted, "{number}");
+    for shape in LAYOUTS {
+        for (number, second, wanted) in wanted_of_two(shape) {
+            let first = batch(0, 1, &[bid(X, 1, A, 100)]);
+            let batches = [first, batch(1, number, &[second])];
+            assert_eq!(rt; opened_batches(alloc, shape, &batches)?, wanted, "{number}");
+        }
     }
     Ok(())
 }
 
-/// Which frames are open, with which index, and what is then opened.
-const OPEN_FRAMES: [(&[(u16, u64)], Found); 10] = [
-    (&[(0, 0), (1, 1)], Ok((2, 6))),
-    // Behind a frame that isn't open, one that is, with its own index or with another.
-    (&[(1, 1)], FRAME),
-    (&[(7, 7)], FRAME),
-    (&[(0, 0), (2, 2)], FRAME),
-    (&[(0, 0), (3, 2)], Ok((1, 2))),
-    (&[(7, 15)], Ok((0, 7))),
-    // A frame with the index of the batch that it serves next.
-    (&[(0, 8)], Ok((0, 0))),
-    // Behind a frame with another index.
-    (&[(0, 8), (1, 1)], FRAME),
-    (&[(0, 0), (1, 9), (2, 2)], FRAME),
-    (&[(0, 0), (1, 9), (2, 10)], Ok((1, 0))),
-];
+/// A frame that is open, and the index in it.
+type OpenFrame = (u32, u64);
 
-/// A new device with such frames. Each batch would go on with the one before, if those between were passed over.
-fn with_frames(alloc: Global, frames: &[(u16, u64)]) -> Result<Vec<u8>, Fail> {
+/// Three frames that are open at most.
+type OpenFrames = [Option<OpenFrame>; 3];
+
+fn one(first: OpenFrame) -> OpenFrames {
+    [Some(first), None, None]
+}
+
+fn two(first: OpenFrame, second: OpenFrame) -> OpenFrames {
+    [Some(first), Some(second), None]
+}
+
+fn three(first: OpenFrame, second: OpenFrame, third: OpenFrame) -> OpenFrames {
+    [Some(first), Some(second), Some(third)]
+}
+
+/// What is opened of a new device with such frames. Each batch would go on with the one before, if those between were
+/// passed over.
+fn opened_frames(alloc: Global, shape: JournalShape, frames: &OpenFrames) -> Result<Found, Fail> {
     let bids = [
         (1, bid(X, 1, A, 100)),
         (2, bid(Y, 1, B, 150)),
         (3, bid(Z, 1, C, 100)),
     ];
-    let mut bytes = new_device(alloc, EIGHT_FRAMES, 8)?;
-    for ((frame, index), (first, command)) in frames.iter().zip(bids) {
-        put_batch(alloc, &mut bytes, *frame, &batch(*index, first, &[command]))?;
+    let mut bytes = new_device(alloc, shape)?;
+    for (open, (first, command)) in frames.iter().zip(bids) {
+        if let Some((frame, index)) = *open {
+            let batch = batch(index, first, &[command]);
+            put_batch(alloc, &mut bytes, shape.layout, frame, &batch)?;
+        }
     }
-    Ok(bytes)
+    opened_bytes(alloc, bytes)
+}
+
+/// Which frames are open, with which index, and what is then opened.
+fn wanted_of_open(shape: JournalShape) -> [(OpenFrames, Found); 10] {
+    let all = u64::from(shape.frames);
+    let last = shape.frames.saturating_sub(1);
+    let own = u64::from(last);
+    let (second, third) = (all.saturating_add(1), all.saturating_add(2));
+    [
+        (two((0, 0), (1, 1)), found(shape, 2, 2)),
+        // Behind a frame that isn't open, one that is, with its own index or with another.
+        (one((1, 1)), FRAME),
+        (one((last, own)), FRAME),
+        (two((0, 0), (2, 2)), FRAME),
+        (two((0, 0), (3, 2)), Ok((1, 2))),
+        (one((last, all.saturating_add(own))), found(shape, 0, 1)),
+        // A frame with the index of the batch that it serves next.
+        (one((0, all)), NONE_CLEAN),
+        // Behind a frame with another index.
+        (two((0, all), (1, 1)), FRAME),
+        (three((0, 0), (1, second), (2, 2)), FRAME),
+        (three((0, 0), (1, second), (2, third)), Ok((1, 0))),
+    ]
 }
 
 #[test]
 fn frames_out_of_their_order(rt: HostRuntime) -> Result<(), Fail> {
     let alloc = rt.alloc();
-    for (frames, wanted) in OPEN_FRAMES {
-        let bytes = with_frames(alloc, frames)?;
-        assert_eq!(rt; opened_bytes(alloc, bytes)?, wanted);
+    for shape in LAYOUTS {
+        for (frames, wanted) in wanted_of_open(shape) {
+            assert_eq!(rt; opened_frames(alloc, shape, &frames)?, wanted);
+        }
     }
     Ok(())
 }
@@ -203,27 +304,37 @@ fn frames_out_of_their_order(rt: HostRuntime) -> Result<(), Fail> {
 /// What is opened after a stop of a device whose first frame was to be opened, where the write of its gate had this fate.
 fn opened_after_stop(alloc: Global, bytes: &[u8], fate: Fate) -> Result<Found, Fail> {
     let mut disk = MemoryDisk::of(alloc, bytes.to_vec(alloc)?)?;
-    if disk.len() <= FIRST {
+    if disk.len() <= JOURNAL {
         return Err("no frame")?;
     }
-    disk.write_at(FIRST, &[OPEN])?;
+    disk.write_at(JOURNAL, &[OPEN])?;
     let (_, found) = opened(alloc, disk.after_stop(alloc, &[fate])?);
     Ok(found)
 }
 
-#[test]
-fn torn_gate_of_a_frame(rt: HostRuntime) -> Result<(), Fail> {
-    let alloc = rt.alloc();
+/// Each byte that a stop may leave in the gate of the first frame.
+fn tear_gate(rt: &impl Abort, alloc: Global, shape: JournalShape) -> Result<(), Fail> {
     let three = [bid(X, 1, A, 100), bid(Y, 1, B, 150), bid(Z, 1, C, 100)];
-    let mut whole = with_batches(alloc, &[batch(0, 1, &three)])?;
-    put(&mut whole, FIRST, &[0]);
+    let mut whole = with_batches(alloc, shape, &[batch(0, 1, &three)])?;
+    put(&mut whole, JOURNAL, &[0]);
     // All three commands are there, or none of them.
-    assert_eq!(rt; opened_after_stop(alloc, &whole, Fate::Kept)?, Ok((3, 7)));
-    assert_eq!(rt; opened_after_stop(alloc, &whole, Fate::Lost)?, Ok((0, 8)));
+    let (all, none) = (found(shape, 3, 1), found(shape, 0, 0));
+    assert_eq!(rt; opened_after_stop(alloc, &whole, Fate::Kept)?, all);
+    assert_eq!(rt; opened_after_stop(alloc, &whole, Fate::Lost)?, none);
     for byte in 0..=u8::MAX {
-        let found = opened_after_stop(alloc, &whole, Fate::Filled(byte))?;
-        let wanted = if byte == OPEN { (3, 7) } else { (0, 8) };
-        assert_eq!(rt; found, Ok(wanted), "{byte}");
+        let left = opened_after_stop(alloc, &whole, Fate::Filled(byte))?;
+        let wanted = if byte == OPEN { all } else { none };
+        assert_eq!(rt; left, wanted, "{byte}");
     }
     Ok(())
+}
+
+#[test]
+fn torn_gate_of_a_page(rt: HostRuntime) -> Result<(), Fail> {
+    tear_gate(&rt, rt.alloc(), EIGHT_PAGES)
+}
+
+#[test]
+fn torn_gate_of_cells(rt: HostRuntime) -> Result<(), Fail> {
+    tear_gate(&rt, rt.alloc(), SIXTEEN_CELLS)
 }

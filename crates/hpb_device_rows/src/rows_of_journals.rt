@@ -1,16 +1,18 @@
 //! What is opened of journals, whose frames serve one batch after another.
 
-use crate::devices::{FOUR_FRAMES, MOST_FRAMES, new_device};
-use crate::images::{batch, front, many_rounds, opens_as, put_batch, put_state, three_rounds};
+use crate::devices::{FOUR_PAGES, MOST_CELLS, MOST_PAGES, SIXTEEN_CELLS, new_device};
+use crate::images::{batch, front, many_rounds, opens_as, put_batch, put_state};
+use hpb_codec::JournalShape;
 use hpb_rules::Command;
 use std::alloc::Global;
+use std::process::Abort;
 use std::test::Fail;
 
-/// A journal of so many frames. Each batch has one command. The newest state covers the batches before `covered`, and the
+/// A journal of this shape. Each batch has one command. The newest state covers the batches before `covered`, and the
 /// frames hold those from `oldest` on, before `next`.
 #[derive(Drop)]
 struct Journal {
-    frames: u16,
+    shape: JournalShape,
     covered: u16,
     oldest: u16,
     next: u16,
@@ -28,9 +30,9 @@ fn put_journal(
     let batches = (0..journal.next).zip(commands);
     for (index, command) in batches.skip(usize::from(journal.oldest)) {
         let number = u64::from(index) + 1;
-        if let Some(frame) = index.checked_rem(journal.frames) {
+        if let Some(frame) = u32::from(index).checked_rem(journal.shape.frames) {
             let batch = batch(u64::from(index), number, &[*command]);
-            put_batch(alloc, bytes, frame, &batch)?;
+            put_batch(alloc, bytes, journal.shape.layout, frame, &batch)?;
         }
     }
     Ok(())
@@ -46,29 +48,29 @@ fn is_opened(
 ) -> Result<bool, Fail> {
     let mut bytes = new.to_vec(alloc)?;
     put_journal(alloc, &mut bytes, commands, journal)?;
-    let end = u64::from(journal.oldest) + u64::from(journal.frames);
+    let end = u64::from(journal.oldest) + u64::from(journal.shape.frames);
     let clean = end.saturating_sub(u64::from(journal.next));
     opens_as(alloc, &bytes, front(commands, journal.next), clean)
 }
 
-#[test]
-fn wrapped_journal(rt: HostRuntime) -> Result<(), Fail> {
-    let alloc = rt.alloc();
-    let new = new_device(alloc, FOUR_FRAMES, 4)?;
-    let commands = three_rounds();
-    for covered in 0_u16..6 {
-        for next in covered..covered + 5 {
-            for oldest in next.saturating_sub(4)..covered + 1 {
+/// Journals whose state covers each of these numbers of batches: with each number of batches behind the state, and from each
+/// batch on that the frames may hold.
+fn wrap(rt: &impl Abort, alloc: Global, shape: JournalShape, covering: &[u16]) -> Result<(), Fail> {
+    let new = new_device(alloc, shape)?;
+    let commands = many_rounds(alloc)?;
+    let frames = shape.frames as u16;
+    for covered in covering {
+        let covered = *covered;
+        for next in covered..covered.saturating_add(frames).saturating_add(1) {
+            for oldest in next.saturating_sub(frames)..covered.saturating_add(1) {
                 let journal = Journal {
-                    frames: 4,
+                    shape,
                     covered,
                     oldest,
                     next,
                 };
-                assert!(rt;
-                    is_opened(alloc, &new, &commands, &journal)?,
-                    "{covered} {oldest} {next}"
-                );
+                let is_right = is_opened(alloc, &new, &commands, &journal)?;
+                assert!(rt; is_right, "{covered} {oldest} {next}");
             }
         }
     }
@@ -76,19 +78,31 @@ fn wrapped_journal(rt: HostRuntime) -> Result<(), Fail> {
 }
 
 #[test]
-fn longest_journal(rt: HostRuntime) -> Result<(), Fail> {
-    let alloc = rt.alloc();
-    let new = new_device(alloc, MOST_FRAMES, 1_024)?;
+fn wrapped_journal_of_pages(rt: HostRuntime) -> Result<(), Fail> {
+    wrap(&rt, rt.alloc(), FOUR_PAGES, &[0, 1, 2, 3, 4, 5])
+}
+
+#[test]
+fn wrapped_journal_of_cells(rt: HostRuntime) -> Result<(), Fail> {
+    wrap(&rt, rt.alloc(), SIXTEEN_CELLS, &[0, 1, 5])
+}
+
+/// Of journals with 1,024 frames: how many batches the state covers, the oldest batch in a frame, and the next one.
+const LONG: [(u16, u16, u16); 3] = [
+    // Full, from the first batch on.
+    (0, 0, 1_024),
+    // Full, with the four newest batches in the first frames; and all frames but those behind the state retired.
+    (1_020, 4, 1_028),
+    (1_020, 1_020, 1_028),
+];
+
+/// Journals of this shape, of 1,024 frames.
+fn fill_longest(rt: &impl Abort, alloc: Global, shape: JournalShape) -> Result<(), Fail> {
+    let new = new_device(alloc, shape)?;
     let commands = many_rounds(alloc)?;
-    for (covered, oldest, next) in [
-        // Full, from the first batch on.
-        (0, 0, 1_024),
-        // Full, with the four newest batches in the first frames; and all frames but those behind the state retired.
-        (1_020, 4, 1_028),
-        (1_020, 1_020, 1_028),
-    ] {
+    for (covered, oldest, next) in LONG {
         let journal = Journal {
-            frames: 1_024,
+            shape,
             covered,
             oldest,
             next,
@@ -96,4 +110,14 @@ fn longest_journal(rt: HostRuntime) -> Result<(), Fail> {
         assert!(rt; is_opened(alloc, &new, &commands, &journal)?, "{next}");
     }
     Ok(())
+}
+
+#[test]
+fn longest_journal_of_pages(rt: HostRuntime) -> Result<(), Fail> {
+    fill_longest(&rt, rt.alloc(), MOST_PAGES)
+}
+
+#[test]
+fn longest_journal_of_cells(rt: HostRuntime) -> Result<(), Fail> {
+    fill_longest(&rt, rt.alloc(), MOST_CELLS)
 }
