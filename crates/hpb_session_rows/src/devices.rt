@@ -3,7 +3,7 @@
 use anyhow::Error;
 use hpb_codec::JournalShape;
 use hpb_disk::{FileDisk, MemoryDisk, OnceDisk};
-use hpb_engine_rows::devices::{bytes_of, new_device, new_engine, opened};
+use hpb_engine_rows::devices::{bytes_of, calls_of_opening, new_device, opened};
 use hpb_recover::Opened;
 use std::alloc::Global;
 use std::fs;
@@ -24,8 +24,8 @@ pub(crate) fn faulty_opened(
     shape: JournalShape,
     call: u64,
 ) -> Result<Opened<OnceDisk<MemoryDisk>>, Fail> {
-    let opening = new_engine(alloc, shape)?.finish().calls() as u64;
-    let disk = OnceDisk::new(new_device(alloc, shape)?, opening.saturating_add(call));
+    let fault = calls_of_opening(alloc, shape)?.saturating_add(call);
+    let disk = OnceDisk::new(new_device(alloc, shape)?, fault);
     match opened(alloc, disk) {
         Ok(opened) => Ok(opened),
         Err(fault) => Err(Fail::from(Error::from(fault.cause))),
