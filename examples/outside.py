@@ -110,15 +110,23 @@ BIDS = {"x": "a", "y": "b", "z": "all east a b c", "w": "c d"}
 LICENCES = {"all": 3, "east": 2}
 
 
+def amounts(count):
+    """What a licence is worth in each of so many rounds, at most 180: a thousand more each time, and by a tenth more at least."""
+    amount = 0
+    for _ in range(count):
+        amount = max(amount + 1000, -(-amount * 11 // 100) * 10)
+        yield amount
+
+
 def rounds(count):
     """The ten commands of each of so many rounds behind the first, all of which are accepted."""
     tickets = dict.fromkeys(BIDS, 1)
     lines = []
-    for number in range(1, count + 1):
+    for number, amount in enumerate(amounts(count), 1):
         for bidder, nodes in BIDS.items():
             for node in nodes.split():
                 tickets[bidder] += 1
-                lines.append(f"BID {bidder} {tickets[bidder]} {node} {1000 * number * LICENCES.get(node, 1)}")
+                lines.append(f"BID {bidder} {tickets[bidder]} {node} {amount * LICENCES.get(node, 1)}")
         lines.append(f"CLOSE {number + 1}")
     return lines
 
