@@ -1,13 +1,7 @@
-"""Which calls of the system a program makes of a file, as examples/file-calls.c writes them down, and which ones it has to
-make, worked out from docs/FORMATS.md apart from the program."""
+"""Which calls of the system a program makes of a file, as examples/file-calls.c writes them down."""
 import os
 import pathlib
 import subprocess
-
-import outside
-from encoder import CHUNKS, CLOSED, FRAME, HEAD_AT, HEAD_SIZE, MAGIC, OPEN, SLOTS, Auction, Image
-from encoder import body_of, frame_at, head, record
-from outside import DEFINITION, PAGE
 
 # How many numbers a line has behind the result, by the call; another one has its descriptor.
 NUMBERS = {"lock": 2, "advise": 4, "take": 2, "read": 3, "write": 3, "put": 2, "cut": 2}
@@ -15,51 +9,51 @@ NAMED = ("link", "rename", "unlink")
 FLAGS = {"O_CREAT": "made", "O_TRUNC": "emptied", "O_EXCL": "not there", "O_APPEND": "at its end", "O_DIRECT": "direct", "O_DSYNC": "synced"}
 ACCESS = {os.O_RDONLY: "to read", os.O_WRONLY: "to write", os.O_RDWR: "to read and write"}
 LOCKS = {1 | 4: "shared", 2 | 4: "alone"}
-DROP = 4
 
 
-def built(folder):
+def build(folder):
     """The library that is loaded before the C library."""
     library = folder / "calls.so"
-    if not library.exists():
-        source = pathlib.Path(__file__).resolve().parent / "file-calls.c"
-        words = [os.environ.get("CC", "cc"), "-O1", "-shared", "-fPIC", "-pthread", "-o", str(library), str(source), "-ldl"]
-        subprocess.run(words, check=True)
+    source = pathlib.Path(__file__).resolve().parent / "file-calls.c"
+    words = [os.environ.get("CC", "cc"), "-O1", "-shared", "-fPIC", "-pthread", "-o", str(library), str(source), "-ldl"]
+    subprocess.run(words, check=True)
     return library
 
 
 class Shim:
-    """What writes down the calls of a program, a run at a time, in a folder of its own."""
+    """What writes down the calls of a program, of one run at a time, into a file of this folder."""
 
-    def __init__(self, folder):
-        self.library, self.lines = built(folder), folder / "calls"
+    def __init__(self, library, folder):
+        self.library, self.lines = library, folder / "calls"
 
     def environment(self, lie=""):
         """That of a program whose calls are written down, from the first one on."""
         self.lines.unlink(missing_ok=True)
         return {**os.environ, "LD_PRELOAD": str(self.library), "CALLS": str(self.lines), "LIE": lie}
 
-    def is_loaded(self):
-        """Whether there was a program that loads libraries."""
-        return self.lines.exists()
+    def sees(self):
+        """Whether it saw anything written, as it does not where a program loads no library."""
+        return self.lines.exists() and " put " in self.lines.read_text()
 
-    def calls(self, file):
-        """Those of a file, its folder and the streams, each with its thread."""
-        seen = Seen(file)
+    def calls(self, file, link=None):
+        """Those of a file, its folder and the streams, each with its thread; the file may be opened by a link."""
+        seen = Seen(file, link)
         return [(thread, call) for line in self.lines.read_text().splitlines() for thread, call in seen.call(line)]
 
 
 class Seen:
     """Calls by what they are made of: descriptors and paths are given the names that they have for a file."""
 
-    def __init__(self, file):
-        self.file, self.folder = os.path.abspath(file), os.path.dirname(os.path.abspath(file))
+    def __init__(self, file, link):
+        self.folder = os.path.dirname(file)
+        self.roles = {str(file): "file", f"{file}.new": "file beside", self.folder: "folder"}
+        if link:
+            self.roles.update({str(link): "file", os.path.dirname(link): "folder of the link"})
         self.open = {1: "output"}
 
     def role(self, path):
-        whole = os.path.abspath(path)
-        roles = {self.file: "file", self.file + ".new": "file beside", self.folder: "folder"}
-        return roles.get(whole, f"{path}" if whole.startswith(self.folder + "/") else None)
+        """What else stands in the folder has its own path."""
+        return self.roles.get(path, path if path.startswith(f"{self.folder}/") else None)
 
     def call(self, line):
         """The thread and the call, unless it is of something else."""
@@ -114,310 +108,22 @@ def told(call):
     name, of, *more = call
     if name == "write":
         at, data, *rest = more
-        return " ".join([f"write of {len(data)} bytes at {at} of the {of}, {data[:8].hex()}..", *rest])
-    if name == "put":
-        return f"write to the {of} of {more[0]!r}"
-    return " ".join(map(str, [name, f"of the {of}", *more]))
+        return " ".join([f"write {of}: {len(data)} bytes at {at}, {data[:8].hex()}..", *rest])
+    return " ".join([name, f"{of}:" if more else of, *(str(part) for part in more)])
 
 
 def difference(found, wanted):
     """The first call that is another than the wanted one."""
     for place in range(max(len(found), len(wanted))):
-        some, other = (calls[place] if place < len(calls) else None for calls in (found, wanted))
-        if some != other:
-            where = f"call {place + 1} is a {told(some)}" if some else f"there is no call {place + 1}"
-            return f"{where}; wanted: {'a ' + told(other) if other else 'none'}"
+        some, other = (told(calls[place]) if place < len(calls) else "none" for calls in (found, wanted))
+        if found[place : place + 1] != wanted[place : place + 1]:
+            return f"call {place + 1} is {some}; wanted: {other}{differs_at(found[place : place + 1], wanted[place : place + 1])}"
     return ""
 
 
-class Engine:
-    """The calls that have to be made of a file, in their order, and what the file then holds."""
-
-    def __init__(self, layout, journal, image=None):
-        self.layout, self.journal = layout, journal
-        self.image = bytearray(Image(layout, journal).bytes if image is None else image)
-        self.calls, self.auction, self.states, self.since_due = [], Auction(), {}, 0
-        self.states[0] = self.auction.state(0)
-
-    def taken(self):
-        """The calls since the last time."""
-        calls, self.calls = self.calls, []
-        return calls
-
-    def ask(self, name, *more, of="file"):
-        self.calls.append((name, of, *more))
-
-    def read(self, at, size):
-        self.ask("read", at, size)
-
-    def reads_open(self, gate):
-        self.read(gate, 1)
-        return self.is_open(gate)
-
-    def is_open(self, gate):
-        return self.image[gate : gate + 1] == OPEN
-
-    def write(self, at, data):
-        self.image[at : at + len(data)] = data
-        self.ask("write", at, bytes(data))
-
-    def close_if_open(self, gate):
-        if self.is_open(gate):
-            self.write(gate, CLOSED)
-
-    def frame(self, index):
-        return frame_at(self.layout, self.journal, index)
-
-    # Before the first call of the device, and behind the last.
-
-    def take_file(self, access="to read and write", lock="alone"):
-        """A file that is there is opened and locked, and what is read then is on the medium."""
-        self.ask("open", access)
-        self.ask("lock", lock)
-        self.settle()
-
-    def settle(self, of="file"):
-        self.ask("sync", of=of)
-        self.ask("advise", 0, 0, DROP, of=of)
-        self.ask("read", 0, len(self.image), of=of)
-
-    def sync_folder(self):
-        self.ask("open", "to read", of="folder")
-        self.ask("sync", of="folder")
-        self.ask("close", of="folder")
-
-    def make_file(self):
-        """One of zeros is made beside its name, and named when it is whole."""
-        self.image = bytearray(len(self.image))
-        self.ask("open", "to read", of="folder")
-        self.ask("open", "to read and write, made", of="file beside")
-        self.ask("lock", "alone", of="file beside")
-        self.ask("cut", len(self.image), of="file beside")
-        self.ask("write", 0, bytes(self.image), of="file beside")
-        self.ask("sync", of="file beside")
-        self.settle("file beside")
-        self.ask("link", of="file beside as file")
-        self.ask("unlink", of="file beside")
-        self.ask("sync", of="folder")
-        self.ask("close", of="folder")
-
-    # The calls of the device.
-
-    def format(self):
-        """Whether it was formatted: a device that is one already isn't."""
-        self.ask("sync")
-        if self.reads_open(0):
-            self.read(HEAD_AT, len(MAGIC))
-            if self.image[HEAD_AT : HEAD_AT + len(MAGIC)] == MAGIC:
-                return False
-        for gate in (0, *SLOTS):
-            self.read(gate, 1)
-            self.close_if_open(gate)
-        for index in range(self.journal):
-            self.read(self.frame(index), FRAME[self.layout])
-            self.close_if_open(self.frame(index))
-        self.ask("sync")
-        self.write(HEAD_AT, head(self.layout, self.journal))
-        self.write_state(SLOTS[0], 0)
-        for gate in (SLOTS[0], 0):
-            self.ask("sync")
-            self.write(gate, OPEN)
-        self.ask("sync")
-        return True
-
-    def write_state(self, slot, batches):
-        for chunk in range(CHUNKS):
-            self.write(slot + PAGE * (1 + chunk), self.states[batches][PAGE * chunk : PAGE * (chunk + 1)])
-
-    def open(self):
-        """A sync, then reads alone. What is known then: where the next batch goes, and which frames are clean."""
-        self.ask("sync")
-        self.read(0, 1)
-        self.read(HEAD_AT, HEAD_SIZE)
-        covers = [self.read_slot(slot) for slot in SLOTS]
-        self.newest = covers.index(max(covers))
-        self.covered = self.next = covers[self.newest]
-        self.is_other_open = min(covers) >= 0
-        for index in range(self.covered, self.covered + self.journal):
-            self.read(self.frame(index), FRAME[self.layout])
-        while self.next < self.covered + self.journal and self.index_in(self.next) == self.next:
-            self.next += 1
-        clean = 0
-        while self.next + clean < self.covered + self.journal and not self.is_open(self.frame(self.next + clean)):
-            clean += 1
-        # The frames of the batches from this one to the last that is covered aren't clean.
-        self.first_unclean = self.next + clean - self.journal
-
-    def read_slot(self, slot):
-        """How many batches it covers; less than none where it is closed."""
-        if not self.reads_open(slot):
-            return -1
-        self.read(slot + PAGE, CHUNKS * PAGE)
-        return int.from_bytes(self.image[slot + PAGE + 16 : slot + PAGE + 24], "big")
-
-    def index_in(self, index):
-        """Of an open frame the index of its batch."""
-        at = self.frame(index)
-        return int.from_bytes(self.image[at + 16 : at + 24], "big") if self.is_open(at) else -1
-
-    def clean(self):
-        return self.first_unclean + self.journal - self.next
-
-    def commit(self, lines):
-        """A batch of these commands, all of which are newly accepted."""
-        first = self.auction.count + 1
-        for line in lines:
-            self.auction.take(line)
-        self.write(self.frame(self.next) + 16, body_of(self.layout, self.next, first, [record(line) for line in lines]))
-        self.ask("sync")
-        self.write(self.frame(self.next), OPEN)
-        self.ask("sync")
-        self.next += 1
-        self.since_due += 1
-        self.states[self.next] = self.auction.state(self.next)
-
-    def checkpoint(self, batches=None):
-        """One that covers so many batches, or all; where all were covered, what is left of the last one."""
-        batches = self.next if batches is None else batches
-        if batches > self.covered:
-            self.write_slot(batches)
-        for index in range(self.first_unclean, self.covered):
-            self.close_if_open(self.frame(index))
-        if self.first_unclean < self.covered:
-            self.ask("sync")
-        self.first_unclean = self.covered
-
-    def write_slot(self, batches):
-        other = 1 - self.newest
-        if self.is_other_open:
-            self.write(SLOTS[other], CLOSED)
-        self.ask("sync")
-        self.write_state(SLOTS[other], batches)
-        self.ask("sync")
-        self.write(SLOTS[other], OPEN)
-        self.ask("sync")
-        self.newest, self.covered, self.is_other_open = other, batches, True
-
-    # A run.
-
-    def run(self, lines, answers, batch, every):
-        """The calls for these lines, which are there at once, with their answers, which leave before more is begun."""
-        self.take_file()
-        self.sync_folder()
-        self.open()
-        self.waiting, self.every, self.since_due, queue = b"", every, 0, []
-        for line, answer in zip(lines, answers):
-            is_command = not line.startswith(("SHOW", "NODE", "WHO"))
-            if not is_command:
-                self.answer(queue)
-                queue = []
-                self.waiting += answer
-                continue
-            queue.append((line, answer))
-            if len(queue) == batch:
-                self.answer(queue)
-                queue = []
-        self.answer(queue)
-        self.leave()
-        self.make_due()
-        self.ask("close")
-
-    def leave(self):
-        if self.waiting:
-            self.ask("put", self.waiting, of="output")
-        self.waiting = b""
-
-    def make_due(self):
-        """A checkpoint after each so many batches is made when all answers have left, whether or not a full journal took one."""
-        if self.every and self.since_due >= self.every:
-            self.checkpoint()
-            self.since_due = 0
-
-    def answer(self, queue):
-        """A batch, of which what is new is made durable before any of it is answered."""
-        if not queue:
-            return
-        self.leave()
-        self.make_due()
-        new = [line for line, answer in queue if answer.startswith(b"OK ")]
-        if new:
-            if self.clean() == 0:
-                self.checkpoint()
-            self.commit(new)
-        self.waiting += b"".join(answer for _, answer in queue)
-
-
-def answers_of(lines):
-    """Those of an auction in memory."""
-    return outside.run(text=DEFINITION + outside.text_of(lines)).output.encode().splitlines(keepends=True)
-
-
-def overlap(at, size, place, count):
-    return at < place + count and place < at + size
-
-
-class Durable:
-    """What is durable of a file after some of its calls."""
-
-    def __init__(self, image):
-        self.image, self.pending = bytearray(image), []
-
-    def take(self, call):
-        if call[:2] == ("write", "file"):
-            self.pending.append((call[2], call[3]))
-        elif call[0] == "sync" and call[1] == "file":
-            for at, data in self.pending:
-                self.image[at : at + len(data)] = data
-            self.pending = []
-
-    def is_closed(self, gate):
-        """In all that a crash may leave."""
-        return self.image[gate] != OPEN[0] and not self.is_pending(gate, 1)
-
-    def is_pending(self, at, size):
-        return any(overlap(at, size, place, len(data)) for place, data in self.pending)
-
-
-def gates_of(layout, journal):
-    """Each gate of slots and frames, with the bytes behind it."""
-    size = FRAME[layout]
-    frames = {frame_at(layout, journal, index): (frame_at(layout, journal, index) + 16, size - 16) for index in range(journal)}
-    return {**{slot: (slot + PAGE, CHUNKS * PAGE) for slot in SLOTS}, **frames}
-
-
-def broken_promises(calls, image, layout, journal, kept=0):
-    """What is written behind a gate that may be open, which gate is opened over bytes that aren't durable, or closed though it is
-    closed, and what is answered before it is durable, in a file that kept so many commands. The threads don't matter here."""
-    durable, gates, counts = Durable(image), gates_of(layout, journal), {}
-    for place, call in enumerate(calls):
-        if call[:2] == ("write", "file"):
-            yield from (f"call {place + 1} is a {told(call)}: {fault}" for fault in faults_of(call[2], call[3], durable, gates))
-            counts.update(count_in(call[2], call[3], gates))
-        early = [count for count in numbers_in(call[2]) if count > kept] if call[0] == "put" else []
-        if early:
-            yield f"call {place + 1} is OK {early[0]}, and {kept} commands are durable"
-        durable.take(call)
-        if call[0] == "sync":
-            kept = max([kept, *(count for gate, count in counts.items() if durable.image[gate] == OPEN[0])])
-
-
-def count_in(at, data, gates):
-    """The number of the last command of a batch that is written, by the gate of its frame."""
-    for gate, (body, size) in gates.items():
-        if gate not in SLOTS and at == body:
-            yield gate, int.from_bytes(data[8:16], "big") + int.from_bytes(data[16:18], "big") - 1
-
-
-def faults_of(at, data, durable, gates):
-    for gate, (body, size) in gates.items():
-        if overlap(at, len(data), body, size) and not durable.is_closed(gate):
-            yield f"its gate may be open, at {gate}"
-        if at == gate and data == OPEN and durable.is_pending(body, size):
-            yield "what is behind it isn't durable"
-        if at == gate and data != OPEN and durable.is_closed(gate):
-            yield "it is closed already"
-
-
-def numbers_in(text):
-    """Those of the commands that are answered by OK."""
-    return [int(line[3:]) for line in text.decode().splitlines() if line.startswith("OK ")]
+def differs_at(found, wanted):
+    """Where two writes differ first that have their place and length in common."""
+    for some, other in zip(found, wanted):
+        if some[:3] == other[:3] and some[0] == "write" and len(some[3]) == len(other[3]):
+            return next((f" (byte {place} differs)" for place in range(len(some[3])) if some[3][place] != other[3][place]), "")
+    return ""

@@ -1,0 +1,233 @@
+"""Images that a crash may leave of a file: made of the calls of runs, and opened by the program."""
+import concurrent.futures
+import functools
+import random
+
+from calls import Shim, told
+from encoder import JOURNAL_AT, NODES, OPEN, SLOTS, Image
+from outside import CELLS, DEFINITION, FIRST_ROUND, LEAST, PAGE, PAGES, format_words, pages_of, rounds, run, text_of
+from wanted import Durable, last_number, numbers_in
+
+# A story is a file that is formatted, and then run and stopped so many times, with so many images of each; the next run goes on
+# from one of them.
+RUNS, IMAGES_A_RUN, IMAGES_A_FORMAT = 4, 24, 4
+STORY = RUNS * IMAGES_A_RUN + IMAGES_A_FORMAT
+# So many batches wrap the journal, and take two checkpoints at least.
+BATCHES = {PAGES: 14, CELLS: 34}
+# Batches of cells take one more cell from 30 commands on, and from 61 on.
+FEW, MANY = range(1, 5), (29, 30, 31, 60, 61, 64)
+EVERIES = (0, 0, 3, 1)
+SECTOR = 512
+FILLS = (0x00, 0xFF, 0xA5)
+MOST_ROUNDS = 180
+
+
+@functools.cache
+def prefixes():
+    """Many commands, all of which are accepted, and what is shown after each number of them."""
+    commands = [*FIRST_ROUND, *rounds(MOST_ROUNDS)]
+    questions = ["SHOW", *(f"NODE {name}" for name in NODES)]
+    lines = [*questions, *(line for command in commands for line in (command, *questions))]
+    answers = run(text=DEFINITION + text_of(lines)).output.splitlines(keepends=True)
+    step = len(questions) + 1
+    return commands, ["".join(answers[step * count : step * count + step - 1]) for count in range(len(commands) + 1)]
+
+
+def sectors(at, size):
+    """The parts of a range that lie in sectors of their own."""
+    cuts = [0, *range(SECTOR - at % SECTOR, size, SECTOR), size]
+    return list(zip(cuts, cuts[1:]))
+
+
+def kept(dice, at, old, new):
+    return new, "kept"
+
+
+def lost(dice, at, old, new):
+    return old, "lost"
+
+
+def torn_at_a_byte(dice, at, old, new):
+    """Half of the time where old and new bytes differ: zeros over zeros show nothing."""
+    places = [place for place in range(len(new)) if old[place] != new[place]] if dice.random() < 0.5 else []
+    place = dice.choice(places) if places else dice.randrange(len(new) + 1)
+    if dice.random() < 0.5:
+        return new[:place] + old[place:], f"kept up to byte {place}"
+    return old[:place] + new[place:], f"kept from byte {place} on"
+
+
+def torn_at_sectors(dice, at, old, new):
+    parts = [(start, end, dice.random() < 0.5) for start, end in sectors(at, len(new))]
+    lasting = [str(place) for place, part in enumerate(parts) if part[2]]
+    return b"".join((new if stays else old)[start:end] for start, end, stays in parts), f"kept in its sectors {' '.join(lasting) or 'nowhere'}"
+
+
+def filled(dice, at, old, new):
+    byte = dice.choice(FILLS)
+    return bytes([byte]) * len(new), f"filled with {byte:#04x}"
+
+
+def filled_sectors(dice, at, old, new):
+    byte, data, places = dice.choice(FILLS), b"", []
+    for place, (start, end) in enumerate(sectors(at, len(new))):
+        if dice.random() < 0.5:
+            places.append(str(place))
+            data += bytes([byte]) * (end - start)
+        else:
+            data += new[start:end]
+    return data, f"filled with {byte:#04x} in its sectors {' '.join(places) or 'nowhere'}"
+
+
+def any_bytes(dice, at, old, new):
+    return dice.randbytes(len(new)), "any bytes"
+
+
+FATES = (kept, lost, torn_at_a_byte, torn_at_a_byte, torn_at_sectors, filled, filled_sectors, any_bytes)
+
+
+class Traced:
+    """The calls of one job, what its file held before, and how many commands that keeps."""
+
+    def __init__(self, calls, before, count):
+        self.calls, self.before, self.count = calls, before, count
+        self.writes = [place for place, call in enumerate(calls) if call[0] == "write"]
+
+    def image(self, dice):
+        """What a crash may leave behind a random call, a write mostly: its bytes, the calls up to there, and how it came to be."""
+        end = 1 + (dice.choice(self.writes) if dice.random() < 0.75 else dice.randrange(self.writes[0], len(self.calls)))
+        durable = Durable(self.before)
+        for call in self.calls[:end]:
+            durable.take(call)
+        image, came = durable.image, [f"behind call {end}, {told(self.calls[end - 1])}"]
+        for at, data in durable.pending:
+            fate = dice.choice(FATES)
+            image[at : at + len(data)], how = fate(dice, at, bytes(image[at : at + len(data)]), data)
+            came.append(f"{len(data)} bytes at {at}: {how}")
+        return bytes(image), self.calls[:end], "; ".join(came)
+
+    def counts(self, calls):
+        """How many commands may be kept: those of whole batches, from what was answered on, up to the last whose gate was written."""
+        answered, last, ends = self.count, None, [self.count]
+        for call in calls:
+            if call[0] == "put":
+                answered = max([answered, *numbers_in(call[2])])
+            elif call[0] == "write" and len(call[3]) > 1 and call[2] > JOURNAL_AT:
+                last = last_number(call[3])
+            elif call[0] == "write" and call[3] == OPEN and call[2] > JOURNAL_AT - 1:
+                ends.append(last)
+        return [count for count in ends if count >= answered] or [answered]
+
+    def shown(self, calls, texts):
+        """What may be shown after these calls, by the texts that are shown after each number of commands."""
+        return {texts[count]: count for count in self.counts(calls)}
+
+
+class TracedFormat(Traced):
+    """Of a file that is being formatted: it isn't one yet, or it is new, and that from the answer on."""
+
+    def shown(self, calls, texts):
+        is_answered = any(call[0] == "put" for call in calls)
+        return {texts[0]: 0} if is_answered else {texts[0]: 0, "ERR 40 unformatted\n": 0}
+
+
+class Crashes:
+    """Stories of files of one layout, by a seed."""
+
+    def __init__(self, shim, folder, layout, seed, lie=""):
+        self.shim, self.folder, self.layout, self.seed, self.lie = shim, folder, layout, seed, lie
+        self.file, self.picture = folder / f"story{layout}", folder / f"image{layout}"
+        self.commands, self.texts = prefixes()
+        self.images, self.runs, self.faults = 0, 0, []
+
+    def story(self, number):
+        """A file is formatted, and then run again and again, each time from an image of before, until something is wrong."""
+        dice, count = random.Random(f"{self.seed} {self.layout} {number}"), 0
+        is_held = self.holds(self.format(dice), IMAGES_A_FORMAT, dice, f"story {number}, format") is not None
+        for place in range(RUNS):
+            if not is_held:
+                break
+            if place == 0:
+                self.file.write_bytes(Image(self.layout, LEAST[self.layout]).bytes)
+            count = self.holds(self.run(dice, count), IMAGES_A_RUN, dice, f"story {number}, run {place}")
+            is_held = count is not None
+            self.picture.replace(self.file)
+
+    def holds(self, traced, count, dice, what):
+        """How many commands the last one keeps of so many images; none where something is wrong with one."""
+        kept = traced.count
+        for picture in range(count):
+            kept = self.opens(traced, dice, f"{what}, image {picture}")
+            if kept is None:
+                return None
+        return kept
+
+    def opens(self, traced, dice, what):
+        image, calls, came = traced.image(dice)
+        self.images += 1
+        self.picture.write_bytes(image)
+        shown, wanted = run("check", "--file", self.picture).output, traced.shown(calls, self.texts)
+        if shown not in wanted:
+            may_be = " or ".join(sorted(repr(text.split("\n")[0]) for text in wanted))
+            self.faults.append(f"layout {self.layout}, seed {self.seed}, {what}: {shown.split(chr(10))[0]!r} is shown, wanted: {may_be}; {came}")
+        return wanted.get(shown)
+
+    def format(self, dice):
+        """That of a file which held something else."""
+        size = pages_of(LEAST[self.layout], self.layout) * PAGE
+        before = dice.choice([bytes(size), OPEN * size, dice.randbytes(size)])
+        self.file.write_bytes(before)
+        words = format_words(self.file, LEAST[self.layout], self.layout)
+        run(*words, text=DEFINITION, env=self.shim.environment(self.lie))
+        return TracedFormat(self.calls(), before, 0)
+
+    def calls(self):
+        self.runs += 1
+        return [call for _, call in self.shim.calls(self.file)]
+
+    def run(self, dice, first):
+        """One that goes on from so many commands, and has to answer each by its number."""
+        before, lines, count = self.file.read_bytes(), [], first
+        for _ in range(BATCHES[self.layout]):
+            size = dice.choice(FEW if dice.random() < 0.9 else MANY)
+            lines += [*self.commands[count : count + size], "SHOW"]
+            count += size
+        (self.folder / "lines").write_bytes(text_of(lines))
+        with open(self.folder / "lines", "rb") as text:
+            words = ["run", "--file", self.file, "--batch", 64, "--every", dice.choice(EVERIES)]
+            ran = run(*words, input=text, env=self.shim.environment(self.lie))
+        calls = self.calls()
+        if [line for line in ran.output.splitlines() if line.startswith("OK ")] != [f"OK {number + 1}" for number in range(first, count)]:
+            self.faults.append(f"layout {self.layout}, seed {self.seed}: a run from {first} commands on answers otherwise: {ran.output[:90]!r}")
+        if not is_long(calls, LEAST[self.layout]):
+            self.faults.append(f"layout {self.layout}, seed {self.seed}: a run from {first} commands on wraps no journal, or has no two checkpoints")
+        return Traced(calls, before, first)
+
+
+def is_long(calls, journal):
+    """Whether more batches than there are frames are made durable, and two checkpoints."""
+    opened = [call[2] for call in calls if call[0] == "write" and call[3] == OPEN]
+    return sum(at in SLOTS for at in opened) >= 2 and sum(at not in SLOTS for at in opened) > journal
+
+
+class Told:
+    """What came of stories: how many images were made of the calls of how many jobs, and what is wrong."""
+
+    def __init__(self, made):
+        self.images, self.jobs = sum(crashes.images for crashes in made), sum(crashes.runs for crashes in made)
+        self.faults = [fault for crashes in made for fault in crashes.faults]
+
+
+def tell(library, folder, layout, seed, numbers, jobs=2, lie=""):
+    """So many stories at a time, each in a folder of its own."""
+    prefixes()
+
+    def some(place):
+        room = folder / f"stories{place}of{layout}{lie}"
+        room.mkdir(exist_ok=True)
+        crashes = Crashes(Shim(library, room), room, layout, seed, lie)
+        for number in numbers[place::jobs]:
+            crashes.story(number)
+        return crashes
+
+    with concurrent.futures.ThreadPoolExecutor(jobs) as pool:
+        return Told(list(pool.map(some, range(jobs))))

@@ -193,11 +193,11 @@ class Server:
 
     all = []
 
-    def __init__(self, file, sessions, before=None, cwd=None):
+    def __init__(self, file, sessions, before=None, cwd=None, env=None):
         self.port = free_port()
         words = ["hpb", *map(str, serve_words(file, self.port, sessions))]
         self.process = subprocess.Popen(
-            words, executable=PROGRAM, stdin=subprocess.DEVNULL, stdout=subprocess.PIPE, stderr=subprocess.PIPE, preexec_fn=before, cwd=cwd
+            words, executable=PROGRAM, stdin=subprocess.DEVNULL, stdout=subprocess.PIPE, stderr=subprocess.PIPE, preexec_fn=before, cwd=cwd, env=env
         )
         Server.all.append(self)
         compare("first line", self.process.stdout.readline().decode(), f"LISTENING {self.port}\n")
