@@ -40,6 +40,11 @@ class Engine:
         self.image[at : at + len(data)] = data
         self.ask("write", at, bytes(data))
 
+    def repeat(self, call):
+        """What a call that was made leaves in the file."""
+        if call[:2] == ("write", "file"):
+            self.image[call[2] : call[2] + len(call[3])] = call[3]
+
     def close_if_open(self, gate):
         if self.is_open(gate):
             self.write(gate, CLOSED)
