@@ -1,7 +1,9 @@
 //! The program: its words, its input, its output, its status.
 #![tactic(auto)]
 
-use hpb_program::{Noted, answer_memory, hold_streams, program, refuse_streams, refuse_words};
+use hpb_program::{
+    Noted, answer_memory, hold_stack, hold_streams, program, refuse_streams, refuse_words,
+};
 use std::io;
 use std::io::{ErrorKind, IsTerminal};
 use std::process::ExitCode;
@@ -35,7 +37,8 @@ fn main(rt: HostRuntime) -> ExitCode {
     ExitCode::from(status)
 }
 
-/// The words that the program was started by.
+/// The words that the program was started by, once its stack has its room.
 fn words(rt: &HostRuntime) -> io::Result<Vec<String>> {
+    hold_stack(rt.alloc())?;
     Ok(std::env::args(rt)?.collect(rt.alloc())?)
 }

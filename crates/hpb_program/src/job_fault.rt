@@ -259,7 +259,7 @@ fn advise_of_open<W: fmt::Write>(
     match cause {
         Cause::Flawed(Flaw::Unformatted) => write!(
             f,
-            "{file} was not formatted, so it keeps no auction: to make one that does, name a file that isn't there: hpb format --file F --journal J < definition.json"
+            "{file} keeps no auction. If it kept one, it was cut or overwritten: take your newest copy of it. To make a new one, name a file that isn't there: hpb format --file F --journal J < definition.json"
         ),
         Cause::Flawed(Flaw::Layout) => write!(
             f,

@@ -2,25 +2,31 @@
 
 use crate::escaped::Escaped;
 use hpb_disk::{FileDisk, FileFault};
+use hpb_image::PAGE_BYTES;
 use hpb_serve::Watch;
 use std::alloc::{AllocError, Global};
 use std::fs::{File, Files};
 use std::io;
 use std::os::fd::AsRawFd;
+use std::os::unix::fs::FileExt;
 
 /// Where the system tells the names of the files that this process has open, by their descriptors.
 const NAMES: &str = "/proc/self/fd";
 
-/// The name and the length of an open file.
+/// How many bytes a file begins with that nobody writes while it is served: its head, which are three pages.
+const HEAD_BYTES: usize = 3 * PAGE_BYTES;
+
+/// The name, the length and the first bytes of an open file.
 #[derive(Drop)]
 struct Seen {
     name: Vec<u8>,
     len: u64,
+    head: Vec<u8>,
 }
 
 impl Seen {
-    /// Those that it has now. The name is another one once the file was moved, removed or replaced. Where the system tells none
-    /// it is empty.
+    /// Those that it has now. The name is another one once the file was moved, removed or replaced; where the system tells none
+    /// it is empty. A file that was cut and then written behind its end is as long as before, but has zeros between.
     fn of(alloc: Global, file: &File) -> Result<Seen, AllocError> {
         let len = match file.metadata() {
             Ok(found) => found.len(),
@@ -29,7 +35,22 @@ impl Seen {
         Ok(Seen {
             name: name_of(alloc, file)?,
             len,
+            head: head_of(alloc, file)?,
         })
+    }
+
+    /// Whether it was cut, made longer or overwritten since this was seen.
+    fn differs_from(&self, before: &Seen) -> bool {
+        self.len != before.len || self.head.as_slice() != before.head.as_slice()
+    }
+}
+
+/// The first bytes of a file. None of them where they can't be read.
+fn head_of(alloc: Global, file: &File) -> Result<Vec<u8>, AllocError> {
+    let mut head = vec![in alloc; 0; HEAD_BYTES]?;
+    match file.read_exact_at(&mut head, 0) {
+        Ok(()) => Ok(head),
+        Err(_) => Ok(Vec::new(alloc)),
     }
 }
 
@@ -81,7 +102,7 @@ impl Watch for Lookout<'_> {
 
     fn look(&self) -> bool {
         match Seen::of(self.alloc, &self.file) {
-            Ok(seen) if seen.len != self.seen.len => {
+            Ok(seen) if seen.differs_from(&self.seen) => {
                 tell_errors(cut_line(self.alloc, self.path));
                 false
             }
@@ -110,7 +131,7 @@ fn moved_line(alloc: Global, path: &str) -> Result<String, AllocError> {
 fn cut_line(alloc: Global, path: &str) -> Result<String, AllocError> {
     let path = Escaped(path);
     format!(in alloc;
-        "hpb: {path} was cut or made longer while it is served: end the sessions, see it by hpb check, and take your newest copy if it is refused\n"
+        "hpb: {path} was cut, made longer or overwritten while it is served: end the sessions, see it by hpb check, and take your newest copy if it is refused\n"
     )
 }
 

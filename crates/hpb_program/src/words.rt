@@ -139,9 +139,10 @@ are accepted in all. What can't be served gets ERR with a number and a word.
 
 Only programs on this machine can connect. Any of them may send any command: nobody is asked who he is.
 
-Status: 0 all sessions have ended; 1 the file could not be opened, the port could not be had, the file's disk failed
-(commands are answered ERR 93 failed from then on), memory was refused, writing failed, or what was answered isn't what
-was kept; 2 the words were wrong. With 1 standard error says what happened and what to do.
+Status: 0 all sessions have ended; 1 the file could not be opened, as many connections may not be open at a time (ulimit
+-n), the port could not be had, the file's disk failed (commands are answered ERR 93 failed from then on), memory was
+refused, writing failed, or what was answered isn't what was kept; 2 the words were wrong. With 1 standard error says
+what happened and what to do.
 
 Example: two sessions, each from a terminal of its own
 
