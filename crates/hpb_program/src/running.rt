@@ -109,7 +109,7 @@ fn run_asked<
     match asked {
         Ok(job) => {
             let file = job.file();
-            let led = Led::to(file);
+            let led = Led::to(rt, file);
             if led.is_any() {
                 return refuse_led(alloc, file, led, output, errors);
             }

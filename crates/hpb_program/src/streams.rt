@@ -11,9 +11,10 @@ use crate::status::ILL;
 use crate::telling::{advise, tell_refusal};
 use hpb_rules::Refusal;
 use std::alloc::Global;
-use std::fs::{File, Files};
+use std::fs::{self, File, Files, Metadata};
 use std::io::Write;
 use std::os::fd::IntoRawFd;
+use std::os::unix::fs::MetadataExt;
 use std::{fmt, io};
 
 /// What stands in for a stream that is closed: it reads as empty, and takes what is written.
@@ -48,40 +49,42 @@ fn is_closed(stream: i32) -> bool {
     libc::posix_fadvise(stream, 0, 0, libc::POSIX_FADV_NORMAL) == libc::EBADF
 }
 
-/// A regular file, by what the system knows it by: its file system, and its number there.
-#[derive(Clone, Copy, PartialEq, Eq)]
-struct Known {
-    major: u32,
-    minor: u32,
-    number: u64,
+/// A standard stream, and the name by which the system tells what it leads to.
+#[derive(Clone, Copy)]
+struct Named {
+    stream: i32,
+    path: &'static str,
 }
 
-impl Known {
-    /// The one that a path leads to, if it leads to one.
-    fn at(path: &str) -> Option<Known> {
-        Known::asked(libc::AT_FDCWD, path, 0)
-    }
+const INPUT: Named = Named {
+    stream: libc::STDIN_FILENO,
+    path: "/dev/fd/0",
+};
 
-    /// The one behind an open stream, if there is one. The descriptor is asked itself, so no name has to lead to it.
-    fn behind(stream: i32) -> Option<Known> {
-        Known::asked(stream, "", libc::AT_EMPTY_PATH)
-    }
+const OUTPUT: Named = Named {
+    stream: libc::STDOUT_FILENO,
+    path: "/dev/fd/1",
+};
 
-    fn asked(descriptor: i32, path: &str, flags: i32) -> Option<Known> {
-        let mut found = NOTHING_KNOWN;
-        if os::statx(descriptor, path.as_bytes(), flags, &mut found) < 0 {
-            return None;
+const ERRORS: Named = Named {
+    stream: libc::STDERR_FILENO,
+    path: "/dev/fd/2",
+};
+
+impl Named {
+    /// Whether it leads to a file, and that is a regular one: others may stand behind a stream and a path at once. Where the
+    /// system doesn't tell what it leads to, it is taken to lead there, unless it is a pipe.
+    fn leads_to<H: Files>(self, rt: &H, file: &Metadata) -> bool {
+        match fs::metadata(rt, self.path) {
+            Ok(found) => file.is_file() && found.dev() == file.dev() && found.ino() == file.ino(),
+            Err(_) => file.is_file() && !is_pipe(self.stream),
         }
-        // Others than regular files may stand behind a stream and a path at once.
-        if u32::from(found.stx_mode) & libc::S_IFMT != libc::S_IFREG {
-            return None;
-        }
-        Some(Known {
-            major: found.stx_dev_major,
-            minor: found.stx_dev_minor,
-            number: found.stx_ino,
-        })
     }
+}
+
+/// Whether an open stream is a pipe. Advice on how it will be read changes none.
+fn is_pipe(stream: i32) -> bool {
+    libc::posix_fadvise(stream, 0, 0, libc::POSIX_FADV_NORMAL) == libc::ESPIPE
 }
 
 /// Which of the standard streams lead to a file.
@@ -94,15 +97,18 @@ pub(crate) struct Led {
 
 impl Led {
     /// Those that lead to the file of a path. None leads to a file that isn't there, nor to none.
-    pub(crate) fn to(file: Option<&str>) -> Led {
-        let known = match file {
-            Some(path) => Known::at(path),
-            None => None,
-        };
-        Led {
-            input: leads_to(libc::STDIN_FILENO, known),
-            output: leads_to(libc::STDOUT_FILENO, known),
-            errors: leads_to(libc::STDERR_FILENO, known),
+    pub(crate) fn to<H: Files>(rt: &H, file: Option<&str>) -> Led {
+        match file.map(|path| fs::metadata(rt, path)) {
+            Some(Ok(found)) => Led {
+                input: INPUT.leads_to(rt, &found),
+                output: OUTPUT.leads_to(rt, &found),
+                errors: ERRORS.leads_to(rt, &found),
+            },
+            _ => Led {
+                input: false,
+                output: false,
+                errors: false,
+            },
         }
     }
 
@@ -110,11 +116,6 @@ impl Led {
     pub(crate) fn is_any(self) -> bool {
         self.input || self.output || self.errors
     }
-}
-
-/// Whether a stream leads to a file.
-fn leads_to(stream: i32, file: Option<Known>) -> bool {
-    file.is_some() && Known::behind(stream) == file
 }
 
 /// The status of a job whose file standard streams lead to: 1. It is told by 91, but not on a stream that leads there: it would
@@ -161,37 +162,3 @@ impl fmt::Display for LedAdvice<'_> {
         )
     }
 }
-
-/// What the system fills in when it is asked for a file.
-const NOTHING_KNOWN: libc::types::statx = libc::types::statx {
-    stx_mask: 0,
-    stx_blksize: 0,
-    stx_attributes: 0,
-    stx_nlink: 0,
-    stx_uid: 0,
-    stx_gid: 0,
-    stx_mode: 0,
-    __spare0: [0; 1],
-    stx_ino: 0,
-    stx_size: 0,
-    stx_blocks: 0,
-    stx_attributes_mask: 0,
-    stx_atime: NO_TIME,
-    stx_btime: NO_TIME,
-    stx_ctime: NO_TIME,
-    stx_mtime: NO_TIME,
-    stx_rdev_major: 0,
-    stx_rdev_minor: 0,
-    stx_dev_major: 0,
-    stx_dev_minor: 0,
-    stx_mnt_id: 0,
-    stx_dio_mem_align: 0,
-    stx_dio_offset_align: 0,
-    __spare3: [0; 12],
-};
-
-const NO_TIME: libc::types::statx_timestamp = libc::types::statx_timestamp {
-    tv_sec: 0,
-    tv_nsec: 0,
-    __reserved: 0,
-};
