@@ -16,6 +16,7 @@ class Engine:
         self.layout, self.journal = layout, journal
         self.image = bytearray(Image(layout, journal).bytes if image is None else image)
         self.calls, self.auction, self.states, self.since_due = [], Auction(), {}, 0
+        self.is_watched = False
         self.states[0] = self.auction.state(0)
 
     def taken(self):
@@ -114,6 +115,12 @@ class Engine:
     def write_state(self, slot, batches):
         for chunk in range(CHUNKS):
             self.write(slot + PAGE * (1 + chunk), self.states[batches][PAGE * chunk : PAGE * (chunk + 1)])
+            if chunk == 0 and self.is_watched:
+                self.look()
+
+    def look(self):
+        """Whether its first pages are as they were."""
+        self.read(0, HEAD_AT + HEAD_SIZE)
 
     def open(self):
         """A sync, then reads alone. What is known then: where the next batch goes, and which frames are clean."""
