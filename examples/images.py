@@ -22,7 +22,7 @@ FILLS = (0x00, 0xFF, 0xA5)
 MOST_ROUNDS = 180
 
 
-@functools.cache
+@functools.lru_cache(maxsize=None)
 def prefixes():
     """Many commands, all of which are accepted, and what is shown after each number of them."""
     commands = [*FIRST_ROUND, *rounds(MOST_ROUNDS)]
@@ -78,8 +78,12 @@ def filled_sectors(dice, at, old, new):
     return data, f"filled with {byte:#04x} in its sectors {' '.join(places) or 'nowhere'}"
 
 
+def bytes_of(dice, size):
+    return dice.getrandbits(8 * size).to_bytes(size, "little")
+
+
 def any_bytes(dice, at, old, new):
-    return dice.randbytes(len(new)), "any bytes"
+    return bytes_of(dice, len(new)), "any bytes"
 
 
 FATES = (kept, lost, torn_at_a_byte, torn_at_a_byte, torn_at_sectors, filled, filled_sectors, any_bytes)
@@ -155,6 +159,9 @@ class Crashes:
     def holds(self, traced, count, dice, what):
         """How many commands the last one keeps of so many images; none where something is wrong with one."""
         kept = traced.count
+        if not traced.writes:
+            self.faults.append(f"{self.name(what)}: nothing was written")
+            return None
         for picture in range(count):
             kept = self.opens(traced, dice, f"{what}, image {picture}")
             if kept is None:
@@ -167,14 +174,18 @@ class Crashes:
         self.picture.write_bytes(image)
         shown, wanted = run("check", "--file", self.picture).output, traced.shown(calls, self.texts)
         if shown not in wanted:
-            may_be = " or ".join(sorted(repr(text.split("\n")[0]) for text in wanted))
-            self.faults.append(f"layout {self.layout}, seed {self.seed}, {what}: {shown.split(chr(10))[0]!r} is shown, wanted: {may_be}; {came}")
+            first, *may_be = (text.split("\n")[0] for text in (shown, *sorted(wanted)))
+            self.faults.append(f"{self.name(what)}: {first!r} is shown, wanted: {' or '.join(map(repr, may_be))}; {came}")
+            self.picture.with_name("wrong-" + what.replace(", ", "-").replace(" ", "")).write_bytes(image)
         return wanted.get(shown)
+
+    def name(self, what):
+        return f"layout {self.layout}, seed {self.seed}, {what}"
 
     def format(self, dice):
         """That of a file which held something else."""
         size = pages_of(LEAST[self.layout], self.layout) * PAGE
-        before = dice.choice([bytes(size), OPEN * size, dice.randbytes(size)])
+        before = dice.choice([bytes(size), OPEN * size, bytes_of(dice, size)])
         self.file.write_bytes(before)
         words = format_words(self.file, LEAST[self.layout], self.layout)
         run(*words, text=DEFINITION, env=self.shim.environment(self.lie))
@@ -195,11 +206,11 @@ class Crashes:
         with open(self.folder / "lines", "rb") as text:
             words = ["run", "--file", self.file, "--batch", 64, "--every", dice.choice(EVERIES)]
             ran = run(*words, input=text, env=self.shim.environment(self.lie))
-        calls = self.calls()
-        if [line for line in ran.output.splitlines() if line.startswith("OK ")] != [f"OK {number + 1}" for number in range(first, count)]:
-            self.faults.append(f"layout {self.layout}, seed {self.seed}: a run from {first} commands on answers otherwise: {ran.output[:90]!r}")
+        calls, name = self.calls(), self.name(f"a run from {first} commands on")
+        if numbers_in(ran.output.encode()) != list(range(first + 1, count + 1)):
+            self.faults.append(f"{name} answers otherwise: {ran.output[:90]!r}")
         if not is_long(calls, LEAST[self.layout]):
-            self.faults.append(f"layout {self.layout}, seed {self.seed}: a run from {first} commands on wraps no journal, or has no two checkpoints")
+            self.faults.append(f"{name} wraps no journal, or has no two checkpoints")
         return Traced(calls, before, first)
 
 
