@@ -203,18 +203,24 @@ fn damaged_further_cells(rt: HostRuntime) -> Result<(), Fail> {
     Ok(())
 }
 
+fn first() -> Command {
+    bid(X, 1, A, 100)
+}
+
+fn second() -> Command {
+    bid(Y, 1, B, 150)
+}
+
 /// Two batches of a command each: the number and the command of the second one, and what is opened.
 fn wanted_of_two(shape: JournalShape) -> [(u64, Command, Found); 5] {
-    let first = bid(X, 1, A, 100);
-    let second = bid(Y, 1, B, 150);
     [
-        (2, second, found(shape, 2, 2)),
+        (2, second(), found(shape, 2, 2)),
         // A repeat is answered, but not newly accepted, whatever its number.
-        (2, first, FRAME),
-        (1, first, FRAME),
+        (2, first(), FRAME),
+        (1, first(), FRAME),
         // A number that was given already, and one that is left out.
-        (1, second, FRAME),
-        (3, second, FRAME),
+        (1, second(), FRAME),
+        (3, second(), FRAME),
     ]
 }
 
@@ -222,9 +228,8 @@ fn wanted_of_two(shape: JournalShape) -> [(u64, Command, Found); 5] {
 fn repeat_of_the_frame_before(rt: HostRuntime) -> Result<(), Fail> {
     let alloc = rt.alloc();
     for shape in LAYOUTS {
-        for (number, second, wanted) in wanted_of_two(shape) {
-            let first = batch(0, 1, &[bid(X, 1, A, 100)]);
-            let batches = [first, batch(1, number, &[second])];
+        for (number, command, wanted) in wanted_of_two(shape) {
+            let batches = [batch(0, 1, &[first()]), batch(1, number, &[command])];
             assert_eq!(rt; opened_batches(alloc, shape, &batches)?, wanted, "{number}");
         }
     }

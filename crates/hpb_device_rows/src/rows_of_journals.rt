@@ -58,7 +58,7 @@ fn is_opened(
 fn wrap(rt: &impl Abort, alloc: Global, shape: JournalShape, covering: &[u16]) -> Result<(), Fail> {
     let new = new_device(alloc, shape)?;
     let commands = many_rounds(alloc)?;
-    let frames = shape.frames as u16;
+    let frames = u16::try_from(shape.frames).unwrap_or(u16::MAX);
     for covered in covering {
         let covered = *covered;
         for next in covered..covered.saturating_add(frames).saturating_add(1) {
