@@ -26,6 +26,7 @@ fn definition(alloc: Global) -> Result<Definition, Fail> {
         step: 10,
         percent: 10,
         stages: vec![in alloc; 80]?,
+        waivers: 0,
         nodes: Vec::new(alloc),
         bidders: Vec::new(alloc),
     };
@@ -161,6 +162,11 @@ fn responses_are_written(rt: HostRuntime) -> Result<(), Fail> {
         eligibility: 21,
         activity: 20,
         ticket: 2,
+        waivers: None,
+    };
+    let with_waivers = BidderLine {
+        waivers: Some(20),
+        ..who
     };
     let round = RoundLine {
         round: 2,
@@ -199,6 +205,10 @@ fn responses_are_written(rt: HostRuntime) -> Result<(), Fail> {
             Response::Who(who),
             "WHO w ELIGIBILITY 21 ACTIVITY 20 TICKET 2\n",
         ),
+        (
+            Response::Who(with_waivers),
+            "WHO w ELIGIBILITY 21 ACTIVITY 20 TICKET 2 WAIVERS 20\n",
+        ),
     ];
     for (response, line) in table {
         text.clear();
@@ -208,7 +218,7 @@ fn responses_are_written(rt: HostRuntime) -> Result<(), Fail> {
     text.render_reply(Reply::Ok(1))?;
     assert_eq!(rt;
         text.as_bytes(),
-        b"WHO w ELIGIBILITY 21 ACTIVITY 20 TICKET 2\nOK 1\n".as_slice()
+        b"WHO w ELIGIBILITY 21 ACTIVITY 20 TICKET 2 WAIVERS 20\nOK 1\n".as_slice()
     );
     Ok(())
 }
