@@ -31,14 +31,12 @@ pub fn cells_are_fewest()
     ensures { CellsAreFewest }
 {}
 
-/// What is saved, with a batch index, has one body in each format, and bytes are the body of at most one such, whatever
-/// the format.
+/// What is saved, with a batch index, has one body, and bytes are the body of at most one such.
 pub fn states_are_one()
     ensures { StatesAreOne }
 {}
 
-/// A definition with the shape of its journal has one head in each format of states, and bytes are the head of at most
-/// one such, whatever the format.
+/// A definition with the shape of its journal has one head, and bytes are the head of at most one such.
 pub fn heads_are_one()
     ensures { HeadsAreOne }
 {}

@@ -4,8 +4,8 @@ use crate::bodies::{batch, definition, saved};
 use anyhow::Result;
 use hpb_auction::Auction;
 use hpb_codec::{
-    BATCH_SIZE, HEAD_SIZE, JournalLayout, JournalShape, STATE_SIZE, StateFormat, decode_batch,
-    decode_state, encode_batch, encode_head, encode_state,
+    BATCH_SIZE, HEAD_SIZE, JournalLayout, JournalShape, STATE_SIZE, decode_batch, decode_state,
+    encode_batch, encode_head, encode_state,
 };
 use hpb_rules::{Answer, Answers, Command, Letter, Letters, MOST_LETTERS, Reply, Saved};
 use std::alloc::Global;
@@ -90,7 +90,7 @@ pub(crate) fn encode_heads(alloc: Global, rounds: u64) -> Result<u64> {
     };
     let mut sum = 0_u64;
     for _ in 0..rounds {
-        encode_head(&definition, journal, StateFormat::Two, head);
+        encode_head(&definition, journal, head);
         sum = sum.wrapping_add(u64::from(head[FRAMES_IN_HEAD]));
     }
     Ok(sum)

@@ -64,7 +64,7 @@ const CHANGES: [(usize, u8); 8] = [
     (32_768, 0xff),
     // A state format that there isn't, one unit more than the bidder began with, more batches than commands, a last byte
     // that isn't zero.
-    (36_864, 3),
+    (36_864, 2),
     (39_963, 11),
     (36_887, 3),
     (53_247, 1),

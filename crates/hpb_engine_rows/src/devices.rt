@@ -68,7 +68,6 @@ fn six_nodes_draft(alloc: Global) -> Result<Draft, AllocError> {
         step: 10,
         percent: 10,
         stages: vec![in alloc; 80, 95]?,
-        waivers: 0,
         nodes: Vec::new(alloc),
         bidders: Vec::new(alloc),
     };

@@ -168,7 +168,6 @@ fn ticket_of(command: &Command) -> u32 {
         Command::Bid { ticket, .. } => *ticket,
         Command::Close { ticket } => *ticket,
         Command::Stage { ticket } => *ticket,
-        Command::Waive { ticket, .. } => *ticket,
     }
 }
 

@@ -26,7 +26,6 @@ fn definition(alloc: Global) -> Result<Definition, Fail> {
         step: 10,
         percent: 10,
         stages: vec![in alloc; 80]?,
-        waivers: 0,
         nodes: Vec::new(alloc),
         bidders: Vec::new(alloc),
     };
@@ -162,11 +161,6 @@ fn responses_are_written(rt: HostRuntime) -> Result<(), Fail> {
         eligibility: 21,
         activity: 20,
         ticket: 2,
-        waivers: None,
-    };
-    let with_waivers = BidderLine {
-        waivers: Some(20),
-        ..who
     };
     let round = RoundLine {
         round: 2,
@@ -205,10 +199,6 @@ fn responses_are_written(rt: HostRuntime) -> Result<(), Fail> {
             Response::Who(who),
             "WHO w ELIGIBILITY 21 ACTIVITY 20 TICKET 2\n",
         ),
-        (
-            Response::Who(with_waivers),
-            "WHO w ELIGIBILITY 21 ACTIVITY 20 TICKET 2 WAIVERS 20\n",
-        ),
     ];
     for (response, line) in table {
         text.clear();
@@ -218,7 +208,7 @@ fn responses_are_written(rt: HostRuntime) -> Result<(), Fail> {
     text.render_reply(Reply::Ok(1))?;
     assert_eq!(rt;
         text.as_bytes(),
-        b"WHO w ELIGIBILITY 21 ACTIVITY 20 TICKET 2 WAIVERS 20\nOK 1\n".as_slice()
+        b"WHO w ELIGIBILITY 21 ACTIVITY 20 TICKET 2\nOK 1\n".as_slice()
     );
     Ok(())
 }

@@ -1,7 +1,5 @@
 use crate::tests::examples::{body_with, change, first_bid, scribbled, six_nodes};
-use crate::{
-    CHUNK_SIZE, CHUNKS, STATE_SIZE, chunk, decode_state, encode_state, encode_state_1,
-};
+use crate::{CHUNK_SIZE, CHUNKS, STATE_SIZE, chunk, decode_state, encode_state};
 use hpb_auction::Auction;
 use hpb_rules::{Command, MOST_BIDDERS, MOST_NODES, Saved, SavedBidder, SavedNode};
 use hpb_tree::Definition;
@@ -10,7 +8,7 @@ use std::test::*;
 
 /// What stands in the body of the empty auction of six nodes.
 const EMPTY: [(usize, &[u8]); 5] = [
-    (0, &[2, 1, 0, 0, 0, 0, 0, 1]),
+    (0, &[1, 1, 0, 0, 0, 0, 0, 1]),
     (3_096, &[0, 0, 0, 10]),
     (3_144, &[0, 0, 0, 10]),
     (3_192, &[0, 0, 0, 40]),
@@ -20,7 +18,7 @@ const EMPTY: [(usize, &[u8]); 5] = [
 /// What stands in the body of the same auction after `x` bid 100 on `a`, `y` 150 on `b`, `z` 500 on `all`, `w` 100 on `c`
 /// and a close, all in one batch.
 const AFTER_A_CLOSE: [(usize, &[u8]); 19] = [
-    (0, &[2, 1, 0, 0, 0, 0, 0, 2, 0, 0, 0, 5]),
+    (0, &[1, 1, 0, 0, 0, 0, 0, 2, 0, 0, 0, 5]),
     (23, &[1]),
     (24, &[0, 0, 0, 1, 0, 0, 0, 5]),
     (32, &[2, 0, 0, 0, 0, 0, 0, 1]),
@@ -62,8 +60,6 @@ fn blank() -> Saved {
             eligibility: 0,
             last: None,
             bid_on: 0,
-            waivers: 0,
-            has_waived: false,
         }; MOST_BIDDERS],
     }
 }
@@ -116,34 +112,6 @@ fn state_bytes_empty(rt: HostRuntime) -> Result<(), Fail> {
     let bytes = body_after(alloc, &definition, &[], 0)?;
     assert!(rt; bytes == body_with(alloc, STATE_SIZE, &EMPTY)?);
     assert!(rt; body_again(alloc, &definition, &bytes, 0)? == bytes);
-    Ok(())
-}
-
-/// The body in the first format of what a body says.
-fn body_of_format_1(alloc: Global, definition: &Definition, bytes: &[u8]) -> Result<Vec<u8>, Fail> {
-    let mut saved = blank();
-    let mut first = scribbled(alloc, STATE_SIZE)?;
-    if let Some(index) = index_of(bytes, definition, &mut saved) {
-        encode_state_1(&saved, index, &mut first);
-    }
-    Ok(first)
-}
-
-#[test]
-fn formats_differ_in_one_byte(rt: HostRuntime) -> Result<(), Fail> {
-    let alloc = rt.alloc();
-    let definition = six_nodes(alloc)?;
-    for parts in [EMPTY.as_slice(), AFTER_A_CLOSE.as_slice()] {
-        let second = body_with(alloc, STATE_SIZE, parts)?;
-        let mut first = body_with(alloc, STATE_SIZE, parts)?;
-        change(&mut first, &[(0, &[1])]);
-        assert!(rt; body_of_format_1(alloc, &definition, &second)? == first);
-        // A body of the first format is read as what it was, and is written in the second.
-        let mut saved = blank();
-        let index = index_of(&first, &definition, &mut saved);
-        assert!(rt; index.is_some());
-        assert!(rt; body_again(alloc, &definition, &first, index.unwrap_or(0))? == second);
-    }
     Ok(())
 }
 
@@ -233,12 +201,11 @@ fn is_state_with(
 }
 
 /// Changes that leave a body, each beside one that breaks one condition.
-const HEAD_CHANGES: [(&[(usize, &[u8])], bool); 34] = [
+const HEAD_CHANGES: [(&[(usize, &[u8])], bool); 33] = [
     (&[], true),
-    // The format is 1 or 2.
+    // The format is 1.
     (&[(0, &[0])], false),
-    (&[(0, &[1])], true),
-    (&[(0, &[3])], false),
+    (&[(0, &[2])], false),
     // The stage is 1 or 2, and a flag 0 or 1.
     (&[(1, &[0])], false),
     (&[(1, &[2])], true),
