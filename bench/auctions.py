@@ -5,13 +5,15 @@ STEP, PERCENT, OPENING = 1, 1, 100
 
 
 class Auction:
-    """A full binary tree of so many levels, the nodes n0, n1, .. from the top; and so many bidders b0, b1, .."""
+    """A full binary tree of so many levels, the nodes n0, n1, .. from the top; and so many bidders b0, b1, .., each with so many
+    waivers."""
 
-    def __init__(self, levels, bidders, stages=(50,)):
+    def __init__(self, levels, bidders, stages=(50,), waivers=0):
         self.nodes = 2**levels - 1
         self.first_licence = self.nodes // 2
         self.bidders = bidders
         self.stages = stages
+        self.waivers = waivers
 
     def definition(self):
         nodes = []
@@ -23,6 +25,8 @@ class Auction:
         units = self.nodes - self.first_licence
         bidders = [{"name": f"b{b}", "units": units} for b in range(self.bidders)]
         rules = {"step": STEP, "percent": PERCENT, "stages": list(self.stages), "nodes": nodes, "bidders": bidders}
+        if self.waivers:
+            rules["waivers"] = self.waivers
         return json.dumps(rules, separators=(",", ":"))
 
     def minima(self, high):

@@ -1,4 +1,5 @@
-"""The bytes of a file as docs/FORMATS.md and docs/DEVICE.md have them, worked out apart from the program."""
+"""The bytes of a file as docs/FORMATS.md and docs/DEVICE.md have them, and the auctions of docs/RULES.md that they keep, worked
+out apart from the program."""
 import json
 
 from outside import CELLS, DEFINITION, PAGE, PAGES, pages_of
@@ -8,6 +9,10 @@ NODES = [node["name"] for node in RULES["nodes"]]
 BIDDERS = [bidder["name"] for bidder in RULES["bidders"]]
 OPEN, CLOSED = b"\xa5", b"\0"
 MAGIC = b"HPBAUCT1"
+# The formats of states. The first is that of files that an earlier program made, and has no waivers.
+FIRST_FORMAT, WAIVERS_FORMAT = 1, 2
+KINDS = {"BID": 1, "CLOSE": 2, "STAGE": 3, "WAIVE": 4}
+NODES_AT, BIDDERS_AT, BIDDER_SIZE = 48, 3096, 48
 HEAD_AT, HEAD_SIZE = 16, 3 * PAGE - 16
 JOURNAL_AT, CELL = 13 * PAGE, 512
 FRAME = {PAGES: PAGE, CELLS: 3 * CELL}
@@ -24,7 +29,7 @@ def name(text):
     return text.encode().ljust(16, b"\0")
 
 
-def head(layout, journal):
+def head(layout, journal, waivers=0, form=WAIVERS_FORMAT):
     """What stands behind the head's gate: the first three pages from byte 16 on."""
     pages = bytearray(3 * PAGE)
 
@@ -32,8 +37,9 @@ def head(layout, journal):
         pages[at : at + len(part)] = part
 
     stages = bytes(RULES["stages"])
-    counts = bytes([layout, 1, len(NODES), len(BIDDERS), RULES["percent"], len(stages)])
-    put(HEAD_AT, MAGIC + counts + stages.ljust(4, b"\0") + bytes(2) + number(4, RULES["step"]) + number(4, journal))
+    counts = bytes([layout, form, len(NODES), len(BIDDERS), RULES["percent"], len(stages)])
+    rest = bytes([waivers, 0]) + number(4, RULES["step"]) + number(4, journal)
+    put(HEAD_AT, MAGIC + counts + stages.ljust(4, b"\0") + rest)
     for place, node in enumerate(RULES["nodes"]):
         parent = NODES.index(node["parent"]) if node["parent"] else 0xFF
         terms = number(4, node.get("units", 0)) + number(8, node.get("opening", 0))
@@ -46,17 +52,20 @@ def head(layout, journal):
 class Image:
     """The bytes of a file, put together place by place."""
 
-    def __init__(self, layout, journal):
-        """One that was just made."""
+    def __init__(self, layout, journal, waivers=0, form=WAIVERS_FORMAT):
+        """One that was just made, by this program or by an earlier one."""
         self.layout, self.journal = layout, journal
         self.bytes = bytearray(pages_of(journal, layout) * PAGE)
         self.put(0, OPEN)
-        self.put(HEAD_AT, head(layout, journal))
-        self.put(SLOTS[0], OPEN)
-        self.put(SLOTS[0] + PAGE, Auction().state(0))
+        self.put(HEAD_AT, head(layout, journal, waivers, form))
+        self.put_state(0, Auction(waivers).state(0, form))
 
     def put(self, at, part):
         self.bytes[at : at + len(part)] = part
+
+    def put_state(self, slot, body):
+        self.put(SLOTS[slot], OPEN)
+        self.put(SLOTS[slot] + PAGE, body)
 
     def frame(self, index):
         return frame_at(self.layout, self.journal, index)
@@ -74,12 +83,17 @@ def frame_at(layout, journal, index):
     return JOURNAL_AT + FRAME[layout] * (index % journal)
 
 
+def sender_of(line):
+    """The bidder of a bid or a waiver; none of what the auctioneer sends."""
+    kind, first, *_ = line.split()
+    return first if kind in ("BID", "WAIVE") else ""
+
+
 def record(line):
     kind, *words = line.split()
-    if kind == "BID":
-        bidder, ticket, node, amount = words
-        return bytes([1, BIDDERS.index(bidder), NODES.index(node), 0]) + number(4, int(ticket)) + number(8, int(amount))
-    return bytes([2 if kind == "CLOSE" else 3, 0, 0, 0]) + number(4, int(words[0])) + bytes(8)
+    bidder = BIDDERS.index(words.pop(0)) if sender_of(line) else 0
+    ticket, node, amount = words if kind == "BID" else (words[0], NODES[0], 0)
+    return bytes([KINDS[kind], bidder, NODES.index(node), 0]) + number(4, int(ticket)) + number(8, int(amount))
 
 
 def body_of(layout, index, first, records):
@@ -93,36 +107,45 @@ def body_of(layout, index, first, records):
     return body
 
 
+def children_of(node):
+    """Those of a package in their order, and the top nodes of none."""
+    return [place["name"] for place in RULES["nodes"] if place["parent"] == node]
+
+
 def licences_of(node):
     """The licences at or under a node, with their units."""
-    found = {}
-    for place in RULES["nodes"]:
-        if place["name"] == node and "units" in place:
-            found[node] = place["units"]
-        elif place["parent"] == node:
-            found.update(licences_of(place["name"]))
+    found = {place["name"]: place["units"] for place in RULES["nodes"] if place["name"] == node and "units" in place}
+    for child in children_of(node):
+        found.update(licences_of(child))
     return found
 
 
 class Auction:
-    """What a state says of an auction whose commands are taken here, each of which is accepted.
+    """What is known of an auction whose commands are taken here, each of which is accepted."""
 
-    Of activity it knows the bids of the open round alone: no bidder of these scripts keeps its eligibility by what it won.
-    """
-
-    def __init__(self):
-        self.count, self.round, self.high, self.offered = 0, 1, {}, {}
+    def __init__(self, waivers=0):
+        """Each bidder has so many waivers."""
+        self.count, self.round, self.stage, self.is_over, self.high, self.offered = 0, 1, 1, False, {}, {}
         self.last = dict.fromkeys(["", *BIDDERS], bytes(24))
         self.eligible = {bidder["name"]: bidder["units"] for bidder in RULES["bidders"]}
         self.nodes_of = {bidder: set() for bidder in BIDDERS}
+        self.waivers, self.left, self.waived = waivers, dict.fromkeys(BIDDERS, waivers), set()
+        # How many waivers closes took.
+        self.taken = 0
 
     def take(self, line):
         self.count += 1
         kind, *words = line.split()
-        sender = words.pop(0) if kind == "BID" else ""
-        self.last[sender] = number(4, int(words[0])) + number(4, self.count) + record(line)
+        sender = sender_of(line)
+        ticket, *words = words[1:] if sender else words
+        self.last[sender] = number(4, int(ticket)) + number(4, self.count) + record(line)
         if kind == "BID":
-            self.bid(sender, words[1], int(words[2]))
+            self.bid(sender, words[0], int(words[1]))
+        elif kind == "WAIVE":
+            self.left[sender] -= 1
+            self.waived.add(sender)
+        elif kind == "STAGE":
+            self.stage += 1
         else:
             self.close()
 
@@ -132,34 +155,61 @@ class Auction:
             self.offered[node] = amount, bidder
 
     def close(self):
-        """The bids of the open round are above those that stood."""
-        for bidder in BIDDERS:
-            self.settle(bidder)
+        """The bids of the open round are above those that stood. A round that has neither a bid nor a waiver is the last."""
+        self.is_over = not self.offered and not self.waived
+        actives = {bidder: self.active(bidder) for bidder in BIDDERS}
+        for bidder, active in actives.items():
+            self.settle(bidder, active)
         self.high.update(self.offered)
-        self.offered, self.round = {}, self.round + 1
+        self.offered, self.waived, self.nodes_of = {}, set(), {bidder: set() for bidder in BIDDERS}
+        self.round += not self.is_over
 
-    def settle(self, bidder):
-        licences = {}
-        for node in self.nodes_of[bidder]:
-            licences.update(licences_of(node))
-        active = sum(licences.values())
-        percentage = RULES["stages"][0]
-        if active * 100 < percentage * self.eligible[bidder]:
-            self.eligible[bidder] = active * 100 // percentage
-        self.nodes_of[bidder] = set()
+    def settle(self, bidder, active):
+        """Who waived keeps its eligibility, and so does who is short and has a waiver left, which the close takes."""
+        wanted = RULES["stages"][self.stage - 1] * self.eligible[bidder]
+        if bidder in self.waived or active * 100 >= wanted:
+            return
+        if self.left[bidder]:
+            self.left[bidder], self.taken = self.left[bidder] - 1, self.taken + 1
+        else:
+            self.eligible[bidder] = active * 100 // RULES["stages"][self.stage - 1]
 
-    def state(self, batches):
+    def active(self, bidder):
+        """The units of the licences at or under the nodes that it bid on in the open round, or that it won."""
+        nodes = {*self.nodes_of[bidder], *(node for node, winner in self.winners() if winner == bidder)}
+        return sum({name: units for node in nodes for name, units in licences_of(node).items()}.values())
+
+    def winners(self, above=None):
+        """The nodes that win, with their bidders. A package has to bring more than its parts."""
+        for node in children_of(above):
+            amount, bidder = self.high.get(node, (0, ""))
+            if amount > self.inside(node):
+                yield node, bidder
+            else:
+                yield from self.winners(node)
+
+    def inside(self, node):
+        return sum(max(self.high.get(child, (0,))[0], self.inside(child)) for child in children_of(node))
+
+    def who(self, bidder):
+        """What WHO is answered."""
+        ticket = int.from_bytes(self.last[bidder][:4], "big")
+        told = f" WAIVERS {self.left[bidder]}" if self.waivers else ""
+        return f"WHO {bidder} ELIGIBILITY {self.eligible[bidder]} ACTIVITY {self.active(bidder)} TICKET {ticket}{told}"
+
+    def state(self, batches, form=WAIVERS_FORMAT):
         """The body of a slot that covers so many batches."""
-        fields = bytes([1, 1, 0, 0]) + number(4, self.round) + number(4, self.count) + bytes(4) + number(8, batches)
+        fields = bytes([form, self.stage, self.is_over, 0]) + number(4, self.round) + number(4, self.count) + bytes(4) + number(8, batches)
         nodes = b"".join(self.node_entry(node) for node in NODES)
-        bidders = b"".join(self.bidder_entry(bidder) for bidder in BIDDERS)
-        front = (fields + self.last[""] + nodes).ljust(3096, b"\0")
-        return (front + bidders).ljust(CHUNKS * PAGE, b"\0")
+        bidders = b"".join(self.bidder_entry(bidder, form) for bidder in BIDDERS)
+        front = (fields + self.last[""]).ljust(NODES_AT, b"\0") + nodes
+        return (front.ljust(BIDDERS_AT, b"\0") + bidders).ljust(CHUNKS * PAGE, b"\0")
 
     def node_entry(self, node):
         (high, winner), (offered, bidder) = (bids.get(node, (0, BIDDERS[0])) for bids in (self.high, self.offered))
         return number(8, high) + number(8, offered) + bytes([BIDDERS.index(winner), BIDDERS.index(bidder)]) + bytes(6)
 
-    def bidder_entry(self, bidder):
+    def bidder_entry(self, bidder, form):
         last, bits = self.last[bidder], sum(1 << NODES.index(node) for node in self.nodes_of[bidder])
-        return number(4, self.eligible[bidder]) + last[:8] + bytes(4) + last[8:] + number(16, bits)
+        kept = bytes(4) if form == FIRST_FORMAT else bytes([self.left[bidder], bidder in self.waived, 0, 0])
+        return number(4, self.eligible[bidder]) + last[:8] + kept + last[8:] + number(16, bits)

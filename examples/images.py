@@ -4,12 +4,13 @@ import functools
 import random
 
 from calls import Shim, told
-from encoder import JOURNAL_AT, NODES, OPEN, SLOTS, Image
-from outside import CELLS, DEFINITION, FIRST_ROUND, LEAST, PAGE, PAGES, format_words, pages_of, rounds, run, text_of
+from encoder import FIRST_FORMAT, JOURNAL_AT, NODES, OPEN, SLOTS, WAIVERS_FORMAT, Image
+from outside import CELLS, FIRST_ROUND, LEAST, PAGE, PAGES, format_words, pages_of, rounds, run, text_of, with_waivers
 from wanted import Durable, last_number, numbers_in
 
 # A story is a file that is formatted, and then run and stopped so many times, with so many images of each; the next run goes on
-# from one of them.
+# from one of them. Of three stories the second goes on from a file of an earlier program, and the third is of an auction whose
+# bidders have waivers.
 RUNS, IMAGES_A_RUN, IMAGES_A_FORMAT = 4, 24, 4
 STORY = RUNS * IMAGES_A_RUN + IMAGES_A_FORMAT
 # So many batches wrap the journal, and take two checkpoints at least.
@@ -19,16 +20,16 @@ FEW, MANY = range(1, 5), (29, 30, 31, 60, 61, 64)
 EVERIES = (0, 0, 3, 1)
 SECTOR = 512
 FILLS = (0x00, 0xFF, 0xA5)
-MOST_ROUNDS = 180
+MOST_ROUNDS, WAIVERS = 180, 20
 
 
 @functools.lru_cache(maxsize=None)
-def prefixes():
+def prefixes(waivers=0):
     """Many commands, all of which are accepted, and what is shown after each number of them."""
-    commands = [*FIRST_ROUND, *rounds(MOST_ROUNDS)]
+    commands = [*FIRST_ROUND, *rounds(MOST_ROUNDS, waivers)]
     questions = ["SHOW", *(f"NODE {name}" for name in NODES)]
     lines = [*questions, *(line for command in commands for line in (command, *questions))]
-    answers = run(text=DEFINITION + text_of(lines)).output.splitlines(keepends=True)
+    answers = run(text=with_waivers(waivers) + text_of(lines)).output.splitlines(keepends=True)
     step = len(questions) + 1
     return commands, ["".join(answers[step * count : step * count + step - 1]) for count in range(len(commands) + 1)]
 
@@ -137,21 +138,28 @@ class TracedFormat(Traced):
 class Crashes:
     """Stories of files of one layout, by a seed."""
 
-    def __init__(self, shim, folder, layout, seed, lie=""):
+    def __init__(self, shim, folder, layout, seed, lie="", waivers=0):
         self.shim, self.folder, self.layout, self.seed, self.lie = shim, folder, layout, seed, lie
         self.file, self.picture = folder / f"story{layout}", folder / f"image{layout}"
-        self.commands, self.texts = prefixes()
         self.images, self.runs, self.faults = 0, 0, []
+        self.begin(waivers)
+
+    def begin(self, waivers):
+        """An auction whose bidders have so many."""
+        self.waivers = waivers
+        self.commands, self.texts = prefixes(waivers)
 
     def story(self, number):
         """A file is formatted, and then run again and again, each time from an image of before, until something is wrong."""
         dice, count = random.Random(f"{self.seed} {self.layout} {number}"), 0
+        self.begin(WAIVERS if number % 3 == 2 else 0)
         is_held = self.holds(self.format(dice), IMAGES_A_FORMAT, dice, f"story {number}, format") is not None
         for place in range(RUNS):
             if not is_held:
                 break
             if place == 0:
-                self.file.write_bytes(Image(self.layout, LEAST[self.layout]).bytes)
+                form = FIRST_FORMAT if number % 3 == 1 else WAIVERS_FORMAT
+                self.file.write_bytes(Image(self.layout, LEAST[self.layout], self.waivers, form).bytes)
             count = self.holds(self.run(dice, count), IMAGES_A_RUN, dice, f"story {number}, run {place}")
             is_held = count is not None
             self.picture.replace(self.file)
@@ -188,7 +196,7 @@ class Crashes:
         before = dice.choice([bytes(size), OPEN * size, bytes_of(dice, size)])
         self.file.write_bytes(before)
         words = format_words(self.file, LEAST[self.layout], self.layout)
-        run(*words, text=DEFINITION, env=self.shim.environment(self.lie))
+        run(*words, text=with_waivers(self.waivers), env=self.shim.environment(self.lie))
         return TracedFormat(self.calls(), before, 0)
 
     def calls(self):
@@ -230,7 +238,8 @@ class Told:
 
 def tell(library, folder, layout, seed, numbers, jobs=2, lie=""):
     """So many stories at a time, each in a folder of its own."""
-    prefixes()
+    for waivers in (0, WAIVERS):
+        prefixes(waivers)
 
     def some(place):
         room = folder / f"stories{place}of{layout}{lie}"

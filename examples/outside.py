@@ -118,8 +118,9 @@ def amounts(count):
         yield amount
 
 
-def rounds(count):
-    """The ten commands of each of so many rounds behind the first, all of which are accepted."""
+def rounds(count, waivers=0):
+    """The ten commands of each of so many rounds behind the first, all of which are accepted. Where bidders have waivers, each waives
+    as often: one more command in each of the first rounds."""
     tickets = dict.fromkeys(BIDS, 1)
     lines = []
     for number, amount in enumerate(amounts(count), 1):
@@ -127,8 +128,18 @@ def rounds(count):
             for node in nodes.split():
                 tickets[bidder] += 1
                 lines.append(f"BID {bidder} {tickets[bidder]} {node} {amount * LICENCES.get(node, 1)}")
+        if number <= waivers * len(BIDS):
+            bidder = list(BIDS)[number % len(BIDS)]
+            tickets[bidder] += 1
+            lines.append(f"WAIVE {bidder} {tickets[bidder]}")
         lines.append(f"CLOSE {number + 1}")
     return lines
+
+
+def with_waivers(number):
+    """The definition where each bidder has so many; without the field where it has none."""
+    field = b'"waivers":%d,' % number if number else b""
+    return DEFINITION.replace(b'"nodes"', field + b'"nodes"', 1)
 
 
 def text_of(lines):

@@ -3,7 +3,7 @@ import outside
 from calls import told
 from encoder import CHUNKS, CLOSED, FRAME, HEAD_AT, HEAD_SIZE, MAGIC, OPEN, SLOTS, Auction, Image
 from encoder import body_of, frame_at, head, record
-from outside import DEFINITION, PAGE
+from outside import PAGE
 
 # The advice to drop what the system has in memory.
 DROP = 4
@@ -12,12 +12,19 @@ DROP = 4
 class Engine:
     """The calls that have to be made of a file, in their order, and what the file then holds."""
 
-    def __init__(self, layout, journal, image=None):
-        self.layout, self.journal = layout, journal
-        self.image = bytearray(Image(layout, journal).bytes if image is None else image)
-        self.calls, self.auction, self.states, self.since_due = [], Auction(), {}, 0
+    def __init__(self, layout, journal, image=None, waivers=0):
+        self.layout, self.journal, self.waivers = layout, journal, waivers
+        self.image = bytearray(Image(layout, journal, waivers).bytes if image is None else image)
+        self.calls, self.auction, self.states, self.since_due = [], Auction(waivers), {}, 0
         self.is_watched = False
         self.states[0] = self.auction.state(0)
+
+    def keeps(self, batches):
+        """What its file has from before."""
+        for count, lines in enumerate(batches, 1):
+            for line in lines:
+                self.auction.take(line)
+            self.states[count] = self.auction.state(count)
 
     def taken(self):
         """The calls since the last time."""
@@ -104,7 +111,7 @@ class Engine:
             self.read(self.frame(index), FRAME[self.layout])
             self.close_if_open(self.frame(index))
         self.ask("sync")
-        self.write(HEAD_AT, head(self.layout, self.journal))
+        self.write(HEAD_AT, head(self.layout, self.journal, self.waivers))
         self.write_state(SLOTS[0], 0)
         for gate in (SLOTS[0], 0):
             self.ask("sync")
@@ -240,9 +247,9 @@ class Engine:
         queue.clear()
 
 
-def answers_of(lines):
+def answers_of(lines, waivers=0):
     """Those of an auction in memory."""
-    return outside.run(text=DEFINITION + outside.text_of(lines)).output.encode().splitlines(keepends=True)
+    return outside.run(text=outside.with_waivers(waivers) + outside.text_of(lines)).output.encode().splitlines(keepends=True)
 
 
 def overlap(at, size, place, count):

@@ -5,8 +5,9 @@ use hpb_codec::JournalShape;
 use hpb_disk::{Disk, MemoryDisk, OnceDisk};
 use hpb_engine::{Engine, Fault};
 use hpb_engine_rows::calls::{count, steps_retiring};
-use hpb_engine_rows::devices::{LAYOUTS, count_on, faulty_engine, new_engine};
+use hpb_engine_rows::devices::{count_on, faulty_engine, new_engine};
 use hpb_engine_rows::letters::{accepted, in_round, one};
+use hpb_engine_rows::over_layouts;
 use std::alloc::{AllocError, Global};
 use std::process::Abort;
 use std::test::Fail;
@@ -51,15 +52,18 @@ fn fill_journal(
     commit_with(rt, alloc, engine, shape.frames, calls)
 }
 
+/// All commands are found then.
+fn find_all(rt: &impl Abort, alloc: Global, shape: JournalShape) -> Result<(), Fail> {
+    let mut engine = new_engine(alloc, shape)?;
+    fill_journal(rt, alloc, &mut engine, shape)?;
+    let count = count_on(alloc, engine.finish())?;
+    assert_eq!(rt; count, shape.frames.saturating_add(1));
+    Ok(())
+}
+
 #[test]
 fn full_journal_makes_a_checkpoint(rt: HostRuntime) -> Result<(), Fail> {
-    let alloc = rt.alloc();
-    for shape in LAYOUTS {
-        let mut engine = new_engine(alloc, shape)?;
-        fill_journal(&rt, alloc, &mut engine, shape)?;
-        let count = count_on(alloc, engine.finish())?;
-        assert_eq!(rt; count, shape.frames.saturating_add(1));
-    }
+    over_layouts!(shape => find_all(&rt, rt.alloc(), shape)?);
     Ok(())
 }
 
@@ -77,17 +81,19 @@ fn checkpoint_with(
     Ok(())
 }
 
+/// A checkpoint of one batch, and another one, for which all is covered and clean: no step of it has a call.
+fn checkpoint_twice(rt: &impl Abort, alloc: Global, shape: JournalShape) -> Result<(), Fail> {
+    let mut engine = new_engine(alloc, shape)?;
+    commit_with(rt, alloc, &mut engine, 0, 4)?;
+    checkpoint_with(rt, alloc, &mut engine, 10)?;
+    checkpoint_with(rt, alloc, &mut engine, 0)?;
+    assert_eq!(rt; count_on(alloc, engine.finish())?, 1);
+    Ok(())
+}
+
 #[test]
 fn checkpoint_is_whole(rt: HostRuntime) -> Result<(), Fail> {
-    let alloc = rt.alloc();
-    for shape in LAYOUTS {
-        let mut engine = new_engine(alloc, shape)?;
-        commit_with(&rt, alloc, &mut engine, 0, 4)?;
-        checkpoint_with(&rt, alloc, &mut engine, 10)?;
-        // All is covered and clean: no step has a call.
-        checkpoint_with(&rt, alloc, &mut engine, 0)?;
-        assert_eq!(rt; count_on(alloc, engine.finish())?, 1);
-    }
+    over_layouts!(shape => checkpoint_twice(&rt, rt.alloc(), shape)?);
     Ok(())
 }
 
@@ -106,39 +112,33 @@ fn fail_with(
     Ok(())
 }
 
+/// The third call of a commit fails, and it is tried again.
+fn fail_commit(rt: &impl Abort, alloc: Global, shape: JournalShape) -> Result<(), Fail> {
+    let mut engine = faulty_engine(alloc, shape, 3)?;
+    fail_with(rt, alloc, &mut engine, 0, Fault::Device)?;
+    fail_with(rt, alloc, &mut engine, 0, Fault::Failed)
+}
+
 #[test]
 fn fault_in_a_commit(rt: HostRuntime) -> Result<(), Fail> {
-    let alloc = rt.alloc();
-    for shape in LAYOUTS {
-        let mut engine = faulty_engine(alloc, shape, 3)?;
-        fail_with(&rt, alloc, &mut engine, 0, Fault::Device)?;
-        fail_with(&rt, alloc, &mut engine, 0, Fault::Failed)?;
-    }
+    over_layouts!(shape => fail_commit(&rt, rt.alloc(), shape)?);
     Ok(())
 }
 
-/// A batch is committed into each frame, and the checkpoint before the next one ends with a fault.
-fn fail_checkpoint(
-    rt: &impl Abort,
-    alloc: Global,
-    engine: &mut Engine<OnceDisk<MemoryDisk>>,
-    shape: JournalShape,
-) -> Result<(), Fail> {
+/// A batch is committed into each frame, and the checkpoint before the next one ends with a fault: each commit has four
+/// calls, and the fourth one after them all fails.
+fn fail_checkpoint(rt: &impl Abort, alloc: Global, shape: JournalShape) -> Result<(), Fail> {
+    let call = u64::from(shape.frames).saturating_add(1).saturating_mul(4);
+    let mut engine = faulty_engine(alloc, shape, call)?;
     for at in 0..shape.frames {
-        let ended = committed(alloc, engine, at)?;
+        let ended = committed(alloc, &mut engine, at)?;
         assert_eq!(rt; ended.fault, None);
     }
-    fail_with(rt, alloc, engine, shape.frames, Fault::Failed)
+    fail_with(rt, alloc, &mut engine, shape.frames, Fault::Failed)
 }
 
 #[test]
 fn fault_in_the_checkpoint_before(rt: HostRuntime) -> Result<(), Fail> {
-    let alloc = rt.alloc();
-    for shape in LAYOUTS {
-        // Each commit has four calls, and the fourth one after them all fails.
-        let call = u64::from(shape.frames).saturating_add(1).saturating_mul(4);
-        let mut engine = faulty_engine(alloc, shape, call)?;
-        fail_checkpoint(&rt, alloc, &mut engine, shape)?;
-    }
+    over_layouts!(shape => fail_checkpoint(&rt, rt.alloc(), shape)?);
     Ok(())
 }

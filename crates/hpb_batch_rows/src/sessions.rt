@@ -1,10 +1,11 @@
 //! Sessions whose auction is kept on a device.
 
-use hpb_codec::JournalShape;
+use hpb_codec::{JournalLayout, JournalShape};
 use hpb_disk::{Disk, MemoryDisk, OnceDisk};
 use hpb_engine::Engine;
 use hpb_engine_rows::calls::count;
-use hpb_engine_rows::devices::{LAYOUTS, count_on, faulty_engine, new_engine};
+use hpb_engine_rows::devices::{count_on, engine_over, faulty_engine, new_device_with, new_engine};
+use hpb_engine_rows::over_layouts;
 use hpb_run::{Ran, run_device};
 use std::alloc::Global;
 use std::process::Abort;
@@ -69,23 +70,65 @@ fn write_same_text(rt: &impl Abort, alloc: Global, shape: JournalShape) -> Resul
 
 #[test]
 fn same_text_on_a_device(rt: HostRuntime) -> Result<(), Fail> {
-    let alloc = rt.alloc();
-    for shape in LAYOUTS {
-        write_same_text(&rt, alloc, shape)?;
-    }
+    over_layouts!(shape => write_same_text(&rt, rt.alloc(), shape)?);
+    Ok(())
+}
+
+/// Two batches, the same with a checkpoint after each, and seven batches: with a checkpoint before the fifth where there are
+/// four frames, and without one where there are more.
+fn count_calls(rt: &impl Abort, alloc: Global, shape: JournalShape) -> Result<(), Fail> {
+    let seven = match shape.layout {
+        JournalLayout::Pages => 41,
+        JournalLayout::Cells => 28,
+    };
+    assert_eq!(rt; calls(rt, alloc, shape, 64, 0)?, 8);
+    assert_eq!(rt; calls(rt, alloc, shape, 64, 1)?, 29);
+    assert_eq!(rt; calls(rt, alloc, shape, 1, 0)?, seven);
     Ok(())
 }
 
 #[test]
 fn a_session_makes_so_many_calls(rt: HostRuntime) -> Result<(), Fail> {
-    let alloc = rt.alloc();
-    // Seven batches, with a checkpoint before the fifth where there are four frames, and without one where there are more.
-    for (shape, seven) in LAYOUTS.iter().zip([41, 28]) {
-        // Two batches; the same with a checkpoint after each.
-        assert_eq!(rt; calls(&rt, alloc, *shape, 64, 0)?, 8);
-        assert_eq!(rt; calls(&rt, alloc, *shape, 64, 1)?, 29);
-        assert_eq!(rt; calls(&rt, alloc, *shape, 1, 0)?, seven);
-    }
+    over_layouts!(shape => count_calls(&rt, rt.alloc(), shape)?);
+    Ok(())
+}
+
+/// The same round, one in which `x` waives and a waiver of `y` is taken, and one in which `x` has none left.
+const WAIVING: &[u8] = b"BID x 1 a 100\nBID y 1 b 150\nBID z 1 all 500\nBID w 1 c 100\nCLOSE 1\n\
+    WAIVE x 2\nCLOSE 2\nSHOW\nWHO x\nWHO y\nWHO z\nWAIVE x 3\nCLOSE 3\nSHOW\nWHO x\n";
+
+const WAIVED: &[u8] =
+    b"OK 1\nOK 2\nOK 3\nOK 4\nOK 5\nOK 6\nOK 7\nROUND 3 STAGE 1 OPEN REVENUE 500 COUNT 7\n\
+    WHO x ELIGIBILITY 10 ACTIVITY 0 TICKET 2 WAIVERS 0\n\
+    WHO y ELIGIBILITY 10 ACTIVITY 0 TICKET 1 WAIVERS 0\n\
+    WHO z ELIGIBILITY 40 ACTIVITY 40 TICKET 1 WAIVERS 1\n\
+    ERR 28 waiver\nOK 8\nROUND 3 STAGE 1 CLOSED REVENUE 500 COUNT 8\n\
+    WHO x ELIGIBILITY 0 ACTIVITY 0 TICKET 2 WAIVERS 0\n";
+
+/// What `x` is shown at the end, on the device that is opened again.
+const OPENED: &[u8] = b"WHO x ELIGIBILITY 0 ACTIVITY 0 TICKET 2 WAIVERS 0\n";
+
+/// A session over a device with one waiver, with a checkpoint after each so many batches, and one over what it left.
+fn waive(rt: &impl Abort, alloc: Global, shape: JournalShape, every: u32) -> Result<(), Fail> {
+    let engine = engine_over(alloc, new_device_with(alloc, shape, 1)?)?;
+    let Session { ran, written } = run_lines(alloc, engine, WAIVING, 1, every);
+    assert_eq!(rt; written.as_slice(), WAIVED, "{every}");
+    assert_eq!(rt; ran.end, Ok(()), "{every}");
+    let engine = engine_over(alloc, ran.engine.finish())?;
+    let Session { written, .. } = run_lines(alloc, engine, b"WHO x\n", 1, 0);
+    assert_eq!(rt; written.as_slice(), OPENED, "{every}");
+    Ok(())
+}
+
+/// The waiver stands in a state where each batch has a checkpoint, and in a frame where only a full journal has one.
+fn waive_each(rt: &impl Abort, alloc: Global, shape: JournalShape) -> Result<(), Fail> {
+    waive(rt, alloc, shape, 1)?;
+    waive(rt, alloc, shape, 0)
+}
+
+#[test]
+fn waivers_on_a_device(rt: HostRuntime) -> Result<(), Fail> {
+    over_layouts!(shape => waive_each(&rt, rt.alloc(), shape)?);
     Ok(())
 }
 
@@ -121,28 +164,33 @@ fn fail_second_batch(
     Ok(())
 }
 
-#[test]
-fn fault_in_second_batch(rt: HostRuntime) -> Result<(), Fail> {
-    let alloc = rt.alloc();
-    for shape in LAYOUTS {
-        // Each of the four calls of the second commit.
-        for call in 5..9 {
-            fail_second_batch(&rt, alloc, shape, call)?;
-        }
+/// At each of the four calls of the second commit.
+fn fail_each_call(rt: &impl Abort, alloc: Global, shape: JournalShape) -> Result<(), Fail> {
+    for call in 5..9 {
+        fail_second_batch(rt, alloc, shape, call)?;
     }
     Ok(())
 }
 
 #[test]
-fn second_sync_fails(rt: HostRuntime) -> Result<(), Fail> {
-    let alloc = rt.alloc();
+fn fault_in_second_batch(rt: HostRuntime) -> Result<(), Fail> {
+    over_layouts!(shape => fail_each_call(&rt, rt.alloc(), shape)?);
+    Ok(())
+}
+
+/// The fourth call of a session is the second sync of its first commit.
+fn fail_second_sync(rt: &impl Abort, alloc: Global, shape: JournalShape) -> Result<(), Fail> {
     let lines = b"BID x 1 a 100\nBID y 1 b 150\nSHOW\n";
     let wanted = b"ERR 91 device\nERR 93 failed\nROUND 1 STAGE 1 OPEN REVENUE 0 COUNT 0\n";
-    for shape in LAYOUTS {
-        let Session { ran, written } = run_faulty(alloc, (shape, 4), lines, 1, 0)?;
-        assert_eq!(rt; written.as_slice(), wanted.as_slice());
-        assert_eq!(rt; count(&ran.engine), 0);
-    }
+    let Session { ran, written } = run_faulty(alloc, (shape, 4), lines, 1, 0)?;
+    assert_eq!(rt; written.as_slice(), wanted.as_slice());
+    assert_eq!(rt; count(&ran.engine), 0);
+    Ok(())
+}
+
+#[test]
+fn second_sync_fails(rt: HostRuntime) -> Result<(), Fail> {
+    over_layouts!(shape => fail_second_sync(&rt, rt.alloc(), shape)?);
     Ok(())
 }
 
@@ -152,15 +200,17 @@ const FAULT_IN_A_CHECKPOINT: &[u8] =
     ERR 93 failed\nERR 93 failed\nROUND 2 STAGE 1 OPEN REVENUE 500 COUNT 5\n\
     NODE a HIGH 100 x PRICE 138 MIN 160 WIN no\n";
 
+/// The checkpoint has the calls of a session from the fifth on.
+fn fail_checkpoint(rt: &impl Abort, alloc: Global, shape: JournalShape) -> Result<(), Fail> {
+    let Session { ran, written } = run_faulty(alloc, (shape, 6), LINES, 64, 1)?;
+    assert_eq!(rt; written.as_slice(), FAULT_IN_A_CHECKPOINT);
+    assert_eq!(rt; ran.end, Ok(()));
+    assert!(rt; ran.engine.failed);
+    Ok(())
+}
+
 #[test]
 fn fault_in_a_checkpoint(rt: HostRuntime) -> Result<(), Fail> {
-    let alloc = rt.alloc();
-    for shape in LAYOUTS {
-        // The checkpoint has calls five and later.
-        let Session { ran, written } = run_faulty(alloc, (shape, 6), LINES, 64, 1)?;
-        assert_eq!(rt; written.as_slice(), FAULT_IN_A_CHECKPOINT);
-        assert_eq!(rt; ran.end, Ok(()));
-        assert!(rt; ran.engine.failed);
-    }
+    over_layouts!(shape => fail_checkpoint(&rt, rt.alloc(), shape)?);
     Ok(())
 }

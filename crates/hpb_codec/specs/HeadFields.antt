@@ -4,13 +4,17 @@ use Rattle.hpb_rules.specs.Tree.{Rules}
 use Rattle.hpb_codec.specs.Layouts.{layout_byte}
 use Rattle.hpb_codec.specs.declared.layout.JournalShape.{JournalShape}
 use Rattle.hpb_codec.specs.declared.head.Fields.{Fields}
+use Rattle.hpb_codec.specs.declared.state_format.StateFormat.{StateFormat}
+use Rattle.hpb_codec.specs.StateFormats.{format_byte}
 
--- What was read is what a definition and the shape of its journal say.
-pub record SaysFields (rules : Rules) (journal : JournalShape) (fields : Fields) : Type 0 where
+-- What was read is what a definition, the shape of its journal and the format of states say.
+pub record SaysFields (rules : Rules) (journal : JournalShape) (form : StateFormat) (fields : Fields) : Type 0 where
   pub nodes : fields.node_count ≡ length rules.nodes
   pub bidders : fields.bidder_count ≡ length rules.bidders
   pub percent : fields.percent ≡ rules.percent
   pub stages : fields.stages.now ≡ rules.stages
+  pub waivers : fields.waivers ≡ rules.waivers
+  pub format : fields.state_format ≡ format_byte form
   pub step : fields.step ≡ rules.step
   pub layout : fields.layout ≡ layout_byte journal.layout
   pub frames : fields.frames ≡ journal.frames

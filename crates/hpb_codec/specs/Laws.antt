@@ -5,12 +5,13 @@ use Rattle.hpb_rules.specs.Tree.{Rules}
 use Rattle.hpb_codec.specs.declared.batch.Batch.{Batch}
 use Rattle.hpb_codec.specs.Batches.{SpellsBatch}
 use Rattle.hpb_codec.specs.Cells.{further_cells, BeginsCells, SpellsCells}
-use Rattle.hpb_codec.specs.Heads.{SpellsHead, magic}
+use Rattle.hpb_codec.specs.Heads.{SpellsHead, SpellsHeadIn, magic}
 use Rattle.hpb_codec.specs.Layouts.{layout_byte}
 use Rattle.hpb_codec.specs.Numbers.{leading, rest}
 use Rattle.hpb_codec.specs.declared.head.Head.{Head}
 use Rattle.hpb_codec.specs.Records.{SpellsRecord}
-use Rattle.hpb_codec.specs.States.{SpellsState}
+use Rattle.hpb_codec.specs.States.{SpellsState, SpellsStateIn}
+use Rattle.hpb_codec.specs.declared.state_format.StateFormat.{StateFormat}
 
 -- A value has one spelling, and bytes spell at most one value.
 pub record IsOneToOne {V : Type 0} (Spells : List ℕ → V → Type 0) : Type 0 where
@@ -42,13 +43,16 @@ pub record CellsBegin : Type 0 where
 abbrev pub CellsAreFewest : Type 0
 CellsAreFewest = (count further : ℕ) → (further_cells count ≤ further) ↔ (24 + 16 * count ≤ 488 + 496 * further)
 
--- So it is of the bodies of slots, which spell what is saved and a batch index.
+-- So it is of the bodies of slots in each format, which spell what is saved and a batch index; and bytes spell at most one such, whatever the
+-- format.
 abbrev pub StatesAreOne : Type 0
-StatesAreOne = (rules : Rules) → IsOneToOne {V = Saved × ℕ} (λ bytes state. SpellsState rules bytes state.0 state.1)
+StatesAreOne = ((format : StateFormat) (rules : Rules) → IsOneToOne {V = Saved × ℕ} (λ bytes state. SpellsStateIn format rules bytes state.0 state.1))
+    × ((rules : Rules) (bytes : List ℕ) (state other : Saved × ℕ) → SpellsState rules bytes state.0 state.1 → SpellsState rules bytes other.0 other.1 → state ≡ other)
 
--- So it is of heads.
+-- So it is of heads that tell a format, and bytes spell at most one head, whatever the format.
 abbrev pub HeadsAreOne : Type 0
-HeadsAreOne = IsOneToOne SpellsHead
+HeadsAreOne = ((format : StateFormat) → IsOneToOne (SpellsHeadIn format))
+    × ((bytes : List ℕ) (head other : Head) → SpellsHead bytes head → SpellsHead bytes other → head ≡ other)
 
 -- Behind the text that it begins with a head has the byte of its layout.
 abbrev pub LayoutIsNamed : Type 0

@@ -31,12 +31,14 @@ pub fn cells_are_fewest()
     ensures { CellsAreFewest }
 {}
 
-/// What is saved, with a batch index, has one body, and bytes are the body of at most one such.
+/// What is saved, with a batch index, has one body in each format, and bytes are the body of at most one such, whatever
+/// the format.
 pub fn states_are_one()
     ensures { StatesAreOne }
 {}
 
-/// A definition with the shape of its journal has one head, and bytes are the head of at most one such.
+/// A definition with the shape of its journal has one head in each format of states, and bytes are the head of at most
+/// one such, whatever the format.
 pub fn heads_are_one()
     ensures { HeadsAreOne }
 {}

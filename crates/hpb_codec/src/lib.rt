@@ -19,6 +19,7 @@ mod nodes;
 mod reader;
 mod record;
 mod state;
+mod state_format;
 mod state_head;
 mod table;
 #[cfg(test)]
@@ -36,4 +37,7 @@ pub use layout::{
     CELL_FRAMES_STEP, JournalLayout, JournalShape, LEAST_CELL_FRAMES, LEAST_FRAMES, MOST_FRAMES,
 };
 pub use record::RECORD_SIZE;
-pub use state::{CHUNK_SIZE, CHUNKS, STATE_SIZE, chunk, decode_state, encode_state};
+pub use state::{
+    CHUNK_SIZE, CHUNKS, STATE_SIZE, chunk, decode_state, encode_state, encode_state_1,
+};
+pub use state_format::StateFormat;

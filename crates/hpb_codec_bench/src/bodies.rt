@@ -21,6 +21,7 @@ pub(crate) fn definition(alloc: Global) -> Result<Definition> {
         step: 10,
         percent: 10,
         stages: vec![in alloc; 80]?,
+        waivers: 0,
         nodes: Vec::new(alloc),
         bidders: Vec::new(alloc),
     };
@@ -89,6 +90,8 @@ pub(crate) fn saved() -> Saved {
         eligibility: 64,
         last: None,
         bid_on: u128::MAX / 2,
+        waivers: 0,
+        has_waived: false,
     };
     let mut saved = Saved {
         round: 2,

@@ -10,6 +10,7 @@ use crate::rounds::{
     restores, saves,
 };
 use anyhow::{Result, bail};
+use hpb_codec::StateFormat;
 use std::process::ExitCode;
 
 fn main(rt: HostRuntime) -> ExitCode {
@@ -30,7 +31,8 @@ fn run(rt: &HostRuntime) -> Result<()> {
     let sum = match what.as_str() {
         "encode-batch" => encode_batches(alloc, rounds)?,
         "decode-batch" => decode_batches(alloc, rounds)?,
-        "encode-state" => encode_states(alloc, rounds)?,
+        "encode-state" => encode_states(alloc, StateFormat::Two, rounds)?,
+        "encode-state-1" => encode_states(alloc, StateFormat::One, rounds)?,
         "decode-state" => decode_states(alloc, rounds)?,
         "encode-head" => encode_heads(alloc, rounds)?,
         "save" => saves(alloc, rounds)?,

@@ -4,8 +4,8 @@ use crate::bodies::{batch, definition, saved};
 use anyhow::Result;
 use hpb_auction::Auction;
 use hpb_codec::{
-    BATCH_SIZE, HEAD_SIZE, JournalLayout, JournalShape, STATE_SIZE, decode_batch, decode_state,
-    encode_batch, encode_head, encode_state,
+    BATCH_SIZE, HEAD_SIZE, JournalLayout, JournalShape, STATE_SIZE, StateFormat, decode_batch,
+    decode_state, encode_batch, encode_head, encode_state, encode_state_1,
 };
 use hpb_rules::{Answer, Answers, Command, Letter, Letters, MOST_LETTERS, Reply, Saved};
 use std::alloc::Global;
@@ -50,13 +50,16 @@ pub(crate) fn decode_batches(alloc: Global, rounds: u64) -> Result<u64> {
     Ok(sum)
 }
 
-pub(crate) fn encode_states(alloc: Global, rounds: u64) -> Result<u64> {
+pub(crate) fn encode_states(alloc: Global, format: StateFormat, rounds: u64) -> Result<u64> {
     let saved = saved();
     let mut body = vec![in alloc; 0; STATE_SIZE]?;
     let body = body.as_mut_slice();
     let mut sum = 0_u64;
     for i in 0..rounds {
-        encode_state(&saved, i % INDICES, body);
+        match format {
+            StateFormat::One => encode_state_1(&saved, i % INDICES, body),
+            StateFormat::Two => encode_state(&saved, i % INDICES, body),
+        }
         let at = (i % STATE_SIZE as u64) as usize;
         sum = sum.wrapping_add(u64::from(body[at]));
     }
@@ -90,7 +93,7 @@ pub(crate) fn encode_heads(alloc: Global, rounds: u64) -> Result<u64> {
     };
     let mut sum = 0_u64;
     for _ in 0..rounds {
-        encode_head(&definition, journal, head);
+        encode_head(&definition, journal, StateFormat::Two, head);
         sum = sum.wrapping_add(u64::from(head[FRAMES_IN_HEAD]));
     }
     Ok(sum)

@@ -23,7 +23,7 @@ static REFUSED: [(&str, Refusal); 12] = [
     ("10.0", Field),
 ];
 
-static CHANGED: [(&str, &str, Refusal); 46] = [
+static CHANGED: [(&str, &str, Refusal); 51] = [
     // No number that JSON has, also beside and inside fields that are unknown.
     (r#""percent":10"#, r#""percent":010"#, Json),
     (r#""percent":10"#, r#""percent":+1"#, Json),
@@ -60,7 +60,12 @@ static CHANGED: [(&str, &str, Refusal); 46] = [
         r#"{"name":"x","units":10,"parent":null}"#,
         Field,
     ),
+    (r#""step":10"#, r#""step":10,"waivers":null"#, Field),
+    (r#""step":10"#, r#""step":10,"waivers":"1""#, Field),
     // Numbers.
+    (r#""step":10"#, r#""step":10,"waivers":21"#, Number),
+    (r#""step":10"#, r#""step":10,"waivers":-1"#, Number),
+    (r#""step":10"#, r#""step":10,"waivers":1.0"#, Number),
     (r#""percent":10"#, r#""percent":-0"#, Number),
     (r#""percent":10"#, r#""percent":-1"#, Number),
     (r#""percent":10"#, r#""percent":10.0"#, Number),
@@ -128,11 +133,13 @@ static CHANGED: [(&str, &str, Refusal); 46] = [
     ),
 ];
 
-static SPELLED: [(&str, &str); 4] = [
+static SPELLED: [(&str, &str); 6] = [
     (r#"{"step""#, " \t\r{\"step\""),
     (r#""name":"a""#, r#""n\u0061me":"\u0061""#),
     (r#""name":"x""#, r#""name":"a""#),
     (r#""step":10,"percent":10"#, r#""percent":10,"step":10"#),
+    (r#""step":10"#, r#""step":10,"waivers":0"#),
+    (r#""step":10"#, r#""waivers":20,"step":10"#),
 ];
 
 fn refusal(alloc: Global, text: &str) -> Option<Refusal> {
@@ -285,6 +292,23 @@ fn worked_definition(rt: HostRuntime) -> Result<(), Fail> {
     }
     for (name, row) in &BIDDERS {
         assert_eq!(rt; bidder_row(&definition, name), Some(*row), "{name}");
+    }
+    Ok(())
+}
+
+#[test]
+fn waivers_of_definitions(rt: HostRuntime) -> Result<(), Fail> {
+    let alloc = rt.alloc();
+    for (field, wanted) in [
+        ("", 0),
+        (r#""waivers":0,"#, 0),
+        (r#""waivers":1,"#, 1),
+        (r#""waivers":20,"#, 20),
+    ] {
+        let fields = format!(in alloc; "{{{field}\"step\"")?;
+        let text = WORKED.replacen(alloc, r#"{"step""#, fields.as_str(), 1)?;
+        let definition = read_definition(alloc, text.as_bytes())?;
+        assert_eq!(rt; definition.waivers(), wanted, "{field}");
     }
     Ok(())
 }

@@ -36,8 +36,19 @@ pub(crate) const MOST_CELLS: JournalShape = JournalShape {
     frames: 1_024,
 };
 
-/// The journals that rows over devices are tried with.
-pub(crate) const LAYOUTS: [JournalShape; 3] = [FOUR_PAGES, EIGHT_PAGES, SIXTEEN_CELLS];
+/// Does a row with each of three journals, by the name that it has in the row: `over_layouts!(shape => row(shape)?)`. In a
+/// test this is proved far sooner than a loop.
+#[macro_export]
+macro_rules! over_layouts {
+    ($shape:ident => $row:expr) => {{
+        let $shape = $crate::devices::FOUR_PAGES;
+        $row;
+        let $shape = $crate::devices::EIGHT_PAGES;
+        $row;
+        let $shape = $crate::devices::SIXTEEN_CELLS;
+        $row;
+    }};
+}
 
 /// Where the journal begins.
 pub(crate) const JOURNAL: usize = 53_248;
@@ -95,10 +106,16 @@ fn node(
 
 /// Six nodes, four bidders and two stages.
 pub(crate) fn six_nodes(alloc: Global) -> Result<Definition, Fail> {
+    six_nodes_with(alloc, 0)
+}
+
+/// The same, with so many waivers.
+fn six_nodes_with(alloc: Global, waivers: u64) -> Result<Definition, Fail> {
     let mut draft = Draft {
         step: 10,
         percent: 10,
         stages: vec![in alloc; 80, 95]?,
+        waivers,
         nodes: Vec::new(alloc),
         bidders: Vec::new(alloc),
     };
@@ -146,21 +163,39 @@ pub(crate) fn formatted<D: Disk + Drop>(
     formatted_as(alloc, disk, definition, shape.frames, shape.layout.byte())
 }
 
+/// The bytes of a new device of this definition with such a journal, which had this byte everywhere.
+fn new_device_of(
+    alloc: Global,
+    definition: &Definition,
+    shape: JournalShape,
+    byte: u8,
+) -> Result<Vec<u8>, Fail> {
+    let disk = MemoryDisk::of(alloc, vec![in alloc; byte; device_bytes(shape)]?)?;
+    let (mut disk, _) = formatted(alloc, disk, definition, shape);
+    all_of(alloc, &mut disk)
+}
+
 /// The bytes of a new device with such a journal, which had this byte everywhere.
 pub(crate) fn new_device_over(
     alloc: Global,
     shape: JournalShape,
     byte: u8,
 ) -> Result<Vec<u8>, Fail> {
-    let definition = six_nodes(alloc)?;
-    let disk = MemoryDisk::of(alloc, vec![in alloc; byte; device_bytes(shape)]?)?;
-    let (mut disk, _) = formatted(alloc, disk, &definition, shape);
-    all_of(alloc, &mut disk)
+    new_device_of(alloc, &six_nodes(alloc)?, shape, byte)
 }
 
 /// The bytes of a new device with such a journal, which had zeros everywhere.
 pub(crate) fn new_device(alloc: Global, shape: JournalShape) -> Result<Vec<u8>, Fail> {
     new_device_over(alloc, shape, 0)
+}
+
+/// The same, with so many waivers.
+pub(crate) fn new_device_with(
+    alloc: Global,
+    shape: JournalShape,
+    waivers: u64,
+) -> Result<Vec<u8>, Fail> {
+    new_device_of(alloc, &six_nodes_with(alloc, waivers)?, shape, 0)
 }
 
 /// All bytes of a device.

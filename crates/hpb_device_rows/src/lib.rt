@@ -18,4 +18,6 @@ mod rows_of_opening;
 #[cfg(test)]
 mod rows_of_slots;
 #[cfg(test)]
+mod rows_of_waivers;
+#[cfg(test)]
 mod words;

@@ -1,10 +1,12 @@
 //! Frames that are made by hand, byte by byte.
 
-use crate::devices::{LAYOUTS, OPEN, frame_at, new_device};
+use crate::devices::{OPEN, frame_at, new_device};
 use crate::images::{batch, front, opens_as, put, put_batch, put_state, sixty_four};
+use crate::over_layouts;
 use hpb_codec::{JournalLayout, JournalShape};
 use hpb_rules::Command;
 use std::alloc::Global;
+use std::process::Abort;
 use std::test::Fail;
 
 /// A batch behind others of a command each: how many others, how many commands it has, and how many cells these take.
@@ -122,14 +124,17 @@ fn is_opened(alloc: Global, shape: JournalShape, made: Made) -> Result<bool, Fai
     opens_as(alloc, &bytes, all, clean)
 }
 
+/// Each batch is what is encoded, and is opened.
+fn try_batches(rt: &impl Abort, alloc: Global, shape: JournalShape) -> Result<(), Fail> {
+    for made in MADE {
+        assert!(rt; is_encoded(alloc, shape, made)?, "{} {}", made.0, made.1);
+        assert!(rt; is_opened(alloc, shape, made)?, "{} {}", made.0, made.1);
+    }
+    Ok(())
+}
+
 #[test]
 fn batches_by_hand(rt: HostRuntime) -> Result<(), Fail> {
-    let alloc = rt.alloc();
-    for shape in LAYOUTS {
-        for made in MADE {
-            assert!(rt; is_encoded(alloc, shape, made)?, "{} {}", made.0, made.1);
-            assert!(rt; is_opened(alloc, shape, made)?, "{} {}", made.0, made.1);
-        }
-    }
+    over_layouts!(shape => try_batches(&rt, rt.alloc(), shape)?);
     Ok(())
 }

@@ -1,16 +1,18 @@
 //! What is opened of a new device, and of what a stop leaves of one.
 
 use crate::devices::{
-    EIGHT_PAGES, FOUR_PAGES, JOURNAL, LAYOUTS, MOST_CELLS, MOST_PAGES, OPEN, SIXTEEN_CELLS,
-    UNFORMATTED, device_bytes, formatted, formatted_as, frame_at, new_device, new_device_over,
-    opened, opened_front, six_nodes,
+    EIGHT_PAGES, FOUR_PAGES, JOURNAL, MOST_CELLS, MOST_PAGES, OPEN, SIXTEEN_CELLS, UNFORMATTED,
+    device_bytes, formatted, formatted_as, frame_at, new_device, new_device_over, opened,
+    opened_front, six_nodes,
 };
 use crate::images::put;
+use crate::over_layouts;
 use hpb_codec::{JournalLayout, JournalShape};
 use hpb_disk::{Disk, Fate, FuseDisk, MemoryDisk};
 use hpb_format::FormatCause;
 use hpb_tree::Definition;
 use std::alloc::Global;
+use std::process::Abort;
 use std::test::Fail;
 
 /// 64 frames of cells.
@@ -139,19 +141,22 @@ fn formatted_in_the_other_layout(rt: HostRuntime) -> Result<(), Fail> {
     Ok(())
 }
 
+/// Devices of zeros, and a new one that is cut.
+fn open_unformatted(rt: &impl Abort, alloc: Global, shape: JournalShape) -> Result<(), Fail> {
+    let all = device_bytes(shape);
+    let cut = all.saturating_sub(1);
+    let zeros = vec![in alloc; 0; all]?;
+    for len in [0, 1, cut, all] {
+        assert_eq!(rt; opened_front(alloc, &zeros, len)?, UNFORMATTED, "{len}");
+    }
+    let new = new_device(alloc, shape)?;
+    assert_eq!(rt; opened_front(alloc, &new, cut)?, UNFORMATTED);
+    Ok(())
+}
+
 #[test]
 fn unformatted_devices(rt: HostRuntime) -> Result<(), Fail> {
-    let alloc = rt.alloc();
-    for shape in LAYOUTS {
-        let all = device_bytes(shape);
-        let cut = all.saturating_sub(1);
-        let zeros = vec![in alloc; 0; all]?;
-        for len in [0, 1, cut, all] {
-            assert_eq!(rt; opened_front(alloc, &zeros, len)?, UNFORMATTED, "{len}");
-        }
-        let new = new_device(alloc, shape)?;
-        assert_eq!(rt; opened_front(alloc, &new, cut)?, UNFORMATTED);
-    }
+    over_layouts!(shape => open_unformatted(&rt, rt.alloc(), shape)?);
     Ok(())
 }
 
@@ -187,21 +192,23 @@ fn calls_of_formatting(
     Ok(disk.calls() as u64)
 }
 
-#[test]
-fn format_stopped_anywhere(rt: HostRuntime) -> Result<(), Fail> {
-    let alloc = rt.alloc();
+/// Formatting stops at each call: five syncs, two gates, the head and the slot are the least.
+fn stop_each_call(rt: &impl Abort, alloc: Global, shape: JournalShape) -> Result<(), Fail> {
     let definition = six_nodes(alloc)?;
-    for shape in LAYOUTS {
-        let calls = calls_of_formatting(alloc, &definition, shape)?;
-        // Five syncs, two gates, the head and the slot.
-        assert!(rt; calls >= 9);
-        for fate in [Fate::Kept, Fate::Lost, Fate::Filled(OPEN)] {
-            for call in 1..calls.saturating_add(2) {
-                let (is_stopped, is_well) = stopped_at(alloc, &definition, shape, call, fate)?;
-                assert_eq!(rt; is_stopped, call <= calls, "{call}");
-                assert!(rt; is_well, "{call}");
-            }
+    let calls = calls_of_formatting(alloc, &definition, shape)?;
+    assert!(rt; calls >= 9);
+    for fate in [Fate::Kept, Fate::Lost, Fate::Filled(OPEN)] {
+        for call in 1..calls.saturating_add(2) {
+            let (is_stopped, is_well) = stopped_at(alloc, &definition, shape, call, fate)?;
+            assert_eq!(rt; is_stopped, call <= calls, "{call}");
+            assert!(rt; is_well, "{call}");
         }
     }
+    Ok(())
+}
+
+#[test]
+fn format_stopped_anywhere(rt: HostRuntime) -> Result<(), Fail> {
+    over_layouts!(shape => stop_each_call(&rt, rt.alloc(), shape)?);
     Ok(())
 }

@@ -1,10 +1,11 @@
 //! What is told of frames that no writer made.
 
 use crate::devices::{
-    EIGHT_PAGES, FRAME, Found, JOURNAL, LAYOUTS, OPEN, SIXTEEN_CELLS, new_device, opened,
-    opened_bytes, opened_with,
+    EIGHT_PAGES, FRAME, Found, JOURNAL, OPEN, SIXTEEN_CELLS, new_device, opened, opened_bytes,
+    opened_with,
 };
 use crate::images::{A, B, C, X, Y, Z, batch, bid, front, put, put_batch, sixty_four};
+use crate::over_layouts;
 use hpb_codec::{Batch, JournalLayout, JournalShape};
 use hpb_disk::{Disk, Fate, MemoryDisk};
 use hpb_rules::Command;
@@ -76,54 +77,58 @@ fn wrong_batches() -> [(&'static str, Batch); 8] {
     ]
 }
 
+/// Under another index the frame is of another batch, and only not clean.
+fn damage_frames(rt: &impl Abort, alloc: Global, shape: JournalShape) -> Result<(), Fail> {
+    let sound = [batch(0, 1, &[bid(X, 1, A, 100)])];
+    assert_eq!(rt; opened_batches(alloc, shape, &sound)?, found(shape, 1, 1));
+    for (wrong, first) in wrong_batches() {
+        let mut batches = [first];
+        assert_eq!(rt; opened_batches(alloc, shape, &batches)?, FRAME, "{wrong}");
+        batches[0].index = 1;
+        assert_eq!(rt;
+            opened_batches(alloc, shape, &batches)?,
+            NONE_CLEAN,
+            "{wrong}"
+        );
+    }
+    Ok(())
+}
+
 #[test]
 fn damaged_frames(rt: HostRuntime) -> Result<(), Fail> {
-    let alloc = rt.alloc();
-    for shape in LAYOUTS {
-        let sound = [batch(0, 1, &[bid(X, 1, A, 100)])];
-        assert_eq!(rt; opened_batches(alloc, shape, &sound)?, found(shape, 1, 1));
-        for (wrong, first) in wrong_batches() {
-            let mut batches = [first];
-            assert_eq!(rt; opened_batches(alloc, shape, &batches)?, FRAME, "{wrong}");
-            // Under another index the frame is of another batch, and only not clean.
-            batches[0].index = 1;
-            assert_eq!(rt;
-                opened_batches(alloc, shape, &batches)?,
-                NONE_CLEAN,
-                "{wrong}"
-            );
-        }
-    }
+    over_layouts!(shape => damage_frames(&rt, rt.alloc(), shape)?);
     Ok(())
 }
 
 /// The record of the next one: a bid of the first bidder on the third node, with ticket 33 and 100 * 2^32 dollars.
 const SIXTY_FIFTH: [u8; 16] = [1, 0, 2, 0, 0, 0, 0, 33, 0, 0, 0, 0x64, 0, 0, 0, 0];
 
+/// The same commands stand in two frames, and then all in one.
+fn add_record(rt: &impl Abort, alloc: Global, shape: JournalShape) -> Result<(), Fail> {
+    let first = batch(0, 1, &sixty_four());
+    let next = batch(1, 65, &[bid(X, 33, A, 429_496_729_600)]);
+    assert_eq!(rt;
+        opened_batches(alloc, shape, &[first, next])?,
+        found(shape, 65, 2)
+    );
+    let mut bytes = with_batches(alloc, shape, &[batch(0, 1, &sixty_four())])?;
+    let behind = JOURNAL.saturating_add(behind_64(shape.layout));
+    put(&mut bytes, behind, &SIXTY_FIFTH);
+    let count = (JOURNAL + COUNT, 65);
+    assert_eq!(rt; opened_with(alloc, &bytes, &[count])?, FRAME);
+    let other = opened_with(alloc, &bytes, &[count, (JOURNAL + INDEX, 1)])?;
+    assert_eq!(rt; other, NONE_CLEAN);
+    Ok(())
+}
+
 #[test]
 fn damaged_by_a_record_more(rt: HostRuntime) -> Result<(), Fail> {
-    let alloc = rt.alloc();
-    for shape in LAYOUTS {
-        let first = batch(0, 1, &sixty_four());
-        let next = batch(1, 65, &[bid(X, 33, A, 429_496_729_600)]);
-        assert_eq!(rt;
-            opened_batches(alloc, shape, &[first, next])?,
-            found(shape, 65, 2)
-        );
-        // The same commands, all in one frame.
-        let mut bytes = with_batches(alloc, shape, &[batch(0, 1, &sixty_four())])?;
-        let behind = JOURNAL.saturating_add(behind_64(shape.layout));
-        put(&mut bytes, behind, &SIXTY_FIFTH);
-        let count = (JOURNAL + COUNT, 65);
-        assert_eq!(rt; opened_with(alloc, &bytes, &[count])?, FRAME);
-        let other = opened_with(alloc, &bytes, &[count, (JOURNAL + INDEX, 1)])?;
-        assert_eq!(rt; other, NONE_CLEAN);
-    }
+    over_layouts!(shape => add_record(&rt, rt.alloc(), shape)?);
     Ok(())
 }
 
 /// Bytes in the frame of a batch of one bid, each of which makes another body of it. So does its last byte.
-const CHANGES: [(usize, u8); 13] = [
+const CHANGES: [(usize, u8); 14] = [
     // The number of the first command, and no record or one more than there is.
     (24, 1),
     (31, 2),
@@ -136,6 +141,7 @@ const CHANGES: [(usize, u8); 13] = [
     // The kind, the bidder, the node, the zero byte and the ticket of the record.
     (40, 0),
     (40, 4),
+    (40, 5),
     (41, 4),
     (42, 6),
     (43, 1),
@@ -150,23 +156,25 @@ fn damaged_at(alloc: Global, sound: &[u8], at: usize, byte: u8) -> Result<(Found
     Ok((own, other))
 }
 
+/// Between the gate and the body nothing is read.
+fn damage_bytes(rt: &impl Abort, alloc: Global, shape: JournalShape) -> Result<(), Fail> {
+    let sound = with_batches(alloc, shape, &[batch(0, 1, &[bid(X, 1, A, 100)])])?;
+    for (at, byte) in CHANGES {
+        let damaged = damaged_at(alloc, &sound, at, byte)?;
+        assert_eq!(rt; damaged, (FRAME, NONE_CLEAN), "{at}");
+    }
+    let damaged = damaged_at(alloc, &sound, last_of_one(shape.layout), 1)?;
+    assert_eq!(rt; damaged, (FRAME, NONE_CLEAN));
+    for at in 1_usize..16 {
+        let unread = opened_with(alloc, &sound, &[(JOURNAL.saturating_add(at), OPEN)])?;
+        assert_eq!(rt; unread, found(shape, 1, 1), "{at}");
+    }
+    Ok(())
+}
+
 #[test]
 fn damaged_by_a_byte(rt: HostRuntime) -> Result<(), Fail> {
-    let alloc = rt.alloc();
-    for shape in LAYOUTS {
-        let sound = with_batches(alloc, shape, &[batch(0, 1, &[bid(X, 1, A, 100)])])?;
-        for (at, byte) in CHANGES {
-            let damaged = damaged_at(alloc, &sound, at, byte)?;
-            assert_eq!(rt; damaged, (FRAME, NONE_CLEAN), "{at}");
-        }
-        let damaged = damaged_at(alloc, &sound, last_of_one(shape.layout), 1)?;
-        assert_eq!(rt; damaged, (FRAME, NONE_CLEAN));
-        // Between the gate and the body nothing is read.
-        for at in 1_usize..16 {
-            let unread = opened_with(alloc, &sound, &[(JOURNAL.saturating_add(at), OPEN)])?;
-            assert_eq!(rt; unread, found(shape, 1, 1), "{at}");
-        }
-    }
+    over_layouts!(shape => damage_bytes(&rt, rt.alloc(), shape)?);
     Ok(())
 }
 
@@ -180,12 +188,12 @@ const IN_FURTHER_CELLS: [(usize, u8); 13] = [
     (520, 2),
     (521, 1),
     (527, 1),
-    (528, 4),
+    (528, 5),
     // In the third cell the same, and what is zero behind the last record.
     (1_031, 1),
     (1_032, 1),
     (1_039, 1),
-    (1_040, 4),
+    (1_040, 5),
     (1_056, 1),
     (1_535, 1),
 ];
@@ -224,15 +232,18 @@ fn wanted_of_two(shape: JournalShape) -> [(u64, Command, Found); 5] {
     ]
 }
 
+/// The second of two batches.
+fn repeat(rt: &impl Abort, alloc: Global, shape: JournalShape) -> Result<(), Fail> {
+    for (number, command, wanted) in wanted_of_two(shape) {
+        let batches = [batch(0, 1, &[first()]), batch(1, number, &[command])];
+        assert_eq!(rt; opened_batches(alloc, shape, &batches)?, wanted, "{number}");
+    }
+    Ok(())
+}
+
 #[test]
 fn repeat_of_the_frame_before(rt: HostRuntime) -> Result<(), Fail> {
-    let alloc = rt.alloc();
-    for shape in LAYOUTS {
-        for (number, command, wanted) in wanted_of_two(shape) {
-            let batches = [batch(0, 1, &[first()]), batch(1, number, &[command])];
-            assert_eq!(rt; opened_batches(alloc, shape, &batches)?, wanted, "{number}");
-        }
-    }
+    over_layouts!(shape => repeat(&rt, rt.alloc(), shape)?);
     Ok(())
 }
 
@@ -295,14 +306,17 @@ fn wanted_of_open(shape: JournalShape) -> [(OpenFrames, Found); 10] {
     ]
 }
 
+/// What is opened of frames that are open in no order.
+fn try_orders(rt: &impl Abort, alloc: Global, shape: JournalShape) -> Result<(), Fail> {
+    for (frames, wanted) in wanted_of_open(shape) {
+        assert_eq!(rt; opened_frames(alloc, shape, &frames)?, wanted);
+    }
+    Ok(())
+}
+
 #[test]
 fn frames_out_of_their_order(rt: HostRuntime) -> Result<(), Fail> {
-    let alloc = rt.alloc();
-    for shape in LAYOUTS {
-        for (frames, wanted) in wanted_of_open(shape) {
-            assert_eq!(rt; opened_frames(alloc, shape, &frames)?, wanted);
-        }
-    }
+    over_layouts!(shape => try_orders(&rt, rt.alloc(), shape)?);
     Ok(())
 }
 

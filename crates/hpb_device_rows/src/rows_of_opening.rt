@@ -1,10 +1,11 @@
 //! What is told of devices that were changed.
 
 use crate::devices::{
-    CHECKPOINT, EIGHT_PAGES, FRAME, Found, LAYOUT, LAYOUTS, PAGE, SIXTEEN_CELLS, UNFORMATTED,
-    all_of, device_bytes, frame_at, new_device, opened, opened_front, opened_with,
+    CHECKPOINT, EIGHT_PAGES, FRAME, Found, LAYOUT, PAGE, SIXTEEN_CELLS, UNFORMATTED, all_of,
+    device_bytes, frame_at, new_device, opened, opened_front, opened_with,
 };
 use crate::images::{A, B, X, Y, batch, bid, put_batch, put_state};
+use crate::over_layouts;
 use hpb_codec::JournalShape;
 use hpb_disk::{MemoryDisk, OnceDisk};
 use hpb_recover::Cause;
@@ -15,24 +16,27 @@ use std::test::Fail;
 /// How many pages a device has at least.
 const LEAST_PAGES: usize = 17;
 
+/// Each number of whole pages that a device may be cut to.
+fn cut_short(rt: &impl Abort, alloc: Global, shape: JournalShape) -> Result<(), Fail> {
+    let whole = new_device(alloc, shape)?;
+    let all = device_bytes(shape) / PAGE;
+    for pages in 0..all.saturating_add(1) {
+        let wanted = if pages < LEAST_PAGES {
+            UNFORMATTED
+        } else if pages < all {
+            LAYOUT
+        } else {
+            Ok((0, u64::from(shape.frames)))
+        };
+        let found = opened_front(alloc, &whole, pages.saturating_mul(PAGE))?;
+        assert_eq!(rt; found, wanted, "{pages}");
+    }
+    Ok(())
+}
+
 #[test]
 fn device_cut_short(rt: HostRuntime) -> Result<(), Fail> {
-    let alloc = rt.alloc();
-    for shape in LAYOUTS {
-        let whole = new_device(alloc, shape)?;
-        let all = device_bytes(shape) / PAGE;
-        for pages in 0..all.saturating_add(1) {
-            let wanted = if pages < LEAST_PAGES {
-                UNFORMATTED
-            } else if pages < all {
-                LAYOUT
-            } else {
-                Ok((0, u64::from(shape.frames)))
-            };
-            let found = opened_front(alloc, &whole, pages.saturating_mul(PAGE))?;
-            assert_eq!(rt; found, wanted, "{pages}");
-        }
-    }
+    over_layouts!(shape => cut_short(&rt, rt.alloc(), shape)?);
     Ok(())
 }
 
@@ -94,21 +98,23 @@ fn opened_with_gates(
     ])
 }
 
+/// Behind the older state the first frame isn't open, and the second is.
+fn spoil_gates(rt: &impl Abort, alloc: Global, shape: JournalShape) -> Result<(), Fail> {
+    let all = u64::from(shape.frames);
+    let whole = with_newer_state(alloc, shape)?;
+    let sound = Ok((2, all.saturating_sub(1)));
+    assert_eq!(rt; opened_with(alloc, &whole, &[])?, sound);
+    let wanted = [UNFORMATTED, CHECKPOINT, FRAME, Ok((0, all)), Ok((1, all))];
+    for byte in [0, 1, 0x5a, 0xa4, 0xff] {
+        let found = opened_with_gates(alloc, &whole, shape, byte)?;
+        assert_eq!(rt; found, wanted, "{byte}");
+    }
+    Ok(())
+}
+
 #[test]
 fn gates_that_are_neither(rt: HostRuntime) -> Result<(), Fail> {
-    let alloc = rt.alloc();
-    for shape in LAYOUTS {
-        let all = u64::from(shape.frames);
-        let whole = with_newer_state(alloc, shape)?;
-        let sound = Ok((2, all.saturating_sub(1)));
-        assert_eq!(rt; opened_with(alloc, &whole, &[])?, sound);
-        // Behind the older state the first frame isn't open, and the second is.
-        let wanted = [UNFORMATTED, CHECKPOINT, FRAME, Ok((0, all)), Ok((1, all))];
-        for byte in [0, 1, 0x5a, 0xa4, 0xff] {
-            let found = opened_with_gates(alloc, &whole, shape, byte)?;
-            assert_eq!(rt; found, wanted, "{byte}");
-        }
-    }
+    over_layouts!(shape => spoil_gates(&rt, rt.alloc(), shape)?);
     Ok(())
 }
 
@@ -116,16 +122,19 @@ fn gates_that_are_neither(rt: HostRuntime) -> Result<(), Fail> {
 /// index 1, the last byte 1.
 const IN_THE_SLOT: [(usize, u8); 3] = [(19_483, 11), (16_407, 1), (32_767, 1)];
 
+/// Each of these bytes makes the only state none.
+fn damage_slot(rt: &impl Abort, alloc: Global, shape: JournalShape) -> Result<(), Fail> {
+    let whole = new_device(alloc, shape)?;
+    for change in IN_THE_SLOT {
+        let found = opened_with(alloc, &whole, &[change])?;
+        assert_eq!(rt; found, CHECKPOINT, "{}", change.0);
+    }
+    Ok(())
+}
+
 #[test]
 fn damaged_slot(rt: HostRuntime) -> Result<(), Fail> {
-    let alloc = rt.alloc();
-    for shape in LAYOUTS {
-        let whole = new_device(alloc, shape)?;
-        for change in IN_THE_SLOT {
-            let found = opened_with(alloc, &whole, &[change])?;
-            assert_eq!(rt; found, CHECKPOINT, "{}", change.0);
-        }
-    }
+    over_layouts!(shape => damage_slot(&rt, rt.alloc(), shape)?);
     Ok(())
 }
 
@@ -150,23 +159,25 @@ fn wanted_calls(shape: JournalShape) -> u64 {
     u64::from(shape.frames).saturating_add(6)
 }
 
+/// Each call of opening fails by itself, and the device is opened again. The call behind them is the sync of that.
+fn fail_each_call(rt: &impl Abort, alloc: Global, shape: JournalShape) -> Result<(), Fail> {
+    let mut whole = new_device(alloc, shape)?;
+    let first = batch(0, 1, &[bid(X, 1, A, 100)]);
+    put_batch(alloc, &mut whole, shape.layout, 0, &first)?;
+    let past = wanted_calls(shape).saturating_add(1);
+    assert_eq!(rt; calls_of_opening(alloc, &whole)?, wanted_calls(shape));
+    let sound = Ok((1, u64::from(shape.frames).saturating_sub(1)));
+    let failed = Err(Cause::Device);
+    for call in 1..past {
+        let found = opened_twice(alloc, &whole, call)?;
+        assert_eq!(rt; found, (failed, sound, true), "{call}");
+    }
+    assert_eq!(rt; opened_twice(alloc, &whole, past)?, (sound, failed, true));
+    Ok(())
+}
+
 #[test]
 fn open_fails_once(rt: HostRuntime) -> Result<(), Fail> {
-    let alloc = rt.alloc();
-    for shape in LAYOUTS {
-        let mut whole = new_device(alloc, shape)?;
-        let first = batch(0, 1, &[bid(X, 1, A, 100)]);
-        put_batch(alloc, &mut whole, shape.layout, 0, &first)?;
-        let past = wanted_calls(shape).saturating_add(1);
-        assert_eq!(rt; calls_of_opening(alloc, &whole)?, wanted_calls(shape));
-        let sound = Ok((1, u64::from(shape.frames).saturating_sub(1)));
-        let failed = Err(Cause::Device);
-        for call in 1..past {
-            let found = opened_twice(alloc, &whole, call)?;
-            assert_eq!(rt; found, (failed, sound, true), "{call}");
-        }
-        // The next call is the sync with which it is opened again.
-        assert_eq!(rt; opened_twice(alloc, &whole, past)?, (sound, failed, true));
-    }
+    over_layouts!(shape => fail_each_call(&rt, rt.alloc(), shape)?);
     Ok(())
 }

@@ -1,9 +1,11 @@
 //! Which of two slots is taken.
 
-use crate::devices::{CHECKPOINT, LAYOUTS, new_device, opened_with};
+use crate::devices::{CHECKPOINT, new_device, opened_with};
 use crate::images::{front, opens_as, put_state, three_rounds};
+use crate::over_layouts;
 use hpb_codec::JournalShape;
 use std::alloc::Global;
+use std::process::Abort;
 use std::test::Fail;
 
 /// A device with both slots open: how many batches each covers, and how many commands, which tells them apart.
@@ -34,24 +36,27 @@ const SLOTS: [((u64, u16), (u64, u16), u16); 8] = [
     ((0, 3), (0, 0), 3),
 ];
 
+/// The slot that covers the most batches is taken.
+fn take_newest(rt: &impl Abort, alloc: Global, shape: JournalShape) -> Result<(), Fail> {
+    let commands = three_rounds();
+    for (first, second, wanted) in SLOTS {
+        let bytes = with_both(alloc, shape, first, second)?;
+        assert!(rt;
+            opens_as(
+                alloc,
+                &bytes,
+                front(&commands, wanted),
+                u64::from(shape.frames)
+            )?,
+            "{wanted}"
+        );
+    }
+    Ok(())
+}
+
 #[test]
 fn newest_slot_is_taken(rt: HostRuntime) -> Result<(), Fail> {
-    let alloc = rt.alloc();
-    let commands = three_rounds();
-    for shape in LAYOUTS {
-        for (first, second, wanted) in SLOTS {
-            let bytes = with_both(alloc, shape, first, second)?;
-            assert!(rt;
-                opens_as(
-                    alloc,
-                    &bytes,
-                    front(&commands, wanted),
-                    u64::from(shape.frames)
-                )?,
-                "{wanted}"
-            );
-        }
-    }
+    over_layouts!(shape => take_newest(&rt, rt.alloc(), shape)?);
     Ok(())
 }
 
@@ -64,25 +69,28 @@ const CHANGES: [(usize, u8); 8] = [
     (32_768, 0xff),
     // A state format that there isn't, one unit more than the bidder began with, more batches than commands, a last byte
     // that isn't zero.
-    (36_864, 2),
+    (36_864, 3),
     (39_963, 11),
     (36_887, 3),
     (53_247, 1),
 ];
 
+/// Each change leaves the first slot alone.
+fn pass_damaged(rt: &impl Abort, alloc: Global, shape: JournalShape) -> Result<(), Fail> {
+    let both = with_both(alloc, shape, (1, 1), (2, 2))?;
+    let older = Ok((1, u64::from(shape.frames)));
+    for (at, byte) in CHANGES {
+        let change = (at, byte);
+        assert_eq!(rt; opened_with(alloc, &both, &[change])?, older, "{at}");
+        // Without the first slot there is none.
+        let found = opened_with(alloc, &both, &[change, (12_288, 0)])?;
+        assert_eq!(rt; found, CHECKPOINT, "{at}");
+    }
+    Ok(())
+}
+
 #[test]
 fn damaged_newest_slot_is_passed_over(rt: HostRuntime) -> Result<(), Fail> {
-    let alloc = rt.alloc();
-    for shape in LAYOUTS {
-        let both = with_both(alloc, shape, (1, 1), (2, 2))?;
-        let older = Ok((1, u64::from(shape.frames)));
-        for (at, byte) in CHANGES {
-            let change = (at, byte);
-            assert_eq!(rt; opened_with(alloc, &both, &[change])?, older, "{at}");
-            // Without the first slot there is none.
-            let found = opened_with(alloc, &both, &[change, (12_288, 0)])?;
-            assert_eq!(rt; found, CHECKPOINT, "{at}");
-        }
-    }
+    over_layouts!(shape => pass_damaged(&rt, rt.alloc(), shape)?);
     Ok(())
 }

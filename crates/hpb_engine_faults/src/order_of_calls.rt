@@ -5,10 +5,11 @@ use hpb_codec::{JournalLayout, JournalShape};
 use hpb_disk::{Disk, Fate, MemoryDisk};
 use hpb_engine::{Engine, Part, Rest};
 use hpb_engine_rows::calls::{Turn, commit, count, offer, take_step, take_turn};
-use hpb_engine_rows::devices::{LAYOUTS, frame_at, new_engine, opened_after, started};
+use hpb_engine_rows::devices::{frame_at, new_engine, opened_after, started};
 use hpb_engine_rows::letters::Bidder::{X, Y};
 use hpb_engine_rows::letters::Node::{A, B};
 use hpb_engine_rows::letters::{after_four, bid, first_of_rounds, four, in_round, one};
+use hpb_engine_rows::over_layouts;
 use hpb_recover::Opened;
 use hpb_rules::Letters;
 use std::alloc::Global;
@@ -56,6 +57,9 @@ fn body(shape: JournalShape, place: u32, commands: u32) -> Call {
         first: 0,
     }
 }
+
+/// The format of states, which is the first byte of each.
+const FORMAT: u8 = 2;
 
 /// The write of a page of a state, the one of this place in a slot.
 fn chunk(slot: usize, place: usize, first: u8) -> Call {
@@ -135,9 +139,7 @@ fn commit_two(
 #[test]
 fn order_of_a_commit(rt: HostRuntime) -> Result<(), Fail> {
     let alloc = rt.alloc();
-    for shape in LAYOUTS {
-        commit_two(&rt, alloc, &mut new_engine(alloc, shape)?, shape)?;
-    }
+    over_layouts!(shape => commit_two(&rt, alloc, &mut new_engine(alloc, shape)?, shape)?);
     Ok(())
 }
 
@@ -155,14 +157,17 @@ fn commit_many(
     Ok(())
 }
 
+/// So many commands as cells end with, and more.
+fn commit_each_many(rt: &impl Abort, alloc: Global, shape: JournalShape) -> Result<(), Fail> {
+    for commands in [29, 30, 60, 61, 64] {
+        commit_many(rt, alloc, shape, commands)?;
+    }
+    Ok(())
+}
+
 #[test]
 fn body_of_many_commands(rt: HostRuntime) -> Result<(), Fail> {
-    let alloc = rt.alloc();
-    for shape in LAYOUTS {
-        for commands in [29, 30, 60, 61, 64] {
-            commit_many(&rt, alloc, shape, commands)?;
-        }
-    }
+    over_layouts!(shape => commit_each_many(&rt, rt.alloc(), shape)?);
     Ok(())
 }
 
@@ -171,7 +176,7 @@ fn nine_steps(slot: usize, first: Call) -> [(Rest, Call); 9] {
     [
         (Rest::Went(Part::Other), first),
         (Rest::Went(Part::Other), Call::Sync),
-        (Rest::Went(Part::Chunk(0)), chunk(slot, 0, 1)),
+        (Rest::Went(Part::Chunk(0)), chunk(slot, 0, FORMAT)),
         (Rest::Went(Part::Chunk(1)), chunk(slot, 1, 0)),
         (Rest::Went(Part::Chunk(2)), chunk(slot, 2, 0)),
         (Rest::Went(Part::Chunk(3)), chunk(slot, 3, 0)),
@@ -228,9 +233,7 @@ fn write_two_checkpoints(
 #[test]
 fn order_of_a_checkpoint(rt: HostRuntime) -> Result<(), Fail> {
     let alloc = rt.alloc();
-    for shape in LAYOUTS {
-        write_two_checkpoints(&rt, alloc, &mut new_engine(alloc, shape)?, shape)?;
-    }
+    over_layouts!(shape => write_two_checkpoints(&rt, alloc, &mut new_engine(alloc, shape)?, shape)?);
     Ok(())
 }
 
@@ -287,9 +290,7 @@ fn commit_beside(
 #[test]
 fn steps_among_each_other(rt: HostRuntime) -> Result<(), Fail> {
     let alloc = rt.alloc();
-    for shape in LAYOUTS {
-        commit_beside(&rt, alloc, &mut new_engine(alloc, shape)?, shape)?;
-    }
+    over_layouts!(shape => commit_beside(&rt, alloc, &mut new_engine(alloc, shape)?, shape)?);
     Ok(())
 }
 
@@ -339,12 +340,14 @@ fn retire_half(
     Ok(())
 }
 
+/// The other half of the frames is retired after a stop.
+fn retire_rest(rt: &impl Abort, alloc: Global, shape: JournalShape) -> Result<(), Fail> {
+    let opened = half_retired(alloc, &mut new_engine(alloc, shape)?)?;
+    retire_half(rt, alloc, &mut started(alloc, opened)?, shape)
+}
+
 #[test]
 fn closed_frames_make_no_call(rt: HostRuntime) -> Result<(), Fail> {
-    let alloc = rt.alloc();
-    for shape in LAYOUTS {
-        let opened = half_retired(alloc, &mut new_engine(alloc, shape)?)?;
-        retire_half(&rt, alloc, &mut started(alloc, opened)?, shape)?;
-    }
+    over_layouts!(shape => retire_rest(&rt, rt.alloc(), shape)?);
     Ok(())
 }

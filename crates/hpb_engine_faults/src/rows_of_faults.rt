@@ -7,20 +7,18 @@ use hpb_disk::{Disk, Fate, FuseDisk, MemoryDisk, OnceDisk};
 use hpb_engine::{Driven, Engine, Event, Fault, Weight};
 use hpb_engine_rows::calls::{Turn, commit, count, take_step};
 use hpb_engine_rows::devices::{
-    CELLS, LAYOUTS, PAGES, count_on, faulty_engine, new_device, new_engine, opened, started,
+    CELLS, FATES, PAGES, count_on, faulty_engine, new_device, new_engine, opened, started,
 };
 use hpb_engine_rows::expecting::{commits_one, hands_back, steps, takes, turns};
 use hpb_engine_rows::letters::Bidder::{X, Y};
 use hpb_engine_rows::letters::Node::{A, B};
 use hpb_engine_rows::letters::{accepted, bid, one, two};
+use hpb_engine_rows::over_layouts;
 use hpb_recover::{Cause, OpenFault, Opened};
 use hpb_rules::{Answer, Letter, Reply};
 use std::alloc::Global;
 use std::process::Abort;
 use std::test::Fail;
-
-/// What is tried of all writes that no sync covers.
-const FATES: [Fate; 4] = [Fate::Kept, Fate::Lost, Fate::Filled(0), Fate::Filled(165)];
 
 /// How many commands are opened of what a stop leaves of a device, where all pending writes have one fate.
 fn count_after(alloc: Global, disk: &MemoryDisk, fate: Fate) -> Result<u32, Fail> {
@@ -261,16 +259,19 @@ fn left_by_second_sync(
     Ok(engine.finish().into_inner())
 }
 
+/// What stops leave of it: the write of the second gate is kept, lost, or filled with bytes.
+fn stop_after_second_sync(rt: &impl Abort, alloc: Global, shape: JournalShape) -> Result<(), Fail> {
+    let disk = left_by_second_sync(rt, alloc, shape)?;
+    for (fate, wanted) in FATES.iter().zip([2, 1, 1, 2]) {
+        assert_eq!(rt; count_after(alloc, &disk, *fate)?, wanted);
+    }
+    assert_eq!(rt; count_on(alloc, disk)?, 2);
+    Ok(())
+}
+
 #[test]
 fn second_sync_fails(rt: HostRuntime) -> Result<(), Fail> {
-    let alloc = rt.alloc();
-    for shape in LAYOUTS {
-        let disk = left_by_second_sync(&rt, alloc, shape)?;
-        for (fate, wanted) in FATES.iter().zip([2, 1, 1, 2]) {
-            assert_eq!(rt; count_after(alloc, &disk, *fate)?, wanted);
-        }
-        assert_eq!(rt; count_on(alloc, disk)?, 2);
-    }
+    over_layouts!(shape => stop_after_second_sync(&rt, rt.alloc(), shape)?);
     Ok(())
 }
 
@@ -313,13 +314,15 @@ fn find_two(rt: &impl Abort, alloc: Global, disk: MemoryDisk) -> Result<(), Fail
     Ok(())
 }
 
+fn fail_each_step(rt: &impl Abort, alloc: Global, shape: JournalShape) -> Result<(), Fail> {
+    for before in 1..11 {
+        find_two(rt, alloc, left_by_step(rt, alloc, shape, before)?)?;
+    }
+    Ok(())
+}
+
 #[test]
 fn fault_at_each_step_of_a_checkpoint(rt: HostRuntime) -> Result<(), Fail> {
-    let alloc = rt.alloc();
-    for shape in LAYOUTS {
-        for before in 1..11 {
-            find_two(&rt, alloc, left_by_step(&rt, alloc, shape, before)?)?;
-        }
-    }
+    over_layouts!(shape => fail_each_step(&rt, rt.alloc(), shape)?);
     Ok(())
 }

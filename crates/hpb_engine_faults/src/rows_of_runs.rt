@@ -6,11 +6,12 @@ use hpb_disk::{Fate, FuseDisk, MemoryDisk};
 use hpb_engine::{Driven, Engine, Event, Fault, open_after};
 use hpb_engine_rows::calls::count;
 use hpb_engine_rows::devices::{
-    Found, LAYOUTS, calls_of_opening, engine_over, found_in, new_device, new_engine,
+    Found, calls_of_opening, engine_over, found_in, new_device, new_engine,
 };
 use hpb_engine_rows::letters::Bidder::X;
 use hpb_engine_rows::letters::Node::A;
 use hpb_engine_rows::letters::{accepted, bid, refused, two};
+use hpb_engine_rows::over_layouts;
 use hpb_rules::{Letter, Refusal};
 use hpb_slots::Slot;
 use std::alloc::Global;
@@ -57,32 +58,24 @@ fn ends_well(driven: &Driven<MemoryDisk>) -> bool {
         && count(&driven.engine) == 1
 }
 
-fn stop(
-    rt: &impl Abort,
-    alloc: Global,
-    driven: &Driven<MemoryDisk>,
-    shape: JournalShape,
-) -> Result<(), Fail> {
-    assert!(rt; ends_well(driven));
+/// A batch and a whole checkpoint are driven, and all is found after a stop. A first checkpoint of one batch takes eleven
+/// steps; the twelfth is idle.
+fn drive_all(rt: &impl Abort, alloc: Global, shape: JournalShape) -> Result<(), Fail> {
+    let driven = driven(alloc, new_engine(alloc, shape)?, &events(alloc, 12)?)?;
+    assert!(rt; ends_well(&driven));
     let wanted = Found {
         count: 1,
         clean: u64::from(shape.frames),
         covered: 1,
         slot: Slot::Second,
     };
-    assert_eq!(rt; found_after(alloc, driven, &[])?, wanted);
+    assert_eq!(rt; found_after(alloc, &driven, &[])?, wanted);
     Ok(())
 }
 
 #[test]
 fn events_are_driven(rt: HostRuntime) -> Result<(), Fail> {
-    let alloc = rt.alloc();
-    // A first checkpoint of one batch takes eleven steps; the twelfth is idle.
-    let events = events(alloc, 12)?;
-    for shape in LAYOUTS {
-        let driven = driven(alloc, new_engine(alloc, shape)?, &events)?;
-        stop(&rt, alloc, &driven, shape)?;
-    }
+    over_layouts!(shape => drive_all(&rt, rt.alloc(), shape)?);
     Ok(())
 }
 
@@ -102,14 +95,15 @@ fn ends_early(driven: &Driven<FuseDisk<MemoryDisk>>) -> bool {
     driven.answers.is_empty() && driven.fault == Some(Fault::Device) && count(&driven.engine) == 0
 }
 
+/// A run into a fault: the fourth call of a commit is its second sync.
+fn drive_into_fault(rt: &impl Abort, alloc: Global, shape: JournalShape) -> Result<(), Fail> {
+    let engine = failing(alloc, shape, 4)?;
+    assert!(rt; ends_early(&driven(alloc, engine, &events(alloc, 3)?)?));
+    Ok(())
+}
+
 #[test]
 fn no_event_is_taken_after_a_fault(rt: HostRuntime) -> Result<(), Fail> {
-    let alloc = rt.alloc();
-    let events = events(alloc, 3)?;
-    for shape in LAYOUTS {
-        // The fourth call of a commit is its second sync.
-        let engine = failing(alloc, shape, 4)?;
-        assert!(rt; ends_early(&driven(alloc, engine, &events)?));
-    }
+    over_layouts!(shape => drive_into_fault(&rt, rt.alloc(), shape)?);
     Ok(())
 }

@@ -21,8 +21,17 @@ pub const CELLS: JournalShape = JournalShape {
     frames: 16,
 };
 
-/// The journals that rows over devices are tried with.
-pub const LAYOUTS: [JournalShape; 2] = [PAGES, CELLS];
+/// Does a row with the journal of each layout, by the name that it has in the row: `over_layouts!(shape => row(shape)?)`.
+/// In a test this is proved far sooner than a loop.
+#[macro_export]
+macro_rules! over_layouts {
+    ($shape:ident => $row:expr) => {{
+        let $shape = $crate::devices::PAGES;
+        $row;
+        let $shape = $crate::devices::CELLS;
+        $row;
+    }};
+}
 
 /// Where the journal begins: behind 13 pages of 4,096 bytes.
 const JOURNAL_AT: usize = 53_248;
@@ -62,12 +71,13 @@ fn node(
     })
 }
 
-/// A draft of six nodes, four bidders and two stages.
-fn six_nodes_draft(alloc: Global) -> Result<Draft, AllocError> {
+/// A draft of six nodes, four bidders, two stages and so many waivers.
+fn six_nodes_draft(alloc: Global, waivers: u64) -> Result<Draft, AllocError> {
     let mut draft = Draft {
         step: 10,
         percent: 10,
         stages: vec![in alloc; 80, 95]?,
+        waivers,
         nodes: Vec::new(alloc),
         bidders: Vec::new(alloc),
     };
@@ -88,26 +98,36 @@ fn six_nodes_draft(alloc: Global) -> Result<Draft, AllocError> {
     Ok(draft)
 }
 
-/// Six nodes, four bidders and two stages.
-pub fn six_nodes(alloc: Global) -> Result<Definition> {
-    let draft = six_nodes_draft(alloc)?;
+/// Six nodes, four bidders, two stages and so many waivers.
+fn six_nodes_with(alloc: Global, waivers: u64) -> Result<Definition> {
+    let draft = six_nodes_draft(alloc, waivers)?;
     Ok(Definition::check(alloc, &draft)?)
 }
 
-/// A device that was formatted with such a journal.
-fn formatted(alloc: Global, shape: JournalShape) -> Result<MemoryDisk> {
-    let definition = six_nodes(alloc)?;
+/// Six nodes, four bidders and two stages.
+pub fn six_nodes(alloc: Global) -> Result<Definition> {
+    six_nodes_with(alloc, 0)
+}
+
+/// A device of this definition that was formatted with such a journal.
+fn formatted(alloc: Global, definition: &Definition, shape: JournalShape) -> Result<MemoryDisk> {
     let disk = MemoryDisk::zeros(alloc, device_bytes(shape))?;
-    match format_layout(alloc, disk, &definition, shape.frames, shape.layout.byte()) {
+    match format_layout(alloc, disk, definition, shape.frames, shape.layout.byte()) {
         Ok(disk) => Ok(disk),
         Err(fault) => Err(Error::from(fault.cause)),
     }
 }
 
+/// A new device with such a journal and so many waivers, which had no call yet.
+pub fn new_device_with(alloc: Global, shape: JournalShape, waivers: u64) -> Result<MemoryDisk> {
+    let definition = six_nodes_with(alloc, waivers)?;
+    let bytes = bytes_of(alloc, formatted(alloc, &definition, shape)?)?;
+    Ok(MemoryDisk::of(alloc, bytes)?)
+}
+
 /// A new device with such a journal, which had no call yet.
 pub fn new_device(alloc: Global, shape: JournalShape) -> Result<MemoryDisk> {
-    let bytes = bytes_of(alloc, formatted(alloc, shape)?)?;
-    Ok(MemoryDisk::of(alloc, bytes)?)
+    new_device_with(alloc, shape, 0)
 }
 
 /// All bytes of a device.
@@ -134,12 +154,17 @@ pub fn started<D: Disk + Drop>(alloc: Global, opened: Opened<D>) -> Result<Engin
     }
 }
 
-/// An engine over a device.
-pub fn engine_over<D: Disk + Drop>(alloc: Global, disk: D) -> Result<Engine<D>> {
+/// What is opened of a device, without the device where it isn't.
+pub fn opened_or_cause<D: Disk + Drop>(alloc: Global, disk: D) -> Result<Opened<D>> {
     match opened(alloc, disk) {
-        Ok(opened) => started(alloc, opened),
+        Ok(opened) => Ok(opened),
         Err(fault) => Err(Error::from(fault.cause)),
     }
+}
+
+/// An engine over a device.
+pub fn engine_over<D: Disk + Drop>(alloc: Global, disk: D) -> Result<Engine<D>> {
+    started(alloc, opened_or_cause(alloc, disk)?)
 }
 
 /// An engine over a new device with such a journal.
@@ -163,16 +188,16 @@ pub fn faulty_engine(
     engine_over(alloc, OnceDisk::new(new_device(alloc, shape)?, fault))
 }
 
+/// What is tried of all writes that no sync covers.
+pub const FATES: [Fate; 4] = [Fate::Kept, Fate::Lost, Fate::Filled(0), Fate::Filled(165)];
+
 /// What a stop leaves of the device of an engine, by the fates of the writes that no sync covers, opened.
 pub fn opened_after(
     alloc: Global,
     engine: &Engine<MemoryDisk>,
     fates: &[Fate],
 ) -> Result<Opened<MemoryDisk>> {
-    match opened(alloc, engine.disk.after_stop(alloc, fates)?) {
-        Ok(opened) => Ok(opened),
-        Err(fault) => Err(Error::from(fault.cause)),
-    }
+    opened_or_cause(alloc, engine.disk.after_stop(alloc, fates)?)
 }
 
 /// What is read of a device.
@@ -199,8 +224,6 @@ pub fn found_in<D: Disk + Drop>(opened: &Opened<D>) -> Found {
 
 /// How many commands are found on a device.
 pub fn count_on(alloc: Global, disk: MemoryDisk) -> Result<u32> {
-    match opened(alloc, disk) {
-        Ok(opened) => Ok(opened.auction().count()),
-        Err(fault) => Err(Error::from(fault.cause)),
-    }
+    let opened = opened_or_cause(alloc, disk)?;
+    Ok(opened.auction().count())
 }

@@ -8,5 +8,7 @@ pub mod letters;
 #[cfg(test)]
 mod rows_of_batches;
 #[cfg(test)]
+mod rows_of_old_devices;
+#[cfg(test)]
 mod rows_of_stops;
 pub mod states;

@@ -1,13 +1,14 @@
 //! What is answered to a batch, and when.
 
 use crate::calls::{Turn, commit, count, steps_retiring, steps_to_whole};
-use crate::devices::{LAYOUTS, new_engine};
+use crate::devices::new_engine;
 use crate::expecting::{
     answers_at_once, commits, commits_one, hands_back, steps, takes, turns, turns_last,
 };
 use crate::letters::Bidder::{X, Y};
 use crate::letters::Node::{A, B};
 use crate::letters::{accepted, bid, close, full_of, in_round, list_of, one, refused, two};
+use crate::over_layouts;
 use hpb_codec::JournalShape;
 use hpb_disk::{Disk, MemoryDisk};
 use hpb_engine::{Engine, Rest, Weight};
@@ -46,9 +47,7 @@ fn answer_together(rt: &impl Abort, engine: &mut Engine<MemoryDisk>) {
 
 #[test]
 fn batch_answers_together(rt: HostRuntime) -> Result<(), Fail> {
-    for shape in LAYOUTS {
-        answer_together(&rt, &mut new_engine(rt.alloc(), shape)?);
-    }
+    over_layouts!(shape => answer_together(&rt, &mut new_engine(rt.alloc(), shape)?));
     Ok(())
 }
 
@@ -78,9 +77,7 @@ fn repeat(rt: &impl Abort, engine: &mut Engine<MemoryDisk>) {
 
 #[test]
 fn repeat_makes_no_device_call(rt: HostRuntime) -> Result<(), Fail> {
-    for shape in LAYOUTS {
-        repeat(&rt, &mut new_engine(rt.alloc(), shape)?);
-    }
+    over_layouts!(shape => repeat(&rt, &mut new_engine(rt.alloc(), shape)?));
     Ok(())
 }
 
@@ -102,9 +99,7 @@ fn offer_nothing_new(rt: &impl Abort, engine: &mut Engine<MemoryDisk>) {
 
 #[test]
 fn letters_without_a_new_command(rt: HostRuntime) -> Result<(), Fail> {
-    for shape in LAYOUTS {
-        offer_nothing_new(&rt, &mut new_engine(rt.alloc(), shape)?);
-    }
+    over_layouts!(shape => offer_nothing_new(&rt, &mut new_engine(rt.alloc(), shape)?));
     Ok(())
 }
 
@@ -120,9 +115,7 @@ fn fill_batch(rt: &impl Abort, engine: &mut Engine<MemoryDisk>) {
 
 #[test]
 fn greatest_batch(rt: HostRuntime) -> Result<(), Fail> {
-    for shape in LAYOUTS {
-        fill_batch(&rt, &mut new_engine(rt.alloc(), shape)?);
-    }
+    over_layouts!(shape => fill_batch(&rt, &mut new_engine(rt.alloc(), shape)?));
     Ok(())
 }
 
@@ -150,8 +143,6 @@ fn fill_journal(rt: &impl Abort, engine: &mut Engine<MemoryDisk>, shape: Journal
 
 #[test]
 fn journal_full(rt: HostRuntime) -> Result<(), Fail> {
-    for shape in LAYOUTS {
-        fill_journal(&rt, &mut new_engine(rt.alloc(), shape)?, shape);
-    }
+    over_layouts!(shape => fill_journal(&rt, &mut new_engine(rt.alloc(), shape)?, shape));
     Ok(())
 }

@@ -1,13 +1,13 @@
 //! What is opened after a stop.
 
 use crate::calls::{Turn, steps_retiring, steps_to_whole, take_step};
-use crate::devices::{Found, LAYOUTS, found_in, new_engine, opened_after, six_nodes, started};
+use crate::devices::{Found, found_in, new_engine, opened_after, started};
 use crate::expecting::{commits_one, hands_back, steps, takes, turns};
 use crate::letters::Bidder::{X, Y};
 use crate::letters::Node::{A, B};
 use crate::letters::{accepted, after_four, bid, close, four, list_of, one};
-use crate::states::same;
-use hpb_auction::Auction;
+use crate::over_layouts;
+use crate::states::{same, state_after};
 use hpb_codec::JournalShape;
 use hpb_disk::{Disk, Fate, MemoryDisk};
 use hpb_engine::{Engine, Part, Rest, Weight};
@@ -68,9 +68,7 @@ fn write_gate(
 #[test]
 fn stop_in_the_gate_write(rt: HostRuntime) -> Result<(), Fail> {
     let alloc = rt.alloc();
-    for shape in LAYOUTS {
-        write_gate(&rt, alloc, &mut new_engine(alloc, shape)?, shape)?;
-    }
+    over_layouts!(shape => write_gate(&rt, alloc, &mut new_engine(alloc, shape)?, shape)?);
     Ok(())
 }
 
@@ -93,15 +91,6 @@ fn writes_third_page<D: Disk + Drop>(engine: &mut Engine<D>) -> bool {
         && steps(engine, Ok(Rest::Went(Part::Chunk(2))))
 }
 
-/// The auction after letters that are all accepted.
-fn state_after(alloc: Global, letters: &[Letter]) -> Result<Auction, Fail> {
-    let mut auction = Auction::new(alloc, &six_nodes(alloc)?)?;
-    for letter in letters {
-        auction.apply(&letter.command);
-    }
-    Ok(auction)
-}
-
 fn write_third_page(
     rt: &impl Abort,
     alloc: Global,
@@ -122,9 +111,7 @@ fn write_third_page(
 #[test]
 fn stop_in_the_third_page(rt: HostRuntime) -> Result<(), Fail> {
     let alloc = rt.alloc();
-    for shape in LAYOUTS {
-        write_third_page(&rt, alloc, &mut new_engine(alloc, shape)?, shape)?;
-    }
+    over_layouts!(shape => write_third_page(&rt, alloc, &mut new_engine(alloc, shape)?, shape)?);
     Ok(())
 }
 
@@ -172,7 +159,7 @@ fn stop_retiring(
 }
 
 /// A batch is taken for each frame that is clean, and the next one after a checkpoint, which retires them all.
-fn go_on(rt: &impl Abort, engine: &mut Engine<MemoryDisk>, shape: JournalShape) {
+fn fill_clean(rt: &impl Abort, engine: &mut Engine<MemoryDisk>, shape: JournalShape) {
     let full = shape.frames.saturating_add(4).saturating_sub(OLD);
     for at in 4..full {
         assert!(rt; commits_one(engine, accepted(after_four(at), at)));
@@ -182,13 +169,16 @@ fn go_on(rt: &impl Abort, engine: &mut Engine<MemoryDisk>, shape: JournalShape) 
     assert!(rt; takes(engine, one(after_four(full))));
 }
 
+/// The engine goes on after such a stop.
+fn go_on(rt: &impl Abort, alloc: Global, shape: JournalShape) -> Result<(), Fail> {
+    let opened = stop_retiring(rt, alloc, shape)?;
+    fill_clean(rt, &mut started(alloc, opened)?, shape);
+    Ok(())
+}
+
 #[test]
 fn stop_while_retiring(rt: HostRuntime) -> Result<(), Fail> {
-    let alloc = rt.alloc();
-    for shape in LAYOUTS {
-        let opened = stop_retiring(&rt, alloc, shape)?;
-        go_on(&rt, &mut started(alloc, opened)?, shape);
-    }
+    over_layouts!(shape => go_on(&rt, rt.alloc(), shape)?);
     Ok(())
 }
 
@@ -214,12 +204,14 @@ fn find_clean(
     Ok(())
 }
 
+/// The engine retires what is left after such a stop.
+fn retire_on(rt: &impl Abort, alloc: Global, shape: JournalShape) -> Result<(), Fail> {
+    let opened = stop_retiring(rt, alloc, shape)?;
+    find_clean(rt, alloc, &mut started(alloc, opened)?, shape)
+}
+
 #[test]
 fn retirement_alone(rt: HostRuntime) -> Result<(), Fail> {
-    let alloc = rt.alloc();
-    for shape in LAYOUTS {
-        let opened = stop_retiring(&rt, alloc, shape)?;
-        find_clean(&rt, alloc, &mut started(alloc, opened)?, shape)?;
-    }
+    over_layouts!(shape => retire_on(&rt, rt.alloc(), shape)?);
     Ok(())
 }

@@ -1,7 +1,19 @@
-//! Whether two auctions are equal.
+//! Auctions, and whether two of them are equal.
 
+use crate::devices::six_nodes;
+use anyhow::Result;
 use hpb_auction::Auction;
-use hpb_rules::{BidderId, NodeId, Saved};
+use hpb_rules::{BidderId, Letter, NodeId, Saved};
+use std::alloc::Global;
+
+/// The auction after letters that are all accepted.
+pub fn state_after(alloc: Global, letters: &[Letter]) -> Result<Auction> {
+    let mut auction = Auction::new(alloc, &six_nodes(alloc)?)?;
+    for letter in letters {
+        auction.apply(&letter.command);
+    }
+    Ok(auction)
+}
 
 /// What is saved of an auction.
 pub fn saved_of(auction: &Auction) -> Saved {

@@ -8,7 +8,8 @@ mod walk;
 
 use crate::walk::walk_from;
 use anyhow::{Result, bail};
-use hpb_engine_rows::devices::LAYOUTS;
+use hpb_codec::JournalShape;
+use hpb_engine_rows::over_layouts;
 use std::process::ExitCode;
 
 fn main(rt: HostRuntime) -> ExitCode {
@@ -33,12 +34,16 @@ fn run(rt: &HostRuntime) -> Result<()> {
         Some(seed) => seed.parse::<u64>()?,
         None => 1,
     };
-    for shape in LAYOUTS {
-        let tally = walk_from(alloc, shape, stops, seed)?;
-        if !tally.is_full() {
-            bail!("too seldom: {tally}");
-        }
-        println!(rt; "{} stops", tally.stops)?;
+    over_layouts!(shape => walk_over(rt, shape, stops, seed)?);
+    Ok(())
+}
+
+/// Makes so many stops over devices with such a journal, and prints how many were made.
+fn walk_over(rt: &HostRuntime, shape: JournalShape, stops: u64, seed: u64) -> Result<()> {
+    let tally = walk_from(rt.alloc(), shape, stops, seed)?;
+    if !tally.is_full() {
+        bail!("too seldom: {tally}");
     }
+    println!(rt; "{} stops", tally.stops)?;
     Ok(())
 }

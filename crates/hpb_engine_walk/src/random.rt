@@ -168,6 +168,7 @@ fn ticket_of(command: &Command) -> u32 {
         Command::Bid { ticket, .. } => *ticket,
         Command::Close { ticket } => *ticket,
         Command::Stage { ticket } => *ticket,
+        Command::Waive { ticket, .. } => *ticket,
     }
 }
 

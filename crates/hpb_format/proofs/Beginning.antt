@@ -8,18 +8,19 @@ use Rattle.hpb_rules.specs.Saved.{restored}
 use Rattle.hpb_codec.specs.Heads.{magic, head_of, head_fields}
 use Rattle.hpb_codec.specs.Layouts.{IsShape}
 use Rattle.hpb_codec.specs.declared.layout.JournalShape.{JournalShape}
+use Rattle.hpb_codec.specs.declared.state_format.StateFormat.TheVariants.{Two}
 use Rattle.hpb_codec.specs.Numbers.{before, filled}
 use Rattle.hpb_codec.specs.States.{SpellsState}
 use Rattle.hpb_format.specs.Beginnings.{IsFirstHead, IsFirstState}
 
 -- The bytes of a head begin with the magic.
-begins_with_magic : (rules : Rules) (journal : JournalShape) → take 8 (head_of rules journal) ≡ magic
+begins_with_magic : (rules : Rules) (journal : JournalShape) → take 8 (head_of rules journal Two) ≡ magic
 unfolding head_of head_fields filled
 begins_with_magic rules journal = refl
 
-pub first_head_is : (rules : Rules) (journal : JournalShape) (bytes : List ℕ) → draft_refusal rules ≡ None → IsShape journal → bytes ≡ head_of rules journal → IsFirstHead rules journal bytes
+pub first_head_is : (rules : Rules) (journal : JournalShape) (bytes : List ℕ) → draft_refusal rules ≡ None → IsShape journal → bytes ≡ head_of rules journal Two → IsFirstHead rules journal bytes
 first_head_is rules journal bytes accepted allowed is = record {
-  spelled = record { is = record { definition = accepted; journal = allowed }; spelled = is };
+  spelled = record { is = record { definition = accepted; journal = allowed }; readable = tt; spelled = is };
   known = ap (λ (l : List ℕ). take 8 l) is ∙ begins_with_magic rules journal;
 }
 

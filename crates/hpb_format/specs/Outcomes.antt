@@ -1,6 +1,6 @@
 -- What a device is after it was formatted, and why it was not.
 use Rattle.std.specs.Prelude.{◌≡◌, ◌⊎◌, ◌↔◌, ℕ, ◌<◌, List, [], length, Result, Ok, Err, IfOk}
-use Rattle.hpb_disk.specs.Images.{LeavesOnly, Only, Within}
+use Rattle.hpb_disk.specs.Images.{part, LeavesOnly, Only, Within}
 use Rattle.hpb_rules.specs.declared.refusal.Refusal.{Refusal}
 use Rattle.hpb_rules.specs.declared.refusal.Refusal.TheVariants as refusals
 use Rattle.hpb_rules.specs.Tree.{Rules}
@@ -8,7 +8,11 @@ use Rattle.hpb_codec.specs.Layouts.{layout_byte, IsShape}
 use Rattle.hpb_codec.specs.declared.layout.JournalLayout.TheVariants.{Pages}
 use Rattle.hpb_codec.specs.declared.layout.JournalShape.{JournalShape}
 use Rattle.hpb_journal.specs.Shapes.{shaped}
+use Rattle.hpb_codec.specs.Heads.{SpellsHeadIn}
+use Rattle.hpb_codec.specs.declared.head.TheConstants.{HEAD_SIZE}
+use Rattle.hpb_codec.specs.declared.state_format.StateFormat.TheVariants.{Two}
 use Rattle.hpb_image.specs.Heads.{IsFormatted, IsLaidOut}
+use Rattle.hpb_image.specs.declared.limits.TheConstants.{HEAD_AT}
 use Rattle.hpb_image.specs.Standing.{Stands}
 use Rattle.hpb_format.specs.declared.fault.FormatCause.{FormatCause}
 use Rattle.hpb_format.specs.declared.fault.FormatCause.TheVariants as causes
@@ -35,9 +39,10 @@ pub record HasLength (journal : JournalShape) (image : List ℕ) : Type 0 where
   pub allowed : IsShape journal
   pub size : length image ≡ (shaped journal).size
 
--- The image stands for no command, under this definition and with a journal of this shape.
+-- The image stands for no command, under this definition and with a journal of this shape, and its head tells the second format of states.
 pub record IsNew (rules : Rules) (journal : JournalShape) (image : List ℕ) : Type 0 where
   pub laid : IsLaidOut (record { definition = rules; journal = journal }) image
+  pub format : SpellsHeadIn Two (part HEAD_AT HEAD_SIZE image) (record { definition = rules; journal = journal })
   pub stands : Stands [] image
 
 -- The image isn't that of a formatted device, or it is new.

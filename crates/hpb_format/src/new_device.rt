@@ -6,7 +6,7 @@ ghost use Rattle.hpb_codec.specs.Layouts.{IsShape};
 ghost use Rattle.hpb_format.specs.Beginnings.{IsFirstHead, IsFirstState};
 
 use hpb_auction::Auction;
-use hpb_codec::{HEAD_SIZE, JournalShape, STATE_SIZE, encode_head, encode_state};
+use hpb_codec::{HEAD_SIZE, JournalShape, STATE_SIZE, StateFormat, encode_head, encode_state};
 use hpb_rules::{MOST_BIDDERS, MOST_NODES, Saved, SavedBidder, SavedNode};
 use hpb_tree::Definition;
 use std::alloc::{AllocError, Global};
@@ -20,6 +20,8 @@ const NOBODY: SavedBidder = SavedBidder {
     eligibility: 0,
     last: None,
     bid_on: 0,
+    waivers: 0,
+    has_waived: false,
 };
 
 /// The bytes of a new device.
@@ -84,6 +86,6 @@ fn first_head(
 {
     definition.is_accepted_draft();
     let mut bytes = vec![in alloc; 0; HEAD_SIZE]?;
-    encode_head(definition, journal, &mut bytes);
+    encode_head(definition, journal, StateFormat::Two, &mut bytes);
     Ok(bytes)
 }

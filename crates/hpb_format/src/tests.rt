@@ -41,7 +41,7 @@ const WRITTEN: [(usize, usize); 2] = [(16, 12_272), (16_384, 16_384)];
 /// What of that isn't zero, for six nodes, beside the layout and the number of frames.
 const PARTS: [(usize, &[u8]); 30] = [
     (16, b"HPBAUCT1"),
-    (25, &[1, 6, 4, 10, 2, 80, 95]),
+    (25, &[2, 6, 4, 10, 2, 80, 95]),
     (36, &[0, 0, 0, 10]),
     // The nodes.
     (4_096, b"all"),
@@ -70,7 +70,7 @@ const PARTS: [(usize, &[u8]); 30] = [
     (8_264, b"w"),
     (8_280, &[0, 0, 0, 25]),
     // The state: its format, the stage and the round, and of each bidder what it may still be active with.
-    (16_384, &[1, 1, 0, 0, 0, 0, 0, 1]),
+    (16_384, &[2, 1, 0, 0, 0, 0, 0, 1]),
     (19_480, &[0, 0, 0, 10]),
     (19_528, &[0, 0, 0, 10]),
 ];
@@ -109,6 +109,7 @@ fn six_nodes(alloc: Global) -> Result<Definition, Fail> {
         step: 10,
         percent: 10,
         stages: vec![in alloc; 80, 95]?,
+        waivers: 0,
         nodes: Vec::new(alloc),
         bidders: Vec::new(alloc),
     };

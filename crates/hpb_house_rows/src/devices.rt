@@ -47,6 +47,7 @@ fn wide_draft(alloc: Global) -> Result<Draft, AllocError> {
         step: 10,
         percent: 10,
         stages: vec![in alloc; 80]?,
+        waivers: 0,
         nodes: Vec::new(alloc),
         bidders: Vec::new(alloc),
     };

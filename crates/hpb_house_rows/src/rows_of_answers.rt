@@ -5,10 +5,11 @@ ghost use Rattle.hpb_house.specs.Boards.{SameBoard};
 use crate::devices::six_nodes_opened;
 use crate::harness::{Outcome, Session, run_in_memory};
 use crate::turns::{TURNS, ask, pause, post, take_within};
-use hpb_engine_rows::devices::{LAYOUTS, count_on};
+use hpb_engine_rows::devices::count_on;
 use hpb_engine_rows::letters::Bidder::{W, X, Y, Z};
 use hpb_engine_rows::letters::Node::{A, All, B, C};
 use hpb_engine_rows::letters::{bid, close};
+use hpb_engine_rows::over_layouts;
 use hpb_house::{Halt, OpenGate};
 use hpb_rings::Client;
 use hpb_rules::{Command, Refusal, Reply};
@@ -80,7 +81,7 @@ impl Session for Tickets {
 #[test]
 fn tickets_through_a_client(rt: HostRuntime) -> Result<(), Fail> {
     let alloc = rt.alloc();
-    for shape in LAYOUTS {
+    over_layouts!(shape => {
         let session = Tickets {
             right: AtomicU32::new(0),
         };
@@ -95,7 +96,7 @@ fn tickets_through_a_client(rt: HostRuntime) -> Result<(), Fail> {
         };
         assert_eq!(rt; run.outcome, wanted);
         assert_eq!(rt; count_on(alloc, run.disk)?, 5);
-    }
+    });
     Ok(())
 }
 
@@ -129,7 +130,7 @@ impl Session for OwnBid {
 #[test]
 fn own_bid_in_next_view(rt: HostRuntime) -> Result<(), Fail> {
     let alloc = rt.alloc();
-    for shape in LAYOUTS {
+    over_layouts!(shape => {
         let session = OwnBid {
             is_seen: AtomicBool::new(false),
         };
@@ -137,7 +138,7 @@ fn own_bid_in_next_view(rt: HostRuntime) -> Result<(), Fail> {
         let run = run_in_memory(&rt, alloc, opened, 1, &OpenGate, &session)?;
         assert!(rt; session.is_seen.load(Ordering::SeqCst));
         assert_eq!(rt; run.outcome.committed, 1);
-    }
+    });
     Ok(())
 }
 
@@ -188,7 +189,7 @@ impl Session for FullRing {
 #[test]
 fn full_ring(rt: HostRuntime) -> Result<(), Fail> {
     let alloc = rt.alloc();
-    for shape in LAYOUTS {
+    over_layouts!(shape => {
         let session = FullRing {
             posted: AtomicU32::new(0),
             goes_on: AtomicBool::new(false),
@@ -204,6 +205,6 @@ fn full_ring(rt: HostRuntime) -> Result<(), Fail> {
             accepted: 1,
         };
         assert_eq!(rt; run.outcome, wanted);
-    }
+    });
     Ok(())
 }

@@ -7,7 +7,8 @@ use crate::harness::{Outcome, Session, run_in_memory};
 use crate::hold::Hold;
 use crate::script::{accepted_command, ask_places};
 use crate::turns::{TURNS, pause, post, take_within};
-use hpb_engine_rows::devices::{LAYOUTS, count_on};
+use hpb_engine_rows::devices::count_on;
+use hpb_engine_rows::over_layouts;
 use hpb_house::{Halt, Point};
 use hpb_rings::Client;
 use hpb_rules::Reply;
@@ -57,7 +58,7 @@ impl Session for FullJournal {
 #[test]
 fn full_journal_waits(rt: HostRuntime) -> Result<(), Fail> {
     let alloc = rt.alloc();
-    for shape in LAYOUTS {
+    over_layouts!(shape => {
         let session = FullJournal {
             frames: shape.frames,
             hold: Hold::at_point(Point::Page(0)),
@@ -76,7 +77,7 @@ fn full_journal_waits(rt: HostRuntime) -> Result<(), Fail> {
         let all = shape.frames.saturating_add(1);
         assert_eq!(rt; run.outcome.committed, u64::from(all));
         assert_eq!(rt; count_on(alloc, run.disk)?, all);
-    }
+    });
     Ok(())
 }
 
@@ -118,7 +119,7 @@ impl Session for Beside {
 #[test]
 fn commits_beside_a_checkpoint(rt: HostRuntime) -> Result<(), Fail> {
     let alloc = rt.alloc();
-    for shape in LAYOUTS {
+    over_layouts!(shape => {
         let session = Beside {
             hold: Hold::at_point(Point::Page(1)),
             is_entered: AtomicBool::new(false),
@@ -138,6 +139,6 @@ fn commits_beside_a_checkpoint(rt: HostRuntime) -> Result<(), Fail> {
         };
         assert_eq!(rt; run.outcome, wanted);
         assert_eq!(rt; count_on(alloc, run.disk)?, 10);
-    }
+    });
     Ok(())
 }

@@ -6,10 +6,11 @@ use crate::devices::{WIDE, six_nodes_opened, wide_opened};
 use crate::harness::{Outcome, Session, run_in_memory};
 use crate::turns::{ask, post};
 use hpb_codec::JournalLayout;
-use hpb_engine_rows::devices::{LAYOUTS, count_on};
+use hpb_engine_rows::devices::count_on;
 use hpb_engine_rows::letters::Bidder::{W, X, Y, Z};
 use hpb_engine_rows::letters::Node::{A, B, C, D};
 use hpb_engine_rows::letters::bid;
+use hpb_engine_rows::over_layouts;
 use hpb_house::{Halt, OpenGate};
 use hpb_rings::Client;
 use hpb_rules::{BidderId, Command, NodeId};
@@ -41,7 +42,7 @@ impl Session for TwoClients {
 #[test]
 fn two_clients_counted(rt: HostRuntime) -> Result<(), Fail> {
     let alloc = rt.alloc();
-    for shape in LAYOUTS {
+    over_layouts!(shape => {
         let opened = six_nodes_opened(alloc, shape)?;
         let run = run_in_memory(&rt, alloc, opened, 2, &OpenGate, &TwoClients)?;
         let wanted = Outcome {
@@ -52,7 +53,7 @@ fn two_clients_counted(rt: HostRuntime) -> Result<(), Fail> {
         };
         assert_eq!(rt; run.outcome, wanted);
         assert_eq!(rt; count_on(alloc, run.disk)?, 4);
-    }
+    });
     Ok(())
 }
 

@@ -6,7 +6,7 @@ use crate::devices::faulty_opened;
 use crate::harness::{Outcome, Session, run_with_fault};
 use crate::script::accepted_command;
 use crate::turns::{TURNS, ask, pause, post};
-use hpb_engine_rows::devices::LAYOUTS;
+use hpb_engine_rows::over_layouts;
 use hpb_house::{Halt, OpenGate};
 use hpb_rings::Client;
 use std::sync::Wait;
@@ -79,7 +79,7 @@ impl Session for Resting {
 #[test]
 fn halted_client(rt: HostRuntime) -> Result<(), Fail> {
     let alloc = rt.alloc();
-    for shape in LAYOUTS {
+    over_layouts!(shape => {
         let wanted = Outcome {
             is_closed: true,
             committed: 0,
@@ -96,14 +96,14 @@ fn halted_client(rt: HostRuntime) -> Result<(), Fail> {
             assert_eq!(rt; run.outcome, wanted, "{call}");
         }
         assert_eq!(rt; session.right.load(Ordering::SeqCst), 8);
-    }
+    });
     Ok(())
 }
 
 #[test]
 fn fault_in_a_checkpoint(rt: HostRuntime) -> Result<(), Fail> {
     let alloc = rt.alloc();
-    for shape in LAYOUTS {
+    over_layouts!(shape => {
         let wanted = Outcome {
             is_closed: true,
             committed: 1,
@@ -120,6 +120,6 @@ fn fault_in_a_checkpoint(rt: HostRuntime) -> Result<(), Fail> {
             assert_eq!(rt; run.outcome, wanted, "{call}");
         }
         assert_eq!(rt; session.right.load(Ordering::SeqCst), 3);
-    }
+    });
     Ok(())
 }

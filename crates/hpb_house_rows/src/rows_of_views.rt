@@ -3,10 +3,10 @@ ghost use Rattle.std.specs.Prelude.{◌≡◌, ◌<◌, []};
 
 use crate::devices::six_nodes_opened;
 use hpb_board::{Publisher, Viewer};
-use hpb_engine_rows::devices::LAYOUTS;
 use hpb_engine_rows::letters::Bidder::X;
 use hpb_engine_rows::letters::Node::A;
 use hpb_engine_rows::letters::bid;
+use hpb_engine_rows::over_layouts;
 use hpb_rules::Letters;
 use std::alloc::AllocError;
 use std::sync::Wait;
@@ -33,7 +33,7 @@ fn count_seen(viewer: &mut Viewer) -> Option<u32> {
 #[test]
 fn view_is_none_where_the_publisher_has_ended(rt: HostRuntime) -> Result<(), Fail> {
     let alloc = rt.alloc();
-    for shape in LAYOUTS {
+    over_layouts!(shape => {
         let opened = six_nodes_opened(alloc, shape)?;
         let mut publisher = Publisher::open(&rt, alloc, opened.auction(), 2, 2)?;
         let mut viewer = publisher.introduce(alloc)?;
@@ -42,6 +42,6 @@ fn view_is_none_where_the_publisher_has_ended(rt: HostRuntime) -> Result<(), Fai
         drop(publisher);
         assert_eq!(rt; count_seen(&mut viewer), None);
         assert_eq!(rt; viewer.auction().count(), 1);
-    }
+    });
     Ok(())
 }

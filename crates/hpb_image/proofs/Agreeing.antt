@@ -23,7 +23,7 @@ joined_both (commands ∷ batches) others = ap (λ (l : List Command). commands 
 -- Two readings agree on all but how far they went.
 module _ (heads : HeadsAreOne) (newest : NewestIsOne) (shapes : ShapesAreJournal) (f g : Found) (image : List ℕ) (one : Reaches f image) (other : Reaches g image) where
   pub heads_agree : f.head ≡ g.head
-  heads_agree = heads.one_value (part 16 12272 image) f.head g.head one.laid.spelled other.laid.spelled
+  heads_agree = heads.1 (part 16 12272 image) f.head g.head one.laid.spelled other.laid.spelled
 
   newest_here : IsNewest f.head.definition g.slot g.covered g.saved image
   newest_here = subst (λ (head : Head). IsNewest head.definition g.slot g.covered g.saved image) (sym heads_agree) other.newest
@@ -57,7 +57,7 @@ module _ (heads : HeadsAreOne) (newest : NewestIsOne) (shapes : ShapesAreJournal
   accepted_here = subst (λ (v : AuctionValue). AllAccepted v (joined g.batches)) (sym checkpoints_agree) other.accepted
 
   journal : IsJournal (layout_in f)
-  journal = shapes f.head.journal one.laid.spelled.is.journal
+  journal = shapes f.head.journal one.laid.spelled.1.is.journal
 
   -- nothing goes past all that there is to be read
   module _ (ends : HasLater f image → ⊥) where

@@ -28,7 +28,7 @@ module _ (heads : HeadsAreOne) (newest : NewestIsOne) (shapes : ShapesAreJournal
   b = damaged.reaches
 
   journal : IsJournal (layout_in g)
-  journal = shapes g.head.journal b.laid.spelled.is.journal
+  journal = shapes g.head.journal b.laid.spelled.1.is.journal
 
   -- the other reading went as far: then the later frame is later for both
   as_far : f.batches ≡ g.batches → ⊥
@@ -67,7 +67,7 @@ module _ (heads : HeadsAreOne) (f : Found) (image : List ℕ) (reaches : Reaches
   -- what is read has a state in a slot, under the one head that there is
   has_state : (head : Head) → IsLaidOut head image → IsWithout head.definition image → ⊥
   has_state head laid none =
-      let same : f.head ≡ head = heads.one_value (part 16 12272 image) f.head head reaches.laid.spelled laid.spelled in
+      let same : f.head ≡ head = heads.1 (part 16 12272 image) f.head head reaches.laid.spelled laid.spelled in
       none f.slot f.covered f.saved (subst (λ (head : Head). Holds head.definition f.slot f.covered f.saved image) same reaches.newest.holds)
 
   reached : (flaw : Flaw) → HasFlaw flaw image → flaw ≡ Frame

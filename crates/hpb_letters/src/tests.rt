@@ -28,6 +28,7 @@ fn six_nodes(alloc: Global) -> Result<Auction, Fail> {
         step: 10,
         percent: 10,
         stages: vec![in alloc; 80, 95]?,
+        waivers: 0,
         nodes: Vec::new(alloc),
         bidders: Vec::new(alloc),
     };

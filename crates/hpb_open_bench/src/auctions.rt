@@ -19,6 +19,7 @@ pub(crate) fn full_tree(alloc: Global, nodes: u64, bidders: u64) -> Result<Defin
         step: STEP,
         percent: 10,
         stages: vec![in alloc; 80]?,
+        waivers: 0,
         nodes: Vec::new(alloc),
         bidders: Vec::new(alloc),
     };

@@ -35,10 +35,12 @@ then commands and questions, one a line. Each of them gets one line on standard 
   BID bidder ticket node amount   a bid, in whole dollars        OK number
   CLOSE ticket                    ends the round                 OK number
   STAGE ticket                    moves on to the next stage     OK number
+  WAIVE bidder ticket             keeps its eligibility          OK number
   SHOW                            the auction                    ROUND r STAGE s OPEN REVENUE v COUNT n
   NODE name                       a package or a licence         NODE name HIGH h x PRICE p MIN m WIN yes
   WHO bidder                      a bidder                       WHO x ELIGIBILITY e ACTIVITY a TICKET t
 
+Where the definition gives waivers, what WHO is answered ends with WAIVERS and how many are left.
 Each bidder numbers its commands 1, 2, .. by tickets, and so does who closes rounds and moves stages.
 What is refused gets ERR with a number and a word.
 

@@ -68,37 +68,37 @@ static BYTES: [(&[u8], &str); 3] = [
 ];
 
 // Changes of the worked definition: what stands there instead, by which refusal it is refused, and why.
-static CHANGED: [(&str, &str, Refusal, &str); 65] = [
+static CHANGED: [(&str, &str, Refusal, &str); 68] = [
     // Fields that are unknown.
     (
         r#""step":10"#,
         r#""Step":10"#,
         Field,
-        "Step: unknown; a definition has the fields step, percent, stages, nodes and bidders",
+        "Step: unknown; a definition has the fields step, percent, stages, nodes and bidders, and may have waivers",
     ),
     (
         r#""step":10"#,
         r#""step":10,"two words":1"#,
         Field,
-        "\"two words\": unknown; a definition has the fields step, percent, stages, nodes and bidders",
+        "\"two words\": unknown; a definition has the fields step, percent, stages, nodes and bidders, and may have waivers",
     ),
     (
         r#""step":10"#,
         r#""step":10,"":1"#,
         Field,
-        "\"\": unknown; a definition has the fields step, percent, stages, nodes and bidders",
+        "\"\": unknown; a definition has the fields step, percent, stages, nodes and bidders, and may have waivers",
     ),
     (
         r#""step":10"#,
         r#""step":10,"note_of_32_characters_a_z_A_Z_09":1"#,
         Field,
-        "note_of_32_characters_a_z_A_Z_09: unknown; a definition has the fields step, percent, stages, nodes and bidders",
+        "note_of_32_characters_a_z_A_Z_09: unknown; a definition has the fields step, percent, stages, nodes and bidders, and may have waivers",
     ),
     (
         r#""step":10"#,
         r#""step":10,"note_of_33_characters_a_z_A_Z_0_9":1"#,
         Field,
-        "\"note_of_33_characters_a_z_A_Z_0_..\": unknown; a definition has the fields step, percent, stages, nodes and bidders",
+        "\"note_of_33_characters_a_z_A_Z_0_..\": unknown; a definition has the fields step, percent, stages, nodes and bidders, and may have waivers",
     ),
     (
         r#""units":20,"#,
@@ -219,12 +219,18 @@ static CHANGED: [(&str, &str, Refusal, &str); 65] = [
         Field,
         "bidders[0].units: an object, and has to be a number",
     ),
+    (
+        r#""step":10"#,
+        r#""step":10,"waivers":null"#,
+        Field,
+        "waivers: null, and has to be a number",
+    ),
     // An unknown field comes before all others, and what comes first otherwise.
     (
         r#""step":10,"percent":10"#,
         r#""step":null,"procent":10"#,
         Field,
-        "procent: unknown; a definition has the fields step, percent, stages, nodes and bidders",
+        "procent: unknown; a definition has the fields step, percent, stages, nodes and bidders, and may have waivers",
     ),
     // Numbers that aren't whole, or don't fit 64 bits, before those that are out of range.
     (
@@ -238,6 +244,12 @@ static CHANGED: [(&str, &str, Refusal, &str); 65] = [
         r#""step":0,"percent":-5"#,
         Number,
         "percent: -5 is no whole number in plain digits",
+    ),
+    (
+        r#""step":10"#,
+        r#""step":10,"waivers":-1"#,
+        Number,
+        "waivers: -1 is no whole number in plain digits",
     ),
     (
         "[80,95]",
@@ -269,6 +281,12 @@ static CHANGED: [(&str, &str, Refusal, &str); 65] = [
         r#""percent":60"#,
         Number,
         "percent: 60 is not from 1 to 50",
+    ),
+    (
+        r#""step":10"#,
+        r#""step":10,"waivers":21"#,
+        Number,
+        "waivers: 21 is not from 0 to 20",
     ),
     (
         "[80,95]",
@@ -461,9 +479,11 @@ static CHANGED: [(&str, &str, Refusal, &str); 65] = [
 ];
 
 // Changes of the worked definition that break no rule of this refusal, or that can't be read.
-static NOTHING_FOUND: [(&str, Refusal); 5] = [
+static NOTHING_FOUND: [(&str, Refusal); 7] = [
     (r#""step":10"#, Json),
     (r#""step":10"#, Field),
+    (r#""step":10,"waivers":0"#, Field),
+    (r#""step":10,"waivers":20"#, Number),
     (r#""step":10"#, Limits),
     (r#""step":10"#, Refusal::Memory),
     (r#""step":10,"#, Field),

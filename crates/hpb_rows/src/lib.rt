@@ -14,6 +14,8 @@ mod rows_of_sums;
 #[cfg(test)]
 mod rows_of_units;
 #[cfg(test)]
+mod rows_of_waivers;
+#[cfg(test)]
 mod rows_of_winners;
 #[cfg(test)]
 mod script;

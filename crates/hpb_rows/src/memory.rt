@@ -33,6 +33,7 @@ fn draft(alloc: Global) -> Result<Draft, AllocError> {
         step: 5,
         percent: 10,
         stages: vec![in alloc; 80]?,
+        waivers: 0,
         nodes,
         bidders,
     })

@@ -4,7 +4,7 @@ use crate::id::{BidderId, NodeId};
 /// What a line asks for.
 #[derive(Clone, Copy, Debug, PartialEq, Eq)]
 pub enum Request {
-    /// A command to the auction: `BID`, `CLOSE` or `STAGE`.
+    /// A command to the auction: `BID`, `CLOSE`, `STAGE` or `WAIVE`.
     Command(Command),
     /// `SHOW`: the round, the stage, the revenue and the count.
     Show,

@@ -3,7 +3,7 @@
 use crate::caller::Caller;
 use crate::serving::{Serving, serve_new_device, well};
 use hpb_codec::JournalShape;
-use hpb_engine_rows::devices::LAYOUTS;
+use hpb_engine_rows::over_layouts;
 use std::alloc::Global;
 use std::io;
 use std::io::{ErrorKind, Write};
@@ -69,7 +69,7 @@ fn fill(caller: &Caller) -> io::Result<bool> {
 
 #[test]
 fn client_that_never_reads(rt: HostRuntime) -> Result<(), Fail> {
-    for shape in LAYOUTS {
+    over_layouts!(shape => {
         let Two {
             serving,
             odd,
@@ -80,13 +80,13 @@ fn client_that_never_reads(rt: HostRuntime) -> Result<(), Fail> {
         assert_eq!(rt; other.end()?.as_str(), "");
         drop(odd);
         assert_eq!(rt; serving.ended(&rt)?.served, well(2));
-    }
+    });
     Ok(())
 }
 
 #[test]
 fn half_a_line_that_stays(rt: HostRuntime) -> Result<(), Fail> {
-    for shape in LAYOUTS {
+    over_layouts!(shape => {
         let Two {
             serving,
             mut odd,
@@ -103,7 +103,7 @@ fn half_a_line_that_stays(rt: HostRuntime) -> Result<(), Fail> {
         );
         assert_eq!(rt; other.end()?.as_str(), "");
         assert_eq!(rt; serving.ended(&rt)?.served, well(3));
-    }
+    });
     Ok(())
 }
 
@@ -112,7 +112,7 @@ const HALF: usize = 500_000;
 
 #[test]
 fn million_bytes_without_line_feed(rt: HostRuntime) -> Result<(), Fail> {
-    for shape in LAYOUTS {
+    over_layouts!(shape => {
         let Two {
             serving,
             mut odd,
@@ -128,13 +128,13 @@ fn million_bytes_without_line_feed(rt: HostRuntime) -> Result<(), Fail> {
         assert_eq!(rt; odd.end()?.as_str(), "");
         assert_eq!(rt; other.end()?.as_str(), "");
         assert_eq!(rt; serving.ended(&rt)?.served, well(3));
-    }
+    });
     Ok(())
 }
 
 #[test]
 fn client_that_resets(rt: HostRuntime) -> Result<(), Fail> {
-    for shape in LAYOUTS {
+    over_layouts!(shape => {
         let Two {
             serving,
             odd,
@@ -150,13 +150,13 @@ fn client_that_resets(rt: HostRuntime) -> Result<(), Fail> {
         );
         assert_eq!(rt; other.end()?.as_str(), "");
         assert_eq!(rt; serving.ended(&rt)?.served, well(2));
-    }
+    });
     Ok(())
 }
 
 #[test]
 fn client_that_says_nothing(rt: HostRuntime) -> Result<(), Fail> {
-    for shape in LAYOUTS {
+    over_layouts!(shape => {
         let Two {
             serving,
             odd,
@@ -166,6 +166,6 @@ fn client_that_says_nothing(rt: HostRuntime) -> Result<(), Fail> {
         assert_eq!(rt; other.end()?.as_str(), "");
         assert_eq!(rt; odd.end()?.as_str(), "");
         assert_eq!(rt; serving.ended(&rt)?.served, well(2));
-    }
+    });
     Ok(())
 }

@@ -3,14 +3,14 @@
 use crate::caller::Caller;
 use crate::outputs::Deaf;
 use crate::serving::{serve_faulty_device, serve_new_device};
-use hpb_engine_rows::devices::LAYOUTS;
+use hpb_engine_rows::over_layouts;
 use hpb_serve::{ServeFault, Served};
 use std::test::*;
 
 #[test]
 fn device_fault_in_the_first_commit(rt: HostRuntime) -> Result<(), Fail> {
     let alloc = rt.alloc();
-    for shape in LAYOUTS {
+    over_layouts!(shape => {
         // Each of the four calls of the first commit.
         for call in 1..5 {
             let serving = serve_faulty_device(&rt, alloc, shape, call)?;
@@ -37,19 +37,19 @@ fn device_fault_in_the_first_commit(rt: HostRuntime) -> Result<(), Fail> {
             };
             assert_eq!(rt; serving.ended(&rt)?.served, Ok(wanted), "{call}");
         }
-    }
+    });
     Ok(())
 }
 
 #[test]
 fn nobody_hears_the_line(rt: HostRuntime) -> Result<(), Fail> {
     let alloc = rt.alloc();
-    for shape in LAYOUTS {
+    over_layouts!(shape => {
         let serving = serve_new_device(&rt, alloc, shape, 1, Deaf)?;
         if let Ok(caller) = Caller::connect(&rt, alloc, serving.port) {
             assert!(rt; caller.is_turned_away());
         }
         assert_eq!(rt; serving.ended(&rt)?.served, Err(ServeFault::Writer));
-    }
+    });
     Ok(())
 }

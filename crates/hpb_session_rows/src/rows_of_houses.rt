@@ -2,7 +2,7 @@
 
 use crate::one_session::{Outcome, run_on_faulty_device, run_on_new_device};
 use crate::outputs::Deaf;
-use hpb_engine_rows::devices::LAYOUTS;
+use hpb_engine_rows::over_layouts;
 use hpb_server::Fault;
 use std::test::*;
 
@@ -18,7 +18,7 @@ const ACCEPTED: Outcome = Outcome {
 fn session_on_a_house(rt: HostRuntime) -> Result<(), Fail> {
     let alloc = rt.alloc();
     let lines = "BID x 1 a 100\nSHOW\n";
-    for shape in LAYOUTS {
+    over_layouts!(shape => {
         let mut answers = Vec::new(alloc);
         let outcome = run_on_new_device(&rt, alloc, shape, lines, &mut answers)?;
         assert_eq!(rt; outcome, ACCEPTED);
@@ -26,7 +26,7 @@ fn session_on_a_house(rt: HostRuntime) -> Result<(), Fail> {
             String::from_utf8(answers)?.as_str(),
             "OK 1\nROUND 1 STAGE 1 OPEN REVENUE 0 COUNT 1\n"
         );
-    }
+    });
     Ok(())
 }
 
@@ -51,7 +51,7 @@ ERR 93 failed
 #[test]
 fn session_cut_short(rt: HostRuntime) -> Result<(), Fail> {
     let alloc = rt.alloc();
-    for shape in LAYOUTS {
+    over_layouts!(shape => {
         // In the middle of a line.
         let mut answers = Vec::new(alloc);
         let outcome = run_on_new_device(&rt, alloc, shape, "BID x 1 a", &mut answers)?;
@@ -75,6 +75,6 @@ fn session_cut_short(rt: HostRuntime) -> Result<(), Fail> {
             assert_eq!(rt; outcome, wanted, "{call}");
             assert_eq!(rt; String::from_utf8(answers)?.as_str(), FAILED, "{call}");
         }
-    }
+    });
     Ok(())
 }

@@ -4,7 +4,7 @@ use crate::caller::Caller;
 use crate::devices::make_file;
 use crate::outputs::Heard;
 use crate::serving::{Ended, goes_up, serve_file, serve_new_device, well};
-use hpb_engine_rows::devices::LAYOUTS;
+use hpb_engine_rows::over_layouts;
 use std::fs;
 use std::sync::Arc;
 use std::sync::atomic::AtomicBool;
@@ -16,7 +16,7 @@ const TWO_BIDS: &str = "ROUND 1 STAGE 1 OPEN REVENUE 0 COUNT 2\n";
 fn two_sessions_over_tcp(rt: HostRuntime) -> Result<(), Fail> {
     let alloc = rt.alloc();
     let path = "hpb_session_rows_two";
-    for shape in LAYOUTS {
+    over_layouts!(shape => {
         make_file(&rt, alloc, shape, path)?;
         let serving = serve_file(&rt, alloc, path, 2)?;
         let mut first = Caller::connect(&rt, alloc, serving.port)?;
@@ -39,14 +39,14 @@ fn two_sessions_over_tcp(rt: HostRuntime) -> Result<(), Fail> {
         assert_eq!(rt; third.end()?.as_str(), "");
         assert_eq!(rt; serving.ended(&rt)?.served, well(2));
         fs::remove_file(&rt, path)?;
-    }
+    });
     Ok(())
 }
 
 #[test]
 fn one_connection_too_many(rt: HostRuntime) -> Result<(), Fail> {
     let alloc = rt.alloc();
-    for shape in LAYOUTS {
+    over_layouts!(shape => {
         let serving = serve_new_device(&rt, alloc, shape, 2, Vec::new(alloc))?;
         let mut first = Caller::connect(&rt, alloc, serving.port)?;
         let mut second = Caller::connect(&rt, alloc, serving.port)?;
@@ -60,14 +60,14 @@ fn one_connection_too_many(rt: HostRuntime) -> Result<(), Fail> {
         assert_eq!(rt; first.end()?.as_str(), "");
         assert_eq!(rt; second.end()?.as_str(), "");
         assert_eq!(rt; serving.ended(&rt)?.served, well(2));
-    }
+    });
     Ok(())
 }
 
 #[test]
 fn listening_is_told_first(rt: HostRuntime) -> Result<(), Fail> {
     let alloc = rt.alloc();
-    for shape in LAYOUTS {
+    over_layouts!(shape => {
         let has_line = Arc::new(alloc, AtomicBool::new(false))?;
         let output = Heard {
             bytes: Vec::new(alloc),
@@ -84,6 +84,6 @@ fn listening_is_told_first(rt: HostRuntime) -> Result<(), Fail> {
         assert_eq!(rt; served, well(1));
         let Heard { bytes, .. } = output;
         assert_eq!(rt; String::from_utf8(bytes)?.as_str(), line.as_str());
-    }
+    });
     Ok(())
 }

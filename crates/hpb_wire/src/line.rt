@@ -8,7 +8,8 @@ use hpb_rules::{Refusal, Request};
 use hpb_tree::Definition;
 
 /// What a line, given without its end, asks for. Its words stand one space apart:
-/// `BID bidder ticket node amount`, `CLOSE ticket`, `STAGE ticket`, `SHOW`, `NODE name` or `WHO bidder`.
+/// `BID bidder ticket node amount`, `CLOSE ticket`, `STAGE ticket`, `WAIVE bidder ticket`, `SHOW`, `NODE name` or
+/// `WHO bidder`.
 /// A ticket (32 bits) and an amount (64 bits, whole dollars) are decimal, with no sign and no zero in
 /// front. No memory is taken.
 ///

@@ -26,6 +26,7 @@ fn definition(alloc: Global) -> Result<Definition, Fail> {
         step: 10,
         percent: 10,
         stages: vec![in alloc; 80]?,
+        waivers: 0,
         nodes: Vec::new(alloc),
         bidders: Vec::new(alloc),
     };
@@ -57,10 +58,16 @@ fn stage(ticket: u32) -> Result<Request, Refusal> {
     Ok(Request::Command(Command::Stage { ticket }))
 }
 
+/// A waiver of `y`.
+fn waiver(ticket: u32) -> Result<Request, Refusal> {
+    let bidder = BidderId::new(1);
+    Ok(Request::Command(Command::Waive { bidder, ticket }))
+}
+
 #[test]
 fn malformed_lines(rt: HostRuntime) -> Result<(), Fail> {
     let definition = definition(rt.alloc())?;
-    let table: [(&[u8], Result<Request, Refusal>); 20] = [
+    let table: [(&[u8], Result<Request, Refusal>); 26] = [
         (b"BID x 1 a 100", bid(1, 100)),
         (b"BID x 01 a 100", Err(Refusal::Line)),
         (b"BID x  1 a 100", Err(Refusal::Line)),
@@ -75,6 +82,12 @@ fn malformed_lines(rt: HostRuntime) -> Result<(), Fail> {
         (b"CLOSE", Err(Refusal::Line)),
         (b"STAGE 0", stage(0)),
         (b"STAGE 00", Err(Refusal::Line)),
+        (b"WAIVE y 2", waiver(2)),
+        (b"WAIVE y", Err(Refusal::Line)),
+        (b"WAIVE y 02", Err(Refusal::Line)),
+        (b"WAIVE y 2 a", Err(Refusal::Line)),
+        (b"WAIVE y 4294967296", Err(Refusal::Line)),
+        (b"WAIVE q 2", Err(Refusal::Bidder)),
         (b"SHOW", Ok(Request::Show)),
         (b"SHOW ", Err(Refusal::Line)),
         (b"NODE d", Ok(Request::Node(NodeId::new(1)))),
@@ -161,6 +174,11 @@ fn responses_are_written(rt: HostRuntime) -> Result<(), Fail> {
         eligibility: 21,
         activity: 20,
         ticket: 2,
+        waivers: None,
+    };
+    let with_waivers = BidderLine {
+        waivers: Some(20),
+        ..who
     };
     let round = RoundLine {
         round: 2,
@@ -199,6 +217,10 @@ fn responses_are_written(rt: HostRuntime) -> Result<(), Fail> {
             Response::Who(who),
             "WHO w ELIGIBILITY 21 ACTIVITY 20 TICKET 2\n",
         ),
+        (
+            Response::Who(with_waivers),
+            "WHO w ELIGIBILITY 21 ACTIVITY 20 TICKET 2 WAIVERS 20\n",
+        ),
     ];
     for (response, line) in table {
         text.clear();
@@ -208,7 +230,7 @@ fn responses_are_written(rt: HostRuntime) -> Result<(), Fail> {
     text.render_reply(Reply::Ok(1))?;
     assert_eq!(rt;
         text.as_bytes(),
-        b"WHO w ELIGIBILITY 21 ACTIVITY 20 TICKET 2\nOK 1\n".as_slice()
+        b"WHO w ELIGIBILITY 21 ACTIVITY 20 TICKET 2 WAIVERS 20\nOK 1\n".as_slice()
     );
     Ok(())
 }

@@ -32,6 +32,12 @@ fn record_bytes(rt: HostRuntime) {
     }
     .put(&mut bytes, 0);
     assert_eq!(rt; bytes, [3, 0, 0, 0, 1, 2, 3, 4, 0, 0, 0, 0, 0, 0, 0, 0]);
+    Command::Waive {
+        bidder: BidderId::new(0),
+        ticket: 2,
+    }
+    .put(&mut bytes, 0);
+    assert_eq!(rt; bytes, [4, 0, 0, 0, 0, 0, 0, 2, 0, 0, 0, 0, 0, 0, 0, 0]);
 }
 
 #[test]
@@ -123,6 +129,8 @@ fn loose_batches_are_refused(rt: HostRuntime) -> Result<(), Fail> {
         (26, 5, true),
         (26, 6, false),
         (24, 0, false),
+        (24, 5, false),
+        // A waiver has no node and no amount.
         (24, 4, false),
         (31, 0, false),
         (47, 0, false),

@@ -28,10 +28,16 @@ fn of_units(units: u64) -> Option<TermsDraft> {
 /// Six nodes, four bidders and two stages: `all` 0 has `east` 1 and the licence `c` 4, `east` has the licences `a` 2
 /// and `b` 3, and the licence `d` 5 stands alone.
 pub(crate) fn six_nodes(alloc: Global) -> Result<Definition, Fail> {
+    six_nodes_with(alloc, 0)
+}
+
+/// The same, with so many waivers.
+pub(crate) fn six_nodes_with(alloc: Global, waivers: u64) -> Result<Definition, Fail> {
     let mut draft = Draft {
         step: 10,
         percent: 10,
         stages: vec![in alloc; 80, 95]?,
+        waivers,
         nodes: Vec::new(alloc),
         bidders: Vec::new(alloc),
     };

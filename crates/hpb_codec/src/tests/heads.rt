@@ -1,5 +1,7 @@
 use crate::tests::examples::{body_with, change, scribbled, six_nodes};
-use crate::{HEAD_SIZE, Head, JournalLayout, JournalShape, decode_head, encode_head, has_magic};
+use crate::{
+    HEAD_SIZE, Head, JournalLayout, JournalShape, StateFormat, decode_head, encode_head, has_magic,
+};
 use hpb_rules::{BidderId, NodeId};
 use hpb_tree::{BidderDraft, Definition, Draft, NodeDraft, TermsDraft};
 use std::alloc::{AllocError, Global};
@@ -22,7 +24,7 @@ const BIDDERS_END: usize = BIDDERS + 96;
 /// What stands in the head of six nodes and a journal of 1,024 pages.
 const SIX_NODES: [(usize, &[u8]); 29] = [
     (0, b"HPBAUCT1"),
-    (8, &[1, 1, 6, 4, 10, 2, 80, 95]),
+    (8, &[1, 2, 6, 4, 10, 2, 80, 95]),
     (20, &[0, 0, 0, 10]),
     (24, &[0, 0, 4, 0]),
     // `all`, a top node, and `east` in it.
@@ -61,9 +63,9 @@ const REFUSED: [(usize, &[u8]); 14] = [
     // The journal has 3 pages, and 1,025.
     (24, &[0, 0, 0, 3]),
     (24, &[0, 0, 4, 1]),
-    // Layout 3, and state format 2.
+    // Layout 3, and state format 3.
     (8, &[3]),
-    (9, &[2]),
+    (9, &[3]),
     // One node less, and one more; one bidder less, and one more.
     (10, &[5]),
     (10, &[7]),
@@ -104,19 +106,19 @@ fn written_out_with_cells(alloc: Global, frames: u32) -> Result<Vec<u8>, AllocEr
     Ok(bytes)
 }
 
-/// A head as it is encoded.
+/// A head as it is encoded, of the second format of states.
 fn encoded(
     alloc: Global,
     definition: &Definition,
     journal: JournalShape,
 ) -> Result<Vec<u8>, AllocError> {
     let mut bytes = scribbled(alloc, HEAD_SIZE)?;
-    encode_head(definition, journal, &mut bytes);
+    encode_head(definition, journal, StateFormat::Two, &mut bytes);
     Ok(bytes)
 }
 
-/// The head that bytes are, if they are as many and are one.
-fn decoded(alloc: Global, bytes: &[u8]) -> Result<Option<Head>, AllocError> {
+/// The head that bytes are, with its format of states, if they are as many and are one.
+fn decoded(alloc: Global, bytes: &[u8]) -> Result<Option<(Head, StateFormat)>, AllocError> {
     if bytes.len() != HEAD_SIZE {
         return Ok(None);
     }
@@ -132,14 +134,22 @@ fn part(bytes: &[u8], from: usize, to: usize) -> &[u8] {
     bytes.get(from..to).unwrap_or(&[])
 }
 
-/// The shape of a head's journal, and the places of a node and of a bidder by their names.
-fn found(head: &Head, node: &[u8], bidder: &[u8]) -> (JournalShape, Option<usize>, Option<usize>) {
+/// The shape of a head's journal, and the places of a node and of a bidder by their names, if its states are of the
+/// second format.
+fn found(
+    read: Option<&(Head, StateFormat)>,
+    node: &[u8],
+    bidder: &[u8],
+) -> Option<(JournalShape, Option<usize>, Option<usize>)> {
+    let Some((head, StateFormat::Two)) = read else {
+        return None;
+    };
     let definition = &head.definition;
-    (
+    Some((
         head.journal,
         definition.find_node(node).map(NodeId::place),
         definition.find_bidder(bidder).map(BidderId::place),
-    )
+    ))
 }
 
 #[test]
@@ -147,9 +157,36 @@ fn head_bytes(rt: HostRuntime) -> Result<(), Fail> {
     let alloc = rt.alloc();
     let wanted = written_out(alloc)?;
     assert!(rt; encoded(alloc, &six_nodes(alloc)?, pages(1_024))? == wanted);
-    let head = decoded(alloc, &wanted)?;
-    let found = head.as_ref().map(|head| found(head, b"d", b"w"));
+    let read = decoded(alloc, &wanted)?;
+    let found = found(read.as_ref(), b"d", b"w");
     assert_eq!(rt; found, Some((pages(1_024), Some(5), Some(3))));
+    Ok(())
+}
+
+/// The waivers and the format of states of a head.
+fn told(read: Option<&(Head, StateFormat)>) -> Option<(u8, StateFormat)> {
+    let (head, format) = read?;
+    Some((head.definition.waivers(), *format))
+}
+
+#[test]
+fn formats_of_heads(rt: HostRuntime) -> Result<(), Fail> {
+    let alloc = rt.alloc();
+    // The format of states, the waivers, and what is told of them: in the first there are none.
+    let table = [
+        (1, 0, Some((0, StateFormat::One))),
+        (1, 1, None),
+        (2, 0, Some((0, StateFormat::Two))),
+        (2, 20, Some((20, StateFormat::Two))),
+        (2, 21, None),
+        (0, 0, None),
+    ];
+    for (format, waivers, wanted) in table {
+        let mut bytes = written_out(alloc)?;
+        change(&mut bytes, &[(9, &[format]), (18, &[waivers])]);
+        let read = decoded(alloc, &bytes)?;
+        assert_eq!(rt; told(read.as_ref()), wanted, "{format} {waivers}");
+    }
     Ok(())
 }
 
@@ -163,8 +200,8 @@ fn heads_of_cells(rt: HostRuntime) -> Result<(), Fail> {
             encoded(alloc, &definition, cells(frames))? == wanted,
             "{frames}"
         );
-        let head = decoded(alloc, &wanted)?;
-        let found = head.as_ref().map(|head| found(head, b"d", b"w"));
+        let read = decoded(alloc, &wanted)?;
+        let found = found(read.as_ref(), b"d", b"w");
         assert_eq!(rt; found, Some((cells(frames), Some(5), Some(3))));
     }
     // Fewer than 16 frames, no multiple of 8, and more than 1,024.
@@ -268,12 +305,13 @@ fn greatest_bidder(alloc: Global, b: u64) -> Result<BidderDraft, AllocError> {
     })
 }
 
-/// 63 packages of two and 64 licences, and 64 bidders, all with names of 16 bytes.
+/// 63 packages of two and 64 licences, and 64 bidders of 20 waivers, all with names of 16 bytes.
 fn greatest(alloc: Global) -> Result<Definition, Fail> {
     let mut draft = Draft {
         step: 1_000_000,
         percent: 50,
         stages: vec![in alloc; 50, 60, 70, 100]?,
+        waivers: 20,
         nodes: Vec::new(alloc),
         bidders: Vec::new(alloc),
     };
@@ -290,14 +328,14 @@ fn greatest(alloc: Global) -> Result<Definition, Fail> {
 fn greatest_definition_comes_back(rt: HostRuntime) -> Result<(), Fail> {
     let alloc = rt.alloc();
     let bytes = encoded(alloc, &greatest(alloc)?, pages(4))?;
-    assert!(rt; part(&bytes, 10, 20) == [127, 64, 50, 4, 50, 60, 70, 100, 0, 0].as_slice());
+    assert!(rt; part(&bytes, 10, 20) == [127, 64, 50, 4, 50, 60, 70, 100, 20, 0].as_slice());
     assert!(rt; part(&bytes, 8_112, 8_128) == b"a_long_node_0126".as_slice());
     assert!(rt; part(&bytes, 8_128, 8_136) == [62, 1, 0, 0, 0, 0x0f, 0x42, 0x40].as_slice());
     assert!(rt; part(&bytes, 8_136, 8_144) == [0, 0, 0, 2, 0x54, 0x0b, 0xe4, 0].as_slice());
     assert!(rt; part(&bytes, 9_688, 9_704) == b"a_bidder_0000063".as_slice());
     assert!(rt; part(&bytes, 9_704, 9_712) == [0x03, 0xd0, 0x90, 0, 0, 0, 0, 0].as_slice());
-    let head = decoded(alloc, &bytes)?;
-    let found = head.as_ref().map(|head| found(head, b"a_long_node_0126", b"a_bidder_0000063"));
+    let read = decoded(alloc, &bytes)?;
+    let found = found(read.as_ref(), b"a_long_node_0126", b"a_bidder_0000063");
     assert_eq!(rt; found, Some((pages(4), Some(126), Some(63))));
     Ok(())
 }

@@ -1,14 +1,15 @@
-use crate::tests::examples::{body_with, change, first_bid, scribbled, six_nodes};
-use crate::{CHUNK_SIZE, CHUNKS, STATE_SIZE, chunk, decode_state, encode_state};
+use crate::tests::examples::{body_with, change, first_bid, scribbled, six_nodes, six_nodes_with};
+use crate::{CHUNK_SIZE, CHUNKS, STATE_SIZE, chunk, decode_state, encode_state, encode_state_1};
 use hpb_auction::Auction;
-use hpb_rules::{Command, MOST_BIDDERS, MOST_NODES, Saved, SavedBidder, SavedNode};
+use hpb_rules::{BidderId, Command, MOST_BIDDERS, MOST_NODES, Saved, SavedBidder, SavedNode};
 use hpb_tree::Definition;
 use std::alloc::Global;
+use std::process::Abort;
 use std::test::*;
 
 /// What stands in the body of the empty auction of six nodes.
 const EMPTY: [(usize, &[u8]); 5] = [
-    (0, &[1, 1, 0, 0, 0, 0, 0, 1]),
+    (0, &[2, 1, 0, 0, 0, 0, 0, 1]),
     (3_096, &[0, 0, 0, 10]),
     (3_144, &[0, 0, 0, 10]),
     (3_192, &[0, 0, 0, 40]),
@@ -18,7 +19,7 @@ const EMPTY: [(usize, &[u8]); 5] = [
 /// What stands in the body of the same auction after `x` bid 100 on `a`, `y` 150 on `b`, `z` 500 on `all`, `w` 100 on `c`
 /// and a close, all in one batch.
 const AFTER_A_CLOSE: [(usize, &[u8]); 19] = [
-    (0, &[1, 1, 0, 0, 0, 0, 0, 2, 0, 0, 0, 5]),
+    (0, &[2, 1, 0, 0, 0, 0, 0, 2, 0, 0, 0, 5]),
     (23, &[1]),
     (24, &[0, 0, 0, 1, 0, 0, 0, 5]),
     (32, &[2, 0, 0, 0, 0, 0, 0, 1]),
@@ -44,6 +45,21 @@ const AFTER_A_CLOSE: [(usize, &[u8]); 19] = [
     (3_256, &[1, 3, 4, 0, 0, 0, 0, 1, 0, 0, 0, 0, 0, 0, 0, 100]),
 ];
 
+/// What stands in the body of the auction of six nodes and one waiver after `x` waived, in one batch.
+const WAIVED: [(usize, &[u8]); 9] = [
+    (0, &[2, 1, 0, 0, 0, 0, 0, 1, 0, 0, 0, 1]),
+    (23, &[1]),
+    // Of `x` the units, ticket and number, no waiver left and that it waived, and the record.
+    (3_096, &[0, 0, 0, 10, 0, 0, 0, 1, 0, 0, 0, 1, 0, 1, 0, 0]),
+    (3_112, &[4, 0, 0, 0, 0, 0, 0, 1]),
+    // Of `y`, `z` and `w` the units and the waiver that is left.
+    (3_144, &[0, 0, 0, 10]),
+    (3_156, &[1]),
+    (3_192, &[0, 0, 0, 40, 0, 0, 0, 0, 0, 0, 0, 0, 1]),
+    (3_240, &[0, 0, 0, 25]),
+    (3_252, &[1]),
+];
+
 /// What is saved of nothing, to be overwritten.
 fn blank() -> Saved {
     Saved {
@@ -60,6 +76,8 @@ fn blank() -> Saved {
             eligibility: 0,
             last: None,
             bid_on: 0,
+            waivers: 0,
+            has_waived: false,
         }; MOST_BIDDERS],
     }
 }
@@ -112,6 +130,48 @@ fn state_bytes_empty(rt: HostRuntime) -> Result<(), Fail> {
     let bytes = body_after(alloc, &definition, &[], 0)?;
     assert!(rt; bytes == body_with(alloc, STATE_SIZE, &EMPTY)?);
     assert!(rt; body_again(alloc, &definition, &bytes, 0)? == bytes);
+    Ok(())
+}
+
+#[test]
+fn waiver_state_bytes(rt: HostRuntime) -> Result<(), Fail> {
+    let alloc = rt.alloc();
+    let definition = six_nodes_with(alloc, 1)?;
+    let waiver = Command::Waive {
+        bidder: BidderId::new(0),
+        ticket: 1,
+    };
+    let bytes = body_after(alloc, &definition, &[waiver], 1)?;
+    assert!(rt; bytes == body_with(alloc, STATE_SIZE, &WAIVED)?);
+    assert!(rt; body_again(alloc, &definition, &bytes, 1)? == bytes);
+    Ok(())
+}
+
+/// The body in the first format of what a body says.
+fn body_of_format_1(alloc: Global, definition: &Definition, bytes: &[u8]) -> Result<Vec<u8>, Fail> {
+    let mut saved = blank();
+    let mut first = scribbled(alloc, STATE_SIZE)?;
+    if let Some(index) = index_of(bytes, definition, &mut saved) {
+        encode_state_1(&saved, index, &mut first);
+    }
+    Ok(first)
+}
+
+#[test]
+fn formats_differ_in_one_byte(rt: HostRuntime) -> Result<(), Fail> {
+    let alloc = rt.alloc();
+    let definition = six_nodes(alloc)?;
+    for parts in [EMPTY.as_slice(), AFTER_A_CLOSE.as_slice()] {
+        let second = body_with(alloc, STATE_SIZE, parts)?;
+        let mut first = body_with(alloc, STATE_SIZE, parts)?;
+        change(&mut first, &[(0, &[1])]);
+        assert!(rt; body_of_format_1(alloc, &definition, &second)? == first);
+        // A body of the first format is read as what it was, and is written in the second.
+        let mut saved = blank();
+        let index = index_of(&first, &definition, &mut saved);
+        assert!(rt; index.is_some());
+        assert!(rt; body_again(alloc, &definition, &first, index.unwrap_or(0))? == second);
+    }
     Ok(())
 }
 
@@ -188,24 +248,29 @@ fn zero_bytes_behind_the_tables(rt: HostRuntime) -> Result<(), Fail> {
     Ok(())
 }
 
-/// Whether a body after a close, with changes, is one.
+/// Whether a body of these parts, with changes, is one.
 fn is_state_with(
     alloc: Global,
     definition: &Definition,
+    parts: &[(usize, &[u8])],
     changes: &[(usize, &[u8])],
 ) -> Result<bool, Fail> {
-    let mut bytes = body_with(alloc, STATE_SIZE, &AFTER_A_CLOSE)?;
+    let mut bytes = body_with(alloc, STATE_SIZE, parts)?;
     change(&mut bytes, changes);
     let mut saved = blank();
     Ok(index_of(&bytes, definition, &mut saved).is_some())
 }
 
-/// Changes that leave a body, each beside one that breaks one condition.
-const HEAD_CHANGES: [(&[(usize, &[u8])], bool); 33] = [
+/// Changes of a body, and whether they leave one.
+type Changes = (&'static [(usize, &'static [u8])], bool);
+
+/// Changes of a body after a close that leave one, each beside one that breaks one condition.
+const HEAD_CHANGES: [Changes; 34] = [
     (&[], true),
-    // The format is 1.
+    // The format is 1 or 2.
     (&[(0, &[0])], false),
-    (&[(0, &[2])], false),
+    (&[(0, &[1])], true),
+    (&[(0, &[3])], false),
     // The stage is 1 or 2, and a flag 0 or 1.
     (&[(1, &[0])], false),
     (&[(1, &[2])], true),
@@ -248,7 +313,7 @@ const HEAD_CHANGES: [(&[(usize, &[u8])], bool); 33] = [
     (&[(35, &[1])], false),
 ];
 
-const ENTRY_CHANGES: [(&[(usize, &[u8])], bool); 36] = [
+const ENTRY_CHANGES: [Changes; 36] = [
     // The entries past the definition's are empty.
     (&[(199, &[100])], false),
     (&[(208, &[1])], false),
@@ -297,23 +362,77 @@ const ENTRY_CHANGES: [(&[(usize, &[u8])], bool); 36] = [
     (&[(2, &[1]), (111, &[100])], false),
 ];
 
+/// Whether each of these changes of a body of these parts leaves one, or doesn't, as it is said.
+fn change_each(
+    rt: &impl Abort,
+    alloc: Global,
+    definition: &Definition,
+    parts: &[(usize, &[u8])],
+    table: &[Changes],
+) -> Result<(), Fail> {
+    for (i, (changes, wanted)) in table.iter().enumerate() {
+        let is_state = is_state_with(alloc, definition, parts, changes)?;
+        assert_eq!(rt; is_state, *wanted, "at {i}");
+    }
+    Ok(())
+}
+
 #[test]
 fn conditions_of_a_state(rt: HostRuntime) -> Result<(), Fail> {
     let alloc = rt.alloc();
     let definition = six_nodes(alloc)?;
-    for (i, (changes, wanted)) in HEAD_CHANGES.iter().enumerate() {
-        assert_eq!(rt;
-            is_state_with(alloc, &definition, changes)?,
-            *wanted,
-            "at {i}"
-        );
-    }
-    for (i, (changes, wanted)) in ENTRY_CHANGES.iter().enumerate() {
-        assert_eq!(rt;
-            is_state_with(alloc, &definition, changes)?,
-            *wanted,
-            "at {i}"
-        );
-    }
-    Ok(())
+    change_each(&rt, alloc, &definition, &AFTER_A_CLOSE, &HEAD_CHANGES)?;
+    change_each(&rt, alloc, &definition, &AFTER_A_CLOSE, &ENTRY_CHANGES)
+}
+
+/// Changes of a body after a bidder waived, under a definition with one waiver.
+const WAIVER_CHANGES: [Changes; 19] = [
+    (&[], true),
+    // At most one waiver is left, and who waived has one less; who didn't may.
+    (&[(3_108, &[1])], false),
+    (&[(3_108, &[1, 0])], true),
+    (&[(3_108, &[2, 0])], false),
+    (&[(3_109, &[0])], true),
+    (&[(3_157, &[1])], false),
+    (&[(3_156, &[0, 1])], true),
+    // The flag is 0 or 1, and two bytes are zero.
+    (&[(3_109, &[2])], false),
+    (&[(3_110, &[1])], false),
+    (&[(3_111, &[1])], false),
+    // Where the auction is over nobody waived in an open round.
+    (&[(2, &[1])], false),
+    (&[(2, &[1]), (3_109, &[0])], true),
+    // A waiver's record has its bidder, no node and no amount.
+    (&[(3_113, &[1])], false),
+    (&[(3_114, &[1])], false),
+    (&[(3_115, &[1])], false),
+    (&[(3_127, &[1])], false),
+    // The first format has no waivers: it is none under this definition, also where none is left.
+    (&[(0, &[1])], false),
+    (
+        &[
+            (3_100, &[0; 20]),
+            (3_156, &[0]),
+            (3_204, &[0]),
+            (3_252, &[0]),
+        ],
+        true,
+    ),
+    (
+        &[
+            (0, &[1]),
+            (3_100, &[0; 20]),
+            (3_156, &[0]),
+            (3_204, &[0]),
+            (3_252, &[0]),
+        ],
+        false,
+    ),
+];
+
+#[test]
+fn conditions_of_waivers(rt: HostRuntime) -> Result<(), Fail> {
+    let alloc = rt.alloc();
+    let definition = six_nodes_with(alloc, 1)?;
+    change_each(&rt, alloc, &definition, &WAIVED, &WAIVER_CHANGES)
 }

@@ -33,6 +33,7 @@ pub(crate) fn six_nodes(alloc: Global) -> Result<Definition, Fail> {
         step: 10,
         percent: 10,
         stages: vec![in alloc; 80, 95]?,
+        waivers: 0,
         nodes: Vec::new(alloc),
         bidders: Vec::new(alloc),
     };

@@ -23,6 +23,8 @@ const fn with_units(eligibility: u32) -> SavedBidder {
         eligibility,
         last: None,
         bid_on: 0,
+        waivers: 0,
+        has_waived: false,
     }
 }
 
@@ -43,6 +45,7 @@ pub(crate) fn two_licences(alloc: Global) -> Result<Definition, Fail> {
         step: 10,
         percent: 10,
         stages: vec![in alloc; 80]?,
+        waivers: 0,
         nodes: Vec::new(alloc),
         bidders: Vec::new(alloc),
     };

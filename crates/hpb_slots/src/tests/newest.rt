@@ -63,7 +63,7 @@ const CHANGES: [(usize, u8, bool); 7] = [
     (12_288, 0xa4, false),
     // A state format that there isn't, one unit more than the bidder began with, an index above the count, a last byte
     // that isn't zero.
-    (16_384, 2, true),
+    (16_384, 3, true),
     (19_483, 11, true),
     (16_407, 11, true),
     (32_767, 1, true),

@@ -1,0 +1,212 @@
+//! Devices that were made when states had their first format, and the checkpoints that are made of them.
+
+use crate::calls::{commit, steps_to_whole};
+use crate::devices::{FATES, bytes_of, engine_over, new_device, new_engine, opened_or_cause};
+use crate::expecting::{commits_one, steps};
+use crate::letters::Bidder::{W, X, Y, Z};
+use crate::letters::Node::{A, All, B, C};
+use crate::letters::{accepted, bid, close, list_of};
+use crate::over_layouts;
+use crate::states::{same, state_after};
+use hpb_auction::Auction;
+use hpb_codec::JournalShape;
+use hpb_disk::{Fate, FuseDisk, MemoryDisk};
+use hpb_engine::Rest;
+use hpb_recover::Opened;
+use hpb_rules::{Letter, NodeId};
+use hpb_slots::Slot;
+use std::alloc::Global;
+use std::process::Abort;
+use std::test::Fail;
+
+/// In the head the format of states, and in the body of each slot its own.
+const IN_HEAD: usize = 25;
+
+const IN_FIRST: usize = 16_384;
+
+const IN_SECOND: usize = 36_864;
+
+/// Where the head with its nodes and bidders ends.
+const HEAD_END: usize = 12_288;
+
+fn put(bytes: &mut [u8], at: usize, byte: u8) {
+    if at < bytes.len() {
+        bytes[at] = byte;
+    }
+}
+
+/// The bytes of a device, as it was when states had their first format: without waivers a state of the empty auction is
+/// told apart by its number alone.
+fn made_old(alloc: Global, disk: MemoryDisk) -> Result<Vec<u8>, Fail> {
+    let mut bytes = bytes_of(alloc, disk)?;
+    put(&mut bytes, IN_HEAD, 1);
+    put(&mut bytes, IN_FIRST, 1);
+    Ok(bytes)
+}
+
+/// A round in which a package beats its parts.
+fn first_round() -> [Letter; 5] {
+    [
+        bid(X, 1, A, 100),
+        bid(Y, 1, B, 150),
+        bid(Z, 1, All, 500),
+        bid(W, 1, C, 100),
+        close(1),
+    ]
+}
+
+/// An old device with this round in its first frame.
+fn old_device(alloc: Global, shape: JournalShape) -> Result<Vec<u8>, Fail> {
+    let mut engine = new_engine(alloc, shape)?;
+    let _ = commit(&mut engine, list_of(&first_round()));
+    made_old(alloc, engine.finish())
+}
+
+/// What is opened of a device with these bytes.
+fn opened_bytes(alloc: Global, bytes: &[u8]) -> Result<Opened<MemoryDisk>, Fail> {
+    let disk = MemoryDisk::of(alloc, bytes.to_vec(alloc)?)?;
+    Ok(opened_or_cause(alloc, disk)?)
+}
+
+/// The amount and the bidder of a node's high bid, its price, its minimum, and whether it wins.
+type Shown = (Option<(u64, usize)>, u64, u64, bool);
+
+/// What is shown of each node after the round.
+const SHOWN: [Shown; 6] = [
+    (Some((500, 2)), 500, 550, true),
+    (None, 325, 360, false),
+    (Some((100, 0)), 138, 160, false),
+    (Some((150, 1)), 187, 210, false),
+    (Some((100, 3)), 175, 200, false),
+    (None, 0, 100, false),
+];
+
+/// What is shown of the node of this place.
+fn shown_at(auction: &Auction, place: usize) -> Option<Shown> {
+    if place >= auction.definition().node_count() {
+        return None;
+    }
+    let view = auction.node_view(NodeId::new(place));
+    let high = view.high.map(|offer| (offer.amount, offer.bidder.place()));
+    Some((high, view.price, view.minimum, view.wins))
+}
+
+/// Whether an auction is that after the round.
+fn is_after_round(auction: &Auction) -> bool {
+    for (place, shown) in SHOWN.iter().enumerate() {
+        if shown_at(auction, place) != Some(*shown) {
+            return false;
+        }
+    }
+    auction.count() == 5
+}
+
+/// A checkpoint of a device with these bytes, of which all calls fail from this one on: whether it is whole, and the device.
+fn cut(alloc: Global, old: &[u8], call: u64) -> Result<(bool, MemoryDisk), Fail> {
+    let disk = FuseDisk::new(MemoryDisk::of(alloc, old.to_vec(alloc)?)?, call);
+    let mut engine = engine_over(alloc, disk)?;
+    let is_whole = steps_to_whole(&mut engine, 20) > 0;
+    Ok((is_whole, engine.finish().into_inner()))
+}
+
+/// The format of the state that is opened, as it stands in these bytes.
+fn format_of(opened: &Opened<MemoryDisk>, bytes: &[u8]) -> Option<u8> {
+    let at = match opened.plan.slot {
+        Slot::First => IN_FIRST,
+        Slot::Second => IN_SECOND,
+    };
+    bytes.get(at).copied()
+}
+
+/// What a stop leaves of an old device: its head, byte for byte, and its auction. The state in the second slot is of the
+/// second format.
+fn leave_old(
+    rt: &impl Abort,
+    alloc: Global,
+    old: &[u8],
+    disk: &MemoryDisk,
+    fate: Fate,
+) -> Result<(), Fail> {
+    let bytes = bytes_of(alloc, disk.after_stop(alloc, &[fate; 16])?)?;
+    assert!(rt; bytes.get(..HEAD_END) == old.get(..HEAD_END));
+    let opened = opened_bytes(alloc, &bytes)?;
+    let state = state_after(alloc, &first_round())?;
+    assert!(rt; same(opened.auction(), &state));
+    let wanted = match opened.plan.slot {
+        Slot::First => 1,
+        Slot::Second => 2,
+    };
+    assert_eq!(rt; format_of(&opened, &bytes), Some(wanted));
+    Ok(())
+}
+
+/// A checkpoint is cut at this call, behind so many by which the device is opened. It has ten: eight write the state, and two
+/// retire its frame.
+fn cut_at(rt: &impl Abort, alloc: Global, old: &[u8], opening: u64, call: u64) -> Result<(), Fail> {
+    let (is_whole, disk) = cut(alloc, old, opening.saturating_add(call))?;
+    assert_eq!(rt; is_whole, call > 10, "{call}");
+    for fate in FATES {
+        leave_old(rt, alloc, old, &disk, fate)?;
+    }
+    Ok(())
+}
+
+/// A checkpoint is cut at each of its calls, and then at none.
+fn cut_each(rt: &impl Abort, alloc: Global, shape: JournalShape) -> Result<(), Fail> {
+    let old = old_device(alloc, shape)?;
+    let opened = opened_bytes(alloc, &old)?;
+    assert!(rt; is_after_round(opened.auction()));
+    let opening = opened.disk.calls() as u64;
+    for call in 1..12 {
+        cut_at(rt, alloc, &old, opening, call)?;
+    }
+    Ok(())
+}
+
+/// Two whole checkpoints of an old device, with a command between them: each writes the second format into its slot.
+fn write_both(rt: &impl Abort, alloc: Global, shape: JournalShape) -> Result<(), Fail> {
+    let old = old_device(alloc, shape)?;
+    let mut engine = engine_over(alloc, MemoryDisk::of(alloc, old.to_vec(alloc)?)?)?;
+    assert_eq!(rt; steps_to_whole(&mut engine, 20), 11);
+    let bytes = bytes_of(alloc, engine.disk.after_stop(alloc, &[])?)?;
+    assert_eq!(rt;
+        (bytes.get(IN_FIRST), bytes.get(IN_SECOND)),
+        (Some(&1), Some(&2))
+    );
+    assert!(rt; commits_one(&mut engine, accepted(bid(W, 2, C, 250), 5)));
+    assert_eq!(rt; steps_to_whole(&mut engine, 20), 11);
+    let bytes = bytes_of(alloc, engine.finish())?;
+    assert_eq!(rt;
+        (bytes.get(IN_FIRST), bytes.get(IN_SECOND)),
+        (Some(&2), Some(&2))
+    );
+    assert!(rt; bytes.get(..HEAD_END) == old.get(..HEAD_END));
+    Ok(())
+}
+
+#[test]
+fn old_device_checkpointed(rt: HostRuntime) -> Result<(), Fail> {
+    over_layouts!(shape => cut_each(&rt, rt.alloc(), shape)?);
+    Ok(())
+}
+
+#[test]
+fn old_device_checkpointed_twice(rt: HostRuntime) -> Result<(), Fail> {
+    over_layouts!(shape => write_both(&rt, rt.alloc(), shape)?);
+    Ok(())
+}
+
+/// An old device without a command has no checkpoint to make.
+fn rest(rt: &impl Abort, alloc: Global, shape: JournalShape) -> Result<(), Fail> {
+    let old = made_old(alloc, new_device(alloc, shape)?)?;
+    let mut engine = engine_over(alloc, MemoryDisk::of(alloc, old.to_vec(alloc)?)?)?;
+    assert!(rt; steps(&mut engine, Ok(Rest::Idle)));
+    assert!(rt; bytes_of(alloc, engine.finish())? == old);
+    Ok(())
+}
+
+#[test]
+fn old_device_at_rest(rt: HostRuntime) -> Result<(), Fail> {
+    over_layouts!(shape => rest(&rt, rt.alloc(), shape)?);
+    Ok(())
+}
