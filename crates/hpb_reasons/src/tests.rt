@@ -479,10 +479,11 @@ static CHANGED: [(&str, &str, Refusal, &str); 68] = [
 ];
 
 // Changes of the worked definition that break no rule of this refusal, or that can't be read.
-static NOTHING_FOUND: [(&str, Refusal); 7] = [
+static NOTHING_FOUND: [(&str, Refusal); 8] = [
     (r#""step":10"#, Json),
     (r#""step":10"#, Field),
     (r#""step":10,"waivers":0"#, Field),
+    (r#""step":10,"waivers":0"#, Number),
     (r#""step":10,"waivers":20"#, Number),
     (r#""step":10"#, Limits),
     (r#""step":10"#, Refusal::Memory),

@@ -144,8 +144,8 @@ fn refused_definitions_one_change(rt: HostRuntime) -> Result<(), Fail> {
             "ERR 61 field\n",
         ),
         (
-            "{\"step\":10,\"waivers\":0,\"percent\":10,\"stages\":[80,95],\"nodes\":[",
-            "ERR 61 field\n",
+            "{\"step\":10,\"waivers\":21,\"percent\":10,\"stages\":[80,95],\"nodes\":[",
+            "ERR 62 number\n",
         ),
         (
             "{\"percent\":51,\"stages\":[80,95],\"nodes\":[",
