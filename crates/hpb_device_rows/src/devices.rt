@@ -36,8 +36,7 @@ pub(crate) const MOST_CELLS: JournalShape = JournalShape {
     frames: 1_024,
 };
 
-/// Does a row with each of three journals, by the name that it has in the row: `over_layouts!(shape => row(shape)?)`. In a
-/// test this is proved far sooner than a loop.
+/// Does a row with each of three journals, by the name that it has in the row: `over_layouts!(shape => row(shape)?)`.
 #[macro_export]
 macro_rules! over_layouts {
     ($shape:ident => $row:expr) => {{

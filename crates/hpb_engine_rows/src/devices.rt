@@ -22,7 +22,6 @@ pub const CELLS: JournalShape = JournalShape {
 };
 
 /// Does a row with the journal of each layout, by the name that it has in the row: `over_layouts!(shape => row(shape)?)`.
-/// In a test this is proved far sooner than a loop.
 #[macro_export]
 macro_rules! over_layouts {
     ($shape:ident => $row:expr) => {{

@@ -10,7 +10,7 @@ use Rattle.hpb_codec.specs.Layouts.{IsShape}
 use Rattle.hpb_codec.specs.declared.layout.JournalShape.{JournalShape}
 use Rattle.hpb_codec.specs.declared.state_format.StateFormat.TheVariants.{Two}
 use Rattle.hpb_codec.specs.Numbers.{before, filled}
-use Rattle.hpb_codec.specs.States.{SpellsState}
+use Rattle.hpb_codec.specs.States.{SpellsStateIn}
 use Rattle.hpb_format.specs.Beginnings.{IsFirstHead, IsFirstState}
 
 -- The bytes of a head begin with the magic.
@@ -24,11 +24,11 @@ first_head_is rules journal bytes accepted allowed is = record {
   known = ap (λ (l : List ℕ). take 8 l) is ∙ begins_with_magic rules journal;
 }
 
-pub first_state_is : (rules : Rules) (value : AuctionValue) (saved : Saved) (bytes : List ℕ) → value.rules ≡ rules → SpellsState value.rules bytes saved 0 → restored value.rules saved ≡ value → Shows value []
+pub first_state_is : (rules : Rules) (value : AuctionValue) (saved : Saved) (bytes : List ℕ) → value.rules ≡ rules → SpellsStateIn Two value.rules bytes saved 0 → restored value.rules saved ≡ value → Shows value []
     → IsFirstState rules bytes
 first_state_is rules value saved bytes same spelled back shows = record {
   saved = saved;
-  spelled = subst (λ (r : Rules). SpellsState r bytes saved 0) same spelled;
+  spelled = subst (λ (r : Rules). SpellsStateIn Two r bytes saved 0) same spelled;
   shows = subst (λ (r : Rules). Shows (restored r saved) []) same (subst (λ (v : AuctionValue). Shows v []) (sym back) shows);
 }
 
