@@ -1,15 +1,19 @@
 -- What a closed house leaves.
 -- Source: this project's own.
-use Rattle.std.specs.Prelude.{◌≡◌, ℕ, Bool, List}
+use Rattle.std.specs.Prelude.{◌≡◌, ℕ, Bool, false, List, ◌++◌}
 use Rattle.hpb_rules.specs.declared.command.Command.{Command}
 use Rattle.hpb_rules.specs.AuctionValue.{AuctionValue}
 use Rattle.hpb_image.specs.Standing.{Stands}
-use Rattle.hpb_progress.specs.Keeping.{Keeps}
-use Rattle.hpb_board.specs.Publication.{published}
-use Rattle.hpb_house.specs.Keepers.{Keeping, machine_by}
+use Rattle.hpb_progress.specs.declared.progress.Progress.{Progress}
+use Rattle.hpb_progress.specs.Keeping.{Keeps, machine_of}
 
--- A device, an auction and a flag are those of a keeper: the auction is what the keeper published last, the flag tells whether a call of its device has failed, and for each history that its device stood for when it was opened the device keeps what was published.
-abbrev pub AreOfKeeper : {D : Type 0} (seen : D → List ℕ) (may_leave : D → List ℕ → Type 0) → D → AuctionValue → (failed : Bool) → Type 0
-AreOfKeeper {D} seen may_leave disk auction failed =
-    (k : Keeping D) × (k.disk ≡ disk) × (k.progress.committed ≡ auction) × (published k.board ≡ auction) × (k.failed ≡ failed)
-    × ((history : List Command) → Stands history k.image → Keeps seen may_leave k.disk k.progress k.failed (machine_by k history))
+-- A device that was opened with these bytes keeps, for each history that they stood for, that history followed by these commands, and the auction is what it committed last.
+pub record Leaves {D : Type 0} (seen : D → List ℕ) (may_leave : D → List ℕ → Type 0) (image : List ℕ) (disk : D) (auction : AuctionValue) (failed : Bool) (since : List Command) : Type 0 where
+  pub progress : Progress
+  pub committed : progress.committed ≡ auction
+  pub keeps : (history : List Command) → Stands history image → Keeps seen may_leave disk progress failed (machine_of progress (history ++ since))
+
+-- The same, and no command is in flight besides, unless a call of the device has failed.
+pub record LeavesAll {D : Type 0} (seen : D → List ℕ) (may_leave : D → List ℕ → Type 0) (image : List ℕ) (disk : D) (auction : AuctionValue) (failed : Bool) (since : List Command) : Type 0 where
+  pub leaves : Leaves seen may_leave image disk auction failed since
+  pub rest : failed ≡ false → leaves.progress.commit.busy ≡ false

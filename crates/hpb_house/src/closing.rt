@@ -1,20 +1,23 @@
 //! Closing a house.
-ghost use Rattle.std.specs.Prelude.{◌≡◌, ◌-◌, ◌^◌, ◌++◌, [], List, All, IfOk, IfErr, IsPermutation, MatchResult, OnOk, flat_map, length, map, min};
+ghost use Rattle.std.specs.Prelude.{◌≡◌, ◌-◌, ◌^◌, ◌++◌, [], false, List, All, IfOk, IfErr, IsPermutation, MatchResult, OnOk, flat_map, length, map, min};
 ghost use Rattle.hpb_rules.specs.declared.command.Command.{Command};
 ghost use Rattle.hpb_rules.specs.declared.refusal.Refusal.TheVariants as refusals;
 ghost use Rattle.hpb_rules.specs.AuctionValue.{Shows};
 ghost use Rattle.hpb_rules.specs.Letters.{new_commands};
 ghost use Rattle.hpb_board.specs.Publication.{answers_of, auction_of};
-ghost use Rattle.hpb_closing.specs.Histories.{history_of};
-ghost use Rattle.hpb_house.specs.Closings.{AreOfKeeper};
+ghost use Rattle.hpb_closing.specs.Histories.{history_in, history_of};
+ghost use Rattle.hpb_house.specs.Closings.{Leaves, LeavesAll};
+ghost use Rattle.hpb_house.specs.Keepers.{IsTold};
 ghost use Rattle.hpb_closing.specs.Reports.{AreApart, accepted_by, said, total};
 
-use crate::definitions::same_definition;
 use crate::house::House;
+use crate::keeper::Keeper;
+use crate::naming::Naming;
 use hpb_auction::Auction;
 use hpb_board::Viewer;
 use hpb_closing::{Counts, compare, count};
 use hpb_disk::Disk;
+use hpb_letters::judged_is_shown;
 use hpb_rings::Report;
 use hpb_rules::Refusal;
 use std::sync::Wait;
@@ -52,12 +55,12 @@ impl<D: Disk + Drop> CloseFault<D> {
     }
 }
 
-impl<D: Disk + Drop, W: Wait + Drop> House<D, W> {
+impl<D: Disk + Drop, W: Wait + Drop, J: Naming> House<D, W, J> {
     /// Closes the house: each report is viewed once more, and compared with the committed auction. The reports are those
     /// of the clients that were started with the house, each once.
     ///
     /// 96 `counts` where the number of newly accepted answers that were taken isn't that of the commands committed since the
-    /// opening, or a report shows none or another auction than the committed one, or that is of another definition.
+    /// opening, or a report shows none or another auction than the committed one, or a batch is still in flight.
     pub fn close(self, reports: &mut [Report]) -> Result<Closing<D>, CloseFault<D>>
         requires book { All (λ r. r.viewer.book ≡ self.book) reports.old }
         requires opened { All (λ r. r.viewer.opened ≡ self.opened) reports.old }
@@ -73,17 +76,22 @@ impl<D: Disk + Drop, W: Wait + Drop> House<D, W> {
         ensures taken { OnOk result (AreApart reports.old → All (λ r. accepted_by r ≡ new_commands (answers_of r.seat r.viewer)) reports.new) }
         ensures once { OnOk result (AreApart reports.old → All (λ r. IsPermutation (flat_map accepted_by reports.new) (history_of r.viewer)) reports.new) }
         ensures numbers { IfOk result (λ closing. total reports.new ≡ closing.auction.count - self.opened.count) }
-        // The device and the auction are those of a keeper, which kept what it published, and so is what is told of failed calls.
-        ensures kept { MatchResult result (λ closing. AreOfKeeper D.seen D.may_leave closing.disk closing.auction closing.has_failed) (λ fault. AreOfKeeper D.seen D.may_leave fault.disk fault.auction fault.has_failed) }
+        // The device keeps each history that it stood for when it was opened, and then the reports' one history, and nothing is in flight.
+        ensures kept { IfOk result (λ closing. All (λ r. LeavesAll D.seen D.may_leave J.image closing.disk closing.auction closing.has_failed (history_of r.viewer)) reports.new) }
+        // At 96 too it keeps these, and then some commands that the auction has more than was opened.
+        ensures left { IfErr result (λ fault. (since : List Command) × Leaves D.seen D.may_leave J.image fault.disk fault.auction fault.has_failed since) }
+        // What is told of failed calls is so of the device.
+        ensures told { MatchResult result (λ closing. IsTold closing.has_failed J.failures (D.failures closing.disk)) (λ fault. IsTold fault.has_failed J.failures (D.failures fault.disk)) }
         // The numbers that are told.
         ensures accepted { IfErr result (λ fault. fault.counts.accepted ≡ min (total reports.new) (2 ^ 64 - 1)) }
         ensures committed { IfErr result (λ fault. fault.counts.committed ≡ fault.auction.count - self.opened.count) }
     {
         let House { keeper, eye, .. } = self;
-        let keeper = keeper.into_inner();
+        let keeper = keeper.into_inner().keeper();
         keeper.facts();
+        judged_is_shown();
         let has_failed = keeper.has_failed();
-        match settle(reports, keeper.committed(), &eye) {
+        match settle(reports, &keeper, &eye) {
             Ok(()) => {
                 let (disk, auction) = keeper.finish();
                 Ok(Closing {
@@ -105,27 +113,34 @@ impl<D: Disk + Drop, W: Wait + Drop> House<D, W> {
     }
 }
 
-/// Compares reports with a committed auction, where it is of the definition that was opened.
-// What lies under the lock is the keeper that the house was started with, which its type doesn't say.
-fn settle(reports: &mut [Report], committed: &Auction, eye: &Viewer) -> Result<(), Counts>
+/// Compares reports with what a keeper has committed.
+fn settle<D: Disk + Drop, W: Wait + Drop>(
+    reports: &mut [Report],
+    keeper: &Keeper<D, W>,
+    eye: &Viewer,
+) -> Result<(), Counts>
     requires book { All (λ r. r.viewer.book ≡ eye.now.book) reports.old }
     requires opened { All (λ r. r.viewer.opened ≡ eye.now.opened) reports.old }
     requires fresh { eye.now.list ≡ [] }
+    requires board { (keeper.now.board.book ≡ eye.now.book) × (keeper.now.board.opened ≡ eye.now.opened) }
     ensures said { map said reports.new ≡ map said reports.old }
-    ensures shown { OnOk result (All (λ r. auction_of r.viewer ≡ committed.now) reports.new) }
+    ensures rest { OnOk result (keeper.now.failed ≡ false → keeper.now.progress.commit.busy ≡ false) }
+    ensures shown { OnOk result (All (λ r. auction_of r.viewer ≡ keeper.now.progress.committed) reports.new) }
     ensures history { OnOk result (All (λ r. All (λ s. history_of r.viewer ≡ history_of s.viewer) reports.new) reports.new) }
-    ensures continued { OnOk result ((front : List Command) → Shows eye.now.opened front → All (λ r. Shows committed.now (front ++ history_of r.viewer)) reports.new) }
+    ensures whole { OnOk result (All (λ r. history_of r.viewer ≡ history_in eye.now.opened keeper.now.board.list) reports.new) }
+    ensures continued { OnOk result ((front : List Command) → Shows eye.now.opened front → All (λ r. Shows keeper.now.progress.committed (front ++ history_of r.viewer)) reports.new) }
     ensures counted { OnOk result (All (λ r. total reports.new ≡ length (history_of r.viewer)) reports.new) }
     ensures taken { OnOk result (AreApart reports.old → All (λ r. accepted_by r ≡ new_commands (answers_of r.seat r.viewer)) reports.new) }
     ensures once { OnOk result (AreApart reports.old → All (λ r. IsPermutation (flat_map accepted_by reports.new) (history_of r.viewer)) reports.new) }
-    ensures numbers { OnOk result (total reports.new ≡ committed.now.count - eye.now.opened.count) }
+    ensures numbers { OnOk result (total reports.new ≡ keeper.now.progress.committed.count - eye.now.opened.count) }
     ensures accepted { IfErr result (λ counts. counts.accepted ≡ min (total reports.new) (2 ^ 64 - 1)) }
-    ensures committed { IfErr result (λ counts. counts.committed ≡ committed.now.count - eye.now.opened.count) }
+    ensures committed { IfErr result (λ counts. counts.committed ≡ keeper.now.progress.committed.count - eye.now.opened.count) }
 {
-    let before = eye.auction();
-    let opened = before.count();
-    if !same_definition(committed.definition(), before.definition()) {
-        return Err(count(reports, committed, opened));
+    keeper.facts();
+    let shown = keeper.trail();
+    let opened = eye.auction().count();
+    if keeper.is_committing() && !keeper.has_failed() {
+        return Err(count(reports, keeper.committed(), opened));
     }
-    compare(reports, committed, eye, opened)
+    compare(reports, keeper.committed(), &shown, eye, opened)
 }

@@ -1,8 +1,19 @@
 //! The worker that commits letters.
+ghost use Rattle.std.specs.Prelude.{◌≡◌, ◌⊎◌, ◌<◌, ◌≤◌, ◌++◌, ◌∷◌, [], List, All, length, vec_len, true};
+ghost use Rattle.rtrb.specs.Ring.{sent, received};
+ghost use Rattle.hpb_rules.specs.declared.command.Command.{Command};
+ghost use Rattle.hpb_rules.specs.declared.letter.Letter.{Letter};
+ghost use Rattle.hpb_rings.specs.Gathering.{gathered, marks};
+ghost use Rattle.hpb_rings.specs.Slips.{ends};
+ghost use Rattle.hpb_house.specs.Committing.{Comes, IsOwed};
+ghost use Rattle.hpb_house.specs.declared.committing.Turned.TheVariants.{Ended as End};
+
 use crate::gate::{Gate, Point};
 use crate::house::House;
 use crate::keeper::Halt;
+use crate::naming::Naming;
 use crate::offered::{Offered, Reason};
+use hpb_board::Front;
 use hpb_disk::Disk;
 use hpb_engine::Step;
 use hpb_rings::Intake;
@@ -19,6 +30,7 @@ const PAUSE: u64 = 1;
 const LOOKS: u32 = 100;
 
 /// What came of a turn of the committer.
+#[derive(Drop)]
 enum Turned {
     /// It holds no letters, and expects so many: those that wait, and one more of each that was answered.
     Free { expected: usize },
@@ -37,19 +49,27 @@ enum Turned {
 /// Letters that are handed back for want of a clean frame, of memory or of room on the board are offered again. Once the
 /// engine has failed it sends a `Halt` to each seat, and from then on only empties the rings. It ends when every seat has
 /// sent its end mark, and then the checkpointer ends too. It may wait.
-pub fn committer<D: Disk + Drop, W: Wait + Drop, G: Gate, R: Wait>(
+pub fn committer<D: Disk + Drop, W: Wait + Drop, J: Naming, G: Gate, R: Wait>(
     rt: &R,
-    house: &House<D, W>,
+    house: &House<D, W, J>,
     mut intake: Intake<Halt>,
     gate: &G,
-) {
+    front: &mut Front,
+) -> Intake<Halt>
+    requires book { front.old.trail.book ≡ house.now.book }
+    requires none { IsOwed (gathered intake.rings.items) front.old.trail.log [] }
+    // It ends after every end mark.
+    ensures ended { All (λ r. ends (received r.letters) ≡ true) result.rings.items }
+    // All letters that came are on the list, in the order of their seat, each once; but for those that were still held when a halt was told to each seat.
+    ensures owed { (lost : List Letter) × IsOwed (gathered result.rings.items) front.new.trail.log lost × ((lost ≡ []) ⊎ All (λ r. length (sent r.marks) ≡ 1) result.rings.items) }
+{
     let mut held = Letters::new();
     let mut awaited = 0;
     for _ in rt.forever() {
         if held.len() == 0 {
             await_letters(&mut intake, awaited);
         }
-        match turn(rt, house, &mut intake, gate, held) {
+        match turn(rt, house, &mut intake, gate, held, front) {
             Turned::Free { expected } => {
                 held = Letters::new();
                 awaited = expected;
@@ -58,16 +78,22 @@ pub fn committer<D: Disk + Drop, W: Wait + Drop, G: Gate, R: Wait>(
             Turned::Halted(halt) => {
                 intake.halt(halt);
                 drain(rt, house, &mut intake, gate);
-                break;
+                house.dismiss();
+                return intake;
             }
-            Turned::Ended => break,
+            Turned::Ended => {
+                house.dismiss();
+                return intake;
+            }
         }
     }
-    house.dismiss();
+    unreachable!()
 }
 
 /// Waits until as many letters wait as are expected, or looking for one more was in vain.
-fn await_letters(intake: &mut Intake<Halt>, expected: usize) {
+fn await_letters(intake: &mut Intake<Halt>, expected: usize)
+    ensures same { (gathered intake.new.rings.items ≡ gathered intake.old.rings.items) × (marks intake.new.rings.items ≡ marks intake.old.rings.items) }
+{
     for _ in 0..expected {
         let waiting = intake.waiting();
         if waiting >= expected || !one_more(intake, waiting) {
@@ -77,7 +103,9 @@ fn await_letters(intake: &mut Intake<Halt>, expected: usize) {
 }
 
 /// Looks for one letter more than so many, and tells whether it came.
-fn one_more(intake: &mut Intake<Halt>, waiting: usize) -> bool {
+fn one_more(intake: &mut Intake<Halt>, waiting: usize) -> bool
+    ensures same { (gathered intake.new.rings.items ≡ gathered intake.old.rings.items) × (marks intake.new.rings.items ≡ marks intake.old.rings.items) }
+{
     for _ in 0..LOOKS {
         thread::yield_now();
         if intake.waiting() > waiting {
@@ -88,30 +116,40 @@ fn one_more(intake: &mut Intake<Halt>, waiting: usize) -> bool {
 }
 
 /// One turn: the letters that are held, or else those that wait, are offered.
-fn turn<D: Disk + Drop, W: Wait + Drop, G: Gate, R: Wait>(
+fn turn<D: Disk + Drop, W: Wait + Drop, J: Naming, G: Gate, R: Wait>(
     rt: &R,
-    house: &House<D, W>,
+    house: &House<D, W, J>,
     intake: &mut Intake<Halt>,
     gate: &G,
     held: Letters,
-) -> Turned {
+    front: &mut Front,
+) -> Turned
+    requires book { front.old.trail.book ≡ house.now.book }
+    requires owed { IsOwed (gathered intake.old.rings.items) front.old.trail.log held }
+    ensures book { front.new.trail.book ≡ house.now.book }
+    ensures comes { Comes result (gathered intake.new.rings.items) front.new.trail.log }
+    ensures ended { result ≡ End → All (λ r. ends (received r.letters) ≡ true) intake.new.rings.items }
+{
     if held.len() > 0 {
-        return offer(rt, house, intake, gate, held);
+        return offer(rt, house, intake, gate, held, front);
     }
     let letters = intake.gather();
     gate.at(rt, Point::Gathered);
     if letters.len() == 0 {
         return idle(rt, house, intake);
     }
-    offer(rt, house, intake, gate, letters)
+    offer(rt, house, intake, gate, letters, front)
 }
 
 /// There is nothing to offer: it ends, or waits for its bell.
-fn idle<D: Disk + Drop, W: Wait + Drop, R: Wait>(
+fn idle<D: Disk + Drop, W: Wait + Drop, J: Naming, R: Wait>(
     rt: &R,
-    house: &House<D, W>,
+    house: &House<D, W, J>,
     intake: &Intake<Halt>,
-) -> Turned {
+) -> Turned
+    ensures comes { (list : List (List Letter)) → IsOwed (gathered intake.now.rings.items) list [] → Comes result (gathered intake.now.rings.items) list }
+    ensures ended { result ≡ End → All (λ r. ends (received r.letters) ≡ true) intake.now.rings.items }
+{
     if intake.all_ended() {
         return Turned::Ended;
     }
@@ -123,14 +161,21 @@ fn idle<D: Disk + Drop, W: Wait + Drop, R: Wait>(
 }
 
 /// Offers letters, and commits them.
-fn offer<D: Disk + Drop, W: Wait + Drop, G: Gate, R: Wait>(
+fn offer<D: Disk + Drop, W: Wait + Drop, J: Naming, G: Gate, R: Wait>(
     rt: &R,
-    house: &House<D, W>,
+    house: &House<D, W, J>,
     intake: &mut Intake<Halt>,
     gate: &G,
     letters: Letters,
-) -> Turned {
-    match house.offer(rt, letters) {
+    front: &mut Front,
+) -> Turned
+    requires book { front.old.trail.book ≡ house.now.book }
+    requires owed { IsOwed (gathered intake.old.rings.items) front.old.trail.log letters }
+    ensures book { front.new.trail.book ≡ house.now.book }
+    ensures comes { Comes result (gathered intake.new.rings.items) front.new.trail.log }
+    ensures goes_on { result ≡ End → ⊥ }
+{
+    match house.offer(rt, letters, front) {
         Offered::InFlight => commit(rt, house, intake, gate),
         Offered::Answered(answers) => {
             wake_answered(intake, &answers);
@@ -141,12 +186,15 @@ fn offer<D: Disk + Drop, W: Wait + Drop, G: Gate, R: Wait>(
 }
 
 /// Makes the steps of a commit.
-fn commit<D: Disk + Drop, W: Wait + Drop, G: Gate, R: Wait>(
+fn commit<D: Disk + Drop, W: Wait + Drop, J: Naming, G: Gate, R: Wait>(
     rt: &R,
-    house: &House<D, W>,
+    house: &House<D, W, J>,
     intake: &mut Intake<Halt>,
     gate: &G,
-) -> Turned {
+) -> Turned
+    ensures comes { (list : List (List Letter)) → IsOwed (gathered intake.old.rings.items) list [] → Comes result (gathered intake.new.rings.items) list }
+    ensures goes_on { result ≡ End → ⊥ }
+{
     for _ in rt.forever() {
         match house.commit(rt) {
             Ok(Step::Went) => {}
@@ -157,27 +205,33 @@ fn commit<D: Disk + Drop, W: Wait + Drop, G: Gate, R: Wait>(
                 gate.at(rt, Point::Committed);
                 return expecting(intake, &answers);
             }
-            Err(_) => return halted(rt, house),
+            Err(_) => return halted(rt, house, Turned::Free { expected: 0 }),
         }
     }
-    Turned::Free { expected: 0 }
+    unreachable!()
 }
 
 /// It is free, and expects a letter more for each of these answers.
-fn expecting(intake: &mut Intake<Halt>, answers: &Answers) -> Turned {
+fn expecting(intake: &mut Intake<Halt>, answers: &Answers) -> Turned
+    ensures comes { (list : List (List Letter)) → IsOwed (gathered intake.old.rings.items) list [] → Comes result (gathered intake.new.rings.items) list }
+    ensures goes_on { result ≡ End → ⊥ }
+{
     let expected = intake.waiting().saturating_add(answers.len());
     Turned::Free { expected }
 }
 
 /// Waits until letters can be offered again.
-fn hold<D: Disk + Drop, W: Wait + Drop, R: Wait>(
+fn hold<D: Disk + Drop, W: Wait + Drop, J: Naming, R: Wait>(
     rt: &R,
-    house: &House<D, W>,
+    house: &House<D, W, J>,
     letters: Letters,
     reason: Reason,
-) -> Turned {
+) -> Turned
+    ensures comes { (came : List (List Command)) (list : List (List Letter)) → IsOwed came list letters → Comes result came list }
+    ensures goes_on { result ≡ End → ⊥ }
+{
     match reason {
-        Reason::Failed => return halted(rt, house),
+        Reason::Failed => return halted(rt, house, Turned::Held(letters)),
         // A whole checkpoint rings the bell.
         Reason::Full => {
             house.checkpointing.unpark();
@@ -191,22 +245,35 @@ fn hold<D: Disk + Drop, W: Wait + Drop, R: Wait>(
     Turned::Held(letters)
 }
 
-/// The engine has failed.
-fn halted<D: Disk + Drop, W: Wait + Drop, R: Wait>(rt: &R, house: &House<D, W>) -> Turned {
+/// The engine has failed: what it says of itself, and else what would come otherwise.
+fn halted<D: Disk + Drop, W: Wait + Drop, J: Naming, R: Wait>(
+    rt: &R,
+    house: &House<D, W, J>,
+    other: Turned,
+) -> Turned
+    requires goes_on { other ≡ End → ⊥ }
+    ensures comes { (came : List (List Command)) (list : List (List Letter)) → Comes other came list → Comes result came list }
+    ensures goes_on { result ≡ End → ⊥ }
+{
     match house.halt(rt) {
         Some(halt) => Turned::Halted(halt),
-        None => Turned::Free { expected: 0 },
+        None => other,
     }
 }
 
 /// Empties the rings until every seat has sent its end mark. A seat whose letters were taken is told, since there is room for
 /// its end mark now.
-fn drain<D: Disk + Drop, W: Wait + Drop, G: Gate, R: Wait>(
+fn drain<D: Disk + Drop, W: Wait + Drop, J: Naming, G: Gate, R: Wait>(
     rt: &R,
-    house: &House<D, W>,
+    house: &House<D, W, J>,
     intake: &mut Intake<Halt>,
     gate: &G,
-) {
+)
+    requires told { All (λ r. length (sent r.marks) ≡ 1) intake.old.rings.items }
+    ensures told { All (λ r. length (sent r.marks) ≡ 1) intake.new.rings.items }
+    ensures ended { All (λ r. ends (received r.letters) ≡ true) intake.new.rings.items }
+    ensures lost { (list : List (List Letter)) (lost : List Letter) → IsOwed (gathered intake.old.rings.items) list lost → (more : List Letter) × IsOwed (gathered intake.new.rings.items) list more }
+{
     for _ in rt.forever() {
         let letters = intake.gather();
         gate.at(rt, Point::Gathered);
@@ -220,6 +287,7 @@ fn drain<D: Disk + Drop, W: Wait + Drop, G: Gate, R: Wait>(
             wake(intake, letter.seat);
         }
     }
+    unreachable!()
 }
 
 /// Rings the bell of each seat that was answered.

@@ -1,23 +1,30 @@
 //! Starting a house.
-ghost use Rattle.std.specs.Prelude.{◌≡◌, ◌≤◌, ◌<◌, List, [], IfOk, IfErr, vec_len};
+ghost use Rattle.std.specs.Prelude.{◌≡◌, ◌≤◌, ◌<◌, false, List, [], All, IfOk, IfErr, vec_len};
 ghost use Rattle.hpb_rules.specs.declared.command.Command.{Command};
 ghost use Rattle.hpb_rules.specs.Machine.{at_rest};
 ghost use Rattle.hpb_image.specs.Standing.{Stands};
 ghost use Rattle.hpb_progress.specs.Keeping.{Keeps};
 ghost use Rattle.hpb_engine.specs.Starts.{IsStarted};
+ghost use Rattle.rtrb.specs.Ring.{received};
+ghost use Rattle.hpb_rings.specs.Gathering.{gathered};
+ghost use Rattle.hpb_house.specs.Committing.{IsOwed};
+ghost use Rattle.hpb_house.specs.Namings.{IsOf};
 ghost use Rattle.hpb_house.specs.Starts.{AreBegun, HasRing, HaveRings, IsBegun, IsViewOf};
 ghost use Rattle.hpb_house.specs.Told.{refusal_of};
 
 use crate::house::House;
 use crate::keeper::{Halt, Keeper};
+use crate::naming::Naming;
+use crate::own::Own;
 use hpb_auction::Auction;
-use hpb_board::{Publisher, Viewer};
+use hpb_board::{Front, Publisher, Viewer};
 use hpb_disk::Disk;
 use hpb_engine::Engine;
 use hpb_recover::Opened;
 use hpb_rings::{Client, Intake, Ring, seat_rings};
 use hpb_rules::Refusal;
 use std::alloc::Global;
+use std::marker::Brand;
 use std::snapshot::Snapshot;
 use std::sync::atomic::AtomicBool;
 use std::sync::{Arc, Mutex, Wait};
@@ -55,10 +62,28 @@ pub struct StartFault<D: Disk + Drop> {
     pub cause: StartCause,
 }
 
-/// A house with what its threads need.
+/// A house that has no name yet, with what its threads need.
 #[derive(Drop)]
 pub struct Started<D: Disk + Drop, W: Wait + Drop> {
-    pub house: House<D, W>,
+    /// What is to lie under the lock.
+    pub keeper: Keeper<D, W>,
+    /// A viewer that never views: it shows what was opened.
+    pub eye: Viewer,
+    bell: Arc<Parker, Global>,
+    /// The committer's front of the list.
+    pub front: Front,
+    /// The committer's side of the rings.
+    pub intake: Intake<Halt>,
+    /// A client for each seat, from 0 on.
+    pub clients: Vec<Client<Halt>>,
+}
+
+/// A house with what its threads need.
+#[derive(Drop)]
+pub struct Ready<D: Disk + Drop, W: Wait + Drop, J: Naming> {
+    pub house: House<D, W, J>,
+    /// The committer's front of the list.
+    pub front: Front,
     /// The committer's side of the rings.
     pub intake: Intake<Halt>,
     /// A client for each seat, from 0 on.
@@ -67,7 +92,7 @@ pub struct Started<D: Disk + Drop, W: Wait + Drop> {
 
 /// What stands before the engine: the board with its viewers, the rings and the committer's bell.
 #[derive(Drop)]
-struct Front<W: Wait + Drop> {
+struct Setting<W: Wait + Drop> {
     publisher: Publisher<W>,
     eye: Viewer,
     bell: Arc<Parker, Global>,
@@ -89,6 +114,7 @@ fn seat_client<W: Wait + Drop>(
     ensures seat { IfOk result (λ made. made.1.seat ≡ seat) }
     ensures begun { IfOk result (λ made. IsBegun eye.now made.1) }
     ensures ring { IfOk result (λ made. HasRing made.1 made.0) }
+    ensures fresh { IfOk result (λ made. received made.0.letters ≡ []) }
 {
     let Ok(viewer) = publisher.introduce(alloc) else {
         return Err(StartCause::Place);
@@ -123,6 +149,7 @@ fn seat_clients<W: Wait + Drop>(
     ensures rings { IfOk result (λ made. vec_len made.rings ≡ sessions) }
     ensures clients { IfOk result (λ made. AreBegun eye.now made.clients.items sessions) }
     ensures joined { IfOk result (λ made. HaveRings made.clients.items made.rings.items) }
+    ensures fresh { IfOk result (λ made. All (λ ring. received ring.letters ≡ []) made.rings.items) }
 {
     let mut rings = Vec::new(alloc);
     let mut clients = Vec::new(alloc);
@@ -141,17 +168,18 @@ fn seat_clients<W: Wait + Drop>(
 }
 
 /// Makes all that stands before the engine.
-fn make_front<W: Wait + Drop>(
+fn make_setting<W: Wait + Drop>(
     rt: W,
     alloc: Global,
     auction: &Auction,
     sessions: u8,
-) -> Result<Front<W>, StartCause>
+) -> Result<Setting<W>, StartCause>
     ensures publisher { IfOk result (λ made. (made.publisher.opened ≡ auction.now) × (made.publisher.seats ≡ sessions) × (made.publisher.list ≡ []) × (made.publisher.pending ≡ [])) }
-    ensures eye { IfOk result (λ made. (made.eye.opened ≡ auction.now) × (made.eye.list ≡ [])) }
+    ensures eye { IfOk result (λ made. (made.eye.opened ≡ auction.now) × IsViewOf made.publisher made.eye) }
     ensures rings { IfOk result (λ made. vec_len made.rings ≡ sessions) }
     ensures clients { IfOk result (λ made. AreBegun made.eye made.clients.items sessions) }
     ensures joined { IfOk result (λ made. HaveRings made.clients.items made.rings.items) }
+    ensures fresh { IfOk result (λ made. All (λ ring. received ring.letters ≡ []) made.rings.items) }
 {
     let readers = usize::from(sessions) + 1;
     let Ok(mut publisher) = Publisher::open(rt, alloc, auction, sessions, readers) else {
@@ -164,7 +192,7 @@ fn make_front<W: Wait + Drop>(
         return Err(StartCause::Memory);
     };
     let Seats { rings, clients } = seat_clients(alloc, &mut publisher, &eye, &bell, sessions)?;
-    Ok(Front {
+    Ok(Setting {
         publisher,
         eye,
         bell,
@@ -173,7 +201,7 @@ fn make_front<W: Wait + Drop>(
     })
 }
 
-impl<D: Disk + Drop, W: Wait + Drop> House<D, W> {
+impl<D: Disk + Drop, W: Wait + Drop> House<D, W, Brand> {
     /// Starts a house over an opened device for so many sessions, from 1 to 32: the house, the committer's side of the
     /// rings, and a client for each seat.
     ///
@@ -187,14 +215,22 @@ impl<D: Disk + Drop, W: Wait + Drop> House<D, W> {
     ) -> Result<Started<D, W>, StartFault<D>>
         requires { (1 ≤ sessions) × (sessions ≤ 32) }
         // Every client begins with what was opened, and there is one for each seat, with the ring of that seat.
-        ensures opened { IfOk result (λ made. (made.house.opened ≡ opened.plan.auction) × (made.house.list ≡ [])) }
-        ensures clients { IfOk result (λ made. AreBegun made.house made.clients.items sessions) }
+        ensures opened { IfOk result (λ made. (made.eye.opened ≡ opened.plan.auction) × (made.eye.list ≡ [])) }
+        ensures seats { IfOk result (λ made. made.eye.seats ≡ sessions) }
+        ensures clients { IfOk result (λ made. AreBegun made.eye made.clients.items sessions) }
         ensures rings { IfOk result (λ made. vec_len made.intake.rings ≡ sessions) }
         ensures joined { IfOk result (λ made. HaveRings made.clients.items made.intake.rings.items) }
+        // What is to lie under the lock publishes to these clients' viewers, and its device was opened as this one is.
+        ensures board { IfOk result (λ made. IsViewOf made.keeper.board made.eye) }
+        // The front is of the same board, and nothing has come or is on the list yet.
+        ensures front { IfOk result (λ made. made.front.trail.book ≡ made.eye.book) }
+        ensures fresh { IfOk result (λ made. IsOwed (gathered made.intake.rings.items) made.front.trail.log []) }
+        ensures image { IfOk result (λ made. made.keeper.image ≡ D.seen opened.disk) }
+        ensures before { IfOk result (λ made. made.keeper.before ≡ D.failures opened.disk) }
         ensures back { IfErr result (λ fault. (fault.opened.disk ≡ opened.disk) × (fault.opened.plan ≡ opened.plan)) }
     {
-        let front = match make_front(rt, alloc, opened.auction(), sessions) {
-            Ok(front) => front,
+        let setting = match make_setting(rt, alloc, opened.auction(), sessions) {
+            Ok(setting) => setting,
             Err(cause) => return Err(StartFault { opened, cause }),
         };
         let snapshot = Snapshot::of(&opened);
@@ -207,42 +243,76 @@ impl<D: Disk + Drop, W: Wait + Drop> House<D, W> {
                 });
             }
         };
-        Ok(assemble(engine, front, sessions, snapshot))
+        Ok(assemble(engine, setting, sessions, snapshot))
+    }
+}
+
+impl<D: Disk + Drop, W: Wait + Drop> Started<D, W> {
+    /// The house under a name, which is its own.
+    pub fn named<J: Naming>(self) -> Ready<D, W, J>
+        requires eye { (self.eye ≡ J.eye) × (self.eye.list ≡ []) }
+        requires own { IsOf J.eye J.image J.failures self.keeper }
+        ensures house { result.house ≡ self.eye }
+        ensures front { result.front ≡ self.front }
+        ensures intake { result.intake ≡ self.intake }
+        ensures clients { result.clients ≡ self.clients }
+    {
+        let Started {
+            keeper,
+            eye,
+            bell,
+            front,
+            intake,
+            clients,
+        } = self;
+        Ready {
+            house: House {
+                keeper: Mutex::new(Own::new(keeper)),
+                eye,
+                committing: bell,
+                checkpointing: Parker::new(),
+                is_over: AtomicBool::new(false),
+            },
+            front,
+            intake,
+            clients,
+        }
     }
 }
 
 /// Puts a house together.
 fn assemble<D: Disk + Drop, W: Wait + Drop>(
     engine: Engine<D>,
-    front: Front<W>,
+    setting: Setting<W>,
     sessions: u8,
     opened: Snapshot<Opened<D>>,
 ) -> Started<D, W>
     requires started { IsStarted engine.progress opened.value.plan }
     requires keeps { (history : List Command) → Stands history (D.seen opened.value.disk) → Keeps D.seen D.may_leave engine.disk engine.progress engine.failed (at_rest history) }
-    requires publisher { (front.publisher.opened ≡ opened.value.plan.auction) × (front.publisher.seats ≡ sessions) × (front.publisher.list ≡ []) × (front.publisher.pending ≡ []) }
-    requires eye { front.eye.list ≡ [] }
-    requires rings { vec_len front.rings ≤ 32 }
-    ensures house { result.house ≡ front.eye }
-    ensures intake { result.intake.rings ≡ front.rings }
-    ensures clients { result.clients ≡ front.clients }
+    requires works { (engine.failed ≡ false) × (engine.disk ≡ opened.value.disk) }
+    requires publisher { (setting.publisher.opened ≡ opened.value.plan.auction) × (setting.publisher.seats ≡ sessions) × (setting.publisher.list ≡ []) × (setting.publisher.pending ≡ []) }
+    requires rings { vec_len setting.rings ≤ 32 }
+    ensures eye { result.eye ≡ setting.eye }
+    ensures board { result.keeper.board ≡ setting.publisher }
+    ensures image { result.keeper.image ≡ D.seen opened.value.disk }
+    ensures before { result.keeper.before ≡ D.failures opened.value.disk }
+    ensures front { (result.front.trail.book ≡ setting.publisher.book) × (result.front.trail.log ≡ []) }
+    ensures intake { result.intake.rings ≡ setting.rings }
+    ensures clients { result.clients ≡ setting.clients }
 {
-    let Front {
+    let Setting {
         publisher,
         eye,
         bell,
         rings,
         clients,
-    } = front;
-    let house = House {
-        keeper: Mutex::new(Keeper::new(engine, publisher, sessions, opened)),
-        eye,
-        committing: bell,
-        checkpointing: Parker::new(),
-        is_over: AtomicBool::new(false),
-    };
+    } = setting;
+    let front = publisher.front();
     Started {
-        house,
+        keeper: Keeper::new(engine, publisher, sessions, opened),
+        eye,
+        bell,
+        front,
         intake: Intake::new(rings),
         clients,
     }

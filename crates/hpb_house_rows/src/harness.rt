@@ -1,13 +1,21 @@
 //! A house with all its threads: the two workers, and one for each client.
 ghost use Rattle.std.specs.Prelude.{◌≡◌, ◌≤◌, ◌⊎◌, [], true, All, IfOk};
 ghost use Rattle.std.specs.Thread.{IsSend, IsSync};
+ghost use Rattle.hpb_rings.specs.Gathering.{gathered};
+ghost use Rattle.hpb_house.specs.Committing.{IsOwed};
+ghost use Rattle.hpb_house.specs.Namings.{IsOf};
+ghost use Rattle.hpb_house.specs.Starts.{AreBegun};
 ghost use Rattle.hpb_house.specs.Boards.{SameBoard};
 
+use hpb_board::Front;
 use hpb_disk::{Disk, MemoryDisk, OnceDisk};
-use hpb_house::{CloseFault, Closing, Gate, Halt, House, Started, checkpointer, committer};
+use hpb_house::{
+    CloseFault, Closing, Gate, Halt, House, Naming, Ready, Started, checkpointer, committer,
+};
 use hpb_recover::Opened;
 use hpb_rings::{Client, Intake, Report};
 use std::alloc::{AllocError, Global};
+use std::marker::Brand;
 use std::snapshot::Snapshot;
 use std::sync::Wait;
 use std::test::Fail;
@@ -46,9 +54,9 @@ pub(crate) struct Run<D: Disk + Drop> {
 
 /// The report is of the board of a house.
 #[derive(Drop)]
-struct OfHouse<D: Disk + Drop, W: Wait + Drop>(Snapshot<House<D, W>>);
+struct OfHouse<D: Disk + Drop, W: Wait + Drop, J: Naming>(Snapshot<House<D, W, J>>);
 
-impl<D: Disk + Drop, W: Wait + Drop> Promise<Report> for OfHouse<D, W> {
+impl<D: Disk + Drop, W: Wait + Drop, J: Naming> Promise<Report> for OfHouse<D, W, J> {
     ghost use Rattle.hpb_house.specs.Boards.{SameBoard};
 
     ghost kept_by = { λ p r. SameBoard p.0.value r.viewer };
@@ -99,31 +107,44 @@ fn serve<S: Session, R: Wait>(rt: &R, session: &S, client: Client<Halt>) -> Repo
 fn run_threads<
     D: Disk + Drop + Send,
     W: Wait + Drop + Send,
+    J: Naming + Send + Sync,
     G: Gate + Sync,
     S: Session + Sync,
     R: Threads + Wait + Sync,
 >(
     rt: &R,
     alloc: Global,
-    house: &House<D, W>,
+    house: &House<D, W, J>,
+    front: Front,
     intake: Intake<Halt>,
     clients: Vec<Client<Halt>>,
     gate: &G,
     session: &S,
 ) -> Result<Vec<Report>, AllocError>
-    requires { All (λ c. SameBoard house.now c.viewer) clients.items }
+    requires book { front.trail.book ≡ house.now.book }
+    requires none { IsOwed (gathered intake.rings.items) front.trail.log [] }
+    requires same { All (λ c. SameBoard house.now c.viewer) clients.items }
     ensures { IfOk result (λ rs. All (λ r. SameBoard house.now r.viewer) rs.items) }
 {
     thread::scope(
         thread::scope_env(),
         rt,
         move |scope| -> Result<Vec<Report>, AllocError>
-            requires cross { IsSend D.row × IsSend W.row × IsSync G.row × IsSync S.row × IsSync R.row }
+            requires cross { IsSend D.row × IsSend W.row × IsSend J.row × IsSync J.row × IsSync G.row × IsSync S.row × IsSync R.row }
+            requires book { front.trail.book ≡ house.now.book }
+            requires none { IsOwed (gathered intake.rings.items) front.trail.log [] }
             requires same { All (λ c. SameBoard house.now c.viewer) clients.items }
             ensures { IfOk result (λ rs. All (λ r. SameBoard house.entry.now r.viewer) rs.items) }
         {
             let mut threads = Vec::with_capacity(alloc, clients.len())?;
-            let commits = scope.spawn(move || committer(rt, house, intake, gate))?;
+            let commit = move || -> Intake<Halt>
+                requires book { front.trail.book ≡ house.now.book }
+                requires none { IsOwed (gathered intake.rings.items) front.trail.log [] }
+            {
+                let mut front = front;
+                committer(rt, house, intake, gate, &mut front)
+            };
+            let commits = scope.spawn(commit)?;
             let checkpoints = scope.spawn(move || checkpointer(rt, house, gate))?;
             for client in clients {
                 let promise = OfHouse(Snapshot::of(house));
@@ -177,6 +198,41 @@ fn ended<D: Disk + Drop>(
     }
 }
 
+/// Runs all threads of a house that was started, by the name that is its own, and closes it. So many commands were accepted
+/// when it was opened.
+fn run_started<
+    J: Naming + Send + Sync,
+    D: Disk + Drop + Send,
+    W: Wait + Drop + Send,
+    G: Gate + Sync,
+    S: Session + Sync,
+    R: Threads + Wait + Sync,
+>(
+    rt: &R,
+    alloc: Global,
+    started: Started<D, W>,
+    before: u32,
+    gate: &G,
+    session: &S,
+) -> Result<Run<D>, Fail>
+    requires eye { (started.eye ≡ J.eye) × (started.eye.list ≡ []) }
+    requires own { IsOf J.eye J.image J.failures started.keeper }
+    requires book { started.front.trail.book ≡ started.eye.book }
+    requires none { IsOwed (gathered started.intake.rings.items) started.front.trail.log [] }
+    requires begun { AreBegun started.eye started.clients.items started.eye.seats }
+{
+    let Ready {
+        house,
+        front,
+        intake,
+        clients,
+    } = started.named::<J>();
+    let mut reports = run_threads(rt, alloc, &house, front, intake, clients, gate, session)?;
+    let sums = sums(&reports);
+    let closed = house.close(&mut reports);
+    Ok(ended(closed, before, sums))
+}
+
 /// Starts a house over what was opened, with a client for each of so many sessions, runs all its threads and closes it.
 fn run_house<D: Disk + Drop + Send, G: Gate + Sync, S: Session + Sync, R: Threads + Wait + Sync>(
     rt: &R,
@@ -192,15 +248,7 @@ fn run_house<D: Disk + Drop + Send, G: Gate + Sync, S: Session + Sync, R: Thread
     let Ok(started) = House::start(rt, alloc, opened, sessions) else {
         return Err(Fail::new("the house was not started"));
     };
-    let Started {
-        house,
-        intake,
-        clients,
-    } = started;
-    let mut reports = run_threads(rt, alloc, &house, intake, clients, gate, session)?;
-    let sums = sums(&reports);
-    let closed = house.close(&mut reports);
-    Ok(ended(closed, before, sums))
+    run_started::<Brand, D, &R, G, S, R>(rt, alloc, started, before, gate, session)
 }
 
 /// `run_house` over a device in memory.

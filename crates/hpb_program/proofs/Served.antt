@@ -1,10 +1,8 @@
 -- What is written where an auction is served.
-use Rattle.std.proofs.Common.{◌≡◌, ℕ, List, Option, Result, Ok, Err, sym, subst, refl, inl, inr, ⊎_elim}
-use Rattle.std.specs.Io.KnownBytes.{Keeps}
+use Rattle.std.proofs.Common.{◌≡◌, ℕ, List, Option, Err, sym, subst, refl, inl, ⊎_elim}
 use Rattle.std.proofs.KnownBytes.{Keeps-refl}
 use Rattle.hpb_disk.specs.declared.fault.FileFault.{FileFault}
 use Rattle.hpb_disk.specs.declared.fault.FileFault.TheVariants as files
-use Rattle.hpb_house.specs.declared.starting.StartCause.{StartCause}
 use Rattle.hpb_house.specs.declared.starting.StartCause.TheVariants as starting
 use Rattle.hpb_recover.specs.declared.cause.Cause.TheVariants as opening
 use Rattle.hpb_serve.specs.Announcing.{listening_line, Announces}
@@ -13,13 +11,12 @@ use Rattle.hpb_serve.specs.declared.fault.ServeFault.TheVariants as serving
 use Rattle.hpb_serve.specs.declared.serving.Served.{Served}
 use Rattle.hpb_program.specs.declared.job_fault.JobFault.{JobFault}
 use Rattle.hpb_program.specs.declared.job_fault.JobFault.TheVariants as faults
-use Rattle.hpb_program.specs.declared.run_end.RunEnd.{RunEnd}
 use Rattle.hpb_program.specs.Jobs.{made_of_file, made_of_serving}
 use Rattle.hpb_program.specs.Keeping.{IsNotOpened}
-use Rattle.hpb_program.specs.Serving.{IsOfDescriptors, IsReadable, ServesFile, ServesKept}
+use Rattle.hpb_program.specs.Serving.{IsOfDescriptors, IsReadable, IsUnserved, ServesFile}
 
 -- a device that is not opened is not served, and nothing is written
-pub unopened : (image : List ℕ) (port : ℕ) (contents : Option (List ℕ)) (fault : JobFault) → IsNotOpened image fault → ServesKept image port contents contents (Err fault)
+pub unopened : (image : List ℕ) (port : ℕ) (contents : Option (List ℕ)) (fault : JobFault) → IsNotOpened image fault → IsUnserved image port contents contents fault
 unopened image port contents (faults.Open (opening.Flawed flaw)) not = (Keeps-refl contents, not)
 unopened image port contents (faults.Open opening.Memory) not = ⊎_elim (λ e. absurd (cc)) (λ e. absurd (cc)) not
 unopened image port contents (faults.Open opening.Device) not = (Keeps-refl contents, refl)
@@ -37,11 +34,11 @@ unopened image port contents faults.Order not = ⊎_elim (λ e. absurd (cc)) (λ
 unopened image port contents faults.Counts not = ⊎_elim (λ e. absurd (cc)) (λ e. absurd (cc)) not
 
 -- one that is opened is not served to its end
-pub unserved : (image : List ℕ) (port : ℕ) (old new : Option (List ℕ)) (fault : ServeFault) (made : JobFault) → IsReadable image → made ≡ made_of_serving fault
-    → Announces {A = Served} (listening_line port) old new (Err fault) → ServesKept image port old new (Err made)
-unserved image port old new fault made read is written = subst (λ (m : JobFault). ServesKept image port old new (Err m)) (sym is) (go fault written)
+pub unserved : (D : Type 0) (image : List ℕ) (port : ℕ) (old new : Option (List ℕ)) (fault : ServeFault) (made : JobFault) → IsReadable image → made ≡ made_of_serving fault
+    → Announces {A = Served D} (listening_line port) old new (Err fault) → IsUnserved image port old new made
+unserved D image port old new fault made read is written = subst (λ (m : JobFault). IsUnserved image port old new m) (sym is) (go fault written)
   where
-    go : (fault : ServeFault) → Announces {A = Served} (listening_line port) old new (Err fault) → ServesKept image port old new (Err (made_of_serving fault))
+    go : (fault : ServeFault) → Announces {A = Served D} (listening_line port) old new (Err fault) → IsUnserved image port old new (made_of_serving fault)
     go serving.Memory written = written
     go serving.Writer written = (read, written)
     go (serving.Start starting.Memory) written = inl written
@@ -50,10 +47,10 @@ unserved image port old new fault made read is written = subst (λ (m : JobFault
     go serving.Counts written = (read, written)
 
 -- a file that is not opened is not served
-pub unopened_file : (port : ℕ) (contents : Option (List ℕ)) (fault : FileFault) (made : JobFault) → made ≡ made_of_file fault → ServesFile port contents contents (Err made)
-unopened_file port contents fault made is = subst (λ (m : JobFault). ServesFile port contents contents (Err m)) (sym is) (go fault)
+pub unopened_file : (sessions port : ℕ) (contents : Option (List ℕ)) (fault : FileFault) (made : JobFault) → made ≡ made_of_file fault → ServesFile sessions port contents contents (Err made)
+unopened_file sessions port contents fault made is = subst (λ (m : JobFault). ServesFile sessions port contents contents (Err m)) (sym is) (go fault)
   where
-    go : (fault : FileFault) → ServesFile port contents contents (Err (made_of_file fault))
+    go : (fault : FileFault) → ServesFile sessions port contents contents (Err (made_of_file fault))
     go (files.Memory e) = inl (Keeps-refl contents)
     go files.Busy = Keeps-refl contents
     go files.NotAFile = Keeps-refl contents
@@ -65,34 +62,33 @@ unopened_file port contents fault made is = subst (λ (m : JobFault). ServesFile
     go (files.System e) = Keeps-refl contents
 
 -- where too few files and connections may be had at a time, nothing is served
-pub unheld : (port : ℕ) (contents : Option (List ℕ)) (fault : JobFault) → IsOfDescriptors fault → ServesFile port contents contents (Err fault)
-unheld port contents faults.Memory is = inl (Keeps-refl contents)
-unheld port contents (faults.Descriptors sessions wanted error) is = Keeps-refl contents
-unheld port contents (faults.File fault) is = absurd is
-unheld port contents (faults.Open cause) is = absurd is
-unheld port contents faults.Reader is = absurd is
-unheld port contents faults.Writer is = absurd is
-unheld port contents (faults.Definition refusal) is = absurd is
-unheld port contents faults.Journal is = absurd is
-unheld port contents (faults.Format cause) is = absurd is
-unheld port contents (faults.Port at error) is = absurd is
-unheld port contents faults.Place is = absurd is
-unheld port contents faults.Order is = absurd is
-unheld port contents faults.Counts is = absurd is
+pub unheld : (sessions port : ℕ) (contents : Option (List ℕ)) (fault : JobFault) → IsOfDescriptors fault → ServesFile sessions port contents contents (Err fault)
+unheld sessions port contents faults.Memory is = inl (Keeps-refl contents)
+unheld sessions port contents (faults.Descriptors held wanted error) is = Keeps-refl contents
+unheld sessions port contents (faults.File fault) is = absurd is
+unheld sessions port contents (faults.Open cause) is = absurd is
+unheld sessions port contents faults.Reader is = absurd is
+unheld sessions port contents faults.Writer is = absurd is
+unheld sessions port contents (faults.Definition refusal) is = absurd is
+unheld sessions port contents faults.Journal is = absurd is
+unheld sessions port contents (faults.Format cause) is = absurd is
+unheld sessions port contents (faults.Port at error) is = absurd is
+unheld sessions port contents faults.Place is = absurd is
+unheld sessions port contents faults.Order is = absurd is
+unheld sessions port contents faults.Counts is = absurd is
 
--- what is served of a device in a file is served of the file
-pub of_device : (image : List ℕ) (port : ℕ) (old new : Option (List ℕ)) (end : Result RunEnd JobFault) → ServesKept image port old new end → ServesFile port old new end
-of_device image port old new (Ok end) kept = (image, kept)
-of_device image port old new (Err faults.Memory) kept = kept
-of_device image port old new (Err (faults.File fault)) kept = absurd kept
-of_device image port old new (Err (faults.Open cause)) kept = (image, kept)
-of_device image port old new (Err faults.Reader) kept = absurd kept
-of_device image port old new (Err faults.Writer) kept = (image, kept)
-of_device image port old new (Err (faults.Definition refusal)) kept = absurd kept
-of_device image port old new (Err faults.Journal) kept = absurd kept
-of_device image port old new (Err (faults.Format cause)) kept = absurd kept
-of_device image port old new (Err (faults.Port at error)) kept = (image, kept)
-of_device image port old new (Err (faults.Descriptors sessions wanted error)) kept = absurd kept
-of_device image port old new (Err faults.Place) kept = (image, kept)
-of_device image port old new (Err faults.Order) kept = (image, kept)
-of_device image port old new (Err faults.Counts) kept = (image, kept)
+-- a device in a file that is not served is a file that is not
+pub of_device : (image : List ℕ) (sessions port : ℕ) (old new : Option (List ℕ)) (fault : JobFault) → IsUnserved image port old new fault → ServesFile sessions port old new (Err fault)
+of_device image sessions port old new faults.Memory kept = kept
+of_device image sessions port old new (faults.File fault) kept = absurd kept
+of_device image sessions port old new (faults.Open cause) kept = (image, kept)
+of_device image sessions port old new faults.Reader kept = absurd kept
+of_device image sessions port old new faults.Writer kept = (image, kept)
+of_device image sessions port old new (faults.Definition refusal) kept = absurd kept
+of_device image sessions port old new faults.Journal kept = absurd kept
+of_device image sessions port old new (faults.Format cause) kept = absurd kept
+of_device image sessions port old new (faults.Port at error) kept = (image, kept)
+of_device image sessions port old new (faults.Descriptors held wanted error) kept = absurd kept
+of_device image sessions port old new faults.Place kept = (image, kept)
+of_device image sessions port old new faults.Order kept = (image, kept)
+of_device image sessions port old new faults.Counts kept = (image, kept)

@@ -106,7 +106,7 @@ RunsJob is_terminal (Run file batch every) before after errors_old errors_new st
     (done : Streams) × (end : Result RunEnd JobFault) × RunsFile before done end
     × Keeps done.remaining after.remaining × TellsRun done.contents after.contents errors_old errors_new end status
 RunsJob is_terminal (Serve file port sessions) before after errors_old errors_new status =
-    (served : Option (List ℕ)) × (end : Result RunEnd JobFault) × ServesFile port before.contents served end
+    (served : Option (List ℕ)) × (end : Result RunEnd JobFault) × ServesFile sessions port before.contents served end
     × Keeps before.remaining after.remaining × TellsRun served after.contents errors_old errors_new end status
 
 -- A standard stream leads to the file of a job: nothing is read, and 91 is told on the output and the errors, but nothing on the one that leads there.

@@ -1,7 +1,8 @@
 //! Serving sessions with the auction that a file keeps.
 ghost use Rattle.std.specs.Prelude.{◌≡◌, ◌≤◌, [], IfErr, IfOk, OnErr, string_bytes};
+ghost use Rattle.hpb_image.specs.Readings.{last_value, Found, Reads};
 ghost use Rattle.hpb_program.specs.Keeping.{IsNotOpened};
-ghost use Rattle.hpb_program.specs.Serving.{IsReadable, ServesFile, ServesKept, closed_line};
+ghost use Rattle.hpb_program.specs.Serving.{IsUnserved, ServesFile, ServesKept, closed_line};
 ghost use Rattle.hpb_server.specs.Writing.{Sends};
 
 use crate::descriptors::look_for_descriptors;
@@ -10,7 +11,7 @@ use crate::lookout::Lookout;
 use crate::run_end::RunEnd;
 use hpb_disk::{Disk, FileDisk};
 use hpb_recover::{Opened, open};
-use hpb_serve::{Unwatched, Watch, serve_watched};
+use hpb_serve::{Served, Unwatched, Watch, serve_watched};
 use hpb_server::{Fault, send_bytes};
 use std::alloc::{AllocError, Global};
 use std::fs::{File, Files};
@@ -22,6 +23,15 @@ use std::thread::Threads;
 
 /// As many bytes as the line of the end may have: the number of commands has 32 bits, so ten digits at most.
 const CLOSED_BYTES: usize = 18;
+
+/// How serving ended that had begun.
+#[derive(Drop)]
+pub struct ServeEnd<D: Disk + Drop> {
+    /// What was served, and what the house leaves.
+    pub served: Served<D>,
+    /// Whether the last line was written.
+    pub said: Result<(), Fault>,
+}
 
 /// Serves so many sessions with the auction that the file of a path keeps, as `serve_kept` says, once there may be as many
 /// connections at a time as that takes.
@@ -38,7 +48,7 @@ pub(crate) fn serve_file<
     output: &mut W,
 ) -> Result<RunEnd, JobFault>
     requires { (1 ≤ sessions) × (sessions ≤ 32) }
-    ensures { ServesFile port (W.contents output.old) (W.contents output.new) result }
+    ensures { ServesFile sessions port (W.contents output.old) (W.contents output.new) result }
 {
     let disk = match FileDisk::open(rt, alloc, file) {
         Ok(disk) => disk,
@@ -51,7 +61,13 @@ pub(crate) fn serve_file<
     if let Err(fault) = look_for_descriptors(rt, alloc, sessions) {
         return Err(fault);
     }
-    serve_device(rt, alloc, disk, port, sessions, output, &lookout)
+    match serve_device(rt, alloc, disk, port, sessions, output, &lookout) {
+        Ok(ended) => Ok(RunEnd {
+            end: ended.said,
+            failed: ended.served.closing.has_failed,
+        }),
+        Err(fault) => Err(fault),
+    }
 }
 
 /// Serves so many sessions, from 1 to 32, with the auction that a device keeps, over connections to a port of 127.0.0.1.
@@ -60,7 +76,8 @@ pub(crate) fn serve_file<
 ///
 /// The port is asked for only where the device was opened, and nothing is written where either was refused: 40, 42, 44, 45
 /// and 91 of the device, 92 of the port. A house that wasn't started is 90 or 94, a session that took no answer 95, and
-/// what was answered and isn't what was kept 96.
+/// what was answered and isn't what was kept 96. What was served is handed up: the device, which keeps the history that it
+/// stood for when it was opened and then the commands that the sessions were told of as newly accepted.
 pub fn serve_kept<
     H: Net<Listener = TcpListener, Stream = TcpStream> + Threads + Wait + Sync,
     D: Disk + Drop + Send,
@@ -72,9 +89,9 @@ pub fn serve_kept<
     port: u16,
     sessions: u8,
     output: &mut W,
-) -> Result<RunEnd, JobFault>
+) -> Result<ServeEnd<D>, JobFault>
     requires { (1 ≤ sessions) × (sessions ≤ 32) }
-    ensures { ServesKept (D.seen disk) port (W.contents output.old) (W.contents output.new) result }
+    ensures { ServesKept D.seen D.may_leave D.failures (D.seen disk) sessions port (W.contents output.old) (W.contents output.new) result }
 {
     serve_device(rt, alloc, disk, port, sessions, output, &Unwatched)
 }
@@ -94,9 +111,9 @@ fn serve_device<
     sessions: u8,
     output: &mut W,
     watch: &V,
-) -> Result<RunEnd, JobFault>
+) -> Result<ServeEnd<D>, JobFault>
     requires { (1 ≤ sessions) × (sessions ≤ 32) }
-    ensures { ServesKept (D.seen disk) port (W.contents output.old) (W.contents output.new) result }
+    ensures { ServesKept D.seen D.may_leave D.failures (D.seen disk) sessions port (W.contents output.old) (W.contents output.new) result }
 {
     let opened = match open_device(alloc, disk) {
         Ok(opened) => opened,
@@ -115,20 +132,19 @@ fn serve_device<
         Ok(served) => served,
         Err(fault) => return Err(JobFault::from(fault)),
     };
-    let line = match closing_line(room, served.count) {
+    let line = match closing_line(room, served.closing.auction.count()) {
         Ok(line) => line,
         Err(_) => return Err(JobFault::Memory),
     };
-    Ok(RunEnd {
-        end: send_line(line.as_str(), output),
-        failed: served.has_failed,
-    })
+    let said = send_line(line.as_str(), output);
+    Ok(ServeEnd { served, said })
 }
 
 /// Opens a device.
 #[tactic(auto, using(crate::proofs::Kept::not_opened))]
 fn open_device<D: Disk + Drop>(alloc: Global, disk: D) -> Result<Opened<D>, JobFault>
-    ensures read { IfOk result (λ opened. IsReadable (D.seen disk)) }
+    ensures read { IfOk result (λ opened. (found : Found) × Reads found (D.seen disk) × (opened.plan.auction ≡ last_value found)) }
+    ensures same { IfOk result (λ opened. D.seen opened.disk ≡ D.seen disk) }
     ensures fault { IfErr result (IsNotOpened (D.seen disk)) }
 {
     match open(alloc, disk) {

@@ -8,7 +8,8 @@ use Rattle.hpb_board.specs.Publication.{Viewing, auction_of}
 use Rattle.hpb_closing.specs.Histories.{history_of}
 use Rattle.hpb_closing.specs.Reports.{accepted_by, total}
 use Rattle.hpb_house.specs.Boards.{SameBoard}
-use Rattle.hpb_house.specs.Closings.{AreOfKeeper}
+use Rattle.hpb_house.specs.Closings.{LeavesAll}
+use Rattle.hpb_house.specs.Keepers.{IsTold}
 use Rattle.hpb_house.specs.declared.keeper.Halt.{Halt}
 use Rattle.hpb_rings.specs.declared.client.Client.{Client}
 use Rattle.hpb_rings.specs.declared.report.Report.{Report}
@@ -31,18 +32,16 @@ pub record LeavesOne (auction : AuctionValue) : Type 0 where
   pub opened : client.viewer.opened ≡ auction
   pub order : IsInOrder client.seat client.viewer client.taken client.waiting.items → ⊥
 
--- So many sessions have ended, which began with this auction, and this is told of them.
-pub record EndsAll {D : Type 0} (seen : D → List ℕ) (may_leave : D → List ℕ → Type 0) (before : AuctionValue) (sessions : ℕ) (served : Served) : Type 0 where
-  -- There is a report of each seat, and they show one auction, whose commands are as many as is told.
-  pub reports : List Report
-  pub auction : AuctionValue
-  pub seats : map (λ (report : Report). report.seat) reports ≡ range_with_len 0 sessions
-  pub shown : All (λ report. auction_of report.viewer ≡ auction) reports
-  pub counted : served.count ≡ auction.count
+-- So many sessions have ended, which began with this auction, on a device that was opened with these bytes after so many failed calls; and this is told of them.
+pub record EndsAll {D : Type 0} (seen : D → List ℕ) (may_leave : D → List ℕ → Type 0) (fails : D → ℕ) (image : List ℕ) (failures : ℕ) (before : AuctionValue) (sessions : ℕ) (served : Served D) : Type 0 where
+  -- There is a report of each seat, and they show the committed auction.
+  pub seats : map (λ (report : Report). report.seat) served.reports.items ≡ range_with_len 0 sessions
+  pub shown : All (λ report. auction_of report.viewer ≡ served.closing.auction) served.reports.items
   -- The commands since the opening are those of the answers newly accepted, each once.
-  pub continued : (front : List Command) → Shows before front → All (λ report. Shows auction (front ++ history_of report.viewer)) reports
-  pub once : All (λ report. IsPermutation (flat_map accepted_by reports) (history_of report.viewer)) reports
-  pub numbers : total reports ≡ served.count - before.count
-  -- A device keeps that auction, up to the failure of one of its calls where one is told of.
-  pub disk : D
-  pub kept : AreOfKeeper seen may_leave disk auction served.has_failed
+  pub continued : (front : List Command) → Shows before front → All (λ report. Shows served.closing.auction (front ++ history_of report.viewer)) served.reports.items
+  pub once : All (λ report. IsPermutation (flat_map accepted_by served.reports.items) (history_of report.viewer)) served.reports.items
+  pub numbers : total served.reports.items ≡ served.closing.auction.count - before.count
+  -- The device keeps what it stood for when it was opened, and then these commands, and nothing is in flight.
+  pub kept : All (λ report. LeavesAll seen may_leave image served.closing.disk served.closing.auction served.closing.has_failed (history_of report.viewer)) served.reports.items
+  -- What is told of failed calls is so of the device.
+  pub told : IsTold served.closing.has_failed failures (fails served.closing.disk)

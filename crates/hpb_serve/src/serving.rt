@@ -1,29 +1,35 @@
 //! Serving an auction that was opened.
-ghost use Rattle.std.specs.Prelude.{◌≡◌, ◌≤◌, Err, IfOk};
+ghost use Rattle.std.specs.Prelude.{◌≡◌, ◌≤◌, ◌⊎◌, [], Err, IfErr, IfOk};
+ghost use Rattle.hpb_rings.specs.Gathering.{gathered};
+ghost use Rattle.hpb_house.specs.Committing.{IsOwed};
+ghost use Rattle.hpb_house.specs.Namings.{IsOf};
+ghost use Rattle.hpb_house.specs.Starts.{AreBegun};
 ghost use Rattle.hpb_serve.specs.Announcing.{Announces, listening_line};
 ghost use Rattle.hpb_serve.specs.Ended.{EndsAll, LeavesOne};
-ghost use Rattle.hpb_serve.specs.declared.fault.ServeFault.TheVariants.{Order};
+ghost use Rattle.hpb_serve.specs.declared.fault.ServeFault.TheVariants.{Counts, Memory, Order};
 
 use crate::announcing::announce;
 use crate::fault::ServeFault;
 use crate::threads::run_threads;
 use crate::watching::{Unwatched, Watch};
 use hpb_disk::Disk;
-use hpb_house::{House, Started};
+use hpb_house::{Closing, House, Naming, Ready, Started};
 use hpb_recover::Opened;
+use hpb_rings::Report;
 use std::alloc::Global;
 use std::io::Write;
+use std::marker::Brand;
 use std::net::{Net, TcpListener, TcpStream};
 use std::sync::Wait;
 use std::thread::Threads;
 
 /// What sessions that have all ended came to.
-#[derive(Clone, Copy, Debug, PartialEq, Eq)]
-pub struct Served {
-    /// How many commands are accepted in all.
-    pub count: u32,
-    /// Whether a call of the device has failed (91).
-    pub has_failed: bool,
+#[derive(Drop)]
+pub struct Served<D: Disk + Drop> {
+    /// What the house leaves.
+    pub closing: Closing<D>,
+    /// The report of each session's client, from seat 0 on.
+    pub reports: Vec<Report>,
 }
 
 /// Serves so many sessions, from 1 to 32, with an opened auction, over connections to a listener.
@@ -48,11 +54,11 @@ pub fn serve_opened<
     port: u16,
     sessions: u8,
     output: &mut W,
-) -> Result<Served, ServeFault>
+) -> Result<Served<D>, ServeFault>
     requires { (1 ≤ sessions) × (sessions ≤ 32) }
     ensures written { Announces (listening_line port) (W.contents output.old) (W.contents output.new) result }
     // All sessions have ended, and the commands that they were told of as newly accepted are those that were committed.
-    ensures ended { IfOk result (λ served. EndsAll D.seen D.may_leave opened.plan.auction sessions served) }
+    ensures ended { IfOk result (λ served. EndsAll D.seen D.may_leave D.failures (D.seen opened.disk) (D.failures opened.disk) opened.plan.auction sessions served) }
     // 95 only where a session had a reason.
     ensures order { result ≡ Err Order → LeavesOne opened.plan.auction }
 {
@@ -78,34 +84,61 @@ pub fn serve_watched<
     sessions: u8,
     output: &mut W,
     watch: &V,
-) -> Result<Served, ServeFault>
+) -> Result<Served<D>, ServeFault>
     requires { (1 ≤ sessions) × (sessions ≤ 32) }
     ensures written { Announces (listening_line port) (W.contents output.old) (W.contents output.new) result }
     // All sessions have ended, and the commands that they were told of as newly accepted are those that were committed.
-    ensures ended { IfOk result (λ served. EndsAll D.seen D.may_leave opened.plan.auction sessions served) }
+    ensures ended { IfOk result (λ served. EndsAll D.seen D.may_leave D.failures (D.seen opened.disk) (D.failures opened.disk) opened.plan.auction sessions served) }
     // 95 only where a session had a reason.
     ensures order { result ≡ Err Order → LeavesOne opened.plan.auction }
 {
-    let Started {
-        house,
-        intake,
-        clients,
-    } = match House::start(rt, alloc, opened, sessions) {
+    let started = match House::start(rt, alloc, opened, sessions) {
         Ok(started) => started,
         Err(fault) => return Err(ServeFault::Start(fault.cause)),
     };
     if let Err(fault) = announce(alloc, port, output) {
         return Err(fault);
     }
-    let mut reports = match run_threads(rt, alloc, &house, intake, clients, listener, watch) {
+    serve_started::<Brand, D, &H, H, V>(rt, alloc, started, listener, watch)
+}
+
+/// Serves a session for each client of a house that was started, by the name that is its own.
+fn serve_started<
+    J: Naming + Send + Sync,
+    D: Disk + Drop + Send,
+    W: Wait + Drop + Send,
+    R: Threads + Wait + Sync,
+    V: Watch + Sync,
+>(
+    rt: &R,
+    alloc: Global,
+    started: Started<D, W>,
+    listener: TcpListener,
+    watch: &V,
+) -> Result<Served<D>, ServeFault>
+    requires eye { (started.eye ≡ J.eye) × (started.eye.list ≡ []) }
+    requires own { IsOf J.eye J.image J.failures started.keeper }
+    requires book { started.front.trail.book ≡ started.eye.book }
+    requires none { IsOwed (gathered started.intake.rings.items) started.front.trail.log [] }
+    requires begun { AreBegun started.eye started.clients.items started.eye.seats }
+    ensures ended { IfOk result (λ served. EndsAll D.seen D.may_leave D.failures J.image J.failures started.eye.opened started.eye.seats served) }
+    ensures order { result ≡ Err Order → LeavesOne started.eye.opened }
+    ensures fault { IfErr result (λ fault. (fault ≡ Memory) ⊎ (fault ≡ Order) ⊎ (fault ≡ Counts)) }
+{
+    let Ready {
+        house,
+        front,
+        intake,
+        clients,
+    } = started.named::<J>();
+    let mut reports = match run_threads(
+        rt, alloc, &house, front, intake, clients, listener, watch,
+    ) {
         Ok(reports) => reports,
         Err(fault) => return Err(fault),
     };
     match house.close(&mut reports) {
-        Ok(closing) => Ok(Served {
-            count: closing.auction.count(),
-            has_failed: closing.has_failed,
-        }),
+        Ok(closing) => Ok(Served { closing, reports }),
         Err(_) => Err(ServeFault::Counts),
     }
 }

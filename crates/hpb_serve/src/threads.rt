@@ -1,6 +1,8 @@
 //! The threads of a house: its two workers, and one for each session.
 ghost use Rattle.std.specs.Prelude.{◌≡◌, ◌⊎◌, [], All, Err, IfErr, IfOk, map};
 ghost use Rattle.std.specs.Thread.{IsSend, IsSync};
+ghost use Rattle.hpb_rings.specs.Gathering.{gathered};
+ghost use Rattle.hpb_house.specs.Committing.{IsOwed};
 ghost use Rattle.hpb_house.specs.Boards.{SameBoard};
 ghost use Rattle.hpb_serve.specs.Ended.{LeavesOne};
 ghost use Rattle.hpb_serve.specs.declared.fault.ServeFault.TheVariants.{Memory, Order};
@@ -9,8 +11,9 @@ use crate::connection::{Idle, serve_connection};
 use crate::ends::{OfSeat, join_sessions};
 use crate::fault::ServeFault;
 use crate::watching::{Rounds, Watch};
+use hpb_board::Front;
 use hpb_disk::Disk;
-use hpb_house::{Halt, House, OpenGate, checkpointer, committer};
+use hpb_house::{Halt, House, Naming, OpenGate, checkpointer, committer};
 use hpb_rings::{Client, Intake, Report};
 use hpb_sessions::{SessionEnd, finish_client};
 use std::alloc::Global;
@@ -58,18 +61,19 @@ fn start_sessions<
     E,
     D: Disk + Drop + Send,
     W: Wait + Drop + Send,
+    J: Naming + Send + Sync,
     R: Threads + Wait + Sync,
     V: Watch,
 >(
     scope: &Scope<'s, E>,
     rt: &'s R,
     alloc: Global,
-    house: &'s House<D, W>,
+    house: &'s House<D, W, J>,
     clients: Vec<Client<Halt>>,
     listener: TcpListener,
     watch: &V,
-    threads: Vec<PromisedHandle<SessionEnd<Halt>, OfSeat<D, W>>>,
-) -> Result<Vec<PromisedHandle<SessionEnd<Halt>, OfSeat<D, W>>>, ServeFault>
+    threads: Vec<PromisedHandle<SessionEnd<Halt>, OfSeat<D, W, J>>>,
+) -> Result<Vec<PromisedHandle<SessionEnd<Halt>, OfSeat<D, W, J>>>, ServeFault>
     requires ready { All (λ client. SameBoard house.now client.viewer × (client.waiting.items ≡ [])) clients.items }
     requires none { threads.items ≡ [] }
     ensures house { IfOk result (λ started. All (λ thread. thread.promise.house.value ≡ house.now) started.items) }
@@ -119,17 +123,21 @@ fn start_sessions<
 pub(crate) fn run_threads<
     D: Disk + Drop + Send,
     W: Wait + Drop + Send,
+    J: Naming + Send + Sync,
     R: Threads + Wait + Sync,
     V: Watch + Sync,
 >(
     rt: &R,
     alloc: Global,
-    house: &House<D, W>,
+    house: &House<D, W, J>,
+    front: Front,
     intake: Intake<Halt>,
     clients: Vec<Client<Halt>>,
     listener: TcpListener,
     watch: &V,
 ) -> Result<Vec<Report>, ServeFault>
+    requires book { front.trail.book ≡ house.now.book }
+    requires none { IsOwed (gathered intake.rings.items) front.trail.log [] }
     requires ready { All (λ client. SameBoard house.now client.viewer × (client.waiting.items ≡ [])) clients.items }
     ensures board { IfOk result (λ reports. All (λ report. SameBoard house.now report.viewer) reports.items) }
     ensures seats { IfOk result (λ reports. map (λ report. report.seat) reports.items ≡ map (λ client. client.seat) clients.items) }
@@ -140,7 +148,9 @@ pub(crate) fn run_threads<
         thread::scope_env(),
         rt,
         move |scope| -> Result<Vec<Report>, ServeFault>
-            requires cross { IsSend D.row × IsSend W.row × IsSync R.row × IsSync V.row }
+            requires cross { IsSend D.row × IsSend W.row × IsSend J.row × IsSync J.row × IsSync R.row × IsSync V.row }
+            requires book { front.trail.book ≡ house.now.book }
+            requires none { IsOwed (gathered intake.rings.items) front.trail.log [] }
             requires ready { All (λ client. SameBoard house.now client.viewer × (client.waiting.items ≡ [])) clients.items }
             ensures board { IfOk result (λ reports. All (λ report. SameBoard house.entry.now report.viewer) reports.items) }
             ensures seats { IfOk result (λ reports. map (λ report. report.seat) reports.items ≡ map (λ client. client.seat) clients.items) }
@@ -149,7 +159,14 @@ pub(crate) fn run_threads<
         {
             let reports = Vec::with_capacity(alloc, clients.len())?;
             let threads = Vec::with_capacity(alloc, clients.len())?;
-            let Ok(commits) = scope.spawn(move || committer(rt, house, intake, &OpenGate)) else {
+            let commit = move || -> Intake<Halt>
+                requires book { front.trail.book ≡ house.now.book }
+                requires none { IsOwed (gathered intake.rings.items) front.trail.log [] }
+            {
+                let mut front = front;
+                committer(rt, house, intake, &OpenGate, &mut front)
+            };
+            let Ok(commits) = scope.spawn(commit) else {
                 house.dismiss();
                 return Err(ServeFault::Memory);
             };

@@ -1,20 +1,26 @@
 //! A house with its two workers, and a session with its only client.
 ghost use Rattle.std.specs.Prelude.{◌≡◌, [], IfOk, IfSome};
 ghost use Rattle.std.specs.Thread.{IsSend, IsSync};
+ghost use Rattle.hpb_rings.specs.Gathering.{gathered};
+ghost use Rattle.hpb_board.specs.Publication.{Viewing};
 ghost use Rattle.hpb_house.specs.Boards.{SameBoard};
+ghost use Rattle.hpb_house.specs.Committing.{IsOwed};
+ghost use Rattle.hpb_house.specs.Namings.{IsOf};
 ghost use Rattle.hpb_house.specs.Starts.{AreBegun};
 ghost use Rattle.hpb_sessions.specs.Ends.{viewer_of};
 
 use crate::devices::{faulty_opened, new_opened};
+use hpb_board::Front;
 use hpb_codec::JournalShape;
 use hpb_disk::Disk;
-use hpb_house::{Halt, House, OpenGate, Started, checkpointer, committer};
+use hpb_house::{Halt, House, Naming, OpenGate, Ready, Started, checkpointer, committer};
 use hpb_recover::Opened;
 use hpb_rings::{Client, Intake};
 use hpb_server::Fault;
 use hpb_sessions::{Session, SessionEnd, run_session};
 use std::alloc::{AllocError, Global};
 use std::io::Write;
+use std::marker::Brand;
 use std::sync::Wait;
 use std::test::Fail;
 use std::thread;
@@ -37,15 +43,24 @@ pub(crate) struct Outcome {
 }
 
 /// Runs a session on these lines beside the two workers of its house, all to their ends.
-fn run_threads<D: Disk + Drop + Send, W: Wait + Drop + Send, R: Threads + Wait + Sync, O: Write>(
+fn run_threads<
+    D: Disk + Drop + Send,
+    W: Wait + Drop + Send,
+    J: Naming + Send + Sync,
+    R: Threads + Wait + Sync,
+    O: Write,
+>(
     rt: &R,
     alloc: Global,
-    house: &House<D, W>,
+    house: &House<D, W, J>,
+    front: Front,
     intake: Intake<Halt>,
     client: Client<Halt>,
     lines: &str,
     output: &mut O,
 ) -> Result<Session<Halt>, AllocError>
+    requires book { front.trail.book ≡ house.now.book }
+    requires none { IsOwed (gathered intake.rings.items) front.trail.log [] }
     requires idle { client.waiting.items ≡ [] }
     requires same { SameBoard house.now client.viewer }
     ensures { IfOk result (λ session. SameBoard house.now (viewer_of session.end)) }
@@ -54,12 +69,21 @@ fn run_threads<D: Disk + Drop + Send, W: Wait + Drop + Send, R: Threads + Wait +
         thread::scope_env(),
         rt,
         move |scope| -> Result<Session<Halt>, AllocError>
-            requires cross { IsSend D.row × IsSend W.row × IsSync R.row }
+            requires cross { IsSend D.row × IsSend W.row × IsSend J.row × IsSync J.row × IsSync R.row }
+            requires book { front.trail.book ≡ house.now.book }
+            requires none { IsOwed (gathered intake.rings.items) front.trail.log [] }
             requires idle { client.waiting.items ≡ [] }
             requires same { SameBoard house.now client.viewer }
             ensures { IfOk result (λ session. SameBoard house.entry.now (viewer_of session.end)) }
         {
-            let commits = scope.spawn(move || committer(rt, house, intake, &OpenGate))?;
+            let commit = move || -> Intake<Halt>
+                requires book { front.trail.book ≡ house.now.book }
+                requires none { IsOwed (gathered intake.rings.items) front.trail.log [] }
+            {
+                let mut front = front;
+                committer(rt, house, intake, &OpenGate, &mut front)
+            };
+            let commits = scope.spawn(commit)?;
             let checkpoints = scope.spawn(move || checkpointer(rt, house, &OpenGate))?;
             let mut input = lines.as_bytes();
             let session = run_session(rt, alloc, &mut input, output, client, LOOKS);
@@ -71,21 +95,17 @@ fn run_threads<D: Disk + Drop + Send, W: Wait + Drop + Send, R: Threads + Wait +
 }
 
 /// The last of the clients that a house was started with.
-fn last_client<D: Disk + Drop, W: Wait + Drop>(
-    _house: &House<D, W>,
-    clients: Vec<Client<Halt>>,
-) -> Option<Client<Halt>>
-    requires { AreBegun _house.now clients.items 1 }
-    ensures idle { IfSome result (λ client. client.waiting.items ≡ []) }
-    ensures same { IfSome result (λ client. SameBoard _house.now client.viewer) }
+fn last_client(clients: Vec<Client<Halt>>) -> Option<Client<Halt>>
+    ensures idle { (eye : Viewing) → AreBegun eye clients.items 1 → IfSome result (λ client. client.waiting.items ≡ []) }
+    ensures same { (eye : Viewing) → AreBegun eye clients.items 1 → IfSome result (λ client. SameBoard eye client.viewer) }
 {
     let mut clients = clients;
     clients.pop()
 }
 
 /// Closes a house whose only session has ended.
-fn close_house<D: Disk + Drop, W: Wait + Drop>(
-    house: House<D, W>,
+fn close_house<D: Disk + Drop, W: Wait + Drop, J: Naming>(
+    house: House<D, W, J>,
     session: Session<Halt>,
 ) -> Result<Outcome, Fail>
     requires { SameBoard house (viewer_of session.end) }
@@ -106,6 +126,40 @@ fn close_house<D: Disk + Drop, W: Wait + Drop>(
     }
 }
 
+/// Runs a session on these lines with the only client of a house that was started, by the name that is its own, and closes
+/// the house.
+fn run_started<
+    J: Naming + Send + Sync,
+    D: Disk + Drop + Send,
+    W: Wait + Drop + Send,
+    R: Threads + Wait + Sync,
+    O: Write,
+>(
+    rt: &R,
+    alloc: Global,
+    started: Started<D, W>,
+    lines: &str,
+    output: &mut O,
+) -> Result<Outcome, Fail>
+    requires eye { (started.eye ≡ J.eye) × (started.eye.list ≡ []) }
+    requires own { IsOf J.eye J.image J.failures started.keeper }
+    requires book { started.front.trail.book ≡ started.eye.book }
+    requires none { IsOwed (gathered started.intake.rings.items) started.front.trail.log [] }
+    requires begun { AreBegun started.eye started.clients.items 1 }
+{
+    let Ready {
+        house,
+        front,
+        intake,
+        clients,
+    } = started.named::<J>();
+    let Some(client) = last_client(clients) else {
+        return Err(Fail::new("the house has no client"));
+    };
+    let session = run_threads(rt, alloc, &house, front, intake, client, lines, output)?;
+    close_house(house, session)
+}
+
 /// Starts a house over what was opened, runs a session on these lines with its only client, and closes it.
 fn run_on_house<D: Disk + Drop + Send, R: Threads + Wait + Sync, O: Write>(
     rt: &R,
@@ -117,16 +171,7 @@ fn run_on_house<D: Disk + Drop + Send, R: Threads + Wait + Sync, O: Write>(
     let Ok(started) = House::start(rt, alloc, opened, 1) else {
         return Err(Fail::new("the house was not started"));
     };
-    let Started {
-        house,
-        intake,
-        clients,
-    } = started;
-    let Some(client) = last_client(&house, clients) else {
-        return Err(Fail::new("the house has no client"));
-    };
-    let session = run_threads(rt, alloc, &house, intake, client, lines, output)?;
-    close_house(house, session)
+    run_started::<Brand, D, &R, R, O>(rt, alloc, started, lines, output)
 }
 
 /// Runs a session on a house over a new device in memory.

@@ -2,9 +2,9 @@
 
 use crate::caller::Caller;
 use crate::outputs::Deaf;
-use crate::serving::{serve_faulty_device, serve_new_device};
+use crate::serving::{Came, serve_faulty_device, serve_new_device};
 use hpb_engine_rows::over_layouts;
-use hpb_serve::{ServeFault, Served};
+use hpb_serve::ServeFault;
 use std::test::*;
 
 #[test]
@@ -31,7 +31,7 @@ fn device_fault_in_the_first_commit(rt: HostRuntime) -> Result<(), Fail> {
             assert_eq!(rt; second.ask(&["SHOW"])?.as_str(), shown, "{call}");
             assert_eq!(rt; first.end()?.as_str(), "", "{call}");
             assert_eq!(rt; second.end()?.as_str(), "", "{call}");
-            let wanted = Served {
+            let wanted = Came {
                 count: 0,
                 has_failed: true,
             };

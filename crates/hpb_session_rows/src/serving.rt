@@ -6,7 +6,7 @@ use crate::devices::{faulty_opened, file_opened, new_opened};
 use hpb_codec::JournalShape;
 use hpb_disk::Disk;
 use hpb_recover::Opened;
-use hpb_serve::{ServeFault, Served, serve_opened};
+use hpb_serve::{ServeFault, serve_opened};
 use std::alloc::Global;
 use std::fs::{File, Files};
 use std::io::Write;
@@ -34,16 +34,25 @@ pub(crate) fn goes_up<H: Clock>(rt: &H, flag: &AtomicBool) -> bool {
     false
 }
 
+/// What sessions that have all ended came to.
+#[derive(Clone, Copy, Debug, PartialEq, Eq)]
+pub(crate) struct Came {
+    /// How many commands are accepted in all.
+    pub(crate) count: u32,
+    /// Whether a call of the device has failed.
+    pub(crate) has_failed: bool,
+}
+
 /// What serving came to, and its output.
 #[derive(Drop)]
 pub(crate) struct Ended<W: Drop> {
-    pub(crate) served: Result<Served, ServeFault>,
+    pub(crate) served: Result<Came, ServeFault>,
     pub(crate) output: W,
 }
 
 /// What it comes to where so many commands are accepted in all, and no call of the device has failed.
-pub(crate) fn well(count: u32) -> Result<Served, ServeFault> {
-    Ok(Served {
+pub(crate) fn well(count: u32) -> Result<Came, ServeFault> {
+    Ok(Came {
         count,
         has_failed: false,
     })
@@ -101,6 +110,13 @@ fn serve_over<
             let mut output = output;
             let served = serve_opened(&own, alloc, opened, listener, port, sessions, &mut output);
             is_over.store(true, Ordering::SeqCst);
+            let served = match served {
+                Ok(served) => Ok(Came {
+                    count: served.closing.auction.count(),
+                    has_failed: served.closing.has_failed,
+                }),
+                Err(fault) => Err(fault),
+            };
             Ended { served, output }
         },
     )?;

@@ -1,5 +1,7 @@
-use Rattle.std.proofs.Common.{inl, refl}
+use Rattle.std.proofs.Common.{rules, ℕ, List, inl, refl, subst}
 use Rattle.std.proofs.KnownBytes.{Keeps-refl}
+use Rattle.hpb_rules.specs.AuctionValue.{AuctionValue}
+use Rattle.hpb_serve.specs.Ended.{EndsAll}
 use Rattle.hpb_program.proofs.Served.{unserved}
 use Rattle.hpb_program.proofs.serving.serve_device.Goals as goal
 
@@ -7,8 +9,25 @@ pub returns-in-Err-with_capacity : goal.returns-in-Err-with_capacity
 returns-in-Err-with_capacity g c = inl (Keeps-refl _)
 
 pub returns-in-Err-listen : goal.returns-in-Err-listen
-returns-in-Err-listen g c = (c.in-Ok.ensures.read, Keeps-refl _, refl)
+returns-in-Err-listen g c = ((c.in-Ok.ensures.read.0, c.in-Ok.ensures.read.1), Keeps-refl _, refl)
 
 pub returns-in-Err-serve_watched : goal.returns-in-Err-serve_watched
 returns-in-Err-serve_watched g c =
-    unserved (g.D.Disk.seen c.args.disk) c.args.port _ _ c.in-Err-serve_watched.fault c.from.result c.in-Ok.ensures.read c.from.ensures c.in-Err-serve_watched.ensures.written
+    unserved g.row.D.Denot (g.D.Disk.seen c.args.disk) c.args.port _ _ c.in-Err-serve_watched.fault c.from.result (c.in-Ok.ensures.read.0, c.in-Ok.ensures.read.1) c.from.ensures c.in-Err-serve_watched.ensures.written
+
+pub returns : goal.returns
+returns g c =
+    let read = c.in-Ok.ensures.read in
+    let failed_before = g.D.Disk.failures c.in-Ok.opened.disk in
+    let served = c.in-Ok-serve_watched.served in
+    let EndsBy : List ℕ → AuctionValue → Type 0 = λ image before. EndsAll g.D.Disk.seen g.D.Disk.may_leave g.D.Disk.failures image failed_before before c.args.sessions served in
+    record {
+      found = read.0;
+      reads = read.1;
+      failed_before = failed_before;
+      ended = subst (EndsBy (g.D.Disk.seen c.args.disk)) read.2
+          (subst (λ image. EndsBy image c.in-Ok.opened.plan.auction) c.in-Ok.ensures.same c.in-Ok-serve_watched.ensures.ended);
+      listening = g.W.Write.contents c.serve_watched.new.output;
+      listens = search rules;
+      closes = search rules;
+    }

@@ -1,0 +1,64 @@
+use Rattle.std.proofs.Common.{◌≡◌, ◌∙◌, All, Err, List, [], ◌++◌, arith, length, map, sym, ap, subst}
+use Rattle.hpb_rules.specs.AuctionValue.{AuctionValue, Shows}
+use Rattle.std.specs.Prelude.{◌-◌, IsPermutation, flat_map}
+use Rattle.std.specs.Vec.{with_items}
+use Rattle.std.proofs.lemmas.List.{with_items_is}
+use Rattle.std.proofs.lemmas.List.{length-map}
+use Rattle.hpb_board.specs.Publication.{Viewing, auction_of}
+use Rattle.hpb_closing.specs.Histories.{history_of}
+use Rattle.hpb_closing.specs.Reports.{accepted_by, total}
+use Rattle.hpb_house.specs.Closings.{LeavesAll}
+use Rattle.hpb_rings.specs.declared.report.Report.{Report}
+use Rattle.hpb_house.specs.Boards.{SameBoard}
+use Rattle.hpb_house.specs.Committing.{IsOwed}
+use Rattle.hpb_rings.specs.Gathering.{gathered}
+use Rattle.hpb_serve.specs.Ended.{LeavesOne}
+use Rattle.hpb_serve.specs.declared.fault.ServeFault.TheVariants.{Order}
+use Rattle.hpb_serve.proofs.Orders.{fault_or}
+use Rattle.hpb_serve.proofs.Reports.{apart, of_book, of_opened, same_seats}
+use Rattle.hpb_serve.proofs.serving.serve_started.Goals as goal
+
+-- each client begins on the house's board
+pub run_threads-requires-clause-ready : goal.run_threads-requires-clause-ready
+run_threads-requires-clause-ready g c = λ lives outlive.
+    let base : All (λ client. SameBoard c.args.started.eye client.viewer × (client.waiting.items ≡ [])) c.args.started.clients.items =
+    λ k d within. (let begun = c.requires.begun.begun k d within in ((begun.viewer.0, begun.viewer.1), begun.waiting)) in
+    rw (c.named-house.ensures.house, c.named-house.ensures.clients) base
+
+pub close-requires-clause-book : goal.close-requires-clause-book
+close-requires-clause-book g c = of_book c.named-house.result.house c.in-Ok.reports.items c.deref_mut.result.now c.deref_mut.ensures.value c.in-Ok.ensures.board
+
+pub close-requires-clause-opened : goal.close-requires-clause-opened
+close-requires-clause-opened g c = of_opened c.named-house.result.house c.in-Ok.reports.items c.deref_mut.result.now c.deref_mut.ensures.value c.in-Ok.ensures.board
+
+pub returns-in-Err-clause-order : goal.returns-in-Err-clause-order
+returns-in-Err-clause-order g c = λ is.
+    subst (λ (v : Viewing). LeavesOne v.opened) c.named-house.ensures.house (c.in-Err.ensures.order (ap Err (ap (fault_or Order) is)))
+
+pub returns-in-Ok-close-clause-ended : goal.returns-in-Ok-close-clause-ended
+returns-in-Ok-close-clause-ended g c =
+    let closed = c.in-Ok-close.ensures in
+    let same = c.named-house.ensures.house in
+    let new = c.close.new.reports in
+    let lent = c.deref_mut.result.now in
+    let numbered = ap (map (λ report. report.seat)) c.deref_mut.ensures.value ∙ c.in-Ok.ensures.seats ∙ ap (λ clients. map (λ client. client.seat) clients.items) c.named-house.ensures.clients ∙ c.requires.begun.numbered in
+    let seats = same_seats new lent closed.said in
+    let long : length new ≡ length lent = sym (length-map new (λ (report : Report). report.seat)) ∙ ap length seats ∙ length-map lent (λ (report : Report). report.seat) in
+    let items : (with_items c.in-Ok.reports new).items ≡ new = with_items_is c.in-Ok.reports new (omega (arith, long, ap length c.deref_mut.ensures.value)) in
+    let opened = ap (λ (v : Viewing). v.opened) same in
+    record {
+      seats = ap (map (λ (report : Report). report.seat)) items ∙ seats ∙ numbered;
+      shown = subst (All (λ report. auction_of report.viewer ≡ c.in-Ok-close.closing.auction)) (sym items) closed.shown;
+      continued = λ front shows.
+          subst (All (λ report. Shows c.in-Ok-close.closing.auction (front ++ history_of report.viewer))) (sym items) (closed.continued front (subst (λ (a : AuctionValue). Shows a front) (sym opened) shows));
+      once = subst (λ (rs : List Report). All (λ report. IsPermutation (flat_map accepted_by rs) (history_of report.viewer)) rs) (sym items) (closed.once (apart lent c.args.started.eye.seats numbered));
+      numbers = ap total items ∙ closed.numbers ∙ ap (λ (a : AuctionValue). c.in-Ok-close.closing.auction.count - a.count) opened;
+      kept = subst (All (λ report. LeavesAll g.D.Disk.seen g.D.Disk.may_leave g.J.Naming.image c.in-Ok-close.closing.disk c.in-Ok-close.closing.auction c.in-Ok-close.closing.has_failed (history_of report.viewer))) (sym items) closed.kept;
+      told = closed.told;
+    }
+
+-- nothing has come yet
+pub run_threads-requires-clause-none : goal.run_threads-requires-clause-none
+run_threads-requires-clause-none g c = λ lives outlive.
+    subst (λ intake. IsOwed (gathered intake.rings.items) c.named-house.result.front.trail.log []) (sym c.named-house.ensures.intake)
+    (subst (λ front. IsOwed (gathered c.args.started.intake.rings.items) front.trail.log []) (sym c.named-house.ensures.front) c.requires.none)
