@@ -1,11 +1,12 @@
 -- What serving the auction that a file keeps writes.
-use Rattle.std.specs.Prelude.{◌≡◌, ◌⊎◌, ℕ, List, ◌++◌, Option, Result, Ok, Err, codes, decimal}
+use Rattle.std.specs.Prelude.{◌≡◌, ◌⊎◌, ℕ, List, [], ◌++◌, Option, Result, Ok, Err, codes, decimal, string_bytes}
 use Rattle.hpb_disk.specs.declared.file.FileDisk.{FileDisk}
 use Rattle.hpb_disk.specs.FileDisks.{file_failures, file_left, file_seen}
 use Rattle.std.specs.Io.KnownBytes.{Appends, Keeps}
 use Rattle.hpb_image.specs.Flaws.{HasFlaw}
 use Rattle.hpb_image.specs.Readings.{last_value, Found, Reads}
 use Rattle.hpb_recover.specs.declared.cause.Cause.TheVariants as opening
+use Rattle.hpb_serve.specs.declared.serving.Served.{Served}
 use Rattle.hpb_serve.specs.Ended.{EndsAll}
 use Rattle.hpb_serve.specs.Announcing.{listening_line}
 use Rattle.hpb_server.specs.Writing.{Sends}
@@ -13,21 +14,25 @@ use Rattle.hpb_program.specs.declared.job_fault.JobFault.{JobFault}
 use Rattle.hpb_program.specs.declared.job_fault.JobFault.TheVariants as faults
 use Rattle.hpb_program.specs.declared.run_end.RunEnd.{RunEnd}
 use Rattle.hpb_program.specs.declared.serving.ServeEnd.{ServeEnd}
+use Rattle.hpb_program.specs.declared.serving.Unsaid.{Unsaid}
 use Rattle.hpb_program.specs.Jobs.{StopsWriting}
 
 -- The line that tells that all sessions have ended, and how many commands are accepted in all.
 abbrev pub closed_line : ℕ → List ℕ
 closed_line count = codes "CLOSED " ++ decimal count ++ codes "\n"
 
--- So many sessions have ended, which were served with the auction that is read in an image, and behind the listening line the closing line was written, or a front of
--- it: with the number of commands that are accepted in the auction that the device then keeps.
-pub record Closes {D : Type 0} (seen : D → List ℕ) (may_leave : D → List ℕ → Type 0) (failures : D → ℕ) (image : List ℕ) (sessions port : ℕ) (old new : Option (List ℕ)) (end : ServeEnd D) : Type 0 where
+-- So many sessions have ended, which were served with the auction that is read in an image, and the listening line alone was written.
+pub record Ends {D : Type 0} (seen : D → List ℕ) (may_leave : D → List ℕ → Type 0) (failures : D → ℕ) (image : List ℕ) (sessions port : ℕ) (old new : Option (List ℕ)) (served : Served D) : Type 0 where
   pub found : Found
   pub reads : Reads found image
   pub failed_before : ℕ
-  pub ended : EndsAll seen may_leave failures image failed_before (last_value found) sessions end.served
+  pub ended : EndsAll seen may_leave failures image failed_before (last_value found) sessions served
+  pub listens : Appends old new (listening_line port)
+
+-- The same, and then the closing line was written, or a front of it: with the number of commands that are accepted in the auction that the device then keeps.
+pub record Closes {D : Type 0} (seen : D → List ℕ) (may_leave : D → List ℕ → Type 0) (failures : D → ℕ) (image : List ℕ) (sessions port : ℕ) (old new : Option (List ℕ)) (end : ServeEnd D) : Type 0 where
   pub listening : Option (List ℕ)
-  pub listens : Appends old listening (listening_line port)
+  pub ends : Ends seen may_leave failures image sessions port old listening end.served
   pub closes : Sends listening new (closed_line end.served.closing.auction.count) end.said
 
 -- There is an auction to be read in an image.
@@ -54,6 +59,11 @@ IsUnserved image port old new fault = ⊥
 abbrev pub ServesKept : {D : Type 0} (seen : D → List ℕ) (may_leave : D → List ℕ → Type 0) (failures : D → ℕ) (image : List ℕ) (sessions port : ℕ) (old new : Option (List ℕ)) → Result (ServeEnd D) JobFault → Type 0
 ServesKept seen may_leave failures image sessions port old new (Ok end) = Closes seen may_leave failures image sessions port old new end
 ServesKept seen may_leave failures image sessions port old new (Err fault) = IsUnserved image port old new fault
+
+-- What a device holds was served up to the closing line, for which there is room; or it was not, or not to the end.
+abbrev pub ServesUnsaid : {D : Type 0} (seen : D → List ℕ) (may_leave : D → List ℕ → Type 0) (failures : D → ℕ) (image : List ℕ) (sessions port : ℕ) (old new : Option (List ℕ)) → Result (Unsaid D) JobFault → Type 0
+ServesUnsaid seen may_leave failures image sessions port old new (Ok unsaid) = Ends seen may_leave failures image sessions port old new unsaid.served × (string_bytes unsaid.room ≡ [])
+ServesUnsaid seen may_leave failures image sessions port old new (Err fault) = IsUnserved image port old new fault
 
 -- A fault of looking for the files and connections that there may be at a time.
 abbrev pub IsOfDescriptors : JobFault → Type 0

@@ -1,8 +1,8 @@
 //! Serving sessions with the auction that a file keeps.
-ghost use Rattle.std.specs.Prelude.{◌≡◌, ◌≤◌, [], IfErr, IfOk, OnErr, string_bytes};
+ghost use Rattle.std.specs.Prelude.{◌≡◌, ◌≤◌, [], IfErr, IfOk, MatchResult, string_bytes};
 ghost use Rattle.hpb_image.specs.Readings.{last_value, Found, Reads};
 ghost use Rattle.hpb_program.specs.Keeping.{IsNotOpened};
-ghost use Rattle.hpb_program.specs.Serving.{IsUnserved, ServesFile, ServesKept, closed_line};
+ghost use Rattle.hpb_program.specs.Serving.{ServesFile, ServesKept, ServesUnsaid, closed_line};
 ghost use Rattle.hpb_server.specs.Writing.{Sends};
 
 use crate::descriptors::look_for_descriptors;
@@ -33,6 +33,14 @@ pub struct ServeEnd<D: Disk + Drop> {
     pub said: Result<(), Fault>,
 }
 
+/// What was served, before that is told.
+#[derive(Drop)]
+struct Unsaid<D: Disk + Drop> {
+    served: Served<D>,
+    /// The room of the last line.
+    room: String,
+}
+
 /// Serves so many sessions with the auction that the file of a path keeps, as `serve_kept` says, once there may be as many
 /// connections at a time as that takes.
 #[tactic(auto, using(crate::proofs::Served::of_device, crate::proofs::Served::unheld, crate::proofs::Served::unopened_file))]
@@ -61,12 +69,19 @@ pub(crate) fn serve_file<
     if let Err(fault) = look_for_descriptors(rt, alloc, sessions) {
         return Err(fault);
     }
-    match serve_device(rt, alloc, disk, port, sessions, output, &lookout) {
-        Ok(ended) => Ok(RunEnd {
-            end: ended.said,
-            failed: ended.served.closing.has_failed,
-        }),
-        Err(fault) => Err(fault),
+    let Unsaid { served, room } = match serve_device(
+        rt, alloc, disk, port, sessions, output, &lookout,
+    ) {
+        Ok(unsaid) => unsaid,
+        Err(fault) => return Err(fault),
+    };
+    let count = served.closing.auction.count();
+    let failed = served.closing.has_failed;
+    // Whoever reads the last line may open the file.
+    drop(served);
+    match say_closed(room, count, output) {
+        Ok(end) => Ok(RunEnd { end, failed }),
+        Err(_) => Err(JobFault::Memory),
     }
 }
 
@@ -93,10 +108,19 @@ pub fn serve_kept<
     requires { (1 ≤ sessions) × (sessions ≤ 32) }
     ensures { ServesKept D.seen D.may_leave D.failures (D.seen disk) sessions port (W.contents output.old) (W.contents output.new) result }
 {
-    serve_device(rt, alloc, disk, port, sessions, output, &Unwatched)
+    let Unsaid { served, room } = match serve_device(
+        rt, alloc, disk, port, sessions, output, &Unwatched,
+    ) {
+        Ok(unsaid) => unsaid,
+        Err(fault) => return Err(fault),
+    };
+    match say_closed(room, served.closing.auction.count(), output) {
+        Ok(said) => Ok(ServeEnd { served, said }),
+        Err(_) => Err(JobFault::Memory),
+    }
 }
 
-/// Serves so many sessions as `serve_kept` does, while a watch is told what happens beside them.
+/// Serves so many sessions as `serve_kept` does, up to the last line, while a watch is told what happens beside them.
 #[tactic(auto, using(crate::proofs::Served::unopened))]
 fn serve_device<
     H: Net<Listener = TcpListener, Stream = TcpStream> + Threads + Wait + Sync,
@@ -111,9 +135,9 @@ fn serve_device<
     sessions: u8,
     output: &mut W,
     watch: &V,
-) -> Result<ServeEnd<D>, JobFault>
+) -> Result<Unsaid<D>, JobFault>
     requires { (1 ≤ sessions) × (sessions ≤ 32) }
-    ensures { ServesKept D.seen D.may_leave D.failures (D.seen disk) sessions port (W.contents output.old) (W.contents output.new) result }
+    ensures { ServesUnsaid D.seen D.may_leave D.failures (D.seen disk) sessions port (W.contents output.old) (W.contents output.new) result }
 {
     let opened = match open_device(alloc, disk) {
         Ok(opened) => opened,
@@ -128,16 +152,10 @@ fn serve_device<
         Ok(listener) => listener,
         Err(error) => return Err(JobFault::Port { port, error }),
     };
-    let served = match serve_watched(rt, alloc, opened, listener, port, sessions, output, watch) {
-        Ok(served) => served,
-        Err(fault) => return Err(JobFault::from(fault)),
-    };
-    let line = match closing_line(room, served.closing.auction.count()) {
-        Ok(line) => line,
-        Err(_) => return Err(JobFault::Memory),
-    };
-    let said = send_line(line.as_str(), output);
-    Ok(ServeEnd { served, said })
+    match serve_watched(rt, alloc, opened, listener, port, sessions, output, watch) {
+        Ok(served) => Ok(Unsaid { served, room }),
+        Err(fault) => Err(JobFault::from(fault)),
+    }
 }
 
 /// Opens a device.
@@ -169,6 +187,19 @@ fn closing_line(room: String, count: u32) -> Result<String, AllocError>
     let mut line = room;
     write!(line, "CLOSED {count}\n")?;
     Ok(line)
+}
+
+/// Tells how many commands are accepted in all, in a room that is empty, and whether that could be written.
+fn say_closed<W: Write>(
+    room: String,
+    count: u32,
+    output: &mut W,
+) -> Result<Result<(), Fault>, AllocError>
+    requires { string_bytes room ≡ [] }
+    ensures { MatchResult result (λ said. Sends (W.contents output.old) (W.contents output.new) (closed_line count) said) (λ _. W.contents output.new ≡ W.contents output.old) }
+{
+    let line = closing_line(room, count)?;
+    Ok(send_line(line.as_str(), output))
 }
 
 /// Writes a line, and has it handed on.

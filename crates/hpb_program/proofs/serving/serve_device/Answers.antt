@@ -15,19 +15,19 @@ pub returns-in-Err-serve_watched : goal.returns-in-Err-serve_watched
 returns-in-Err-serve_watched g c =
     unserved g.row.D.Denot (g.D.Disk.seen c.args.disk) c.args.port _ _ c.in-Err-serve_watched.fault c.from.result (c.in-Ok.ensures.read.0, c.in-Ok.ensures.read.1) c.from.ensures c.in-Err-serve_watched.ensures.written
 
-pub returns : goal.returns
-returns g c =
+pub returns-in-Ok-serve_watched : goal.returns-in-Ok-serve_watched
+returns-in-Ok-serve_watched g c =
     let read = c.in-Ok.ensures.read in
     let failed_before = g.D.Disk.failures c.in-Ok.opened.disk in
     let served = c.in-Ok-serve_watched.served in
-    let EndsBy : List ℕ → AuctionValue → Type 0 = λ image before. EndsAll g.D.Disk.seen g.D.Disk.may_leave g.D.Disk.failures image failed_before before c.args.sessions served in
-    record {
-      found = read.0;
-      reads = read.1;
-      failed_before = failed_before;
-      ended = subst (EndsBy (g.D.Disk.seen c.args.disk)) read.2
-          (subst (λ image. EndsBy image c.in-Ok.opened.plan.auction) c.in-Ok.ensures.same c.in-Ok-serve_watched.ensures.ended);
-      listening = g.W.Write.contents c.serve_watched.new.output;
-      listens = search rules;
-      closes = search rules;
-    }
+    let EndsBy : List ℕ → AuctionValue → Type 0 = λ image before. EndsAll g.D.Disk.seen g.D.Disk.may_leave g.D.Disk.failures image failed_before before c.args.sessions served in (
+      record {
+        found = read.0;
+        reads = read.1;
+        failed_before = failed_before;
+        ended = subst (EndsBy (g.D.Disk.seen c.args.disk)) read.2
+            (subst (λ image. EndsBy image c.in-Ok.opened.plan.auction) c.in-Ok.ensures.same c.in-Ok-serve_watched.ensures.ended);
+        listens = search rules;
+      },
+      search rules,
+    )
