@@ -83,6 +83,20 @@ def frame_at(layout, journal, index):
     return JOURNAL_AT + FRAME[layout] * (index % journal)
 
 
+def covered(image):
+    """How many batches the newer checkpoint of a file covers."""
+    return max(number_at(image, slot + PAGE + 16) for slot in SLOTS)
+
+
+def batches(image, layout, journal):
+    """How many batches a file has had, by the last one in its journal."""
+    return 1 + max(number_at(image, frame_at(layout, journal, index) + 16) for index in range(journal))
+
+
+def number_at(image, place):
+    return int.from_bytes(image[place : place + 8], "big")
+
+
 def sender_of(line):
     """The bidder of a bid or a waiver; none of what the auctioneer sends."""
     kind, first, *_ = line.split()

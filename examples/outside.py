@@ -1,4 +1,6 @@
 """What the checks from outside share: how a program is run, served and compared."""
+import contextlib
+import functools
 import json
 import os
 import pathlib
@@ -7,6 +9,7 @@ import socket
 import subprocess
 import sys
 import tempfile
+import threading
 import time
 import traceback
 
@@ -194,6 +197,22 @@ class Session:
         self.socket.close()
         return rest
 
+    def tell(self, text, seconds=SECONDS):
+        """Sends all this and then no more, and reads what is answered meanwhile, up to the end. No answer takes longer than this."""
+        self.socket.settimeout(seconds)
+        sender = threading.Thread(target=self.send_last, args=(text,))
+        sender.start()
+        answers = b"".join([self.received, *iter(functools.partial(self.socket.recv, 1 << 20), b"")])
+        sender.join()
+        self.socket.close()
+        return shown(answers)
+
+    def send_last(self, text):
+        """Less of it where the server ends before."""
+        with contextlib.suppress(OSError):
+            self.send(text)
+            self.socket.shutdown(socket.SHUT_WR)
+
 
 def serve_words(file, port, sessions=1):
     return ["serve", "--file", file, "--port", port, "--sessions", sessions]
@@ -237,6 +256,55 @@ class Server:
     def kill(self):
         self.process.kill()
         self.process.communicate()
+
+
+def compare_answers(folder, told, definition, text, wanted, count, seconds=SECONDS):
+    """A script, runs and sessions, in files of both layouts, answer this text so, and then keep so many commands."""
+
+    def compare_run(what, *words, front=b""):
+        found = run(*words, text=front + text, seconds=seconds)
+        compare(f"{told}: {what}", (found.output, found.errors, found.status), (wanted, "", 0))
+
+    compare_run("a script", front=definition)
+    for layout, least in LEAST.items():
+        ran, served = (new_file(folder, f"{job}{layout}", least, definition, layout=layout) for job in ("run", "served"))
+        compare_run(f"a run, layout {layout}", "run", "--file", ran)
+        server = Server(served, 1)
+        compare(f"{told}: a session, layout {layout}", server.connect().tell(text, seconds), wanted)
+        compare(f"{told}: its end, layout {layout}", server.end(), (f"CLOSED {count}\n", 0, ""))
+        compare(f"{told}: what is kept, layout {layout}", (count_kept(ran), count_kept(served)), (count, count))
+        ran.unlink()
+        served.unlink()
+
+
+class Fell(Exception):
+    """What a check tells first."""
+
+
+class First(list):
+    """The faults of a check that ends with its first one."""
+
+    def append(self, fault):
+        raise Fell(fault.split(":\n")[0])
+
+
+def first_told(folder, limit, check):
+    """What a check tells first of a program that has a limit of examples/limited.py, or nothing."""
+    global PROGRAM, faults
+    whole, kept = PROGRAM, faults
+    room = folder / limit
+    room.mkdir()
+    limited = room / "hpb"
+    limited.write_text(f'#!/bin/sh\nexec {sys.executable} -S {HERE}/limited.py {limit} {whole} "$@"\n')
+    limited.chmod(0o755)
+    PROGRAM, faults = str(limited), First()
+    try:
+        check(room)
+        return "nothing"
+    except (Fell, OSError) as error:
+        return str(error)
+    finally:
+        PROGRAM, faults = whole, kept
 
 
 def great_definition():
