@@ -2,10 +2,11 @@
  *
  *     load KIND PORT SESSIONS SECONDS WARM MOST LEVELS BIDDERS
  *
- * KIND is hpb, redis-incr, redis-set, redis-rpush, postgres or postgres-prepared. The server listens at 127.0.0.1. Each
+ * KIND is hpb, front, redis-incr, redis-set, redis-rpush, postgres or postgres-prepared. The server listens at 127.0.0.1. Each
  * kind is sent the same bids: those of an auction that is a full binary tree of LEVELS levels (bench/auctions.py), in
  * which each session speaks for its share of the BIDDERS. hpb is sent them as lines, Redis each as one write, with the
- * line as its value, and PostgreSQL each as one row. What is answered in the first WARM seconds isn't counted; after
+ * line as its value, and PostgreSQL each as one row. At a front the sessions are the names s0, s1, .., and one more, which bids
+ * nothing, is the auctioneer. What is answered in the first WARM seconds isn't counted; after
  * SECONDS more, or MOST answers in all, it ends. Written are the number of answers that are counted, the seconds that
  * they took, and their 50th and 99th percentile from sending to reading, in microseconds. */
 #include <arpa/inet.h>
@@ -52,6 +53,7 @@ struct kind {
     /* Whether that answer says that the bid is kept. */
     int (*is_kept)(const char *, size_t);
     int has_rounds;
+    int has_auctioneer;
 };
 
 static struct session sessions[MOST_SESSIONS];
@@ -200,6 +202,22 @@ static void await_ready(struct session *session) {
     session->read = 0;
 }
 
+/* A front is told who each session is, by a token as tools/front_trial.py has it. */
+static void begin_front(struct session *session) {
+    char text[LINE];
+    send_all(session, text, (size_t)snprintf(text, sizeof text, "TOKEN token-of-s%d-in-a-trial\n", (int)(session - sessions)));
+    while (whole_line(session->answer, session->read) == 0) {
+        ssize_t got = recv(session->socket, session->answer + session->read, ROOM - session->read, 0);
+        if (got <= 0) fail("the front ended the connection");
+        session->read += (size_t)got;
+    }
+    if (memcmp(session->answer, "WELCOME ", 8) != 0) {
+        fprintf(stderr, "the front refused a token\n");
+        exit(1);
+    }
+    session->read = 0;
+}
+
 static void begin_postgres(struct session *session) {
     char text[ROOM], *at = put_word(text + 4, 3 << 16);
     at = put_text(put_text(at, "user"), "bench");
@@ -220,12 +238,13 @@ static void begin_prepared(struct session *session) {
 }
 
 static const struct kind kinds[] = {
-    {"hpb", NULL, write_line, whole_line, is_ok, 1},
-    {"redis-incr", NULL, write_incr, whole_line, is_no_error, 0},
-    {"redis-set", NULL, write_set, whole_line, is_no_error, 0},
-    {"redis-rpush", NULL, write_rpush, whole_line, is_no_error, 0},
-    {"postgres", begin_postgres, write_insert, whole_answer, is_complete, 0},
-    {"postgres-prepared", begin_prepared, write_execute, whole_answer, is_complete, 0},
+    {"hpb", NULL, write_line, whole_line, is_ok, 1, 0},
+    {"front", begin_front, write_line, whole_line, is_ok, 1, 1},
+    {"redis-incr", NULL, write_incr, whole_line, is_no_error, 0, 0},
+    {"redis-set", NULL, write_set, whole_line, is_no_error, 0, 0},
+    {"redis-rpush", NULL, write_rpush, whole_line, is_no_error, 0, 0},
+    {"postgres", begin_postgres, write_insert, whole_answer, is_complete, 0, 0},
+    {"postgres-prepared", begin_prepared, write_execute, whole_answer, is_complete, 0, 0},
 };
 
 /* Bids */
@@ -359,8 +378,8 @@ static void run(const struct kind *kind, int poll, double warm, double seconds, 
             if (!must_close) send_bid(kind, session);
             else if (outstanding == 0) {
                 must_close = 0;
-                closer = s;
-                send_close(session);
+                closer = kind->has_auctioneer ? count : s;
+                send_close(&sessions[closer]);
             }
         }
     }
@@ -386,7 +405,8 @@ int main(int words, char **word) {
     int poll = epoll_create1(0);
     if (poll < 0) fail("epoll_create1");
     share_bidders(bidders);
-    for (int s = 0; s < count; s++) {
+    int connections = count + kind->has_auctioneer;
+    for (int s = 0; s < connections; s++) {
         connect_session(&sessions[s], atoi(word[2]));
         if (kind->begin != NULL) kind->begin(&sessions[s]);
         if (fcntl(sessions[s].socket, F_SETFL, O_NONBLOCK) != 0) fail("fcntl");
@@ -394,6 +414,6 @@ int main(int words, char **word) {
         if (epoll_ctl(poll, EPOLL_CTL_ADD, sessions[s].socket, &event) != 0) fail("epoll_ctl");
     }
     run(kind, poll, atof(word[5]), atof(word[4]), atol(word[6]));
-    for (int s = 0; s < count; s++) close(sessions[s].socket);
+    for (int s = 0; s < connections; s++) close(sessions[s].socket);
     return 0;
 }
