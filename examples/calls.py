@@ -11,10 +11,10 @@ ACCESS = {os.O_RDONLY: "to read", os.O_WRONLY: "to write", os.O_RDWR: "to read a
 LOCKS = {1 | 4: "shared", 2 | 4: "alone"}
 
 
-def build(folder):
-    """The library that is loaded before the C library."""
-    library = folder / "calls.so"
-    source = pathlib.Path(__file__).resolve().parent / "file-calls.c"
+def build(folder, name="file-calls"):
+    """A library that is loaded before the C library."""
+    library = folder / f"{name}.so"
+    source = pathlib.Path(__file__).resolve().parent / f"{name}.c"
     words = [os.environ.get("CC", "cc"), "-O1", "-shared", "-fPIC", "-pthread", "-o", str(library), str(source), "-ldl"]
     subprocess.run(words, check=True)
     return library

@@ -11,7 +11,7 @@
    made: each sync (sync), that of a folder (folder), that behind a write of more bytes than one (body) or of one (gate),
    locks (lock), advice (advice). */
 #define _GNU_SOURCE
-#include <dlfcn.h>
+#include "next-call.h"
 #include <errno.h>
 #include <fcntl.h>
 #include <pthread.h>
@@ -28,8 +28,6 @@
 
 /* Beyond the descriptors of the program. */
 enum { LEAST_DESCRIPTOR = 200 };
-
-#define NEXT(name) static __typeof__(&name) next; if (!next) next = (__typeof__(&name)) dlsym(RTLD_NEXT, #name)
 
 static pthread_mutex_t one_at_a_time = PTHREAD_MUTEX_INITIALIZER;
 static int lines = -1;

@@ -4,6 +4,7 @@ import functools
 import json
 import os
 import pathlib
+import random
 import shutil
 import socket
 import subprocess
@@ -16,6 +17,8 @@ import traceback
 HERE = pathlib.Path(__file__).resolve().parent
 ADDRESS = "127.0.0.1"
 SECONDS = 20
+# Where ports that may be free begin, and those that the system gives to connections by itself.
+LEAST_PORT, LEAST_GIVEN = 10_000, 32_768
 PAGE = 4096
 NOBODY = 65534
 
@@ -161,9 +164,14 @@ def count_kept(file):
 
 
 def free_port():
-    with socket.socket() as probe:
-        probe.bind((ADDRESS, 0))
-        return probe.getsockname()[1]
+    """One below those that the system gives to connections."""
+    while True:
+        with socket.socket() as probe:
+            try:
+                probe.bind((ADDRESS, random.randrange(LEAST_PORT, LEAST_GIVEN)))
+                return probe.getsockname()[1]
+            except OSError:
+                continue
 
 
 class Session:
@@ -319,16 +327,17 @@ def great_bids(count):
     return b"".join(b"BID b%d %d l%d 100\n" % (place % 64, place // 64 + 1, place // 64) for place in range(count))
 
 
-def main(checks, what):
-    """Runs the program that is named on the command line through these checks, each of which has a folder of its own."""
+def main(checks, what, program=None):
+    """Runs this program, or else that which is named on the command line, through these checks, each of which has a folder of its
+    own."""
     global PROGRAM
-    if len(sys.argv) != 2:
+    if program is None and len(sys.argv) != 2:
         sys.exit(f"usage: {sys.argv[0]} PROGRAM")
     room = pathlib.Path(tempfile.mkdtemp(prefix="hpb-outside-"))
     try:
         os.chmod(room, 0o711)
         PROGRAM = str(room / "hpb")
-        shutil.copyfile(sys.argv[1], PROGRAM)
+        shutil.copyfile(program or sys.argv[1], PROGRAM)
         os.chmod(PROGRAM, 0o755)
         for place, check in enumerate(checks):
             folder = room / str(place)

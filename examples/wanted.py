@@ -265,7 +265,7 @@ class Durable:
     def take(self, call):
         if call[:2] == ("write", "file"):
             self.pending.append((call[2], call[3]))
-        elif call[0] == "sync" and call[1] == "file":
+        elif call == ("sync", "file"):
             for at, data in self.pending:
                 self.image[at : at + len(data)] = data
             self.pending = []

@@ -1,0 +1,101 @@
+"""Clients of a served file that bid at the same time, each in its own name, and what they were answered."""
+import select
+import socket
+import time
+
+from outside import Session, great_definition, shown
+
+DEFINITION = great_definition()
+LICENCES = 64
+FAILED = "ERR 93 failed"
+NO_MORE = 2
+LOOK = 0.05
+
+
+def bids_of(place):
+    """One on each licence, all of which are accepted, in whatever order those of all bidders come."""
+    return [f"BID b{place} {ticket} l{ticket - 1} 100" for ticket in range(1, LICENCES + 1)]
+
+
+class Bidder:
+    """It sends a bid once the one before is answered. After the first that is answered by 93 it asks for the auction, bids once
+    more, and ends."""
+
+    def __init__(self, place, port, bids=LICENCES):
+        self.place, self.session = place, Session(port)
+        self.left = bids_of(place)[:bids]
+        # The number of each bid that was accepted, in their order, and what was answered by 93.
+        self.numbers, self.failed = {}, []
+        self.counts, self.wrong = [], []
+        self.line, self.since, self.has_ended = None, time.monotonic(), False
+
+    def fileno(self):
+        return self.session.socket.fileno()
+
+    def send_next(self):
+        line = self.next_line()
+        self.line, self.since = line, time.monotonic()
+        try:
+            if line is None:
+                self.session.socket.shutdown(socket.SHUT_WR)
+            else:
+                self.session.send(line.encode() + b"\n")
+        except OSError:
+            # What is read next tells that the connection was lost.
+            pass
+
+    def next_line(self):
+        if len(self.failed) == 1 and not self.counts:
+            return "SHOW"
+        return self.left.pop(0) if self.left and len(self.failed) < NO_MORE else None
+
+    def read(self):
+        """Takes the answer that has come, and sends what is next."""
+        try:
+            answer = self.session.line()
+        except OSError as error:
+            answer = ""
+            self.wrong.append(repr(error))
+        if answer:
+            self.take(answer)
+            self.send_next()
+        else:
+            if self.line is not None:
+                self.wrong.append(f"the connection ended before {self.line!r} was answered")
+            self.session.socket.close()
+            self.has_ended = True
+
+    def take(self, answer):
+        word, _, rest = answer.partition(" ")
+        if self.line == "SHOW" and word == "ROUND":
+            self.counts.append(int(rest.rsplit(" ", 1)[1]))
+        elif self.line and self.line != "SHOW" and answer == FAILED:
+            self.failed.append(self.line)
+        elif self.line and self.line != "SHOW" and word == "OK" and not self.failed:
+            self.numbers[self.line] = int(rest)
+        else:
+            self.wrong.append(f"{self.line!r} was answered {answer!r}")
+
+
+def attend(bidders, seconds, after=0, action=None):
+    """Lets them bid until all have ended, or one has waited so long for an answer. After so many answers something may be done."""
+    for bidder in bidders:
+        bidder.send_next()
+    going, answers = list(bidders), 0
+    while going:
+        ready, _, _ = select.select(going, [], [], LOOK)
+        for bidder in ready:
+            bidder.read()
+        if answers < after <= answers + len(ready):
+            action()
+        answers += len(ready)
+        going = [bidder for bidder in going if not bidder.has_ended]
+        waiting = [bidder for bidder in going if time.monotonic() - bidder.since > seconds]
+        for bidder in waiting:
+            bidder.wrong.append(f"{bidder.line or 'the end'!r} had no answer within {seconds} s")
+        if waiting:
+            return
+
+
+def wrong_of(bidders):
+    return [f"b{bidder.place}: {what}" for bidder in bidders for what in bidder.wrong]

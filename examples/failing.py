@@ -1,0 +1,78 @@
+"""Calls of a program that fail, wait or are left out, by examples/fail-calls.c and memory that both have."""
+import contextlib
+import errno
+import mmap
+import os
+import struct
+
+# Kinds of calls, a bit each; by whom; and what becomes of them: as in examples/fail-calls.c.
+WRITE, SYNC, READ, OPEN, LOCK, ADVICE, PORT, THREAD, ACCEPT, WAKE = (1 << place for place in range(10))
+ANYBODY, COMMITTER, CHECKPOINTER = range(3)
+MADE, NOTHING, HALF, ALL, SHORT, LEFT_OUT, HELD = range(7)
+DEVICE = WRITE | SYNC
+NAMES = "write, sync, read, open, lock, advise, listen, start a thread, accept, wake".split(", ")
+EVER = 1 << 62
+MOST_RELEASED = 4096
+
+DELAY = struct.Struct("=q")
+RULE = struct.Struct("=9q")
+RULES = 2
+BEGUN, MET = 7, 8
+NONE = (0, ANYBODY, 1, 1, 1, MADE, 0, 0, 0)
+
+
+def words_of(kinds):
+    return " or ".join(name for place, name in enumerate(NAMES) if kinds >> place & 1)
+
+
+class Faults:
+    """What becomes of the calls of programs that are run in this folder, one at a time."""
+
+    def __init__(self, library, folder):
+        self.library, self.file = library, folder / "faults"
+        self.file.write_bytes(bytes(DELAY.size + RULES * RULE.size))
+        with open(self.file, "r+b") as opened:
+            self.shared = mmap.mmap(opened.fileno(), 0)
+        gate = folder / f"{self.file.name}.gate"
+        if not gate.exists():
+            os.mkfifo(gate)
+        self.gate = os.open(gate, os.O_RDWR | os.O_NONBLOCK)
+        self.forget()
+
+    def environment(self, shim=None, lie=""):
+        """That of a program whose calls may fail; where a shim is given they are written down, too, as they then went."""
+        environment = shim.environment(lie) if shim else {**os.environ, "LD_PRELOAD": ""}
+        return {**environment, "LD_PRELOAD": f"{environment['LD_PRELOAD']} {self.library}".strip(), "FAULTS": str(self.file)}
+
+    def forget(self, delay=0):
+        """Nothing fails or goes on any more; each sync takes so many microseconds beside its own time."""
+        with contextlib.suppress(BlockingIOError):
+            os.read(self.gate, MOST_RELEASED)
+        DELAY.pack_into(self.shared, 0, delay)
+        for place in range(RULES):
+            RULE.pack_into(self.shared, self.at(place), *NONE)
+
+    @staticmethod
+    def at(place):
+        return DELAY.size + place * RULE.size
+
+    def set(self, kinds, way, first=1, last=None, step=1, thread=ANYBODY, error=errno.EIO, place=0):
+        """From now on, of these calls the first one, or each so-manieth up to the last. The kinds come last: they begin the rule."""
+        last = first if last is None else last
+        RULE.pack_into(self.shared, self.at(place), 0, thread, first, last, step, way, error, 0, 0)
+        struct.pack_into("=q", self.shared, self.at(place), kinds)
+
+    def number(self, place, field):
+        return RULE.unpack_from(self.shared, self.at(place))[field]
+
+    def begun(self, place=0):
+        """How many such calls were begun."""
+        return self.number(place, BEGUN)
+
+    def met(self, place=0):
+        """How many of them were treated so."""
+        return self.number(place, MET)
+
+    def release(self):
+        """One more call that is held may go on."""
+        os.write(self.gate, b"x")

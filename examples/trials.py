@@ -1,0 +1,229 @@
+"""A file that is served to bidders while calls of the program fail, and what has to be so of it then and afterwards."""
+import resource
+
+from bidders import DEFINITION, LICENCES, Bidder, attend, wrong_of
+from calls import Shim, build, told
+from encoder import CHUNKS, OPEN, SLOTS
+from failing import NOTHING, Faults
+from outside import LEAST, PAGE, Server
+from outside import compare, count_kept, format_words, free_port, run, serve_words, text_of
+from wanted import Durable, broken_promises, last_number
+
+# How long an answer or an end may take.
+BOUND = 10
+# What each sync takes, in microseconds: so that bids gather meanwhile.
+DELAY = 300
+DISK = "hpb: 91 device: the disk of "
+# Before it is served a file keeps these, in a batch and a checkpoint each.
+FIRST = ["BID b63 1 l0 100", "BID b62 1 l0 100"]
+QUESTIONS = ["CLOSE 1", "SHOW", *(f"NODE l{place}" for place in range(LICENCES))]
+# No more may be written behind this, where the file is limited.
+LIMIT = 3 * PAGE
+# What calls of the device are for.
+COMMIT = ("batch", "sync behind batch", "frame opened", "sync behind frame opened")
+CHECKPOINT = {
+    *("slot closed", "sync behind slot closed", "page 0", "page 1", "page 2", "page 3", "sync behind page 3"),
+    *("slot opened", "sync behind slot opened", "frame closed", "sync behind frame closed"),
+}
+
+tools, templates = {}, {}
+# How much was tried.
+counts = dict.fromkeys(("programs", "faults", "answers"), 0)
+
+
+def prepare(folder):
+    """Builds the libraries that are loaded before the C library."""
+    tools["shim"] = Shim(build(folder), folder)
+    tools["faults"] = Faults(build(folder, "fail-calls"), folder)
+
+
+def template(folder, layout):
+    """The bytes of a file in which a batch and a checkpoint were made of each command so far."""
+    if layout not in templates:
+        file = folder / "template"
+        run(*format_words(file, LEAST[layout], layout), text=DEFINITION)
+        run("run", "--file", file, "--every", 1, text=text_of(FIRST))
+        templates[layout] = file.read_bytes()
+        file.unlink()
+    return templates[layout]
+
+
+class Trial:
+    """A file that is served to bidders while calls fail, and what has to be so of it afterwards."""
+
+    def __init__(self, what, folder, layout, is_traced=False, bound=BOUND, is_harmless=False):
+        """Where it is traced its calls are held against what is promised, too."""
+        self.what, self.folder, self.layout, self.bound = f"layout {layout}, {what}", folder, layout, bound
+        self.is_harmless, self.is_limited, self.stage = is_harmless, False, None
+        self.file = folder / "F"
+        self.before = template(folder, layout)
+        self.file.write_bytes(self.before)
+        self.faults, self.shim = tools["faults"], tools["shim"] if is_traced else None
+        self.bidders, self.is_met = [], False
+
+    def compare(self, what, found, wanted):
+        compare(f"{self.what}: {what}", found, wanted)
+
+    def serve(self, sessions, lie=""):
+        """Begins to serve it, before any call is to fail."""
+        self.faults.forget(DELAY)
+        return self.start(sessions, env=self.faults.environment(self.shim, lie))
+
+    def start(self, sessions, **more):
+        counts["programs"] += 1
+        self.server = Server(self.file, sessions, **{"env": self.faults.environment(), **more})
+        return self
+
+    def refuse(self, kinds, number=1, way=NOTHING, **more):
+        """Before it is served one of these calls, or more of them, is to fail."""
+        counts["faults"] += 1
+        self.faults.forget(DELAY)
+        self.faults.set(kinds, way, number, **more)
+        return self
+
+    def served(self, sessions=1, **more):
+        """How it went where it ends without a client, and by which port."""
+        counts["programs"] += 1
+        port = free_port()
+        return port, run(*serve_words(self.file, port, sessions), seconds=self.bound, **{"env": self.faults.environment(), **more})
+
+    def join(self, places, bids=LICENCES):
+        self.bidders += [Bidder(place, self.server.port, bids) for place in places]
+        return self
+
+    def attend(self, count=None):
+        """Lets the last so many bid, or all."""
+        attend(self.bidders[-count:] if count else self.bidders, self.bound)
+        return self
+
+    def limit(self, after):
+        """Lets all bid. After so many answers nothing may be written any more that lies behind the first pages."""
+        self.is_limited = True
+        process = self.server.process.pid
+        attend(self.bidders, self.bound, after, lambda: resource.prlimit(process, resource.RLIMIT_FSIZE, (LIMIT, LIMIT)))
+        return self
+
+    def is_answered(self):
+        """Whether each was answered, as it should be: those that were accepted have the next numbers, each once."""
+        counts["answers"] += sum(len(bidder.numbers) + len(bidder.failed) for bidder in self.bidders)
+        wrong = wrong_of(self.bidders)
+        self.compare("what isn't answered as it should be", wrong[:3], [])
+        numbers = sorted(number for bidder in self.bidders for number in bidder.numbers.values())
+        self.count = len(FIRST) + len(numbers)
+        self.compare("the numbers of those that were accepted", numbers, [*range(len(FIRST) + 1, self.count + 1)])
+        self.may_keep = range(self.count, self.count + sum(bool(bidder.failed) for bidder in self.bidders) + 1)
+        return not wrong
+
+    def ends(self):
+        """It ends by itself, by the status that the documents have, and says why."""
+        written, status, said = self.server.end(self.bound)
+        self.is_met = self.is_limited or self.faults.met() > 0
+        counts["faults"] += self.is_met
+        has_failed = self.is_met and not self.is_harmless
+        self.compare("the end", (written, status), (f"CLOSED {self.count}\n", int(has_failed)))
+        told_of_disk = said.startswith(DISK), said.count("\n")
+        self.compare(f"whether it is told of the disk alone: {said}", told_of_disk, (has_failed, int(has_failed)))
+        shown = {count for bidder in self.bidders for count in bidder.counts}
+        self.compare("what is shown after a fault", shown - {self.count}, set())
+
+    def holds(self):
+        """All that has to be so at the end and after it."""
+        if not self.is_answered():
+            self.stop()
+            return
+        self.ends()
+        pictures = [self.file]
+        if self.shim:
+            pictures.append(self.holds_calls())
+        for picture in pictures:
+            self.goes_on(picture)
+
+    def stop(self):
+        self.server.kill()
+        for bidder in self.bidders:
+            bidder.session.socket.close()
+
+    def holds_calls(self):
+        """No promise is broken, and nothing is written or synced after what failed. It gives what a power cut may leave then."""
+        calls = self.shim.calls(self.file)
+        made = [call for _, call in calls]
+        self.compare("promises", [*broken_promises(made, self.before, self.layout, LEAST[self.layout], len(FIRST))][:3], [])
+        places = [place for place, call in enumerate(made) if call[:2] in (("write", "file"), ("sync", "file"))]
+        failed = next((place for place in places if is_failed(made[place])), None)
+        if failed is not None and not self.is_harmless:
+            self.stage = stage_of(calls, failed)
+            self.compare("what is asked of the device after that", [told(made[place]) for place in places if place > failed], [])
+        batches = [call for call in made if call[:2] == ("write", "file") and written(call[2], call[3]) == "batch"]
+        self.may_keep = {self.count, *(last_number(call[3]) for call in batches[-1:])}
+        durable = Durable(self.before)
+        for call in made:
+            durable.take(call)
+        picture = self.folder / "durable"
+        picture.write_bytes(durable.image)
+        return picture
+
+    def goes_on(self, picture):
+        """Whoever was told OK is in it, and of what was answered by 93 one batch at most, whole or not at all. What was answered so
+        is sent again."""
+        kept = count_kept(picture)
+        self.compare(f"whether {picture.name} keeps {kept} commands of {self.count}", kept in self.may_keep, True)
+        lines = [line for bidder in self.bidders for line in (*[*bidder.numbers][-1:], *bidder.failed)]
+        again = [line for bidder in self.bidders for line in (*bidder.numbers, *bidder.failed)[-1:]]
+        ran = run("run", "--file", picture, "--batch", 64, text=text_of([*lines, *again, *QUESTIONS]))
+        self.compare("the run after it", (ran.errors, ran.status), ("", 0))
+        answers = ran.output.splitlines()
+        given, repeated, shown = dict(zip(lines, answers)), dict(zip(again, answers[len(lines) :])), answers[len(lines) + len(again) :]
+        for bidder in self.bidders:
+            self.is_repeated(bidder, given, repeated, kept)
+        self.is_whole(given, shown)
+
+    def is_repeated(self, bidder, given, repeated, kept):
+        """The first that was answered by 93 may have been kept, and then the one before it is old; the next one was not."""
+        found = [number_in(given[line]) for line in bidder.failed]
+        is_kept = bool(found) and found[0] <= kept
+        who = f"b{bidder.place}, sent again"
+        for line, number in [*bidder.numbers.items()][-1:]:
+            self.compare(f"{who}, {line}", given[line], "ERR 13 old" if is_kept else f"OK {number}")
+        self.compare(f"{who}, what was answered by 93", [number > kept for number in found[is_kept:]], [True] * len(found[is_kept:]))
+        if bidder.failed:
+            self.compare(f"{who} and again", repeated[bidder.failed[-1]], given[bidder.failed[-1]])
+
+    def is_whole(self, given, shown):
+        """Each number is that of one command, and in their order they are the auction that is shown."""
+        story = dict(enumerate(FIRST, 1))
+        for bidder in self.bidders:
+            found = {**bidder.numbers, **{line: number_in(given[line]) for line in bidder.failed}}
+            story.update({number: line for line, number in found.items()})
+        commands = sum(len(bidder.numbers) + len(bidder.failed) for bidder in self.bidders) + len(FIRST)
+        self.compare("the numbers of all commands", sorted(story), [*range(1, commands + 1)])
+        ordered = [story[number] for number in sorted(story)]
+        told_in_memory = run(text=DEFINITION + text_of([*ordered, *QUESTIONS])).output.splitlines()[len(ordered) :]
+        self.compare("the auction", shown, told_in_memory)
+
+
+def number_in(answer):
+    return int(answer[3:]) if answer.startswith("OK ") else -1
+
+
+def is_failed(call):
+    return call[-1] == "refused" or str(call[-1]).startswith("made of")
+
+
+def stage_of(calls, failed):
+    """What a call of the device was for, by the calls of its thread."""
+    thread, name = calls[failed][0], ""
+    for by, call in calls[: failed + 1]:
+        if by == thread and call[:2] == ("write", "file"):
+            name = written(call[2], call[3])
+        elif by == thread and call[:2] == ("sync", "file") and call is calls[failed][1]:
+            name = f"sync behind {name}"
+    return name
+
+
+def written(at, data):
+    for slot in SLOTS:
+        if slot < at < slot + (1 + CHUNKS) * PAGE:
+            return f"page {(at - slot) // PAGE - 1}"
+    if len(data) > 1:
+        return "batch"
+    return f"{'slot' if at in SLOTS else 'frame'} {'opened' if data == OPEN else 'closed'}"
