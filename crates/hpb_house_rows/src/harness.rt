@@ -10,7 +10,8 @@ ghost use Rattle.hpb_house.specs.Boards.{SameBoard};
 use hpb_board::Front;
 use hpb_disk::{Disk, MemoryDisk, OnceDisk};
 use hpb_house::{
-    CloseFault, Closing, Gate, Halt, House, Naming, Ready, Started, checkpointer, committer,
+    CloseFault, Closing, Gate, Halt, House, Naming, OpenGate, Ready, Started, checkpointer,
+    committer,
 };
 use hpb_recover::Opened;
 use hpb_rings::{Client, Intake, Report};
@@ -103,7 +104,7 @@ fn serve<S: Session, R: Wait>(rt: &R, session: &S, client: Client<Halt>) -> Repo
     finish(rt, session.run(rt, client))
 }
 
-/// Runs the threads of a house to their ends.
+/// Runs the threads of a house to their ends. The gate is told where the checkpointer stands.
 fn run_threads<
     D: Disk + Drop + Send,
     W: Wait + Drop + Send,
@@ -142,7 +143,7 @@ fn run_threads<
                 requires none { IsOwed (gathered intake.rings.items) front.trail.log [] }
             {
                 let mut front = front;
-                committer(rt, house, intake, gate, &mut front)
+                committer(rt, house, intake, &OpenGate, &mut front)
             };
             let commits = scope.spawn(commit)?;
             let checkpoints = scope.spawn(move || checkpointer(rt, house, gate))?;

@@ -56,7 +56,7 @@ fn run_threads<
     front: Front,
     intake: Intake<Halt>,
     client: Client<Halt>,
-    lines: &str,
+    lines: &[u8],
     output: &mut O,
 ) -> Result<Session<Halt>, AllocError>
     requires book { front.trail.book ≡ house.now.book }
@@ -85,7 +85,7 @@ fn run_threads<
             };
             let commits = scope.spawn(commit)?;
             let checkpoints = scope.spawn(move || checkpointer(rt, house, &OpenGate))?;
-            let mut input = lines.as_bytes();
+            let mut input = lines;
             let session = run_session(rt, alloc, &mut input, output, client, LOOKS);
             commits.join(rt);
             checkpoints.join(rt);
@@ -138,7 +138,7 @@ fn run_started<
     rt: &R,
     alloc: Global,
     started: Started<D, W>,
-    lines: &str,
+    lines: &[u8],
     output: &mut O,
 ) -> Result<Outcome, Fail>
     requires eye { (started.eye ≡ J.eye) × (started.eye.list ≡ []) }
@@ -171,7 +171,7 @@ fn run_on_house<D: Disk + Drop + Send, R: Threads + Wait + Sync, O: Write>(
     let Ok(started) = House::start(rt, alloc, opened, 1) else {
         return Err(Fail::new("the house was not started"));
     };
-    run_started::<Brand, D, &R, R, O>(rt, alloc, started, lines, output)
+    run_started::<Brand, D, &R, R, O>(rt, alloc, started, lines.as_bytes(), output)
 }
 
 /// Runs a session on a house over a new device in memory.
