@@ -40,6 +40,7 @@ fn read_plan<D: Disk>(alloc: Global, disk: &mut D) -> Result<Plan, Cause>
     ensures found { IfOk result (λ plan. (found : Found) × Reads found (D.seen disk.old) × IsPlanOf plan found) }
     ensures plan { IfOk result (λ plan. IsPlan plan (D.seen disk.old)) }
     ensures quiet { IsQuiet D.seen D.may_leave D.moment D.left_since (reads_in (D.seen disk.old)) disk.old disk.new }
+    ensures works { OnOk result (D.failures disk.new ≡ D.failures disk.old) }
     ensures memory { IfErr result (AsksMemory (D.seen disk.old)) }
     ensures cause { IfErr result (IsCauseAt (D.seen disk.old) (D.failures disk.old) (D.failures disk.new)) }
 {
@@ -81,6 +82,8 @@ pub fn open<D: Disk + Drop>(alloc: Global, disk: D) -> Result<Opened<D>, OpenFau
     // A flaw is told only where it is, and where it is, unless the device or memory fails; a failed device has counted it.
     ensures refused { IfErr result (λ fault. IsCauseAt (D.seen disk) (D.failures disk) (D.failures fault.disk) fault.cause) }
     ensures exact { (flaw : Flaw) → HasFlaw flaw (D.seen disk) → IsErrAnd result (λ fault. IsUnlessMachine flaw fault.cause) }
+    // What is opened was read at the first try: no call has failed.
+    ensures works { IfOk result (λ opened. D.failures opened.disk ≡ D.failures disk) }
     // No memory is asked for before the length and the head's gate were looked at.
     ensures memory { IfErr result (λ fault. AsksMemory (D.seen disk) fault.cause) }
     ensures clean { IfOk result (λ opened. HasClean opened.plan (D.seen disk)) }
