@@ -2,4 +2,3 @@ pub mod Snapshots
 pub mod Machines
 pub mod Letters
 pub mod Running
-pub mod Losing

@@ -2,5 +2,4 @@ pub mod Steps
 pub mod Checkpoints
 pub mod Offers
 pub mod Runs
-pub mod Losses
 pub mod Starts

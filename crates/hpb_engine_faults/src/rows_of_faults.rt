@@ -1,19 +1,19 @@
 //! A call of the device fails.
 
 use crate::mixed_run::{Moment, events, moments};
-use crate::runs::driven;
 use hpb_codec::JournalShape;
 use hpb_disk::{Disk, Fate, FuseDisk, MemoryDisk, OnceDisk};
 use hpb_engine::{Driven, Engine, Event, Fault, Weight};
 use hpb_engine_rows::calls::{Turn, commit, count, take_step};
 use hpb_engine_rows::devices::{
-    CELLS, FATES, PAGES, count_on, faulty_engine, new_device, new_engine, opened, started,
+    CELLS, FATES, PAGES, count_on, faulty_engine, new_device, new_engine, opened,
 };
 use hpb_engine_rows::expecting::{commits_one, hands_back, steps, takes, turns};
 use hpb_engine_rows::letters::Bidder::{X, Y};
 use hpb_engine_rows::letters::Node::{A, B};
 use hpb_engine_rows::letters::{accepted, bid, one, two};
 use hpb_engine_rows::over_layouts;
+use hpb_promise::drive_opened;
 use hpb_recover::{Cause, OpenFault, Opened};
 use hpb_rules::{Answer, Letter, Reply};
 use std::alloc::Global;
@@ -99,8 +99,10 @@ fn run<D: Disk + Drop>(
     opened: Opened<D>,
     events: &[Event],
 ) -> Result<Driven<D>, Fail> {
-    let engine = started(alloc, opened)?;
-    driven(alloc, engine, events)
+    match drive_opened(alloc, opened, events) {
+        Ok(driven) => Ok(driven),
+        Err(_) => Err(Fail::new("memory was refused")),
+    }
 }
 
 /// Drives the events over a device of which a call fails at this moment, and hands it back. 91 is told once, and 93 is

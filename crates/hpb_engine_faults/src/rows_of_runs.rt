@@ -2,16 +2,17 @@
 
 use crate::runs::driven;
 use hpb_codec::JournalShape;
-use hpb_disk::{Fate, FuseDisk, MemoryDisk};
-use hpb_engine::{Driven, Engine, Event, Fault, open_after};
+use hpb_disk::{FuseDisk, MemoryDisk};
+use hpb_engine::{Driven, Engine, Event, Fault};
 use hpb_engine_rows::calls::count;
 use hpb_engine_rows::devices::{
-    Found, calls_of_opening, engine_over, found_in, new_device, new_engine,
+    Found, calls_of_opening, engine_over, found_in, new_device, new_engine, opened_or_cause,
 };
 use hpb_engine_rows::letters::Bidder::X;
 use hpb_engine_rows::letters::Node::A;
 use hpb_engine_rows::letters::{accepted, bid, refused, two};
 use hpb_engine_rows::over_layouts;
+use hpb_promise::{Survived, drive_then_open};
 use hpb_rules::{Letter, Refusal};
 use hpb_slots::Slot;
 use std::alloc::Global;
@@ -41,12 +42,31 @@ fn events(alloc: Global, steps: usize) -> Result<Vec<Event>, Fail> {
     Ok(events)
 }
 
-/// What is found after a stop of a run.
-fn found_after(alloc: Global, driven: &Driven<MemoryDisk>, fates: &[Fate]) -> Result<Found, Fail> {
-    let left = driven.engine.disk.after_stop(alloc, fates)?;
-    match open_after(alloc, driven, left) {
-        Ok(opened) => Ok(found_in(&opened)),
-        Err(fault) => Err(Fail::from(fault.cause)),
+/// The device that a stop at the end of a run leaves.
+fn left_by(alloc: Global, shape: JournalShape, events: &[Event]) -> Result<MemoryDisk, Fail> {
+    let driven = driven(alloc, new_engine(alloc, shape)?, events)?;
+    Ok(driven.engine.disk.after_stop(alloc, &[])?)
+}
+
+/// A run over a new device, and the device that a stop at its end leaves, opened.
+fn survived(
+    alloc: Global,
+    shape: JournalShape,
+    events: &[Event],
+) -> Result<Survived<MemoryDisk, MemoryDisk>, Fail> {
+    let left = left_by(alloc, shape, events)?;
+    let opened = opened_or_cause(alloc, new_device(alloc, shape)?)?;
+    match drive_then_open(alloc, opened, events, left) {
+        Ok(survived) => Ok(survived),
+        Err(_) => Err(Fail::new("memory was refused")),
+    }
+}
+
+/// What was found on the device that was opened.
+fn found_of(survived: &Survived<MemoryDisk, MemoryDisk>) -> Option<Found> {
+    match &survived.found {
+        Ok(opened) => Some(found_in(opened)),
+        Err(_) => None,
     }
 }
 
@@ -61,15 +81,15 @@ fn ends_well(driven: &Driven<MemoryDisk>) -> bool {
 /// A batch and a whole checkpoint are driven, and all is found after a stop. A first checkpoint of one batch takes eleven
 /// steps; the twelfth is idle.
 fn drive_all(rt: &impl Abort, alloc: Global, shape: JournalShape) -> Result<(), Fail> {
-    let driven = driven(alloc, new_engine(alloc, shape)?, &events(alloc, 12)?)?;
-    assert!(rt; ends_well(&driven));
+    let survived = survived(alloc, shape, &events(alloc, 12)?)?;
+    assert!(rt; ends_well(&survived.driven));
     let wanted = Found {
         count: 1,
         clean: u64::from(shape.frames),
         covered: 1,
         slot: Slot::Second,
     };
-    assert_eq!(rt; found_after(alloc, &driven, &[])?, wanted);
+    assert_eq!(rt; found_of(&survived), Some(wanted));
     Ok(())
 }
 
