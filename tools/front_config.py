@@ -69,7 +69,7 @@ class Config:
         self.look_at_transport(given.get("plain", False))
 
     def look_at_transport(self, plain):
-        if plain not in (True, False):
+        if type(plain) is not bool:
             raise Wrong("plain has to be true or false")
         if self.key and not self.certificate:
             raise Wrong("key: there is no certificate to it")
