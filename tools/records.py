@@ -7,6 +7,8 @@ import fcntl
 import hashlib
 import json
 import os
+import re
+import stat
 import time
 from typing import NamedTuple
 
@@ -17,6 +19,8 @@ OK = "OK "
 MEGABYTE = 1_000_000
 # No entry is longer; what is, isn't read into memory.
 MOST_ENTRY = 2 * MEGABYTE
+# What stands behind the hash of the first entry.
+FIRST = b' {"entry":1,"before":"' + NO_HASH.encode()
 
 
 class Damaged(Exception):
@@ -99,18 +103,30 @@ def read_record(path):
     return entries, place
 
 
+def may_be_first(data):
+    """Whether a crash may have left this of a record's first entry: a front of it, with zeros where nothing was written."""
+    data = data[: HASH_BYTES + len(FIRST)].rstrip(b"\0")
+    return re.fullmatch(rb"[0-9a-f]*", data[:HASH_BYTES]) is not None and FIRST.startswith(data[HASH_BYTES:])
+
+
 class RecordFile:
     """A record that entries are added to."""
 
     def __init__(self, path):
         self.path = path
-        self.file = os.open(path, os.O_RDWR | os.O_CREAT | os.O_APPEND | os.O_CLOEXEC | os.O_NOFOLLOW, 0o600)
+        how = os.O_RDWR | os.O_CREAT | os.O_APPEND | os.O_CLOEXEC | os.O_NOFOLLOW | os.O_NONBLOCK
+        self.file = os.open(path, how, 0o600)
         try:
+            if not stat.S_ISREG(os.fstat(self.file).st_mode):
+                raise OSError("it is no regular file")
             fcntl.flock(self.file, fcntl.LOCK_EX | fcntl.LOCK_NB)
+            sync_folder(path)
         except BlockingIOError:
             os.close(self.file)
             raise InUse from None
-        sync_folder(path)
+        except OSError:
+            os.close(self.file)
+            raise
         self.place = Place()
 
     def read(self, take, may_set_aside=False):
@@ -128,7 +144,11 @@ class RecordFile:
         return self.set_aside(end)
 
     def look_behind(self, file, end):
-        """A crash tears the end alone: where a whole entry stands behind one that isn't, the record was changed."""
+        """A crash tears the end alone: where a whole entry stands behind one that isn't, the record was changed. And what has no whole
+        entry, and isn't the front of a first one, never was a record."""
+        file.seek(end)
+        if not end and not may_be_first(file.read(HASH_BYTES + len(FIRST))):
+            raise Damaged("entry 1 isn't one: is it another file?")
         file.seek(end)
         file.readline(MOST_ENTRY)
         while line := file.readline(MOST_ENTRY):
@@ -139,7 +159,7 @@ class RecordFile:
         torn = os.fstat(self.file).st_size - end
         if not torn:
             return None
-        aside = write_new(self.path, os.pread(self.file, torn, end))
+        aside = write_new(self.path, pieces(self.file, end))
         os.ftruncate(self.file, end)
         os.fsync(self.file)
         return {"bytes": torn, "aside": os.path.basename(aside)}
@@ -156,16 +176,27 @@ class RecordFile:
         os.fdatasync(self.file)
 
 
+def pieces(file, at):
+    """What stands in a file from there on."""
+    while piece := os.pread(file, MEGABYTE, at):
+        at += len(piece)
+        yield piece
+
+
 def write_new(path, data):
-    """A file beside a record, that wasn't there."""
+    """A file beside a record, that wasn't there, with these pieces."""
     number = 1
     while os.path.lexists(aside := f"{path}.torn-{number}"):
         number += 1
     file = os.open(aside, os.O_WRONLY | os.O_CREAT | os.O_EXCL | os.O_CLOEXEC, 0o600)
-    with open(file, "wb") as out:
-        out.write(data)
-        out.flush()
-        os.fsync(out.fileno())
+    try:
+        with open(file, "wb") as out:
+            out.writelines(data)
+            out.flush()
+            os.fsync(out.fileno())
+    except OSError:
+        os.unlink(aside)
+        raise
     sync_folder(aside)
     return aside
 
