@@ -1,6 +1,5 @@
 """What tools/test_board tries tools/board and tools/watch with: a page that is read, tools that run, viewers, a go-between that notes
 what a tool sends, and a browser."""
-import base64
 import collections
 import fcntl
 import html.parser
@@ -14,6 +13,7 @@ import subprocess
 import sys
 import threading
 import time
+from base64 import b64decode, b64encode
 
 HERE = pathlib.Path(__file__).resolve().parent
 sys.path.append(str(HERE.parent / "examples"))
@@ -67,7 +67,8 @@ class Tool:
     all = []
 
     def __init__(self, name, port, definition, *words, **how):
-        command = [sys.executable, str(HERE / name), "--port", str(port), "--definition", str(definition), *map(str, words)]
+        place = [] if port is None else ["--port", str(port), "--definition", str(definition)]
+        command = [sys.executable, str(HERE / name), *place, *map(str, words)]
         self.process = subprocess.Popen(
             command, **{"stdin": subprocess.DEVNULL, "stdout": subprocess.PIPE, "stderr": subprocess.PIPE, **how}
         )
@@ -83,19 +84,27 @@ class Tool:
         return self.ended()
 
 
-class Board(Tool):
-    def __init__(self, port, definition, *words):
-        super().__init__("board", port, definition, "--listen", "127.0.0.1:0", "--pace", "0.2", *words)
-        line = self.process.stdout.readline().decode()
-        found = re.fullmatch(r"BOARD http://127\.0\.0\.1:(\d+)/\n", line)
-        if not found:
-            raise AssertionError(f"the board began with {line!r} {self.process.stderr.read()!r}")
-        self.port = int(found[1])
+class Site:
+    """Where a page is: at a port, over TLS where there is a context, and asked for as somebody where there are name and token."""
 
-    def get(self, path="/", method="GET", host=None, raw=None):
+    def __init__(self, port, name=None, token=None, context=None, host=None):
+        self.port, self.context, self.host = port, context, host or f"127.0.0.1:{port}"
+        self.known = b64encode(f"{name}:{token}".encode()).decode() if name else None
+
+    def connect(self):
+        connection = socket.create_connection((ADDRESS, self.port), PATIENCE)
+        return self.context.wrap_socket(connection, server_hostname="localhost") if self.context else connection
+
+    def asks(self, path, method="GET", host=None, field=None):
+        """A request; `field` is one more."""
+        fields = [f"Host: {host or self.host}", *([field] if field else [])]
+        fields += [f"Authorization: Basic {self.known}"] if self.known else []
+        return ("\r\n".join([f"{method} {path} HTTP/1.1", *fields]) + "\r\n\r\n").encode()
+
+    def get(self, path="/", method="GET", host=None, raw=None, field=None):
         """The status, the fields and what came behind them, up to the end or for as long as is waited."""
-        with socket.create_connection((ADDRESS, self.port), PATIENCE) as connection:
-            connection.sendall(raw or f"{method} {path} HTTP/1.1\r\nHost: {host or f'127.0.0.1:{self.port}'}\r\n\r\n".encode())
+        with self.connect() as connection:
+            connection.sendall(raw or self.asks(path, method, host, field))
             received, end = b"", time.monotonic() + PATIENCE
             while time.monotonic() < end and (part := connection.recv(65_536)):
                 received += part
@@ -107,14 +116,25 @@ class Board(Tool):
         return Elements(self.get()[2].decode())
 
 
+class Board(Tool, Site):
+    def __init__(self, port, definition, *words):
+        Tool.__init__(self, "board", port, definition, "--listen", "127.0.0.1:0", "--pace", "0.2", *words)
+        line = self.process.stdout.readline().decode()
+        found = re.fullmatch(r"BOARD http://127\.0\.0\.1:(\d+)/\n", line)
+        if not found:
+            raise AssertionError(f"the board began with {line!r} {self.process.stderr.read()!r}")
+        Site.__init__(self, int(found[1]))
+
+
 class Viewer:
     """Takes the events of a board, and keeps what they come to."""
 
-    def __init__(self, board):
+    def __init__(self, board, path="/events"):
         self.texts, self.marks, self.lists, self.said, self.seen, self.page, self.bytes = {}, {}, {}, [], [], None, 0
+        self.all_lists = []
         self.changed = threading.Condition()
-        self.socket = socket.create_connection((ADDRESS, board.port), PATIENCE)
-        self.socket.sendall(f"GET /events HTTP/1.1\r\nHost: localhost:{board.port}\r\n\r\n".encode())
+        self.socket = board.connect()
+        self.socket.sendall(board.asks(path))
         threading.Thread(target=self.read, daemon=True).start()
 
     def read(self):
@@ -132,6 +152,7 @@ class Viewer:
                 getattr(self, part).update(told[part])
             self.page, self.picture = told["page"], told["picture"]
             self.seen.append(dict(self.texts))
+            self.all_lists += told["lists"].values()
             self.said += [told["said"]] if told["said"] else []
             self.changed.notify_all()
 
@@ -206,6 +227,36 @@ class Between:
     def end(self):
         self.listener.close()
         self.cut()
+
+
+class Proxy:
+    """Hands each request on without the folder that its path begins with."""
+
+    def __init__(self, port, folder):
+        self.to, self.folder = port, folder.encode()
+        self.listener = socket.create_server((ADDRESS, 0))
+        self.port = self.listener.getsockname()[1]
+        threading.Thread(target=self.accept, daemon=True).start()
+
+    def accept(self):
+        while True:
+            try:
+                taken, _ = self.listener.accept()
+            except OSError:
+                return
+            threading.Thread(target=self.hand_on, args=(taken,), daemon=True).start()
+
+    def hand_on(self, taken):
+        with taken, socket.create_connection((ADDRESS, self.to), PATIENCE) as server:
+            received = b""
+            while b"\r\n\r\n" not in received:
+                received += taken.recv(65_536)
+            server.sendall(received.replace(b" " + self.folder, b" /", 1))
+            try:
+                while part := server.recv(65_536):
+                    taken.sendall(part)
+            except OSError:
+                pass
 
 
 def within(seconds, holds):
@@ -285,7 +336,7 @@ class Browser:
         return collections.Counter(node["role"]["value"] for node in nodes if not node["ignored"])
 
     def picture(self, path):
-        path.write_bytes(base64.b64decode(self.ask("Page.captureScreenshot", format="png")["data"]))
+        path.write_bytes(b64decode(self.ask("Page.captureScreenshot", format="png")["data"]))
 
     def end(self):
         self.process.terminate()

@@ -1,13 +1,16 @@
-"""Follows an auction that `hpb serve` serves, over one session, by questions alone: what tools/board and tools/watch show.
+"""Follows an auction that `hpb serve` serves, over one session, by questions alone: what tools/board and tools/watch show. The session
+may also be one that a front gives.
 
 A `Follower` asks SHOW at a pace, and NODE and WHO where the answer is another one than before. What it knows is a `View`, of which a
 new one is made whenever it changes. Nothing here writes a command.
 """
+import copy
 import socket
 import threading
 import time
 from typing import NamedTuple
 
+import reaching
 from auction import Refused, Shown, Standing, Tree, Who, read_answer, read_json
 
 ADDRESS = "127.0.0.1"
@@ -17,7 +20,9 @@ MOST_PORT, MOST_LINE = 65_535, 65_536
 # How often a state is asked for again that a close went through the middle of.
 ATTEMPTS = 4
 LONGEST_PAUSE = 10.0
-GIVEN_UP = "ERR 95 order"
+ENDS = {line.decode() for line in reaching.ENDS}
+# A front counts no connections.
+ENDLESS = float("inf")
 
 WAITING, LIVE, SILENT, LOST, OVER = "waiting", "live", "silent", "lost", "over"
 
@@ -61,13 +66,51 @@ class View(NamedTuple):
             return False
         return True if self.begin.is_exact else None
 
+    def only(self, bidders):
+        """The same to whom these bidders alone are shown."""
+        begin = self.begin and self.begin._replace(whos=kept(self.begin.whos, bidders))
+        return self._replace(standing=only(self.standing, bidders), before=only(self.before, bidders), begin=begin)
+
+
+def kept(whos, bidders):
+    return {name: whos[name] for name in bidders if name in whos}
+
+
+def only(standing, bidders):
+    """A standing with the answers of these bidders alone; nothing where there is none."""
+    if standing is None:
+        return None
+    made = copy.copy(standing)
+    made.whos = kept(standing.whos, bidders)
+    return made
+
+
+def at_port(port):
+    """What makes a connection to a port of this machine."""
+    return lambda patience: socket.create_connection((ADDRESS, port), patience)
+
+
+def at_front(given):
+    """What makes a connection to a front, as somebody who has a token."""
+    try:
+        token, context = reaching.read_token(given.token, given.name), reaching.context_of(given)
+    except (reaching.GivesUp, OSError, UnicodeDecodeError) as fault:
+        raise Refused(str(fault)) from None
+
+    def connected(patience):
+        try:
+            return reaching.connected(given.front, token, context, patience)
+        except reaching.GivesUp as fault:
+            raise Refused(str(fault)) from None
+
+    return connected
+
 
 class Session:
     """One connection. Of an answer that doesn't come it tells, and goes on waiting for it: another connection would take a place."""
 
-    def __init__(self, port, is_told, patience=PATIENCE):
-        self.socket = socket.create_connection((ADDRESS, port), patience)
-        self.is_told, self.patience, self.received = is_told, patience, b""
+    def __init__(self, connection, is_told):
+        self.socket, self.is_told, self.received = connection, is_told, b""
 
     def ask(self, questions):
         """The answer to each question, in order."""
@@ -94,8 +137,8 @@ class Session:
                 raise Refused("no line comes from this port: is it that of hpb serve?")
         line, self.received = self.received.split(b"\n", 1)
         text = line.decode("ascii", "backslashreplace")
-        if text == GIVEN_UP:
-            raise Lost("the server gave up the session")
+        if text in ENDS:
+            raise Lost(f"the session was ended by {text}")
         return text
 
     def close(self):
@@ -152,15 +195,19 @@ def begin_of(tree, bidders, old, standing):
     return Begin(shown, standing.whos, is_exact)
 
 
-def add_options(words):
+def add_options(words, with_front=False):
     """What board and watch are told alike."""
-    words.add_argument("--port", type=int, required=True, help="the port of 127.0.0.1 at which hpb serve listens")
+    where = words.add_mutually_exclusive_group(required=True)
+    where.add_argument("--port", type=int, help="the port of 127.0.0.1 at which hpb serve listens")
+    if with_front:
+        where.add_argument("--front", type=reaching.read_place, metavar="HOST:PORT", help="where a front listens")
+        reaching.add_options(words)
     words.add_argument("--definition", required=True, help="the auction's definition: JSON, or a script whose first line it is")
     own = words.add_mutually_exclusive_group()
     own.add_argument("--bidders", default="", help="whose standing is shown, as x,y (default: nobody's)")
     own.add_argument("--all-bidders", action="store_true", help="the standing of each bidder is shown")
     words.add_argument(
-        "--places", type=int, default=1, help="how many connections may be made in all, each of which takes one of hpb serve's (default 1)"
+        "--places", type=int, help="how many connections may be made in all, each of which takes one of hpb serve's (default 1)"
     )
     words.add_argument("--pace", type=float, default=PACE, help=f"seconds between two questions (default {PACE:g})")
 
@@ -174,9 +221,10 @@ def whose(given):
         raise Refused(f"{given.definition}: {fault}") from None
     except Refused as fault:
         raise Refused(f"the definition is refused: {fault}") from None
+    given.places = given.places if given.places is not None else 1 if given.port is not None else ENDLESS
     if given.places < 1 or not LEAST_PACE <= given.pace <= MOST_PACE:
         raise Refused(f"at least one place is needed, and a pace of {LEAST_PACE} s to an hour")
-    if not 1 <= given.port <= MOST_PORT:
+    if given.port is not None and not 1 <= given.port <= MOST_PORT:
         raise Refused(f"there is no port {given.port}")
     names = list(tree.bidders) if given.all_bidders else list(dict.fromkeys(name for name in given.bidders.split(",") if name))
     for name in names:
@@ -186,10 +234,11 @@ def whose(given):
 
 
 class Follower:
-    """Asks until it is stopped, or the auction is over. Each new view is handed to `publish`."""
+    """Asks until it is stopped, or the auction is over. Each new view is handed to `publish`. `open` makes a connection, on which an
+    answer is waited for as long as it is told."""
 
-    def __init__(self, tree, bidders, port, publish, places=1, pace=PACE, patience=PATIENCE):
-        self.tree, self.bidders, self.port, self.publish = tree, bidders, port, publish
+    def __init__(self, tree, bidders, open, publish, places=1, pace=PACE, patience=PATIENCE):
+        self.tree, self.bidders, self.open, self.publish = tree, bidders, open, publish
         self.pace, self.patience, self.stopped = pace, patience, threading.Event()
         self.node_lines = []
         self.view = View(None, None, None, Contact(WAITING, time.time(), places))
@@ -219,7 +268,7 @@ class Follower:
     def connect(self):
         """A session, or none where nobody listens. Only one that was taken uses up a place."""
         try:
-            session = Session(self.port, self.is_silent, self.patience)
+            session = Session(self.open(self.patience), self.is_silent)
         except OSError:
             return None
         contact = self.view.contact
@@ -263,6 +312,8 @@ class Follower:
     def answers(self, session, questions):
         lines = session.ask(questions)
         for question, line in zip(questions, lines):
+            if line.startswith("ERR front "):
+                raise Refused(f"{question} is answered {line}: it isn't this name's to ask")
             if line.startswith("ERR "):
                 raise Refused(f"another definition: {question} is answered {line}")
         return lines

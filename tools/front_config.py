@@ -30,7 +30,9 @@ LIMITS = {
 }
 TEXTS = ["file", "record", "tokens", "listen"]
 OPTIONAL_TEXTS = ["program", "certificate", "key"]
-FIELDS = {*TEXTS, *OPTIONAL_TEXTS, "port", "plain", "names", "limits"}
+FIELDS = {*TEXTS, *OPTIONAL_TEXTS, "port", "plain", "names", "limits", "board"}
+BOARD_FIELDS = {"listen", "names"}
+HOST_NAME = re.compile(r"[A-Za-z0-9-]{1,63}(\.[A-Za-z0-9-]{1,63})*")
 
 
 class Wrong(Exception):
@@ -48,10 +50,24 @@ class Limits:
             setattr(self, name, whole(given.get(name, default), least, most, f"limits.{name}"))
 
 
+class Board:
+    """Where the page is, and by which names it may be asked for."""
+
+    def __init__(self, given):
+        for field in given:
+            if field not in BOARD_FIELDS:
+                raise Wrong(f"board.{field}: there is no such field")
+        self.host, self.port = read_address(text_of(given, "listen", "board."), "board.listen")
+        self.names = given.get("names", [])
+        if type(self.names) is not list or not all(type(name) is str and HOST_NAME.fullmatch(name) for name in self.names):
+            raise Wrong("board.names has to be a list of names as auction.example is")
+
+
 class Config:
     """What a configuration says. Paths in it are those of its folder."""
 
     def __init__(self, path):
+        self.path = str(pathlib.Path(path).resolve())
         given = read_toml(path)
         for field in given:
             if field not in FIELDS:
@@ -63,23 +79,44 @@ class Config:
         self.host, self.listen_port = read_address(texts["listen"])
         self.program = program_of(self.folder, more.get("program", "hpb"))
         self.port = whole(given["port"], LEAST_PORT, MOST_PORT, "port") if "port" in given else None
-        self.limits = Limits(table_of(given, "limits") if "limits" in given else {})
+        self.limits = Limits(table_of(given, "limits", is_needed=False))
+        self.board = Board(table_of(given, "board")) if "board" in given else None
         self.roles = read_roles(table_of(given, "names"))
         self.certificate, self.key = (str(self.folder / more[field]) if field in more else None for field in OPTIONAL_TEXTS[1:])
         self.look_at_transport(given.get("plain", False))
+        self.look_at_files()
 
     def look_at_transport(self, plain):
         if type(plain) is not bool:
             raise Wrong("plain has to be true or false")
         if self.key and not self.certificate:
             raise Wrong("key: there is no certificate to it")
-        if not self.certificate and not plain and not is_loopback(self.host):
-            raise Wrong(f"listen: {self.host} is no address of this machine alone, and without a certificate tokens would be sent in "
-                        "clear; give certificate and key, or plain = true")
+        places = {"listen": self.host, **({"board.listen": self.board.host} if self.board else {})}
+        for field, host in places.items():
+            if not self.certificate and not plain and not is_loopback(host):
+                raise Wrong(f"{field}: {host} is no address of this machine alone, and without a certificate tokens would be sent in "
+                            "clear; give certificate and key, or plain = true")
+
+    def look_at_files(self):
+        """No file may be two things: what is no record would be set aside as a torn one."""
+        fields = {"configuration": self.path, "file": self.file, "record": self.record, "tokens": self.tokens}
+        fields.update(certificate=self.certificate, key=self.key)
+        known = {}
+        for field, path in fields.items():
+            if path is None or (field == "key" and path == self.certificate):
+                continue
+            found = identity(path)
+            if found in known:
+                raise Wrong(f"{field}: {path} is the {known[found]} already")
+            known[found] = field
 
     def sessions(self):
-        """How many sessions there are with the server: one for each name, as far as it has them."""
-        return min(len(self.roles), MOST_SESSIONS)
+        """How many sessions names have with the server: each one, as far as it has them."""
+        return min(len(self.roles), MOST_SESSIONS - (self.board is not None))
+
+    def places(self):
+        """How many there are in all: the board has the last."""
+        return self.sessions() + (self.board is not None)
 
     def tree(self):
         """The definition, out of the head of the auction's file. Each name's bidders have to be in it."""
@@ -168,6 +205,17 @@ def read_toml(path):
         raise Wrong(f"{path}: {fault.strerror}") from None
     except (tomllib.TOMLDecodeError, UnicodeDecodeError) as fault:
         raise Wrong(f"{path}: {fault}") from None
+    except RecursionError:
+        raise Wrong(f"{path}: it is nested too deep") from None
+
+
+def identity(path):
+    """What two paths of one file have in common."""
+    try:
+        found = os.stat(path)
+        return found.st_dev, found.st_ino
+    except OSError:
+        return os.path.realpath(path)
 
 
 def read_private(path):
@@ -186,16 +234,16 @@ def read_private(path):
         raise Wrong(f"{path}: it is no text") from None
 
 
-def text_of(given, field):
+def text_of(given, field, where=""):
     value = given.get(field)
-    if not isinstance(value, str) or not value:
-        raise Wrong(f"{field} has to be there, as a text")
+    if not isinstance(value, str) or not value or "\0" in value:
+        raise Wrong(f"{where}{field} has to be there, as a text")
     return value
 
 
-def table_of(given, field):
-    value = given.get(field)
-    if not isinstance(value, dict) or not value:
+def table_of(given, field, is_needed=True):
+    value = given.get(field, None if is_needed else {})
+    if not isinstance(value, dict) or (is_needed and not value):
         raise Wrong(f"{field} has to be there, as a table")
     return value
 
@@ -206,16 +254,16 @@ def whole(value, least, most, where):
     return value
 
 
-def read_address(text):
+def read_address(text, where="listen"):
     """An address and a port: `127.0.0.1:6000`, `[::1]:6000`, `0.0.0.0:6000`. Port 0 is any that is free."""
     host, _, port = text.rpartition(":")
     host = host.removeprefix("[").removesuffix("]")
     try:
         ipaddress.ip_address(host)
     except ValueError:
-        raise Wrong(f"listen: {text!r} has no address in figures and no port, as 127.0.0.1:6000 has") from None
+        raise Wrong(f"{where}: {text!r} has no address in figures and no port, as 127.0.0.1:6000 has") from None
     if not re.fullmatch(r"[0-9]{1,5}", port) or int(port) > MOST_PORT:
-        raise Wrong(f"listen: {port!r} is no port")
+        raise Wrong(f"{where}: {port!r} is no port")
     return host, int(port)
 
 

@@ -2,6 +2,8 @@
 import asyncio
 from concurrent.futures import ThreadPoolExecutor
 
+from auction import Refused, Standing
+from following import look_whose
 from front_rights import sender_and_ticket
 from records import FORM, OK, text_of
 
@@ -158,9 +160,9 @@ class Finder:
     def __init__(self, ledger, ask, may_be_foreign):
         self.ledger, self.ask, self.may_be_foreign = ledger, ask, may_be_foreign
 
-    async def find(self, bidders):
-        """`bidders` are those of the definition. How many commands were found."""
-        story, used = self.ledger.story, await self.tickets(bidders)
+    async def find(self, tree):
+        """How many commands were found of an auction that has this definition."""
+        story, used = self.ledger.story, await self.tickets(tree)
         found, others, before = {}, [], story.count
         for number, (name, line) in sorted(story.open.items()):
             fields = {"name": name, "line": text_of(line), "asked": number}
@@ -186,12 +188,17 @@ class Finder:
         story.open.clear()
         return story.count - before
 
-    async def tickets(self, bidders):
-        """How many commands the file has of each sender."""
-        used = {None: tickets_of_auctioneer(await self.ask(b"SHOW"))}
-        for bidder in bidders:
-            used[bidder] = int((await self.ask(b"WHO " + bidder.encode())).split(b" ")[7])
-        return used
+    async def tickets(self, tree):
+        """How many commands the server has of each sender. It has to serve an auction of this definition."""
+        questions = ["SHOW", *(f"NODE {name}" for name in tree.names), *(f"WHO {bidder}" for bidder in tree.bidders)]
+        lines = [(await self.ask(question.encode())).decode("latin-1") for question in questions]
+        try:
+            standing = Standing(tree, lines)
+            look_whose(tree, standing)
+            used = {bidder: standing.whos[bidder].ticket for bidder in tree.bidders}
+        except (Refused, LookupError) as fault:
+            raise Stops(f"the server has another auction than the file: {fault}") from None
+        return {None: standing.shown.next_ticket() - 1, **used}
 
     def look(self, used, found):
         """Whether the file has of each sender what the record has, and no more."""
@@ -209,9 +216,3 @@ class Finder:
             if has > wanted and not self.may_be_foreign:
                 raise Stops(f"the file has {has} commands of {who}, and the record {wanted}: is it the right record, or was the file told "
                             "commands by another way? With --foreign the front notes that and goes on")
-
-
-def tickets_of_auctioneer(shown):
-    """ROUND r STAGE s OPEN REVENUE v COUNT n"""
-    words = shown.split(b" ")
-    return int(words[1]) - 1 + int(words[3]) - 1 + (words[4] == b"CLOSED")

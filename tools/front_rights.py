@@ -42,6 +42,11 @@ class Role(NamedTuple):
             return RIGHTS
         return None
 
+    def seen(self, tree):
+        """The bidders of a definition that it may ask about by WHO."""
+        everyone = {AUCTIONEER: list(tree.bidders), OBSERVER: []}
+        return everyone.get(self.kind, list(self.bidders))
+
     def shown(self):
         """As a configuration and a record have it."""
         return list(self.bidders) if self.kind == BIDDER else self.kind

@@ -108,7 +108,7 @@ class Auction:
             self.starts += 1
             try:
                 port = self.config.port or await self.start()
-                for _ in range(self.config.sessions()):
+                for _ in range(self.config.places()):
                     self.sessions.append(await self.connect(port))
                 return
             except ComesNot as fault:
@@ -122,7 +122,7 @@ class Auction:
 
     async def start(self):
         port = free_port()
-        words = ["serve", "--file", self.config.file, "--port", str(port), "--sessions", str(self.config.sessions())]
+        words = ["serve", "--file", self.config.file, "--port", str(port), "--sessions", str(self.config.places())]
         try:
             self.process = subprocess.Popen(
                 [self.config.program, *words], stdin=subprocess.DEVNULL, stdout=subprocess.PIPE,

@@ -22,7 +22,7 @@ class Front:
 
     all = []
 
-    def __init__(self, program, folder, names, listen_port=0, limits=None, **more):
+    def __init__(self, program, folder, names, listen_port=0, limits=None, board=None, **more):
         """Where `more` has a field of the configuration that is there already, it takes its place."""
         self.folder, self.names = pathlib.Path(folder), names
         self.record, self.file = self.folder / "R", self.folder / "F"
@@ -31,33 +31,42 @@ class Front:
         tokens.write_text("".join(f"{name} {token_of(name)}\n" for name in names))
         fields = {"file": "F", "record": "R", "tokens": "T", "listen": f"{ADDRESS}:{listen_port}", "program": program, **more}
         self.config = self.folder / "C"
-        self.config.write_text(toml(fields, names, limits or {}))
-        self.process = None
+        self.config.write_text(toml(fields, {"names": names, "limits": limits, "board": board}))
+        self.process, self.has_board, self.url = None, board is not None, ""
+        # That of clients, where they use TLS.
+        self.context = None
 
-    def start(self, *words, before=None):
+    def start(self, *words, before=None, env=None):
         self.process = subprocess.Popen(
             [HERE / "front", "--config", self.config, *words], stdin=subprocess.DEVNULL, stdout=subprocess.PIPE, stderr=subprocess.PIPE,
-            preexec_fn=before,
+            preexec_fn=before, env=env,
         )
         Front.all.append(self)
         line = self.process.stdout.readline().decode()
         if not line.startswith("LISTENING "):
             raise OSError(f"the front began with {line!r}: {self.end()}")
         self.port = int(line.split()[2])
+        if self.has_board:
+            self.url = self.process.stdout.readline().decode().removeprefix("BOARD ").strip()
         return self
 
-    def run(self, *words):
+    def run(self, *words, before=None):
         """What a front writes and says that ends by itself, and its status."""
-        ran = subprocess.run([HERE / "front", "--config", self.config, *words], capture_output=True, timeout=SECONDS)
+        ran = subprocess.run([HERE / "front", "--config", self.config, *words], capture_output=True, timeout=SECONDS, preexec_fn=before)
         return ran.stdout.decode(), ran.stderr.decode(), ran.returncode
 
     def server(self):
         """The process of the server that it has now, or 0."""
+        return self.child(b"serve")
+
+    def child(self, word):
+        """The process that it has now which has this word at its beginning, or 0."""
         try:
             children = pathlib.Path(f"/proc/{self.process.pid}/task/{self.process.pid}/children").read_text().split()
+            told = {child: pathlib.Path(f"/proc/{child}/cmdline").read_bytes().split(b"\0") for child in children}
         except OSError:
             return 0
-        return int(children[0]) if children else 0
+        return next((int(child) for child, words in told.items() if any(known.endswith(word) for known in words[:2])), 0)
 
     def kill(self):
         self.process.kill()
@@ -78,14 +87,20 @@ class Front:
         return written.decode(), said.decode(), self.process.returncode
 
     def client(self, name=None, seconds=SECONDS):
-        return Client(self.port, name, seconds)
+        return Client(self.port, name, seconds, self.context)
 
 
-def toml(fields, names, limits):
-    tables = {"names": names, "limits": limits}
+def certificate(folder, name="localhost"):
+    """A certificate `S` and its key `K`, for a trial."""
+    words = f"req -x509 -newkey rsa:2048 -nodes -days 2 -subj /CN={name} -addext subjectAltName=DNS:{name} -keyout K -out S"
+    subprocess.run(["openssl", *words.split()], cwd=folder, check=True, capture_output=True)
+    (folder / "K").chmod(0o600)
+
+
+def toml(fields, tables):
     lines = [f"{field} = {json.dumps(value)}" for field, value in fields.items()]
     for name, table in tables.items():
-        if table:
+        if table is not None:
             lines += [f"[{name}]", *(f"{field} = {json.dumps(value)}" for field, value in table.items())]
     return "\n".join(lines) + "\n"
 

@@ -14,7 +14,10 @@ from auction import MOST_ROWS, PICTURE_STYLE, Markup, digest, element, money, wh
 from telling import NOBODY, bidder_texts, close_says, closes_say, contact_says, node_texts, outlook, round_says, stage_says
 
 HERE = pathlib.Path(__file__).resolve().parent
-ASSETS = {"board.css": "text/css; charset=utf-8", "board.js": "text/javascript; charset=utf-8"}
+ASSETS = {"board.css": "text/css; charset=utf-8", "board.js": "text/javascript; charset=utf-8", "board.svg": "image/svg+xml"}
+ICON = "board.svg"
+# A picture that is opened alone has no link to its icon, and a browser then asks for this one.
+ICONS = {"favicon.ico": ICON}
 POLICY = (
     "default-src 'none'; script-src 'self'; style-src 'self'; img-src 'self'; connect-src 'self'; base-uri 'none'; form-action 'none'; "
     "frame-ancestors 'none'; require-trusted-types-for 'script'; trusted-types 'none'"
@@ -124,6 +127,7 @@ class Page:
             element("title", "Auction"),
             element("meta", name="viewport", content="width=device-width, initial-scale=1"),
             element("meta", name="color-scheme", content="light dark"),
+            without_end("link", rel="icon", href=ICON, type="image/svg+xml"),
             without_end("link", rel="stylesheet", href="board.css"),
             element("script", src="board.js", defer="defer"),
         )

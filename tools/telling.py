@@ -3,7 +3,7 @@ import time
 from typing import NamedTuple
 
 from auction import activity_needed, eligibility_left, money
-from following import LIVE, LOST, OVER, SILENT, WAITING
+from following import ENDLESS, LIVE, LOST, OVER, SILENT, WAITING
 
 RISES = "\N{RIGHTWARDS ARROW}"
 NOBODY = "\N{EN DASH}"
@@ -21,7 +21,8 @@ def clock(seconds):
 
 def contact_says(contact):
     since, places = clock(contact.since), contact.places
-    again = f"It connects again by itself ({plural(places, 'place')} left)." if places else "No place is left: start it again to go on."
+    left = f" ({plural(places, 'place')} left)" if places != ENDLESS else ""
+    again = f"It connects again by itself{left}." if places else "No place is left: start it again to go on."
     return {
         WAITING: "There is no server yet.",
         LIVE: "Live.",
