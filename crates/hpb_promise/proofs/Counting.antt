@@ -1,5 +1,5 @@
 -- An answer that fits a list of commands and accepts one names a number in it.
-use Rattle.std.proofs.Common.{◌≡◌, ◌⊎◌, inl, inr, ⊎_elim, ℕ, suc, ◌-◌, ◌≤◌, ◌<◌, Bool, true, false, List, Option, Some, None, length, take, drop, reverse, refl, sym, ◌∙◌, ap, subst, arith}
+use Rattle.std.proofs.Common.{◌≡◌, ◌⊎◌, inl, inr, ⊎_elim, ℕ, suc, ◌-◌, ◌≤◌, Bool, true, false, List, Option, Some, None, length, take, reverse, sym, ◌∙◌, ap, arith}
 use Rattle.std.specs.Prelude.{if◌then◌else◌, ◌==◌, ◌||◌, nat_lt, nat_le, MatchOption, slice_get}
 use Rattle.std.proofs.lemmas.Bool.{eq-eqb}
 use Rattle.std.proofs.lemmas.List.{length-reverse, length-take-le}
@@ -43,14 +43,14 @@ module _ (repeat : Reply) (count number : ℕ) where
 
 -- The number of a repeat is in the list.
 module _ (history : List Command) (command : Command) (number : ℕ) where
-  within : (same : Bool) (last : Command × ℕ) → IsLast history (History.sender_of command) last → (if same then replies.Ok last.1 else replies.Refused refusals.Ticket) ≡ replies.Ok number → number ≤ length history
+  within : (same : Bool) (last : Command × ℕ) → IsLast history (History.sender_of command) last → (if same then replies.Ok last.1 else replies.Refused refusals.Ticket) ≡ replies.Ok number → (1 ≤ number) × (number ≤ length history)
   within true last stands is =
       let named : last.1 ≡ number = cc in
-      omega (arith, named, stands.numbered, slice_get_within history (last.1 - 1) last.0 stands.stands)
+      (omega (arith, named, stands.numbered), omega (arith, named, stands.numbered, slice_get_within history (last.1 - 1) last.0 stands.stands))
   within false last stands is = absurd (cc)
 
   repeat_within : (last : Option (Command × ℕ)) → MatchOption last ((place : ℕ) (c : Command) → slice_get history place ≡ Some c → History.sender_of c ≡ History.sender_of command → ⊥) (IsLast history (History.sender_of command))
-      → repeated command last ≡ replies.Ok number → number ≤ length history
+      → repeated command last ≡ replies.Ok number → (1 ≤ number) × (number ≤ length history)
   repeat_within None nothing is = absurd (cc)
   repeat_within (Some last) stands is = within (History.same_command command last.0) last stands is
 
@@ -63,10 +63,12 @@ counts rules seen answered fits number is =
     let size : length history ≡ answered.at = length-take-le answered.at seen fits.within in
     let given : answer rules history command ≡ replies.Ok number = sym fits.reply ∙ is in
     ⊎_elim
-    (λ again. omega (arith, size, fits.within, repeat_within history command number (History.last_of past sender) (last_stands history sender) again))
+    (λ again.
+    let found = repeat_within history command number (History.last_of past sender) (last_stands history sender) again in
+    (found.0, omega (arith, size, fits.within, found.1)))
     (λ new.
     let named : number ≡ suc answered.at = omega (arith, new, length-reverse history, size) in
     let accepted : is_reply_new answered.at answered.reply ≡ true = ap (is_reply_new answered.at) is ∙ eq-eqb number (suc answered.at) named in
-    omega (arith, named, slice_get_within seen answered.at command (fits.stands accepted)))
+    (omega (arith, named), omega (arith, named, slice_get_within seen answered.at command (fits.stands accepted))))
     (reply_ok (repeated command (History.last_of past sender)) (length past) number (unknown rules command) (History.ticket_of command) (History.last_ticket past sender)
     (History.is_over past) (fault rules past command) given)

@@ -1,7 +1,7 @@
 -- Events are moves of the machine without a disk, and what it keeps is kept.
-use Rattle.std.proofs.Common.{◌≡◌, ◌⊎◌, inl, inr, ⊎_elim, ℕ, suc, ◌+◌, ◌≤◌, Bool, true, false, List, [], ◌∷◌, ◌++◌, Option, Some, None, Result, Ok, Err, length, refl, sym, ◌∙◌, ap, subst, arith, append_assoc}
+use Rattle.std.proofs.Common.{◌≡◌, inl, inr, ℕ, suc, ◌+◌, ◌≤◌, Bool, true, false, List, [], ◌∷◌, ◌++◌, Option, Some, None, Ok, Err, length, refl, sym, ◌∙◌, ap, subst, arith, append_assoc}
 use Rattle.std.proofs.lemmas.List.{append-nil}
-use Rattle.std.specs.Prelude.{All, slice_index_or, if◌then◌else◌, not, ◌&&◌, ◌==◌}
+use Rattle.std.specs.Prelude.{slice_index_or, if◌then◌else◌, not, ◌&&◌, ◌==◌}
 use Rattle.hpb_rules.specs.declared.command.Command.{Command}
 use Rattle.hpb_rules.specs.declared.letter.Answer.{Answer}
 use Rattle.hpb_rules.specs.Answer.{IsHistory}
@@ -9,10 +9,10 @@ use Rattle.hpb_rules.specs.Fronts.{IsFront}
 use Rattle.hpb_rules.specs.Letters.{Fits}
 use Rattle.hpb_rules.specs.Machine as machine
 use Rattle.hpb_rules.specs.Machine.{Machine, MayStand, at_rest, run, turn, take_letters}
-use Rattle.hpb_rules.specs.MachineLaws.{IsDurable, IsSound, RestIsSound, RunIsMoves, RunJoins}
+use Rattle.hpb_rules.specs.MachineLaws.{IsDurable, RestIsSound, RunIsMoves, RunJoins}
 use Rattle.hpb_rules.specs.LetterLaws.{FitsGrow}
 use Rattle.hpb_rules.specs.Tree.{Rules}
-use Rattle.hpb_rules.proofs.Lists.{front_self, front_trans}
+use Rattle.hpb_rules.proofs.Lists.{front_trans}
 use Rattle.hpb_rules.proofs.RunLaws.{machine_keeps}
 use Rattle.hpb_image.specs.Standing.{Stands}
 use Rattle.hpb_engine.specs.declared.begun.Begun.TheVariants as begun
@@ -22,14 +22,14 @@ use Rattle.hpb_engine.specs.declared.step.Fault.{Fault}
 use Rattle.hpb_engine.specs.declared.step.Fault.TheVariants as faults
 use Rattle.hpb_progress.specs.declared.progress.Progress.{Progress}
 use Rattle.hpb_progress.specs.Numbers.{end_of, may_be_open}
-use Rattle.hpb_engine.specs.Checkpoints.{checkpoint_calls, step_calls}
+use Rattle.hpb_engine.specs.Checkpoints.{CheckpointLeads, checkpoint_calls, step_calls}
 use Rattle.hpb_engine.specs.Steps.{turn_calls}
 use Rattle.hpb_engine.specs.Runs.{Drove, Follows, Holds, Mark, Ran, StandsAtOne}
 use Rattle.hpb_engine.specs.Runs as runs
-use Rattle.hpb_promise.specs.Points.{Point, IsMove, GoesOn, Go, last_of, machine_at, told_at, acknowledged_at, MayStandAt, IsCounted, Finds, IsKept, Survives}
+use Rattle.hpb_promise.specs.Points.{Point, IsMove, GoesOn, Go, start_at, last_of, machine_at, told_at, acknowledged_at, AreMarked, MayStandAt, IsCounted, IsKept, Survives}
 
 -- What an event does to the machine is what moves do.
-record Moved (rules : Rules) (event : Event) (before after : Mark) (leaving : List Answer) : Type 0 where
+record Moved (rules : Rules) (event : Event) (before after : Mark) (leaving : List Answer) (fault : Option Fault) : Type 0 where
   moves : List machine.Event
   is : IsMove event moves
   becomes : after.machine ≡ (run rules before.machine moves).machine
@@ -37,6 +37,7 @@ record Moved (rules : Rules) (event : Event) (before after : Mark) (leaving : Li
   ruled : after.progress.committed.rules ≡ rules
   later : before.moment ≤ after.moment
   next : after.moment ≤ before.moment + 1
+  works : fault ≡ None → after.failed ≡ false
 
 -- There is one call of the device at most.
 if_one : (test : Bool) (n m : ℕ) → n ≤ 1 → m ≤ 1 → (if test then n else m) ≤ 1
@@ -54,8 +55,8 @@ one_step failed s = if_one failed 0 (step_calls s) (omega arith)
     (if_one (may_be_open s.ring s.retirement.upto) 1 0 (omega arith) (omega arith)))))
 
 moved : (rules : Rules) (event : Event) (before after : Mark) (leaving : List Answer) (fault : Option Fault)
-    → before.progress.committed.rules ≡ rules → Follows event before after leaving fault → Moved rules event before after leaving
-moved rules (events.Offer letters) before after leaving fault ruled (begun.Failed back, told, none) = record {
+    → before.failed ≡ false → before.progress.committed.rules ≡ rules → Follows event before after leaving fault → Moved rules event before after leaving fault
+moved rules (events.Offer letters) before after leaving fault works ruled (begun.Failed back, told, none) = record {
   moves = [];
   is = inr refl;
   becomes = told.machine;
@@ -63,8 +64,9 @@ moved rules (events.Offer letters) before after leaving fault ruled (begun.Faile
   ruled = ap (λ (p : _). p.committed.rules) told.stays ∙ ruled;
   later = omega (arith, told.moment);
   next = omega (arith, told.moment);
+  works = λ well. told.failed ∙ works;
 }
-moved rules (events.Offer letters) before after leaving fault ruled (begun.Busy back, told, none) = record {
+moved rules (events.Offer letters) before after leaving fault works ruled (begun.Busy back, told, none) = record {
   moves = [];
   is = inr refl;
   becomes = told.machine;
@@ -72,8 +74,9 @@ moved rules (events.Offer letters) before after leaving fault ruled (begun.Busy 
   ruled = ap (λ (p : _). p.committed.rules) told.stays ∙ ruled;
   later = omega (arith, told.moment);
   next = omega (arith, told.moment);
+  works = λ well. told.failed ∙ works;
 }
-moved rules (events.Offer letters) before after leaving fault ruled (begun.Full back, told, none) = record {
+moved rules (events.Offer letters) before after leaving fault works ruled (begun.Full back, told, none) = record {
   moves = [];
   is = inr refl;
   becomes = told.machine;
@@ -81,8 +84,9 @@ moved rules (events.Offer letters) before after leaving fault ruled (begun.Full 
   ruled = ap (λ (p : _). p.committed.rules) told.stays ∙ ruled;
   later = omega (arith, told.moment);
   next = omega (arith, told.moment);
+  works = λ well. told.failed ∙ works;
 }
-moved rules (events.Offer letters) before after leaving fault ruled (begun.Answered answers, told, none) = record {
+moved rules (events.Offer letters) before after leaving fault works ruled (begun.Answered answers, told, none) = record {
   moves = machine.offer letters ∷ [];
   is = inl refl;
   becomes = told.machine ∙ ap (λ (r : Rules). (take_letters r before.machine letters).machine) ruled;
@@ -90,8 +94,9 @@ moved rules (events.Offer letters) before after leaving fault ruled (begun.Answe
   ruled = ap (λ (p : _). p.committed.rules) told.stays ∙ ruled;
   later = omega (arith, told.moment);
   next = omega (arith, told.moment);
+  works = λ well. told.failed ∙ works;
 }
-moved rules (events.Offer letters) before after leaving fault ruled (begun.InFlight, told, none) = record {
+moved rules (events.Offer letters) before after leaving fault works ruled (begun.InFlight, told, none) = record {
   moves = machine.offer letters ∷ [];
   is = inl refl;
   becomes = told.machine ∙ ap (λ (r : Rules). (take_letters r before.machine letters).machine) ruled;
@@ -99,8 +104,9 @@ moved rules (events.Offer letters) before after leaving fault ruled (begun.InFli
   ruled = ap (λ (p : _). p.committed.rules) told.stays ∙ ruled;
   later = omega (arith, told.moment);
   next = omega (arith, told.moment);
+  works = λ well. told.failed ∙ works;
 }
-moved rules events.Commit before after leaving fault ruled (Ok step, told, none) = record {
+moved rules events.Commit before after leaving fault works ruled (Ok step, told, none) = record {
   moves = machine.commit ∷ [];
   is = inl refl;
   becomes = told.machine;
@@ -108,26 +114,20 @@ moved rules events.Commit before after leaving fault ruled (Ok step, told, none)
   ruled = told.rules ∙ ruled;
   later = told.later;
   next = omega (arith, told.call, one_turn before.failed before.progress);
+  works = λ well. told.failed;
 }
-moved rules events.Commit before after leaving fault ruled (Err faults.Device, told, none) = record {
+moved rules events.Commit before after leaving fault works ruled (Err faults.Device, told, none) = record {
   moves = machine.failed_commit ∷ [];
-  is = inr (inl refl);
+  is = inr refl;
   becomes = told.machine;
   leaves = told.answers ∙ sym (append-nil (turn false before.machine).leaving);
   ruled = told.rules ∙ ruled;
   later = told.later;
   next = omega (arith, told.call, one_turn before.failed before.progress);
+  works = λ well. absurd (let no : Some faults.Device ≡ None = sym none ∙ well in cc);
 }
-moved rules events.Commit before after leaving fault ruled (Err faults.Failed, told, none) = record {
-  moves = [];
-  is = inr (inr refl);
-  becomes = told.machine;
-  leaves = told.answers;
-  ruled = told.rules ∙ ruled;
-  later = told.later;
-  next = omega (arith, told.call, one_turn before.failed before.progress);
-}
-moved rules events.Checkpoint before after leaving fault ruled (result, told, none) = record {
+moved rules events.Commit before after leaving fault works ruled (Err faults.Failed, told, none) = absurd (let no : true ≡ false = sym told.leads.0 ∙ works in cc)
+moved rules events.Checkpoint before after leaving fault works ruled (Ok rest, told, none) = record {
   moves = [];
   is = refl;
   becomes = told.machine;
@@ -135,30 +135,36 @@ moved rules events.Checkpoint before after leaving fault ruled (result, told, no
   ruled = ap (λ (v : _). v.rules) told.same.committed ∙ ruled;
   later = told.later;
   next = omega (arith, told.call, one_step before.failed before.progress);
+  works = λ well. told.failed;
 }
+moved rules events.Checkpoint before after leaving fault works ruled (Err faults.Device, told, none) = record {
+  moves = [];
+  is = refl;
+  becomes = told.machine;
+  leaves = told.answers;
+  ruled = ap (λ (v : _). v.rules) told.same.committed ∙ ruled;
+  later = told.later;
+  next = omega (arith, told.call, one_step before.failed before.progress);
+  works = λ well. absurd (let no : Some faults.Device ≡ None = sym none ∙ well in cc);
+}
+moved rules events.Checkpoint before after leaving fault works ruled (Err faults.Failed, told, none) =
+    absurd ((subst (λ (f : Bool). CheckpointLeads f (Err faults.Failed) before.progress after.progress) works told.leads).1 refl)
 
 abbrev point_of : Mark → List machine.Event → Point
 point_of mark moves = record { moment = mark.moment; moves = moves }
 
 module _ (run_joins : RunJoins) (rules : Rules) (first : List Command) where
-  -- The points are those of the marks.
-  abbrev Match : List Mark → List Point → Type 0
-  Match [] [] = Unit {0}
-  Match [] (point ∷ points) = ⊥
-  Match (mark ∷ marks) [] = ⊥
-  Match (mark ∷ marks) (point ∷ points) = (point.moment ≡ mark.moment) × (machine_at rules first point ≡ mark.machine) × Match marks points
-
   record Followed (events : List Event) (mark : Mark) (moves : List machine.Event) (marks : List Mark) (answers : List Answer) (fault : Option Fault) : Type 0 where
     points : List Point
     go : Go events (point_of mark moves) points
-    same : Match (mark ∷ marks) (point_of mark moves ∷ points)
+    same : AreMarked rules first (mark ∷ marks) (point_of mark moves ∷ points)
     all : fault ≡ None → length points ≡ length events
     told : told_at rules first (point_of mark moves) ++ answers ≡ told_at rules first (last_of (point_of mark moves) points)
     ends : (last_of (point_of mark moves) points).moment ≡ (runs.last_of mark marks).moment
 
   -- After an event more the machine is at its next point.
-  module _ (event : Event) (mark after : Mark) (moves : List machine.Event) (leaving : List Answer) (is : machine_at rules first (point_of mark moves) ≡ mark.machine)
-      (it : Moved rules event mark after leaving) where
+  module _ (event : Event) (mark after : Mark) (moves : List machine.Event) (leaving : List Answer) (fault : Option Fault) (is : machine_at rules first (point_of mark moves) ≡ mark.machine)
+      (it : Moved rules event mark after leaving fault) where
     joins : machine_at rules first (point_of after (moves ++ it.moves)) ≡ after.machine
     joins = (run_joins rules (at_rest first) moves it.moves).1 ∙ ap (λ (m : Machine). (run rules m it.moves).machine) is ∙ sym it.becomes
 
@@ -170,9 +176,9 @@ module _ (run_joins : RunJoins) (rules : Rules) (first : List Command) where
     goes = record { added = it.moves; is = it.is; moves = refl; later = it.later; next = it.next }
 
   followed : (events : List Event) (mark : Mark) (moves : List machine.Event) (marks : List Mark) (answers : List Answer) (fault : Option Fault)
-      → mark.progress.committed.rules ≡ rules → machine_at rules first (point_of mark moves) ≡ mark.machine → Drove events mark marks answers fault
+      → mark.failed ≡ false → mark.progress.committed.rules ≡ rules → machine_at rules first (point_of mark moves) ≡ mark.machine → Drove events mark marks answers fault
       → Followed events mark moves marks answers fault
-  followed [] mark moves [] answers fault ruled is drove = record {
+  followed [] mark moves [] answers fault works ruled is drove = record {
     points = [];
     go = tt;
     same = (refl, is, tt);
@@ -180,29 +186,29 @@ module _ (run_joins : RunJoins) (rules : Rules) (first : List Command) where
     told = ap (λ (l : List Answer). told_at rules first (point_of mark moves) ++ l) drove.0 ∙ append-nil (told_at rules first (point_of mark moves));
     ends = refl;
   }
-  followed [] mark moves (after ∷ marks) answers fault ruled is drove = absurd drove
-  followed (event ∷ events) mark moves [] answers fault ruled is drove = absurd drove
-  followed (event ∷ events) mark moves (after ∷ marks) answers fault ruled is (inl it) =
-      let step = moved rules event mark after it.0 None ruled it.2 in
-      let rest = followed events after (moves ++ step.moves) marks it.1 fault step.ruled (joins event mark after moves it.0 is step) it.3 in
+  followed [] mark moves (after ∷ marks) answers fault works ruled is drove = absurd drove
+  followed (event ∷ events) mark moves [] answers fault works ruled is drove = absurd drove
+  followed (event ∷ events) mark moves (after ∷ marks) answers fault works ruled is (inl it) =
+      let step = moved rules event mark after it.0 None works ruled it.2 in
+      let rest = followed events after (moves ++ step.moves) marks it.1 fault (step.works refl) step.ruled (joins event mark after moves it.0 None is step) it.3 in
       record {
         points = point_of after (moves ++ step.moves) ∷ rest.points;
-        go = (goes event mark after moves it.0 is step, rest.go);
+        go = (goes event mark after moves it.0 None is step, rest.go);
         same = (refl, is, rest.same);
         all = λ none. ap suc (rest.all none);
         told = ap (λ (l : List Answer). told_at rules first (point_of mark moves) ++ l) it.4 ∙ sym (append_assoc (told_at rules first (point_of mark moves)) it.0 it.1)
-            ∙ ap (λ (l : List Answer). l ++ it.1) (sym (tells event mark after moves it.0 is step)) ∙ rest.told;
+            ∙ ap (λ (l : List Answer). l ++ it.1) (sym (tells event mark after moves it.0 None is step)) ∙ rest.told;
         ends = rest.ends;
       }
-  followed (event ∷ events) mark moves (after ∷ marks) answers fault ruled is (inr it) =
-      let step = moved rules event mark after answers (Some it.0) ruled it.1 in
+  followed (event ∷ events) mark moves (after ∷ marks) answers fault works ruled is (inr it) =
+      let step = moved rules event mark after answers (Some it.0) works ruled it.1 in
       record {
         points = point_of after (moves ++ step.moves) ∷ [];
-        go = (goes event mark after moves answers is step, tt);
-        same = subst (λ (ms : List Mark). Match (mark ∷ after ∷ ms) (point_of mark moves ∷ point_of after (moves ++ step.moves) ∷ [])) (sym it.2)
-            (refl, is, (refl, joins event mark after moves answers is step, tt));
+        go = (goes event mark after moves answers (Some it.0) is step, tt);
+        same = subst (λ (ms : List Mark). AreMarked rules first (mark ∷ after ∷ ms) (point_of mark moves ∷ point_of after (moves ++ step.moves) ∷ [])) (sym it.2)
+            (refl, is, (refl, joins event mark after moves answers (Some it.0) is step, tt));
         all = λ none. absurd (let no = sym none ∙ it.3 in cc);
-        told = sym (tells event mark after moves answers is step);
+        told = sym (tells event mark after moves answers (Some it.0) is step);
         ends = ap (λ (ms : List Mark). (runs.last_of after ms).moment) (sym it.2);
       }
 
@@ -229,7 +235,7 @@ module _ (run_joins : RunJoins) (run_is_moves : RunIsMoves) (rest_is_sound : Res
   begins_at (event ∷ events) p (q ∷ later) history go (inr there) =
       front_trans (acknowledged_at rules first p) (acknowledged_at rules first q) history (grows_on event p q go.0) (begins_at events q later history go.1 there)
 
-  among : (marks : List Mark) (points : List Point) (image : List ℕ) → Match run_joins rules first marks points → StandsAtOne marks image
+  among : (marks : List Mark) (points : List Point) (image : List ℕ) → AreMarked rules first marks points → StandsAtOne marks image
       → (history : List Command) × MayStandAt rules first points history × Stands history image
   among [] points image same stands = absurd stands
   among (mark ∷ marks) [] image same stands = absurd same
@@ -242,7 +248,7 @@ module _ (run_joins : RunJoins) (run_is_moves : RunIsMoves) (rest_is_sound : Res
   holds_here now since mark (next ∷ marks) holds image left = holds.1 image left
 
   kept_here : (now : ℕ) (since : ℕ → List ℕ → Type 0) (events : List Event) (mark : Mark) (marks : List Mark) (p : Point) (points : List Point)
-      → Holds now since mark marks → Go events p points → Match run_joins rules first (mark ∷ marks) (p ∷ points) → IsKept rules first since p points
+      → Holds now since mark marks → Go events p points → AreMarked rules first (mark ∷ marks) (p ∷ points) → IsKept rules first since p points
   kept_here now since events mark marks p points holds go same =
       let d = durable p.moves in
       let acknowledged = acknowledged_at rules first p in
@@ -266,7 +272,7 @@ module _ (run_joins : RunJoins) (run_is_moves : RunIsMoves) (rest_is_sound : Res
       }
 
   kept_all : (now : ℕ) (since : ℕ → List ℕ → Type 0) (events : List Event) (mark : Mark) (marks : List Mark) (p : Point) (points : List Point)
-      → Holds now since mark marks → Go events p points → Match run_joins rules first (mark ∷ marks) (p ∷ points)
+      → Holds now since mark marks → Go events p points → AreMarked rules first (mark ∷ marks) (p ∷ points)
       → (before : List Point) (point : Point) (later : List Point) → p ∷ points ≡ before ++ point ∷ later → IsKept rules first since point later
   kept_all now since events mark marks p points holds go same [] point later cut =
       let one : p ≡ point = cc in
@@ -282,17 +288,20 @@ module _ (run_joins : RunJoins) (run_is_moves : RunIsMoves) (rest_is_sound : Res
 
   -- A run of an engine that keeps the first commands at rest.
   pub survived : {D : Type 0} (seen : D → List ℕ) (may_leave : D → List ℕ → Type 0) (moment : D → ℕ) (left_since : D → ℕ → List ℕ → Type 0)
-      (at : ℕ) (s t : Progress) (failed after : Bool) (events : List Event) (disk : D) (answers : List Answer) (fault : Option Fault) → s.committed.rules ≡ rules
-      → Ran seen may_leave moment left_since (record { moment = at; progress = s; failed = failed; machine = at_rest first }) events disk t after answers fault
-      → Survives rules first at (moment disk) (left_since disk) events answers fault
-  survived seen may_leave moment left_since at s t failed after events disk answers fault ruled ran =
-      let start : Mark = record { moment = at; progress = s; failed = failed; machine = at_rest first } in
-      let it = followed run_joins rules first events start [] ran.marks answers fault ruled refl ran.drove in
-      record {
-        points = it.points;
-        go = it.go;
-        all = it.all;
-        ends = it.ends ∙ ran.at_end;
-        told = it.told;
-        kept = kept_all (moment disk) (left_since disk) events start ran.marks (point_of start []) it.points ran.holds it.go it.same;
-      }
+      (at : ℕ) (s t : Progress) (after : Bool) (events : List Event) (disk : D) (answers : List Answer) (fault : Option Fault) → s.committed.rules ≡ rules
+      → (ran : Ran seen may_leave moment left_since (record { moment = at; progress = s; failed = false; machine = at_rest first }) events disk t after answers fault)
+      → (run : Survives rules first at (moment disk) (left_since disk) events answers fault)
+      × AreMarked rules first (record { moment = at; progress = s; failed = false; machine = at_rest first } ∷ ran.marks) (start_at at ∷ run.points)
+  survived seen may_leave moment left_since at s t after events disk answers fault ruled ran =
+      let start : Mark = record { moment = at; progress = s; failed = false; machine = at_rest first } in
+      let it = followed run_joins rules first events start [] ran.marks answers fault refl ruled refl ran.drove in (
+        record {
+          points = it.points;
+          go = it.go;
+          all = it.all;
+          ends = it.ends ∙ ran.at_end;
+          told = it.told;
+          kept = kept_all (moment disk) (left_since disk) events start ran.marks (point_of start []) it.points ran.holds it.go it.same;
+        },
+        it.same,
+      )

@@ -1,7 +1,7 @@
 -- What a stop may find of a run, whenever it comes.
 -- Source: this project's own. That what has been answered is found after a stop, and nothing but what was asked for: durable linearizability (Izraelevitz, Mendes,
 -- Scott, Linearizability of Persistent Memory Objects under a Full-System-Crash Failure Model, 2016).
-use Rattle.std.specs.Prelude.{◌≡◌, ◌⊎◌, ℕ, ◌+◌, ◌≤◌, Bool, false, List, [], ◌∷◌, ◌++◌, Option, Some, None, length, All}
+use Rattle.std.specs.Prelude.{◌≡◌, ◌⊎◌, ℕ, ◌+◌, ◌≤◌, Bool, false, List, [], ◌∷◌, ◌++◌, Option, None, length, All}
 use Rattle.hpb_rules.specs.declared.command.Command.{Command}
 use Rattle.hpb_rules.specs.declared.letter.Answer.{Answer}
 use Rattle.hpb_rules.specs.declared.reply.Reply.TheVariants as replies
@@ -16,7 +16,7 @@ use Rattle.hpb_image.specs.Standing.{Stands}
 use Rattle.hpb_engine.specs.declared.event.Event.{Event}
 use Rattle.hpb_engine.specs.declared.event.Event.TheVariants as events
 use Rattle.hpb_engine.specs.declared.step.Fault.{Fault}
-use Rattle.hpb_engine.specs.Runs.{Ran}
+use Rattle.hpb_engine.specs.Runs.{Mark, Ran}
 use Rattle.hpb_engine.specs.Starts.{IsStarted}
 use Rattle.hpb_progress.specs.declared.progress.Progress.{Progress}
 use Rattle.hpb_recover.specs.declared.plan.Plan.{Plan}
@@ -26,11 +26,10 @@ pub record Point : Type 0 where
   pub moment : ℕ
   pub moves : List machine.Event
 
--- An event is at most one move of the machine: letters are offered or dropped, a turn is made, or its device call fails, or it is dropped, and a step of a
--- checkpoint is none.
+-- An event is at most one move of the machine: letters are offered or dropped; a turn is made, or its device call fails; and a step of a checkpoint is none.
 abbrev pub IsMove : Event → List machine.Event → Type 0
 IsMove (events.Offer letters) moves = (moves ≡ machine.offer letters ∷ []) ⊎ (moves ≡ [])
-IsMove events.Commit moves = (moves ≡ machine.commit ∷ []) ⊎ ((moves ≡ machine.failed_commit ∷ []) ⊎ (moves ≡ []))
+IsMove events.Commit moves = (moves ≡ machine.commit ∷ []) ⊎ (moves ≡ machine.failed_commit ∷ [])
 IsMove events.Checkpoint moves = moves ≡ []
 
 -- From one point to the next.
@@ -56,9 +55,9 @@ abbrev pub last_of : Point → List Point → Point
 last_of point [] = point
 last_of point (next ∷ points) = last_of next points
 
--- An answer that accepts a command names a number that is acknowledged.
+-- An answer that accepts a command names a number that is acknowledged. The first is 1.
 abbrev pub IsCounted : List Command → Answer → Type 0
-IsCounted acknowledged answered = (number : ℕ) → answered.reply ≡ replies.Ok number → number ≤ length acknowledged
+IsCounted acknowledged answered = (number : ℕ) → answered.reply ≡ replies.Ok number → (1 ≤ number) × (number ≤ length acknowledged)
 
 module _ (rules : Rules) (first : List Command) where
   -- The machine at a point: from rest with the first commands on, after the point's moves. The answers that have left by then, and what is acknowledged.
@@ -70,6 +69,13 @@ module _ (rules : Rules) (first : List Command) where
 
   abbrev pub acknowledged_at : Point → List Command
   acknowledged_at point = (machine_at point).acknowledged
+
+  -- The points of a run are those of the engine's own marks: each has the moment of its mark, and the machine that the engine keeps there.
+  abbrev pub AreMarked : List Mark → List Point → Type 0
+  AreMarked [] [] = Unit {0}
+  AreMarked [] (point ∷ points) = ⊥
+  AreMarked (mark ∷ marks) [] = ⊥
+  AreMarked (mark ∷ marks) (point ∷ points) = (point.moment ≡ mark.moment) × (machine_at point ≡ mark.machine) × AreMarked marks points
 
   -- A stop at one of the points may leave this history.
   abbrev pub MayStandAt : List Point → List Command → Type 0
@@ -123,10 +129,11 @@ pub record IsLeft (start : Point) (points before : List Point) (point : Point) (
   pub cut : start ∷ points ≡ before ++ point ∷ later
   pub left : since point.moment image
 
--- A run of an engine that was started with what was opened at this moment, over a device that stood for the first commands. It says of each event what became of
--- it, and where it stood: so an offer is dropped only where a batch is in flight or no clean frame is left.
-abbrev pub RanFrom : {D : Type 0} (seen : D → List ℕ) (may_leave : D → List ℕ → Type 0) (moment : D → ℕ) (left_since : D → ℕ → List ℕ → Type 0)
-    (plan : Plan) (at : ℕ) (first : List Command) (events : List Event) (disk : D) (progress : Progress) (failed : Bool) (answers : List Answer) (fault : Option Fault) → Type 0
-RanFrom seen may_leave moment left_since plan at first events disk progress failed answers fault =
-    (begun : Progress) × IsStarted begun plan
-    × Ran seen may_leave moment left_since (record { moment = at; progress = begun; failed = false; machine = at_rest first }) events disk progress failed answers fault
+-- The points are those of a run of an engine that was started with what was opened, over a device that stood for the first commands. The run says of each event
+-- what became of it, and where it stood: an offer is dropped only where a batch is in flight or no clean frame is left.
+pub record AreOfRun {D : Type 0} (seen : D → List ℕ) (may_leave : D → List ℕ → Type 0) (moment : D → ℕ) (left_since : D → ℕ → List ℕ → Type 0)
+    (plan : Plan) (start : Point) (first : List Command) (points : List Point) (events : List Event) (disk : D) (progress : Progress) (failed : Bool) (answers : List Answer) (fault : Option Fault) : Type 0 where
+  pub begun : Progress
+  pub started : IsStarted begun plan
+  pub ran : Ran seen may_leave moment left_since (record { moment = start.moment; progress = begun; failed = false; machine = at_rest first }) events disk progress failed answers fault
+  pub marked : AreMarked plan.auction.rules first (record { moment = start.moment; progress = begun; failed = false; machine = at_rest first } ∷ ran.marks) (start ∷ points)

@@ -5,9 +5,10 @@ use Rattle.hpb_promise.proofs.promise.drive_then_open.Goals as goal
 pub returns-in-Ok-open-clause-kept : goal.returns-in-Ok-open-clause-kept
 returns-in-Ok-open-clause-kept g c first stands =
     let run = c.in-Ok.ensures.survives first stands in (
-      run,
+      run.0,
+      run.1,
       λ before point later left.
-          let found = (run.kept before point later left.cut).finds (g.E.Disk.seen c.args.left) left.left in
+          let found = (run.0.kept before point later left.cut).finds (g.E.Disk.seen c.args.left) left.left in
           record {
             history = found.history;
             shows = c.in-Ok-open.ensures.shows found.history found.stands;
@@ -20,9 +21,10 @@ returns-in-Ok-open-clause-kept g c first stands =
 pub returns-in-Err-open-clause-kept : goal.returns-in-Err-open-clause-kept
 returns-in-Err-open-clause-kept g c first stands =
     let run = c.in-Ok.ensures.survives first stands in (
-      run,
+      run.0,
+      run.1,
       λ before point later left.
-          let found = (run.kept before point later left.cut).finds (g.E.Disk.seen c.args.left) left.left in
+          let found = (run.0.kept before point later left.cut).finds (g.E.Disk.seen c.args.left) left.left in
           c.in-Err-open.ensures.stands found.history found.stands,
     )
 
