@@ -14,16 +14,16 @@ pub loop-i-preserved : goal.loop-i-preserved
 loop-i-preserved c =
     let xs = c.loop-i.reports in
     let i = c.loop-i.i in
-    let y = c.view_again-shows.new.self in
+    let y = c.view_again.new.self in
     let d = c.index-reports-i.result in
     let was : Report = slice_index_or xs i d in
     let inv = c.loop-i.invariant in
-    let same = c.view_again-shows.ensures.same in
-    let whose = c.view_again-shows.ensures.viewer in
+    let same = c.view_again.ensures.same in
+    let whose = c.view_again.ensures.viewer in
     let lt : i < length xs = omega (arith, c.loop-i-test.true, c.loop-i.auto.reports) in (
       map-set said xs i y d (said_same y was same.0 same.1 same.2 same.3 same.4) ∙ inv.0,
       map-set book_of xs i y d whose.0 ∙ inv.1,
       map-set opened_of xs i y d whose.1 ∙ inv.2,
       length-set xs i y ∙ inv.3,
-      λ k e. prefix_trans _ _ _ (inv.4 k e) (grew-set (λ (r : Report). r.viewer.list) xs i y d c.view_again-shows.ensures.later lt k e),
+      λ k e. prefix_trans _ _ _ (inv.4 k e) (grew-set (λ (r : Report). r.viewer.list) xs i y d c.view_again.ensures.later lt k e),
     )
