@@ -8,7 +8,7 @@ use Rattle.hpb_board.specs.Publication.{Viewing, auction_of}
 use Rattle.hpb_closing.specs.Histories.{history_of}
 use Rattle.hpb_closing.specs.Reports.{accepted_by, total}
 use Rattle.hpb_house.specs.Boards.{SameBoard}
-use Rattle.hpb_house.specs.Closings.{LeavesAll}
+use Rattle.hpb_house.specs.Closings.{LeavesShown}
 use Rattle.hpb_house.specs.Keepers.{IsTold}
 use Rattle.hpb_house.specs.declared.keeper.Halt.{Halt}
 use Rattle.hpb_rings.specs.declared.client.Client.{Client}
@@ -42,6 +42,6 @@ pub record EndsAll {D : Type 0} (seen : D → List ℕ) (may_leave : D → List 
   pub once : All (λ report. IsPermutation (flat_map accepted_by served.reports.items) (history_of report.viewer)) served.reports.items
   pub numbers : total served.reports.items ≡ served.closing.auction.count - before.count
   -- The device keeps what it stood for when it was opened, and then these commands, and nothing is in flight.
-  pub kept : All (λ report. LeavesAll seen may_leave image served.closing.disk served.closing.auction served.closing.has_failed (history_of report.viewer)) served.reports.items
+  pub kept : LeavesShown seen may_leave image served.closing served.reports.items
   -- What is told of failed calls is so of the device.
   pub told : IsTold served.closing.has_failed failures (fails served.closing.disk)

@@ -7,7 +7,7 @@ use Rattle.std.proofs.lemmas.List.{length-map}
 use Rattle.hpb_board.specs.Publication.{Viewing, auction_of}
 use Rattle.hpb_closing.specs.Histories.{history_of}
 use Rattle.hpb_closing.specs.Reports.{accepted_by, total}
-use Rattle.hpb_house.specs.Closings.{LeavesAll}
+use Rattle.hpb_house.specs.Closings.{LeavesShown}
 use Rattle.hpb_rings.specs.declared.report.Report.{Report}
 use Rattle.hpb_house.specs.Boards.{SameBoard}
 use Rattle.hpb_house.specs.Committing.{IsOwed}
@@ -53,7 +53,7 @@ returns-in-Ok-close-clause-ended g c =
           subst (All (λ report. Shows c.in-Ok-close.closing.auction (front ++ history_of report.viewer))) (sym items) (closed.continued front (subst (λ (a : AuctionValue). Shows a front) (sym opened) shows));
       once = subst (λ (rs : List Report). All (λ report. IsPermutation (flat_map accepted_by rs) (history_of report.viewer)) rs) (sym items) (closed.once (apart lent c.args.started.eye.seats numbered));
       numbers = ap total items ∙ closed.numbers ∙ ap (λ (a : AuctionValue). c.in-Ok-close.closing.auction.count - a.count) opened;
-      kept = subst (All (λ report. LeavesAll g.D.Disk.seen g.D.Disk.may_leave g.J.Naming.image c.in-Ok-close.closing.disk c.in-Ok-close.closing.auction c.in-Ok-close.closing.has_failed (history_of report.viewer))) (sym items) closed.kept;
+      kept = subst (LeavesShown g.D.Disk.seen g.D.Disk.may_leave g.J.Naming.image c.in-Ok-close.closing) (sym items) closed.kept;
       told = closed.told;
     }
 
