@@ -2,9 +2,7 @@
 use Rattle.std.proofs.Common.{◌≡◌, ◌↔◌, ℕ, All, Bool, IsTrue, List, true, false, ◌++◌, ◌∙◌, ap, length, sym, subst}
 use Rattle.hpb_rules.specs.declared.command.Command.{Command}
 use Rattle.hpb_rules.specs.declared.letter.Answer.{Answer}
-use Rattle.hpb_rules.specs.AuctionValue.{AuctionValue, Shows}
-use Rattle.hpb_rules.specs.Letters.{judged, new_commands}
-use Rattle.hpb_letters.specs.Judging.{judged_in}
+use Rattle.hpb_rules.specs.Letters.{new_commands}
 use Rattle.hpb_letters.specs.Laws.{JudgedIsShown}
 use Rattle.hpb_image.specs.Standing.{Stands}
 use Rattle.hpb_progress.specs.Keeping.{Keeps, machine_of}

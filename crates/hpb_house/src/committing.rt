@@ -1,18 +1,21 @@
 //! The worker that commits letters.
-ghost use Rattle.std.specs.Prelude.{◌≡◌, ◌⊎◌, ◌<◌, ◌≤◌, ◌++◌, ◌∷◌, [], List, All, length, vec_len, true};
+ghost use Rattle.std.specs.Prelude.{◌≡◌, ◌<◌, ◌≤◌, ◌++◌, ◌∷◌, [], List, All, length, vec_len, true};
 ghost use Rattle.rtrb.specs.Ring.{sent, received};
 ghost use Rattle.hpb_rules.specs.declared.command.Command.{Command};
 ghost use Rattle.hpb_rules.specs.declared.letter.Letter.{Letter};
 ghost use Rattle.hpb_rings.specs.Gathering.{gathered, marks};
 ghost use Rattle.hpb_rings.specs.Slips.{ends};
-ghost use Rattle.hpb_house.specs.Committing.{Comes, IsOwed};
+ghost use Rattle.hpb_house.specs.Committing.{Comes, IsSettled};
+ghost use Rattle.hpb_house.specs.Owing.{IsOwed};
 ghost use Rattle.hpb_house.specs.declared.committing.Turned.TheVariants.{Ended as End};
 
 use crate::gate::{Gate, Point};
 use crate::house::House;
+use crate::incoming::{Incoming, Settled};
 use crate::keeper::Halt;
 use crate::naming::Naming;
 use crate::offered::{Offered, Reason};
+use crate::over::Over;
 use hpb_board::Front;
 use hpb_disk::Disk;
 use hpb_engine::Step;
@@ -26,8 +29,12 @@ use std::time::Duration;
 /// How long the committer waits before it offers letters again for which memory or room was refused, in milliseconds.
 const PAUSE: u64 = 1;
 
-/// How often the committer looks for one letter more where more are expected. Other threads run between two looks.
+/// How often the committer looks for letters that are expected, in all. Other threads run between two looks.
 const LOOKS: u32 = 100;
+
+/// How many of these looks, one after another, may find no other letter where some wait already: these are not to wait long
+/// beside much other work.
+const FEW_LOOKS: u32 = 20;
 
 /// What came of a turn of the committer.
 #[derive(Drop)]
@@ -44,32 +51,35 @@ enum Turned {
 
 /// Commits letters: it gathers those that wait, offers them as one batch and makes the steps of its commit, taking the lock
 /// for one step at a time. With nothing to do it waits for its bell. Where more letters are expected, since their senders
-/// were just answered, it looks for each of these for some microseconds before that.
+/// were just answered, it looks for them before that: 100 times at most, and where letters wait already, until 20 looks one
+/// after another find no other.
 ///
 /// Letters that are handed back for want of a clean frame, of memory or of room on the board are offered again. Once the
 /// engine has failed it sends a `Halt` to each seat, and from then on only empties the rings. It ends when every seat has
 /// sent its end mark, and then the checkpointer ends too. It may wait.
+///
+/// All letters that came are on the list then, in the order of their seat, each once; but for those that were still held
+/// when a halt was told to each seat, and those that came after it.
 pub fn committer<D: Disk + Drop, W: Wait + Drop, J: Naming, G: Gate, R: Wait>(
     rt: &R,
     house: &House<D, W, J>,
-    mut intake: Intake<Halt>,
+    incoming: Incoming<J>,
     gate: &G,
-    front: &mut Front,
-) -> Intake<Halt>
-    requires book { front.old.trail.book ≡ house.now.book }
-    requires none { IsOwed (gathered intake.rings.items) front.old.trail.log [] }
-    // It ends after every end mark.
-    ensures ended { All (λ r. ends (received r.letters) ≡ true) result.rings.items }
-    // All letters that came are on the list, in the order of their seat, each once; but for those that were still held when a halt was told to each seat.
-    ensures owed { (lost : List Letter) × IsOwed (gathered result.rings.items) front.new.trail.log lost × ((lost ≡ []) ⊎ All (λ r. length (sent r.marks) ≡ 1) result.rings.items) }
+) -> Settled
+    ensures { IsSettled J.eye result }
 {
+    let Incoming {
+        mut intake,
+        mut front,
+        ..
+    } = incoming;
     let mut held = Letters::new();
     let mut awaited = 0;
     for _ in rt.forever() {
         if held.len() == 0 {
             await_letters(&mut intake, awaited);
         }
-        match turn(rt, house, &mut intake, gate, held, front) {
+        match turn(rt, house, &mut intake, gate, held, &mut front) {
             Turned::Free { expected } => {
                 held = Letters::new();
                 awaited = expected;
@@ -78,41 +88,36 @@ pub fn committer<D: Disk + Drop, W: Wait + Drop, J: Naming, G: Gate, R: Wait>(
             Turned::Halted(halt) => {
                 intake.halt(halt);
                 drain(rt, house, &mut intake, gate);
-                house.dismiss();
-                return intake;
+                house.dismiss(rt, Over::of(&intake));
+                return Settled { intake, front };
             }
             Turned::Ended => {
-                house.dismiss();
-                return intake;
+                house.dismiss(rt, Over::of(&intake));
+                return Settled { intake, front };
             }
         }
     }
     unreachable!()
 }
 
-/// Waits until as many letters wait as are expected, or looking for one more was in vain.
+/// Looks for letters until as many wait as are expected, or looking was in vain.
 fn await_letters(intake: &mut Intake<Halt>, expected: usize)
-    ensures same { (gathered intake.new.rings.items ≡ gathered intake.old.rings.items) × (marks intake.new.rings.items ≡ marks intake.old.rings.items) }
+    ensures same { (gathered intake.new.rings.items ≡ gathered intake.old.rings.items) × (marks intake.new.rings.items ≡ marks intake.old.rings.items) × (vec_len intake.new.rings ≡ vec_len intake.old.rings) }
 {
-    for _ in 0..expected {
+    let mut most = 0;
+    let mut left = LOOKS;
+    for _ in 0..LOOKS {
         let waiting = intake.waiting();
-        if waiting >= expected || !one_more(intake, waiting) {
+        if waiting >= expected || left == 0 {
             return;
         }
-    }
-}
-
-/// Looks for one letter more than so many, and tells whether it came.
-fn one_more(intake: &mut Intake<Halt>, waiting: usize) -> bool
-    ensures same { (gathered intake.new.rings.items ≡ gathered intake.old.rings.items) × (marks intake.new.rings.items ≡ marks intake.old.rings.items) }
-{
-    for _ in 0..LOOKS {
-        thread::yield_now();
-        if intake.waiting() > waiting {
-            return true;
+        if waiting > most {
+            most = waiting;
+            left = FEW_LOOKS;
         }
+        left -= 1;
+        thread::yield_now();
     }
-    false
 }
 
 /// One turn: the letters that are held, or else those that wait, are offered.
@@ -124,9 +129,10 @@ fn turn<D: Disk + Drop, W: Wait + Drop, J: Naming, G: Gate, R: Wait>(
     held: Letters,
     front: &mut Front,
 ) -> Turned
-    requires book { front.old.trail.book ≡ house.now.book }
+    requires book { front.old.trail.book ≡ J.eye.book }
     requires owed { IsOwed (gathered intake.old.rings.items) front.old.trail.log held }
-    ensures book { front.new.trail.book ≡ house.now.book }
+    ensures rings { vec_len intake.new.rings ≡ vec_len intake.old.rings }
+    ensures book { front.new.trail.book ≡ J.eye.book }
     ensures comes { Comes result (gathered intake.new.rings.items) front.new.trail.log }
     ensures ended { result ≡ End → All (λ r. ends (received r.letters) ≡ true) intake.new.rings.items }
 {
@@ -169,9 +175,10 @@ fn offer<D: Disk + Drop, W: Wait + Drop, J: Naming, G: Gate, R: Wait>(
     letters: Letters,
     front: &mut Front,
 ) -> Turned
-    requires book { front.old.trail.book ≡ house.now.book }
+    requires book { front.old.trail.book ≡ J.eye.book }
     requires owed { IsOwed (gathered intake.old.rings.items) front.old.trail.log letters }
-    ensures book { front.new.trail.book ≡ house.now.book }
+    ensures rings { vec_len intake.new.rings ≡ vec_len intake.old.rings }
+    ensures book { front.new.trail.book ≡ J.eye.book }
     ensures comes { Comes result (gathered intake.new.rings.items) front.new.trail.log }
     ensures goes_on { result ≡ End → ⊥ }
 {
@@ -192,6 +199,7 @@ fn commit<D: Disk + Drop, W: Wait + Drop, J: Naming, G: Gate, R: Wait>(
     intake: &mut Intake<Halt>,
     gate: &G,
 ) -> Turned
+    ensures rings { vec_len intake.new.rings ≡ vec_len intake.old.rings }
     ensures comes { (list : List (List Letter)) → IsOwed (gathered intake.old.rings.items) list [] → Comes result (gathered intake.new.rings.items) list }
     ensures goes_on { result ≡ End → ⊥ }
 {
@@ -213,6 +221,7 @@ fn commit<D: Disk + Drop, W: Wait + Drop, J: Naming, G: Gate, R: Wait>(
 
 /// It is free, and expects a letter more for each of these answers.
 fn expecting(intake: &mut Intake<Halt>, answers: &Answers) -> Turned
+    ensures rings { vec_len intake.new.rings ≡ vec_len intake.old.rings }
     ensures comes { (list : List (List Letter)) → IsOwed (gathered intake.old.rings.items) list [] → Comes result (gathered intake.new.rings.items) list }
     ensures goes_on { result ≡ End → ⊥ }
 {
@@ -270,6 +279,7 @@ fn drain<D: Disk + Drop, W: Wait + Drop, J: Naming, G: Gate, R: Wait>(
     gate: &G,
 )
     requires told { All (λ r. length (sent r.marks) ≡ 1) intake.old.rings.items }
+    ensures rings { vec_len intake.new.rings ≡ vec_len intake.old.rings }
     ensures told { All (λ r. length (sent r.marks) ≡ 1) intake.new.rings.items }
     ensures ended { All (λ r. ends (received r.letters) ≡ true) intake.new.rings.items }
     ensures lost { (list : List (List Letter)) (lost : List Letter) → IsOwed (gathered intake.old.rings.items) list lost → (more : List Letter) × IsOwed (gathered intake.new.rings.items) list more }

@@ -6,18 +6,14 @@ ghost use Rattle.hpb_image.specs.Standing.{Stands};
 ghost use Rattle.hpb_progress.specs.Keeping.{Keeps};
 ghost use Rattle.hpb_engine.specs.Starts.{IsStarted};
 ghost use Rattle.rtrb.specs.Ring.{received};
-ghost use Rattle.hpb_rings.specs.Gathering.{gathered};
-ghost use Rattle.hpb_house.specs.Committing.{IsOwed};
-ghost use Rattle.hpb_house.specs.Namings.{IsOf};
 ghost use Rattle.hpb_house.specs.Starts.{AreBegun, HasRing, HaveRings, IsBegun, IsViewOf};
 ghost use Rattle.hpb_house.specs.Told.{refusal_of};
 
 use crate::house::House;
 use crate::keeper::{Halt, Keeper};
-use crate::naming::Naming;
-use crate::own::Own;
+use crate::started::Started;
 use hpb_auction::Auction;
-use hpb_board::{Front, Publisher, Viewer};
+use hpb_board::{Publisher, Viewer};
 use hpb_disk::Disk;
 use hpb_engine::Engine;
 use hpb_recover::Opened;
@@ -26,8 +22,7 @@ use hpb_rules::Refusal;
 use std::alloc::Global;
 use std::marker::Brand;
 use std::snapshot::Snapshot;
-use std::sync::atomic::AtomicBool;
-use std::sync::{Arc, Mutex, Wait};
+use std::sync::{Arc, Wait};
 use std::thread::Parker;
 use thiserror::Error;
 
@@ -60,34 +55,6 @@ pub struct StartFault<D: Disk + Drop> {
     /// As it was handed over.
     pub opened: Opened<D>,
     pub cause: StartCause,
-}
-
-/// A house that has no name yet, with what its threads need.
-#[derive(Drop)]
-pub struct Started<D: Disk + Drop, W: Wait + Drop> {
-    /// What is to lie under the lock.
-    pub keeper: Keeper<D, W>,
-    /// A viewer that never views: it shows what was opened.
-    pub eye: Viewer,
-    bell: Arc<Parker, Global>,
-    /// The committer's front of the list.
-    pub front: Front,
-    /// The committer's side of the rings.
-    pub intake: Intake<Halt>,
-    /// A client for each seat, from 0 on.
-    pub clients: Vec<Client<Halt>>,
-}
-
-/// A house with what its threads need.
-#[derive(Drop)]
-pub struct Ready<D: Disk + Drop, W: Wait + Drop, J: Naming> {
-    pub house: House<D, W, J>,
-    /// The committer's front of the list.
-    pub front: Front,
-    /// The committer's side of the rings.
-    pub intake: Intake<Halt>,
-    /// A client for each seat, from 0 on.
-    pub clients: Vec<Client<Halt>>,
 }
 
 /// What stands before the engine: the board with its viewers, the rings and the committer's bell.
@@ -222,9 +189,9 @@ impl<D: Disk + Drop, W: Wait + Drop> House<D, W, Brand> {
         ensures joined { IfOk result (λ made. HaveRings made.clients.items made.intake.rings.items) }
         // What is to lie under the lock publishes to these clients' viewers, and its device was opened as this one is.
         ensures board { IfOk result (λ made. IsViewOf made.keeper.board made.eye) }
-        // The front is of the same board, and nothing has come or is on the list yet.
-        ensures front { IfOk result (λ made. made.front.trail.book ≡ made.eye.book) }
-        ensures fresh { IfOk result (λ made. IsOwed (gathered made.intake.rings.items) made.front.trail.log []) }
+        // Nothing has come or is on the list yet.
+        ensures fresh { IfOk result (λ made. All (λ ring. received ring.letters ≡ []) made.intake.rings.items) }
+        ensures empty { IfOk result (λ made. made.front.trail.log ≡ []) }
         ensures image { IfOk result (λ made. made.keeper.image ≡ D.seen opened.disk) }
         ensures before { IfOk result (λ made. made.keeper.before ≡ D.failures opened.disk) }
         ensures back { IfErr result (λ fault. (fault.opened.disk ≡ opened.disk) × (fault.opened.plan ≡ opened.plan)) }
@@ -247,39 +214,6 @@ impl<D: Disk + Drop, W: Wait + Drop> House<D, W, Brand> {
     }
 }
 
-impl<D: Disk + Drop, W: Wait + Drop> Started<D, W> {
-    /// The house under a name, which is its own.
-    pub fn named<J: Naming>(self) -> Ready<D, W, J>
-        requires eye { (self.eye ≡ J.eye) × (self.eye.list ≡ []) }
-        requires own { IsOf J.eye J.image J.failures self.keeper }
-        ensures house { result.house ≡ self.eye }
-        ensures front { result.front ≡ self.front }
-        ensures intake { result.intake ≡ self.intake }
-        ensures clients { result.clients ≡ self.clients }
-    {
-        let Started {
-            keeper,
-            eye,
-            bell,
-            front,
-            intake,
-            clients,
-        } = self;
-        Ready {
-            house: House {
-                keeper: Mutex::new(Own::new(keeper)),
-                eye,
-                committing: bell,
-                checkpointing: Parker::new(),
-                is_over: AtomicBool::new(false),
-            },
-            front,
-            intake,
-            clients,
-        }
-    }
-}
-
 /// Puts a house together.
 fn assemble<D: Disk + Drop, W: Wait + Drop>(
     engine: Engine<D>,
@@ -291,12 +225,14 @@ fn assemble<D: Disk + Drop, W: Wait + Drop>(
     requires keeps { (history : List Command) → Stands history (D.seen opened.value.disk) → Keeps D.seen D.may_leave engine.disk engine.progress engine.failed (at_rest history) }
     requires works { (engine.failed ≡ false) × (engine.disk ≡ opened.value.disk) }
     requires publisher { (setting.publisher.opened ≡ opened.value.plan.auction) × (setting.publisher.seats ≡ sessions) × (setting.publisher.list ≡ []) × (setting.publisher.pending ≡ []) }
-    requires rings { vec_len setting.rings ≤ 32 }
+    requires eye { IsViewOf setting.publisher setting.eye }
+    requires rings { (vec_len setting.rings ≡ sessions) × (sessions ≤ 32) }
+    requires fresh { All (λ ring. received ring.letters ≡ []) setting.rings.items }
     ensures eye { result.eye ≡ setting.eye }
     ensures board { result.keeper.board ≡ setting.publisher }
     ensures image { result.keeper.image ≡ D.seen opened.value.disk }
     ensures before { result.keeper.before ≡ D.failures opened.value.disk }
-    ensures front { (result.front.trail.book ≡ setting.publisher.book) × (result.front.trail.log ≡ []) }
+    ensures front { result.front.trail.log ≡ [] }
     ensures intake { result.intake.rings ≡ setting.rings }
     ensures clients { result.clients ≡ setting.clients }
 {
