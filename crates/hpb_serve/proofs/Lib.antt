@@ -2,4 +2,4 @@ mod Reports
 mod Seats
 mod Turns
 mod Written
-mod Orders
+mod Ills

@@ -1,10 +1,10 @@
 -- Lists that are gone over, one element a turn.
-use Rattle.std.proofs.Common.{◌≡◌, ◌∙◌, zero, suc, List, [], ◌∷◌, ◌++◌, length, map, arith, All, Option, Some, None, IfSome, true, refl, sym, ap, subst}
+use Rattle.std.proofs.Common.{◌≡◌, ◌∙◌, zero, suc, List, [], ◌∷◌, ◌++◌, length, map, arith, All, Contains, Option, Some, None, IfSome, true, refl, sym, ap, subst}
 use Rattle.std.specs.declared.vec.IntoIter.{IntoIter}
 use Rattle.std.specs.Vec.Iter.{into_iter_items, into_iter_steps}
 use Rattle.std.proofs.lemmas.List.{append-nil, append_assoc, map-append}
 use Rattle.std.specs.Option.{is_some}
-use Rattle.std.proofs.lemmas.List.Elements.{All-append}
+use Rattle.std.proofs.lemmas.List.Elements.{All-append, Contains-append_right}
 
 one_of : {A : Type 0} (P : A → Type 0) (x : A) → P x → All P (x ∷ [])
 one_of P x h zero d lt = h
@@ -32,6 +32,13 @@ one_more f g whole made more s t x is steps same =
     ∙ ap (λ one. map f made ++ one ∷ map g (into_iter_items t)) same
     ∙ ap (λ items. map f made ++ map g items) (sym steps.0)
     ∙ is
+
+-- what is told of the next is on that list
+pub among : {A B C Z : Type 0} (f : A → C) (g : B → C) (whole : List C) (made : List A) (s t : IntoIter B Z) (x : B)
+    → map f made ++ map g (into_iter_items s) ≡ whole → into_iter_steps s (Some x) t → Contains whole (g x)
+among f g whole made s t x is steps =
+    subst (λ l. Contains l (g x)) is (Contains-append_right (map f made) (map g (into_iter_items s)) (g x)
+    (subst (λ items. Contains (map g items) (g x)) (sym steps.0) (zero, omega arith, refl)))
 
 -- after the last turn it is what was made
 pub no_more : {A B C : Type 0} (f : A → C) (g : B → C) (whole : List C) (made : List A) (rest : List B) → map f made ++ map g rest ≡ whole → length rest ≡ 0 → map f made ≡ whole

@@ -12,6 +12,6 @@ take_front (suc n) [] = ([], refl)
 take_front (suc n) (x ∷ xs) = let rest = take_front n xs in (rest.0, ap (λ ys. x ∷ ys) rest.1)
 
 -- a front of the line was written where the writer failed
-pub stopped : (old new : Option (List ℕ)) (bytes line : List ℕ) → bytes ≡ line → (n : ℕ) × Appends old new (take n bytes) → Announces {A = ⊤} line old new (Err Writer)
-stopped old new bytes line is put =
-    subst (λ (text : List ℕ). Announces {A = ⊤} text old new (Err Writer)) is (take put.0 bytes, put.1, take_front put.0 bytes)
+pub stopped : (D : Type 0) (old new : Option (List ℕ)) (bytes line : List ℕ) → bytes ≡ line → (n : ℕ) × Appends old new (take n bytes) → Announces {A = ⊤} {D = D} line old new (Err Writer)
+stopped D old new bytes line is put =
+    subst (λ (text : List ℕ). Announces {A = ⊤} {D = D} text old new (Err Writer)) is (take put.0 bytes, put.1, take_front put.0 bytes)

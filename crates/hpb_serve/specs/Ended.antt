@@ -1,6 +1,6 @@
 -- How the sessions of a house end.
 -- Source: this project's own.
-use Rattle.std.specs.Prelude.{◌≡◌, ℕ, ◌-◌, List, ◌++◌, All, IsPermutation, Option, flat_map, map}
+use Rattle.std.specs.Prelude.{◌≡◌, ℕ, ◌-◌, ◌^◌, List, ◌++◌, All, Contains, IsPermutation, Option, flat_map, map, min}
 use Rattle.std.specs.List.{range_with_len}
 use Rattle.hpb_rules.specs.declared.command.Command.{Command}
 use Rattle.hpb_rules.specs.AuctionValue.{AuctionValue, Shows}
@@ -8,11 +8,16 @@ use Rattle.hpb_board.specs.Publication.{Viewing, auction_of}
 use Rattle.hpb_closing.specs.Histories.{history_of}
 use Rattle.hpb_closing.specs.Reports.{accepted_by, total}
 use Rattle.hpb_house.specs.Boards.{SameBoard}
-use Rattle.hpb_house.specs.Closings.{LeavesShown}
+use Rattle.hpb_house.specs.Closings.{LeavesShown, LeavesUnsettled}
 use Rattle.hpb_house.specs.Keepers.{IsTold}
 use Rattle.hpb_house.specs.declared.keeper.Halt.{Halt}
 use Rattle.hpb_rings.specs.declared.client.Client.{Client}
 use Rattle.hpb_rings.specs.declared.report.Report.{Report}
+use Rattle.hpb_serve.specs.declared.fault.Differing.{Differing}
+use Rattle.hpb_serve.specs.declared.fault.ServeFault.{ServeFault}
+use Rattle.hpb_serve.specs.declared.fault.ServeFault.TheVariants as faults
+use Rattle.hpb_serve.specs.declared.fault.SessionsFault.{SessionsFault}
+use Rattle.hpb_serve.specs.declared.fault.SessionsFault.TheVariants as threads
 use Rattle.hpb_serve.specs.declared.serving.Served.{Served}
 use Rattle.hpb_sessions.specs.declared.end.SessionEnd.{SessionEnd}
 use Rattle.hpb_sessions.specs.declared.stop.Stop.{Stop}
@@ -26,11 +31,16 @@ pub record EndsAtSeat (eye : Viewing) (place : ℕ) (end : SessionEnd Halt) : Ty
   pub stop : Option Stop
   pub ended : EndsBy stop end
 
--- A session ended without its client, which began with this auction: the next answer to its seat isn't the one that it waits for.
-pub record LeavesOne (auction : AuctionValue) : Type 0 where
-  pub client : Client Halt
+-- A session left its client, which is that of one of these seats and began with this auction: the next answer to its seat isn't the one that it waits for.
+pub record IsLeft (auction : AuctionValue) (seats : List ℕ) (client : Client Halt) : Type 0 where
+  pub seat : Contains seats client.seat
   pub opened : client.viewer.opened ≡ auction
   pub order : IsInOrder client.seat client.viewer client.taken client.waiting.items → ⊥
+
+-- Where a session of these seats left its client, that is handed back.
+abbrev pub LeavesOne : (auction : AuctionValue) (seats : List ℕ) → SessionsFault → Type 0
+LeavesOne auction seats threads.Memory = Unit {0}
+LeavesOne auction seats (threads.Order client) = IsLeft auction seats client
 
 -- So many sessions have ended, which began with this auction, on a device that was opened with these bytes after so many failed calls; and this is told of them.
 pub record EndsAll {D : Type 0} (seen : D → List ℕ) (may_leave : D → List ℕ → Type 0) (fails : D → ℕ) (image : List ℕ) (failures : ℕ) (before : AuctionValue) (sessions : ℕ) (served : Served D) : Type 0 where
@@ -45,3 +55,26 @@ pub record EndsAll {D : Type 0} (seen : D → List ℕ) (may_leave : D → List 
   pub kept : LeavesShown seen may_leave image served.closing served.reports.items
   -- What is told of failed calls is so of the device.
   pub told : IsTold served.closing.has_failed failures (fails served.closing.disk)
+
+-- The same many sessions have ended, and were answered something else than what was committed.
+pub record EndsDiffering {D : Type 0} (seen : D → List ℕ) (may_leave : D → List ℕ → Type 0) (fails : D → ℕ) (image : List ℕ) (failures : ℕ) (before : AuctionValue) (sessions : ℕ) (differing : Differing D) : Type 0 where
+  -- There is a report of each seat.
+  pub seats : map (λ (report : Report). report.seat) differing.reports.items ≡ range_with_len 0 sessions
+  -- The device keeps what it stood for when it was opened, and then the commands committed since.
+  pub left : LeavesUnsettled seen may_leave image differing.fault differing.reports.items
+  -- What is told of failed calls is so of the device.
+  pub told : IsTold differing.fault.has_failed failures (fails differing.fault.disk)
+  -- The numbers are those of the answers newly accepted, by all reports, and of the commands since the opening.
+  pub accepted : differing.fault.counts.accepted ≡ min (total differing.reports.items) (2 ^ 64 - 1)
+  pub committed : differing.fault.counts.committed ≡ differing.fault.auction.count - before.count
+  -- With nothing in flight, and each report of the committed auction, they differ.
+  pub only : differing.fault.is_committing ≡ false → All (λ report. auction_of report.viewer ≡ differing.fault.auction) differing.reports.items
+      → differing.fault.counts.accepted ≢ differing.fault.counts.committed
+
+-- A session left its client, or all have ended and what they were answered differs; of want of memory, of the writer and of the start nothing more is told.
+abbrev pub EndsIll : {D : Type 0} (seen : D → List ℕ) (may_leave : D → List ℕ → Type 0) (fails : D → ℕ) (image : List ℕ) (failures : ℕ) (before : AuctionValue) (sessions : ℕ) → ServeFault D → Type 0
+EndsIll seen may_leave fails image failures before sessions faults.Memory = Unit {0}
+EndsIll seen may_leave fails image failures before sessions faults.Writer = Unit {0}
+EndsIll seen may_leave fails image failures before sessions (faults.Start cause) = Unit {0}
+EndsIll seen may_leave fails image failures before sessions (faults.Order client) = IsLeft before (range_with_len 0 sessions) client
+EndsIll seen may_leave fails image failures before sessions (faults.Counts differing) = EndsDiffering seen may_leave fails image failures before sessions differing

@@ -7,9 +7,9 @@ use Rattle.hpb_serve.specs.declared.fault.ServeFault.{ServeFault}
 use Rattle.hpb_serve.specs.declared.fault.ServeFault.TheVariants.{Memory, Writer, Start, Order, Counts}
 
 -- The refusal that it is told by.
-abbrev pub refusal_of : ServeFault → Refusal
+abbrev pub refusal_of : {D : Type 0} → ServeFault D → Refusal
 refusal_of Memory = refusals.Memory
 refusal_of Writer = refusals.Stream
 refusal_of (Start cause) = starts.refusal_of cause
-refusal_of Order = refusals.Order
-refusal_of Counts = refusals.Counts
+refusal_of (Order client) = refusals.Order
+refusal_of (Counts differing) = refusals.Counts

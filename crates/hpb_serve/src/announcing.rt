@@ -1,17 +1,21 @@
 //! The line that tells of the port.
-ghost use Rattle.std.specs.Prelude.{◌≡◌, ◌⊎◌, IfErr};
-ghost use Rattle.hpb_serve.specs.declared.fault.ServeFault.TheVariants.{Memory, Writer};
-ghost use Rattle.hpb_serve.specs.Announcing.{Announces, listening_line};
+ghost use Rattle.std.specs.Prelude.{IfErr};
+ghost use Rattle.hpb_serve.specs.Announcing.{Announces, IsOfWriting, listening_line};
 
 use crate::fault::ServeFault;
+use hpb_disk::Disk;
 use hpb_server::send_bytes;
 use std::alloc::Global;
 use std::io::Write;
 
 /// Writes the line that tells of the port, and has it handed on.
-pub(crate) fn announce<W: Write>(alloc: Global, port: u16, output: &mut W) -> Result<(), ServeFault>
+pub(crate) fn announce<D: Disk + Drop, W: Write>(
+    alloc: Global,
+    port: u16,
+    output: &mut W,
+) -> Result<(), ServeFault<D>>
     ensures written { Announces (listening_line port) (W.contents output.old) (W.contents output.new) result }
-    ensures fault { IfErr result (λ fault. (fault ≡ Memory) ⊎ (fault ≡ Writer)) }
+    ensures fault { IfErr result IsOfWriting }
 {
     let line = format!(in alloc; "LISTENING {port}\n")?;
     match send_bytes(output, line.as_bytes()) {

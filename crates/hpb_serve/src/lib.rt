@@ -10,6 +10,6 @@ mod serving;
 mod threads;
 mod watching;
 
-pub use fault::ServeFault;
+pub use fault::{Differing, ServeFault};
 pub use serving::{Served, serve_opened, serve_watched};
 pub use watching::{Unwatched, Watch};

@@ -1,15 +1,14 @@
 //! Serving an auction that was opened.
-ghost use Rattle.std.specs.Prelude.{◌≡◌, ◌≤◌, ◌⊎◌, [], Err, IfErr, IfOk};
+ghost use Rattle.std.specs.Prelude.{◌≡◌, ◌≤◌, [], IfErr, IfOk};
 ghost use Rattle.hpb_rings.specs.Gathering.{gathered};
 ghost use Rattle.hpb_house.specs.Committing.{IsOwed};
 ghost use Rattle.hpb_house.specs.Namings.{IsOf};
 ghost use Rattle.hpb_house.specs.Starts.{AreBegun};
-ghost use Rattle.hpb_serve.specs.Announcing.{Announces, listening_line};
-ghost use Rattle.hpb_serve.specs.Ended.{EndsAll, LeavesOne};
-ghost use Rattle.hpb_serve.specs.declared.fault.ServeFault.TheVariants.{Counts, Memory, Order};
+ghost use Rattle.hpb_serve.specs.Announcing.{Announces, IsBehind, listening_line};
+ghost use Rattle.hpb_serve.specs.Ended.{EndsAll, EndsIll};
 
 use crate::announcing::announce;
-use crate::fault::ServeFault;
+use crate::fault::{Differing, ServeFault, SessionsFault};
 use crate::threads::run_threads;
 use crate::watching::{Unwatched, Watch};
 use hpb_disk::Disk;
@@ -40,8 +39,9 @@ pub struct Served<D: Disk + Drop> {
 /// other.
 ///
 /// Refused: 90 `memory` where memory or a thread is refused, 94 `place` where a session's place is, both before anything
-/// is written or, for 90, after the line; 92 `stream` where the line was not written; 95 `order` where a session ended
-/// without its client; 96 `counts` where what the sessions were answered isn't what was committed.
+/// is written or, for 90, after the line; 92 `stream` where the line was not written; 95 `order` where a session left its
+/// client, which is handed back; 96 `counts` where what the sessions were answered isn't what was committed: their reports are
+/// handed back with what the house leaves.
 pub fn serve_opened<
     H: Net<Listener = TcpListener, Stream = TcpStream> + Threads + Wait + Sync,
     D: Disk + Drop + Send,
@@ -54,13 +54,13 @@ pub fn serve_opened<
     port: u16,
     sessions: u8,
     output: &mut W,
-) -> Result<Served<D>, ServeFault>
+) -> Result<Served<D>, ServeFault<D>>
     requires { (1 ≤ sessions) × (sessions ≤ 32) }
     ensures written { Announces (listening_line port) (W.contents output.old) (W.contents output.new) result }
     // All sessions have ended, and the commands that they were told of as newly accepted are those that were committed.
     ensures ended { IfOk result (λ served. EndsAll D.seen D.may_leave D.failures (D.seen opened.disk) (D.failures opened.disk) opened.plan.auction sessions served) }
-    // 95 only where a session had a reason.
-    ensures order { result ≡ Err Order → LeavesOne opened.plan.auction }
+    // A 95 hands back the client that a session left with a reason, and a 96 what was answered and what the device keeps.
+    ensures ill { IfErr result (EndsIll D.seen D.may_leave D.failures (D.seen opened.disk) (D.failures opened.disk) opened.plan.auction sessions) }
 {
     serve_watched(
         rt, alloc, opened, listener, port, sessions, output, &Unwatched,
@@ -84,19 +84,19 @@ pub fn serve_watched<
     sessions: u8,
     output: &mut W,
     watch: &V,
-) -> Result<Served<D>, ServeFault>
+) -> Result<Served<D>, ServeFault<D>>
     requires { (1 ≤ sessions) × (sessions ≤ 32) }
     ensures written { Announces (listening_line port) (W.contents output.old) (W.contents output.new) result }
     // All sessions have ended, and the commands that they were told of as newly accepted are those that were committed.
     ensures ended { IfOk result (λ served. EndsAll D.seen D.may_leave D.failures (D.seen opened.disk) (D.failures opened.disk) opened.plan.auction sessions served) }
-    // 95 only where a session had a reason.
-    ensures order { result ≡ Err Order → LeavesOne opened.plan.auction }
+    // A 95 hands back the client that a session left with a reason, and a 96 what was answered and what the device keeps.
+    ensures ill { IfErr result (EndsIll D.seen D.may_leave D.failures (D.seen opened.disk) (D.failures opened.disk) opened.plan.auction sessions) }
 {
     let started = match House::start(rt, alloc, opened, sessions) {
         Ok(started) => started,
         Err(fault) => return Err(ServeFault::Start(fault.cause)),
     };
-    if let Err(fault) = announce(alloc, port, output) {
+    if let Err(fault) = announce::<D, W>(alloc, port, output) {
         return Err(fault);
     }
     serve_started::<Brand, D, &H, H, V>(rt, alloc, started, listener, watch)
@@ -115,15 +115,15 @@ fn serve_started<
     started: Started<D, W>,
     listener: TcpListener,
     watch: &V,
-) -> Result<Served<D>, ServeFault>
+) -> Result<Served<D>, ServeFault<D>>
     requires eye { (started.eye ≡ J.eye) × (started.eye.list ≡ []) }
     requires own { IsOf J.eye J.image J.failures started.keeper }
     requires book { started.front.trail.book ≡ started.eye.book }
     requires none { IsOwed (gathered started.intake.rings.items) started.front.trail.log [] }
     requires begun { AreBegun started.eye started.clients.items started.eye.seats }
     ensures ended { IfOk result (λ served. EndsAll D.seen D.may_leave D.failures J.image J.failures started.eye.opened started.eye.seats served) }
-    ensures order { result ≡ Err Order → LeavesOne started.eye.opened }
-    ensures fault { IfErr result (λ fault. (fault ≡ Memory) ⊎ (fault ≡ Order) ⊎ (fault ≡ Counts)) }
+    ensures ill { IfErr result (EndsIll D.seen D.may_leave D.failures J.image J.failures started.eye.opened started.eye.seats) }
+    ensures behind { IfErr result IsBehind }
 {
     let Ready {
         house,
@@ -135,10 +135,11 @@ fn serve_started<
         rt, alloc, &house, front, intake, clients, listener, watch,
     ) {
         Ok(reports) => reports,
-        Err(fault) => return Err(fault),
+        Err(SessionsFault::Memory) => return Err(ServeFault::Memory),
+        Err(SessionsFault::Order(client)) => return Err(ServeFault::Order(client)),
     };
     match house.close(&mut reports) {
         Ok(closing) => Ok(Served { closing, reports }),
-        Err(_) => Err(ServeFault::Counts),
+        Err(fault) => Err(ServeFault::Counts(Differing { fault, reports })),
     }
 }

@@ -1,15 +1,15 @@
 //! The threads of a house: its two workers, and one for each session.
-ghost use Rattle.std.specs.Prelude.{◌≡◌, ◌⊎◌, [], All, Err, IfErr, IfOk, map};
+ghost use Rattle.std.specs.Prelude.{◌≡◌, [], All, IfErr, IfOk, map};
 ghost use Rattle.std.specs.Thread.{IsSend, IsSync};
 ghost use Rattle.hpb_rings.specs.Gathering.{gathered};
 ghost use Rattle.hpb_house.specs.Committing.{IsOwed};
 ghost use Rattle.hpb_house.specs.Boards.{SameBoard};
 ghost use Rattle.hpb_serve.specs.Ended.{LeavesOne};
-ghost use Rattle.hpb_serve.specs.declared.fault.ServeFault.TheVariants.{Memory, Order};
+ghost use Rattle.hpb_serve.specs.declared.fault.SessionsFault.TheVariants.{Memory};
 
 use crate::connection::{Idle, serve_connection};
 use crate::ends::{OfSeat, join_sessions};
-use crate::fault::ServeFault;
+use crate::fault::SessionsFault;
 use crate::watching::{Rounds, Watch};
 use hpb_board::Front;
 use hpb_disk::Disk;
@@ -73,7 +73,7 @@ fn start_sessions<
     listener: TcpListener,
     watch: &V,
     threads: Vec<PromisedHandle<SessionEnd<Halt>, OfSeat<D, W, J>>>,
-) -> Result<Vec<PromisedHandle<SessionEnd<Halt>, OfSeat<D, W, J>>>, ServeFault>
+) -> Result<Vec<PromisedHandle<SessionEnd<Halt>, OfSeat<D, W, J>>>, SessionsFault>
     requires ready { All (λ client. SameBoard house.now client.viewer × (client.waiting.items ≡ [])) clients.items }
     requires none { threads.items ≡ [] }
     ensures house { IfOk result (λ started. All (λ thread. thread.promise.house.value ≡ house.now) started.items) }
@@ -111,15 +111,15 @@ fn start_sessions<
     if open.is_some() {
         Ok(threads)
     } else {
-        Err(ServeFault::Memory)
+        Err(SessionsFault::Memory)
     }
 }
 
 /// Runs the workers of a house and a session for each client, and waits for all of them: the clients' reports.
 ///
-/// 90 where memory or a thread is refused, 95 where a session ended without its client. Each client that has no session
-/// is finished, so that the committer ends. A watch is told of connections that were not accepted, and looks at each checkpoint
-/// and at the end.
+/// 90 where memory or a thread is refused, 95 where a session left its client: that is handed back. Each client that has no
+/// session is finished, so that the committer ends. A watch is told of connections that were not accepted, and looks at each
+/// checkpoint and at the end.
 pub(crate) fn run_threads<
     D: Disk + Drop + Send,
     W: Wait + Drop + Send,
@@ -135,27 +135,25 @@ pub(crate) fn run_threads<
     clients: Vec<Client<Halt>>,
     listener: TcpListener,
     watch: &V,
-) -> Result<Vec<Report>, ServeFault>
+) -> Result<Vec<Report>, SessionsFault>
     requires book { front.trail.book ≡ house.now.book }
     requires none { IsOwed (gathered intake.rings.items) front.trail.log [] }
     requires ready { All (λ client. SameBoard house.now client.viewer × (client.waiting.items ≡ [])) clients.items }
     ensures board { IfOk result (λ reports. All (λ report. SameBoard house.now report.viewer) reports.items) }
     ensures seats { IfOk result (λ reports. map (λ report. report.seat) reports.items ≡ map (λ client. client.seat) clients.items) }
-    ensures fault { IfErr result (λ fault. (fault ≡ Memory) ⊎ (fault ≡ Order)) }
-    ensures order { result ≡ Err Order → LeavesOne house.now.opened }
+    ensures left { IfErr result (LeavesOne house.now.opened (map (λ client. client.seat) clients.items)) }
 {
     thread::scope(
         thread::scope_env(),
         rt,
-        move |scope| -> Result<Vec<Report>, ServeFault>
+        move |scope| -> Result<Vec<Report>, SessionsFault>
             requires cross { IsSend D.row × IsSend W.row × IsSend J.row × IsSync J.row × IsSync R.row × IsSync V.row }
             requires book { front.trail.book ≡ house.now.book }
             requires none { IsOwed (gathered intake.rings.items) front.trail.log [] }
             requires ready { All (λ client. SameBoard house.now client.viewer × (client.waiting.items ≡ [])) clients.items }
             ensures board { IfOk result (λ reports. All (λ report. SameBoard house.entry.now report.viewer) reports.items) }
             ensures seats { IfOk result (λ reports. map (λ report. report.seat) reports.items ≡ map (λ client. client.seat) clients.items) }
-            ensures fault { IfErr result (λ fault. (fault ≡ Memory) ⊎ (fault ≡ Order)) }
-            ensures order { result ≡ Err Order → LeavesOne house.entry.now.opened }
+            ensures left { IfErr result (LeavesOne house.entry.now.opened (map (λ client. client.seat) clients.items)) }
         {
             let reports = Vec::with_capacity(alloc, clients.len())?;
             let threads = Vec::with_capacity(alloc, clients.len())?;
@@ -168,12 +166,12 @@ pub(crate) fn run_threads<
             };
             let Ok(commits) = scope.spawn(commit) else {
                 house.dismiss();
-                return Err(ServeFault::Memory);
+                return Err(SessionsFault::Memory);
             };
             let Ok(checkpoints) = scope.spawn(move || checkpointer(rt, house, &Rounds::new(watch)))
             else {
                 finish_clients(rt, clients);
-                return Err(ServeFault::Memory);
+                return Err(SessionsFault::Memory);
             };
             let threads = start_sessions(
                 scope, rt, alloc, house, clients, listener, watch, threads,

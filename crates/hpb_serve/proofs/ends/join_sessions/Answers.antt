@@ -1,7 +1,7 @@
 use Rattle.std.proofs.Common.{◌≡◌}
 use Rattle.hpb_house.specs.Boards.{SameBoard}
 use Rattle.hpb_serve.proofs.Seats.{finished, left}
-use Rattle.hpb_serve.proofs.Turns.{all_and_one, next_of, one_more, rest_of}
+use Rattle.hpb_serve.proofs.Turns.{all_and_one, among, next_of, one_more, rest_of}
 use Rattle.hpb_serve.proofs.ends.join_sessions.Goals as goal
 
 pub loop-thread-preserved : goal.loop-thread-preserved
@@ -18,9 +18,11 @@ loop-thread-preserved g c =
     let items = c.in_ok-push-in-Finished.ensures.items in
     (rest, rw items board, rw items seats)
 
-pub returns-in-Left-clause-order : goal.returns-in-Left-clause-order
-returns-in-Left-clause-order g c = λ is.
+pub returns-in-Left-clause-left : goal.returns-in-Left-clause-left
+returns-in-Left-clause-left g c =
     let house = c.args.house.now in
+    let so_far = c.loop-thread.invariant in
     let thread = c.in-Some.thread in
-    let of_house = next_of (λ thread'. thread'.promise.house.value ≡ house) c.loop-thread.thread-iterator c.next.new.self thread c.loop-thread.invariant.0 c.in-Some.ensures.steps in
-    left thread.promise.house.value house thread.promise.seat c.join.result c.in-Left.field-0 of_house c.join.ensures c.in-Left.is
+    let of_house = next_of (λ thread'. thread'.promise.house.value ≡ house) c.loop-thread.thread-iterator c.next.new.self thread so_far.0 c.in-Some.ensures.steps in
+    let is_among = among (λ report'. report'.seat) (λ thread'. thread'.promise.seat) _ c.loop-thread.reports.items c.loop-thread.thread-iterator c.next.new.self thread so_far.2 c.in-Some.ensures.steps in
+    left thread.promise.house.value house thread.promise.seat c.join.result c.in-Left.client _ of_house is_among c.join.ensures c.in-Left.is

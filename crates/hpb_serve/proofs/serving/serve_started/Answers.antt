@@ -1,6 +1,7 @@
-use Rattle.std.proofs.Common.{◌≡◌, ◌∙◌, All, Err, List, [], ◌++◌, arith, length, map, sym, ap, subst}
+use Rattle.std.proofs.Common.{◌≡◌, ◌∙◌, ◌^◌, ℕ, All, List, [], ◌++◌, arith, length, map, min, sym, ap, subst}
 use Rattle.hpb_rules.specs.AuctionValue.{AuctionValue, Shows}
 use Rattle.std.specs.Prelude.{◌-◌, IsPermutation, flat_map}
+use Rattle.std.specs.List.{range_with_len}
 use Rattle.std.specs.Vec.{with_items}
 use Rattle.std.proofs.lemmas.List.{with_items_is}
 use Rattle.std.proofs.lemmas.List.{length-map}
@@ -12,9 +13,7 @@ use Rattle.hpb_rings.specs.declared.report.Report.{Report}
 use Rattle.hpb_house.specs.Boards.{SameBoard}
 use Rattle.hpb_house.specs.Committing.{IsOwed}
 use Rattle.hpb_rings.specs.Gathering.{gathered}
-use Rattle.hpb_serve.specs.Ended.{LeavesOne}
-use Rattle.hpb_serve.specs.declared.fault.ServeFault.TheVariants.{Order}
-use Rattle.hpb_serve.proofs.Orders.{fault_or}
+use Rattle.hpb_serve.specs.Ended.{IsLeft}
 use Rattle.hpb_serve.proofs.Reports.{apart, of_book, of_opened, same_seats}
 use Rattle.hpb_serve.proofs.serving.serve_started.Goals as goal
 
@@ -31,9 +30,33 @@ close-requires-clause-book g c = of_book c.named-house.result.house c.in-Ok.repo
 pub close-requires-clause-opened : goal.close-requires-clause-opened
 close-requires-clause-opened g c = of_opened c.named-house.result.house c.in-Ok.reports.items c.deref_mut.result.now c.deref_mut.ensures.value c.in-Ok.ensures.board
 
-pub returns-in-Err-clause-order : goal.returns-in-Err-clause-order
-returns-in-Err-clause-order g c = λ is.
-    subst (λ (v : Viewing). LeavesOne v.opened) c.named-house.ensures.house (c.in-Err.ensures.order (ap Err (ap (fault_or Order) is)))
+-- a client that was left is that of one of the seats
+pub returns-in-Err-Order-clause-ill : goal.returns-in-Err-Order-clause-ill
+returns-in-Err-Order-clause-ill g c =
+    let client = c.in-Err-Order.client in
+    let numbered = ap (λ clients. map (λ client. client.seat) clients.items) c.named-house.ensures.clients ∙ c.requires.begun.numbered in
+    let left = rw c.in-Err-Order.field-0-is at c.in-Err-Order.ensures.left in
+    subst (λ (v : Viewing). IsLeft v.opened (range_with_len 0 c.args.started.eye.seats) client) c.named-house.ensures.house
+    (subst (λ (seats : List ℕ). IsLeft c.named-house.result.house.opened seats client) numbered left)
+
+-- what the reports differ from
+pub returns-in-Err-clause-ill : goal.returns-in-Err-clause-ill
+returns-in-Err-clause-ill g c =
+    let closed = c.in-Err.ensures in
+    let new = c.close.new.reports in
+    let lent = c.deref_mut.result.now in
+    let numbered = ap (map (λ report. report.seat)) c.deref_mut.ensures.value ∙ c.in-Ok.ensures.seats ∙ ap (λ clients. map (λ client. client.seat) clients.items) c.named-house.ensures.clients ∙ c.requires.begun.numbered in
+    let seats = same_seats new lent closed.said in
+    let long : length new ≡ length lent = sym (length-map new (λ (report : Report). report.seat)) ∙ ap length seats ∙ length-map lent (λ (report : Report). report.seat) in
+    let items : (with_items c.in-Ok.reports new).items ≡ new = with_items_is c.in-Ok.reports new (omega (arith, long, ap length c.deref_mut.ensures.value)) in
+    let opened = ap (λ (v : Viewing). v.opened) c.named-house.ensures.house in
+    record {
+      seats = ap (map (λ (report : Report). report.seat)) items ∙ seats ∙ numbered;
+      left = closed.left;
+      told = closed.told;
+      accepted = closed.accepted ∙ ap (λ reports. min (total reports) (2 ^ 64 - 1)) (sym items);
+      committed = closed.committed ∙ ap (λ (a : AuctionValue). c.in-Err.fault.auction.count - a.count) opened;
+    }
 
 pub returns-in-Ok-close-clause-ended : goal.returns-in-Ok-close-clause-ended
 returns-in-Ok-close-clause-ended g c =

@@ -1,12 +1,15 @@
-use Rattle.std.proofs.Common.{◌≡◌, Err, ap, subst}
-use Rattle.hpb_rules.specs.AuctionValue.{AuctionValue}
-use Rattle.hpb_serve.specs.Ended.{LeavesOne}
-use Rattle.hpb_serve.specs.declared.fault.ServeFault.TheVariants.{Order}
-use Rattle.hpb_serve.proofs.Orders.{fault_or, no_order}
+use Rattle.hpb_serve.specs.Announcing.{listening_line}
+use Rattle.hpb_serve.specs.declared.serving.Served.{Served}
+use Rattle.hpb_serve.proofs.Ills.{of_writing, written_as, written_by}
 use Rattle.hpb_serve.proofs.serving.serve_watched.Goals as goal
 
-pub returns-in-Err-announce-clause-order : goal.returns-in-Err-announce-clause-order
-returns-in-Err-announce-clause-order g c = λ is. absurd (no_order c.in-Err-announce.fault c.in-Err-announce.ensures.fault (ap (fault_or Order) is))
+pub returns-in-Err-announce-clause-written : goal.returns-in-Err-announce-clause-written
+returns-in-Err-announce-clause-written g c =
+    written_as (Served g.row.D.Denot) (listening_line c.args.port) (g.W.Write.contents c.args.output.now) (g.W.Write.contents c.announce.new.output) c.in-Err-announce.fault c.in-Err-announce.ensures.written
 
-pub returns-clause-order : goal.returns-clause-order
-returns-clause-order g c = λ is. subst (λ (a : AuctionValue). LeavesOne a) c.in-Ok.ensures.opened.0 (c.serve_started.ensures.order is)
+pub returns-in-Err-announce-clause-ill : goal.returns-in-Err-announce-clause-ill
+returns-in-Err-announce-clause-ill g c = of_writing _ _ _ _ _ _ _ c.in-Err-announce.fault c.in-Err-announce.ensures.fault
+
+pub returns-clause-written : goal.returns-clause-written
+returns-clause-written g c =
+    written_by (Served g.row.D.Denot) (listening_line c.args.port) (g.W.Write.contents c.args.output.now) (g.W.Write.contents c.announce.new.output) c.serve_started.result c.serve_started.ensures.behind c.in_default.ensures.written

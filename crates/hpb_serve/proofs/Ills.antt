@@ -1,0 +1,39 @@
+-- Faults of serving.
+use Rattle.std.proofs.Common.{ℕ, List, Option, Result, Ok, Err, IfErr, inr}
+use Rattle.std.specs.Bool.{⊤}
+use Rattle.std.specs.Io.KnownBytes.{Appends}
+use Rattle.hpb_rules.specs.AuctionValue.{AuctionValue}
+use Rattle.hpb_serve.specs.Announcing.{Announces, IsBehind, IsOfWriting}
+use Rattle.hpb_serve.specs.Ended.{EndsIll}
+use Rattle.hpb_serve.specs.declared.fault.ServeFault.{ServeFault}
+use Rattle.hpb_serve.specs.declared.fault.ServeFault.TheVariants.{Memory, Writer, Start, Order, Counts}
+
+-- one of writing leaves nothing to tell of
+pub of_writing : {D : Type 0} (seen : D → List ℕ) (may_leave : D → List ℕ → Type 0) (fails : D → ℕ) (image : List ℕ) (failures : ℕ) (before : AuctionValue) (sessions : ℕ) (fault : ServeFault D)
+    → IsOfWriting fault → EndsIll seen may_leave fails image failures before sessions fault
+of_writing seen may_leave fails image failures before sessions Memory is = tt
+of_writing seen may_leave fails image failures before sessions Writer is = tt
+of_writing seen may_leave fails image failures before sessions (Start cause) is = absurd is
+of_writing seen may_leave fails image failures before sessions (Order client) is = absurd is
+of_writing seen may_leave fails image failures before sessions (Counts differing) is = absurd is
+
+-- behind one of writing there is as much as behind it
+pub written_as : (A : Type 0) {D : Type 0} (line : List ℕ) (old new : Option (List ℕ)) (fault : ServeFault D) → Announces {A = ⊤} line old new (Err fault) → Announces {A = A} line old new (Err fault)
+written_as A line old new Memory is = is
+written_as A line old new Writer is = is
+written_as A line old new (Start cause) is = is
+written_as A line old new (Order client) is = is
+written_as A line old new (Counts differing) is = is
+
+-- one behind the line has the line before it
+pub written_behind : (A : Type 0) {D : Type 0} (line : List ℕ) (old new : Option (List ℕ)) (fault : ServeFault D) → IsBehind fault → Appends old new line → Announces {A = A} line old new (Err fault)
+written_behind A line old new Memory is appends = inr appends
+written_behind A line old new Writer is appends = absurd is
+written_behind A line old new (Start cause) is appends = absurd is
+written_behind A line old new (Order client) is appends = appends
+written_behind A line old new (Counts differing) is appends = appends
+
+-- so it is told of what came behind the line
+pub written_by : (A : Type 0) {D : Type 0} (line : List ℕ) (old new : Option (List ℕ)) (result : Result A (ServeFault D)) → IfErr result IsBehind → Appends old new line → Announces {A = A} line old new result
+written_by A line old new (Ok done) is appends = appends
+written_by A line old new (Err fault) is appends = written_behind A line old new fault is appends
