@@ -8,7 +8,7 @@ use Rattle.std.proofs.lemmas.List.{length-map}
 use Rattle.hpb_board.specs.Publication.{Viewing, auction_of}
 use Rattle.hpb_closing.specs.Histories.{history_of}
 use Rattle.hpb_closing.specs.Reports.{accepted_by, total}
-use Rattle.hpb_house.specs.Closings.{LeavesShown}
+use Rattle.hpb_house.specs.Closings.{LeavesShown, LeavesUnsettled}
 use Rattle.hpb_rings.specs.declared.report.Report.{Report}
 use Rattle.hpb_house.specs.Boards.{SameBoard}
 use Rattle.hpb_house.specs.Committing.{IsOwed}
@@ -52,10 +52,11 @@ returns-in-Err-clause-ill g c =
     let opened = ap (λ (v : Viewing). v.opened) c.named-house.ensures.house in
     record {
       seats = ap (map (λ (report : Report). report.seat)) items ∙ seats ∙ numbered;
-      left = closed.left;
+      left = subst (LeavesUnsettled g.D.Disk.seen g.D.Disk.may_leave g.J.Naming.image c.in-Err.fault) (sym items) closed.left;
       told = closed.told;
       accepted = closed.accepted ∙ ap (λ reports. min (total reports) (2 ^ 64 - 1)) (sym items);
       committed = closed.committed ∙ ap (λ (a : AuctionValue). c.in-Err.fault.auction.count - a.count) opened;
+      only = λ rests shown. closed.only rests (subst (All (λ report. auction_of report.viewer ≡ c.in-Err.fault.auction)) items shown);
     }
 
 pub returns-in-Ok-close-clause-ended : goal.returns-in-Ok-close-clause-ended
