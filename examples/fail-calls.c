@@ -1,5 +1,5 @@
-/* Makes calls of the system fail, wait or be left out: those by which a program has a file, threads, connections and a port, and
-   those by which one thread wakes another. Loaded before the C library by examples/failing.py.
+/* Makes calls of the system fail, wait or be left out: those by which a program has a file, memory, threads, connections and a
+   port, and those by which one thread wakes another. Loaded before the C library by examples/failing.py.
 
    What becomes of which calls stands in the file in FAULTS, as `struct faults`. It is shared memory: whoever has the program
    run may write there at any time, and reads there what was met. */
@@ -26,7 +26,7 @@
 enum { RULES = 2, LEAST_DESCRIPTOR = 200 };
 
 /* Kinds of calls, a bit each. */
-enum { WRITE = 1, SYNC = 2, READ = 4, OPEN = 8, LOCK = 16, ADVICE = 32, PORT = 64, THREAD = 128, ACCEPT = 256, WAKE = 512 };
+enum { WRITE = 1, SYNC = 2, READ = 4, OPEN = 8, LOCK = 16, ADVICE = 32, PORT = 64, THREAD = 128, ACCEPT = 256, WAKE = 512, REQUEST = 1024 };
 
 /* By whom: the thread whose first call of the file is a write of a batch commits, and any other one that isn't the first
    thread of the program makes checkpoints. */
@@ -219,6 +219,16 @@ int accept4(int descriptor, struct sockaddr *address, socklen_t *size, int flags
 int pthread_create(pthread_t *thread, const pthread_attr_t *attributes, void *(*start)(void *), void *argument) {
     NEXT(pthread_create);
     return fails(way_of(THREAD)) ? errno : next(thread, attributes, start, argument);
+}
+
+void *malloc(size_t size) {
+    NEXT(malloc);
+    return fails(way_of(REQUEST)) ? NULL : next(size);
+}
+
+void *realloc(void *block, size_t size) {
+    NEXT(realloc);
+    return fails(way_of(REQUEST)) ? NULL : next(block, size);
 }
 
 /* By this one threads are woken, among others. */
