@@ -1,27 +1,24 @@
 //! A house with all its threads: the two workers, and one for each client.
 ghost use Rattle.std.specs.Prelude.{◌≡◌, ◌≤◌, ◌⊎◌, [], true, All, IfOk};
 ghost use Rattle.std.specs.Thread.{IsSend, IsSync};
-ghost use Rattle.hpb_rings.specs.Gathering.{gathered};
-ghost use Rattle.hpb_house.specs.Committing.{IsOwed};
 ghost use Rattle.hpb_house.specs.Namings.{IsOf};
 ghost use Rattle.hpb_house.specs.Starts.{AreBegun};
 ghost use Rattle.hpb_house.specs.Boards.{SameBoard};
 
-use hpb_board::Front;
 use hpb_disk::{Disk, MemoryDisk, OnceDisk};
 use hpb_house::{
-    CloseFault, Closing, Gate, Halt, House, Naming, OpenGate, Ready, Started, checkpointer,
-    committer,
+    CloseFault, Closing, Gate, Halt, House, Incoming, Naming, OpenGate, Over, Ready, Settled,
+    Settles, Started, checkpointer, committer,
 };
 use hpb_recover::Opened;
-use hpb_rings::{Client, Intake, Report};
+use hpb_rings::{Client, Report};
 use std::alloc::{AllocError, Global};
 use std::marker::Brand;
 use std::snapshot::Snapshot;
 use std::sync::Wait;
 use std::test::Fail;
 use std::thread;
-use std::thread::{Promise, Threads};
+use std::thread::{JoinHandle, Promise, PromisedHandle, Scope, Threads};
 
 /// What the clients of a house do while it is open. Each is called in a thread of its own.
 pub(crate) trait Session {
@@ -104,6 +101,52 @@ fn serve<S: Session, R: Wait>(rt: &R, session: &S, client: Client<Halt>) -> Repo
     finish(rt, session.run(rt, client))
 }
 
+/// The workers of a house, each in a thread of its own.
+#[derive(Drop)]
+struct Workers<J: Naming> {
+    committing: PromisedHandle<Settled, Settles<J>>,
+    checkpointing: JoinHandle<Result<Over<J>, Halt>>,
+}
+
+impl<J: Naming> Workers<J> {
+    /// Waits for their ends.
+    fn join<R: Threads>(self, rt: &R) {
+        let Workers {
+            committing,
+            checkpointing,
+        } = self;
+        committing.join(rt);
+        let _ = checkpointing.join(rt);
+    }
+}
+
+/// Starts the workers of a house. The gate is told where the checkpointer stands.
+fn start_workers<
+    's,
+    E,
+    D: Disk + Drop + Send,
+    W: Wait + Drop + Send,
+    J: Naming + Send + Sync,
+    G: Gate + Sync,
+    R: Threads + Wait + Sync,
+>(
+    scope: &Scope<'s, E>,
+    rt: &'s R,
+    house: &'s House<D, W, J>,
+    incoming: Incoming<J>,
+    gate: &'s G,
+) -> Result<Workers<J>, AllocError> {
+    let committing = scope.spawn_with(
+        Settles::<J>::new(),
+        move || committer(rt, house, incoming, &OpenGate),
+    )?;
+    let checkpointing = scope.spawn(move || checkpointer(rt, house, gate))?;
+    Ok(Workers {
+        committing,
+        checkpointing,
+    })
+}
+
 /// Runs the threads of a house to their ends. The gate is told where the checkpointer stands.
 fn run_threads<
     D: Disk + Drop + Send,
@@ -116,14 +159,11 @@ fn run_threads<
     rt: &R,
     alloc: Global,
     house: &House<D, W, J>,
-    front: Front,
-    intake: Intake<Halt>,
+    incoming: Incoming<J>,
     clients: Vec<Client<Halt>>,
     gate: &G,
     session: &S,
 ) -> Result<Vec<Report>, AllocError>
-    requires book { front.trail.book ≡ house.now.book }
-    requires none { IsOwed (gathered intake.rings.items) front.trail.log [] }
     requires same { All (λ c. SameBoard house.now c.viewer) clients.items }
     ensures { IfOk result (λ rs. All (λ r. SameBoard house.now r.viewer) rs.items) }
 {
@@ -132,28 +172,17 @@ fn run_threads<
         rt,
         move |scope| -> Result<Vec<Report>, AllocError>
             requires cross { IsSend D.row × IsSend W.row × IsSend J.row × IsSync J.row × IsSync G.row × IsSync S.row × IsSync R.row }
-            requires book { front.trail.book ≡ house.now.book }
-            requires none { IsOwed (gathered intake.rings.items) front.trail.log [] }
             requires same { All (λ c. SameBoard house.now c.viewer) clients.items }
             ensures { IfOk result (λ rs. All (λ r. SameBoard house.entry.now r.viewer) rs.items) }
         {
             let mut threads = Vec::with_capacity(alloc, clients.len())?;
-            let commit = move || -> Intake<Halt>
-                requires book { front.trail.book ≡ house.now.book }
-                requires none { IsOwed (gathered intake.rings.items) front.trail.log [] }
-            {
-                let mut front = front;
-                committer(rt, house, intake, &OpenGate, &mut front)
-            };
-            let commits = scope.spawn(commit)?;
-            let checkpoints = scope.spawn(move || checkpointer(rt, house, gate))?;
+            let workers = start_workers(scope, rt, house, incoming, gate)?;
             for client in clients {
                 let promise = OfHouse(Snapshot::of(house));
                 threads.push(scope.spawn_with(promise, move || serve(rt, session, client))?)?;
             }
             let reports = thread::join_promised(rt, threads)?;
-            commits.join(rt);
-            checkpoints.join(rt);
+            workers.join(rt);
             Ok(reports)
         },
     )
@@ -218,17 +247,14 @@ fn run_started<
 ) -> Result<Run<D>, Fail>
     requires eye { (started.eye ≡ J.eye) × (started.eye.list ≡ []) }
     requires own { IsOf J.eye J.image J.failures started.keeper }
-    requires book { started.front.trail.book ≡ started.eye.book }
-    requires none { IsOwed (gathered started.intake.rings.items) started.front.trail.log [] }
     requires begun { AreBegun started.eye started.clients.items started.eye.seats }
 {
     let Ready {
         house,
-        front,
-        intake,
+        incoming,
         clients,
     } = started.named::<J>();
-    let mut reports = run_threads(rt, alloc, &house, front, intake, clients, gate, session)?;
+    let mut reports = run_threads(rt, alloc, &house, incoming, clients, gate, session)?;
     let sums = sums(&reports);
     let closed = house.close(&mut reports);
     Ok(ended(closed, before, sums))

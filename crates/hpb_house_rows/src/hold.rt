@@ -1,8 +1,8 @@
-//! A gate that holds a worker.
+//! Gates that hold a worker.
 
 use hpb_house::{Gate, Point};
 use std::sync::Wait;
-use std::sync::atomic::{AtomicBool, Ordering};
+use std::sync::atomic::{AtomicBool, AtomicU32, Ordering};
 use std::thread::Parker;
 
 /// Holds the checkpointer at a point until it is opened.
@@ -45,6 +45,54 @@ impl Gate for Hold {
         self.was_entered.store(true, Ordering::SeqCst);
         for _ in rt.forever() {
             if self.is_open.load(Ordering::SeqCst) {
+                return;
+            }
+            self.bell.park(rt);
+        }
+    }
+}
+
+/// Holds the checkpointer at each page of its first checkpoint, until it is let on.
+#[derive(Drop)]
+pub(crate) struct Pages {
+    told: AtomicU32,
+    passable: AtomicU32,
+    bell: Parker,
+}
+
+impl Pages {
+    /// A gate by which no page is passed yet.
+    pub(crate) fn new() -> Pages {
+        Pages {
+            told: AtomicU32::new(0),
+            passable: AtomicU32::new(0),
+            bell: Parker::new(),
+        }
+    }
+
+    /// How many pages were told, in their order from 0 on.
+    pub(crate) fn told(&self) -> u32 {
+        self.told.load(Ordering::SeqCst)
+    }
+
+    /// Lets the worker pass so many pages in all.
+    pub(crate) fn let_on(&self, pages: u32) {
+        self.passable.store(pages, Ordering::SeqCst);
+        self.bell.unpark();
+    }
+}
+
+impl Gate for Pages {
+    fn at<R: Wait>(&self, rt: &R, point: Point) {
+        let Point::Page(page) = point else {
+            return;
+        };
+        let page = u32::from(page);
+        if page == self.told() {
+            self.told.fetch_add(1, Ordering::SeqCst);
+        }
+        for _ in rt.forever() {
+            if page < self.passable.load(Ordering::SeqCst) {
                 return;
             }
             self.bell.park(rt);

@@ -4,7 +4,7 @@ ghost use Rattle.hpb_house.specs.Boards.{SameBoard};
 
 use crate::devices::six_nodes_opened;
 use crate::harness::{Outcome, Session, run_in_memory};
-use crate::hold::Hold;
+use crate::hold::{Hold, Pages};
 use crate::script::{accepted_command, ask_places};
 use crate::turns::{TURNS, pause, post, take_within};
 use hpb_engine_rows::devices::count_on;
@@ -13,7 +13,7 @@ use hpb_house::{Halt, Point};
 use hpb_rings::Client;
 use hpb_rules::Reply;
 use std::sync::Wait;
-use std::sync::atomic::{AtomicBool, AtomicU64, Ordering};
+use std::sync::atomic::{AtomicBool, AtomicU32, AtomicU64, Ordering};
 use std::test::*;
 
 /// How many short waits a letter is looked at that isn't to be answered.
@@ -138,6 +138,79 @@ fn commits_beside_a_checkpoint(rt: HostRuntime) -> Result<(), Fail> {
             accepted: 10,
         };
         assert_eq!(rt; run.outcome, wanted);
+        assert_eq!(rt; count_on(alloc, run.disk)?, 10);
+    });
+    Ok(())
+}
+
+/// Waits until so many pages were told: `false` where they weren't within the most turns, or where more were.
+fn are_told<R: Wait>(rt: &R, pages: &Pages, count: u32) -> bool {
+    for _ in 0..TURNS {
+        if pages.told() >= count {
+            return pages.told() == count;
+        }
+        pause(rt);
+    }
+    false
+}
+
+/// Lets the checkpointer on from page to page, and commits in between: none before the second page, and one before the third,
+/// and before the fourth.
+#[derive(Drop)]
+struct InTurns {
+    pages: Pages,
+    right: AtomicU32,
+    accepted: AtomicU64,
+}
+
+impl InTurns {
+    /// Lets it on to the next page: so many are told then in all.
+    fn goes_on<R: Wait>(&self, rt: &R, count: u32) {
+        self.pages.let_on(count.saturating_sub(1));
+        if are_told(rt, &self.pages, count) {
+            self.right.fetch_add(1, Ordering::SeqCst);
+        }
+    }
+
+    /// Asks the commands of these places.
+    fn commits<R: Wait>(&self, rt: &R, client: &mut Client<Halt>, from: u32, to: u32)
+        ensures same { SameBoard client.old.viewer client.new.viewer × (client.new.seat ≡ client.old.seat) }
+    {
+        let accepted = ask_places(rt, client, from, to);
+        self.accepted.fetch_add(accepted, Ordering::SeqCst);
+    }
+}
+
+impl Session for InTurns {
+    fn run<R: Wait>(&self, rt: &R, client: Client<Halt>) -> Client<Halt> {
+        let mut client = client;
+        self.commits(rt, &mut client, 0, 1);
+        self.goes_on(rt, 1);
+        self.goes_on(rt, 2);
+        self.commits(rt, &mut client, 1, 2);
+        self.goes_on(rt, 3);
+        self.commits(rt, &mut client, 2, 3);
+        self.goes_on(rt, 4);
+        self.pages.let_on(4);
+        self.commits(rt, &mut client, 3, 10);
+        client
+    }
+}
+
+#[test]
+fn checkpoints_between_turns(rt: HostRuntime) -> Result<(), Fail> {
+    let alloc = rt.alloc();
+    over_layouts!(shape => {
+        let session = InTurns {
+            pages: Pages::new(),
+            right: AtomicU32::new(0),
+            accepted: AtomicU64::new(0),
+        };
+        let opened = six_nodes_opened(alloc, shape)?;
+        let run = run_in_memory(&rt, alloc, opened, 1, &session.pages, &session)?;
+        assert_eq!(rt; session.right.load(Ordering::SeqCst), 4);
+        assert_eq!(rt; session.accepted.load(Ordering::SeqCst), 10);
+        assert!(rt; run.outcome.is_closed);
         assert_eq!(rt; count_on(alloc, run.disk)?, 10);
     });
     Ok(())

@@ -1,7 +1,5 @@
 //! Serving an auction that was opened.
 ghost use Rattle.std.specs.Prelude.{◌≡◌, ◌≤◌, [], IfErr, IfOk};
-ghost use Rattle.hpb_rings.specs.Gathering.{gathered};
-ghost use Rattle.hpb_house.specs.Committing.{IsOwed};
 ghost use Rattle.hpb_house.specs.Namings.{IsOf};
 ghost use Rattle.hpb_house.specs.Starts.{AreBegun};
 ghost use Rattle.hpb_serve.specs.Announcing.{Announces, IsBehind, listening_line};
@@ -118,8 +116,6 @@ fn serve_started<
 ) -> Result<Served<D>, ServeFault<D>>
     requires eye { (started.eye ≡ J.eye) × (started.eye.list ≡ []) }
     requires own { IsOf J.eye J.image J.failures started.keeper }
-    requires book { started.front.trail.book ≡ started.eye.book }
-    requires none { IsOwed (gathered started.intake.rings.items) started.front.trail.log [] }
     requires begun { AreBegun started.eye started.clients.items started.eye.seats }
     ensures ended { IfOk result (λ served. EndsAll D.seen D.may_leave D.failures J.image J.failures started.eye.opened started.eye.seats served) }
     ensures ill { IfErr result (EndsIll D.seen D.may_leave D.failures J.image J.failures started.eye.opened started.eye.seats) }
@@ -127,13 +123,10 @@ fn serve_started<
 {
     let Ready {
         house,
-        front,
-        intake,
+        incoming,
         clients,
     } = started.named::<J>();
-    let mut reports = match run_threads(
-        rt, alloc, &house, front, intake, clients, listener, watch,
-    ) {
+    let mut reports = match run_threads(rt, alloc, &house, incoming, clients, listener, watch) {
         Ok(reports) => reports,
         Err(SessionsFault::Memory) => return Err(ServeFault::Memory),
         Err(SessionsFault::Order(client)) => return Err(ServeFault::Order(client)),

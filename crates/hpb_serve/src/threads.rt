@@ -1,9 +1,8 @@
 //! The threads of a house: its two workers, and one for each session.
 ghost use Rattle.std.specs.Prelude.{◌≡◌, [], All, IfErr, IfOk, map};
 ghost use Rattle.std.specs.Thread.{IsSend, IsSync};
-ghost use Rattle.hpb_rings.specs.Gathering.{gathered};
-ghost use Rattle.hpb_house.specs.Committing.{IsOwed};
 ghost use Rattle.hpb_house.specs.Boards.{SameBoard};
+ghost use Rattle.hpb_house.specs.Committing.{IsSettled};
 ghost use Rattle.hpb_serve.specs.Ended.{LeavesOne};
 ghost use Rattle.hpb_serve.specs.declared.fault.SessionsFault.TheVariants.{Memory};
 
@@ -11,17 +10,18 @@ use crate::connection::{Idle, serve_connection};
 use crate::ends::{OfSeat, join_sessions};
 use crate::fault::SessionsFault;
 use crate::watching::{Rounds, Watch};
-use hpb_board::Front;
 use hpb_disk::Disk;
-use hpb_house::{Halt, House, Naming, OpenGate, checkpointer, committer};
-use hpb_rings::{Client, Intake, Report};
+use hpb_house::{
+    Halt, House, Incoming, Naming, OpenGate, Over, Settled, Settles, checkpointer, committer,
+};
+use hpb_rings::{Client, Report};
 use hpb_sessions::{SessionEnd, finish_client};
 use std::alloc::Global;
 use std::net::{TcpListener, TcpStream};
 use std::snapshot::Snapshot;
 use std::sync::Wait;
 use std::thread;
-use std::thread::{Parker, PromisedHandle, Scope, Threads};
+use std::thread::{JoinHandle, Parker, PromisedHandle, Scope, Threads};
 use std::time::Duration;
 
 /// Finishes clients that have no session.
@@ -115,6 +115,58 @@ fn start_sessions<
     }
 }
 
+/// The workers of a house, each in a thread of its own.
+#[derive(Drop)]
+struct Workers<J: Naming> {
+    committing: PromisedHandle<Settled, Settles<J>>,
+    checkpointing: JoinHandle<Result<Over<J>, Halt>>,
+}
+
+impl<J: Naming> Workers<J> {
+    /// Waits for their ends: what the committer hands back, and why the checkpointer has ended.
+    fn join<R: Threads>(self, rt: &R) -> (Settled, Result<Over<J>, Halt>)
+        ensures { IsSettled J.eye result.0 }
+    {
+        let Workers {
+            committing,
+            checkpointing,
+        } = self;
+        let settled = committing.join(rt);
+        (settled, checkpointing.join(rt))
+    }
+}
+
+/// Starts the workers of a house. `None` where a thread is refused: the committer ends by itself then, if it was started, once
+/// every client is finished.
+fn start_workers<
+    's,
+    E,
+    D: Disk + Drop + Send,
+    W: Wait + Drop + Send,
+    J: Naming + Send + Sync,
+    R: Threads + Wait + Sync,
+    V: Watch + Sync,
+>(
+    scope: &Scope<'s, E>,
+    rt: &'s R,
+    house: &'s House<D, W, J>,
+    incoming: Incoming<J>,
+    watch: &'s V,
+) -> Option<Workers<J>> {
+    let commits = move || committer(rt, house, incoming, &OpenGate);
+    let Ok(committing) = scope.spawn_with(Settles::<J>::new(), commits) else {
+        return None;
+    };
+    let checkpoints = move || checkpointer(rt, house, &Rounds::new(watch));
+    let Ok(checkpointing) = scope.spawn(checkpoints) else {
+        return None;
+    };
+    Some(Workers {
+        committing,
+        checkpointing,
+    })
+}
+
 /// Runs the workers of a house and a session for each client, and waits for all of them: the clients' reports.
 ///
 /// 90 where memory or a thread is refused, 95 where a session left its client: that is handed back. Each client that has no
@@ -130,14 +182,11 @@ pub(crate) fn run_threads<
     rt: &R,
     alloc: Global,
     house: &House<D, W, J>,
-    front: Front,
-    intake: Intake<Halt>,
+    incoming: Incoming<J>,
     clients: Vec<Client<Halt>>,
     listener: TcpListener,
     watch: &V,
 ) -> Result<Vec<Report>, SessionsFault>
-    requires book { front.trail.book ≡ house.now.book }
-    requires none { IsOwed (gathered intake.rings.items) front.trail.log [] }
     requires ready { All (λ client. SameBoard house.now client.viewer × (client.waiting.items ≡ [])) clients.items }
     ensures board { IfOk result (λ reports. All (λ report. SameBoard house.now report.viewer) reports.items) }
     ensures seats { IfOk result (λ reports. map (λ report. report.seat) reports.items ≡ map (λ client. client.seat) clients.items) }
@@ -148,8 +197,6 @@ pub(crate) fn run_threads<
         rt,
         move |scope| -> Result<Vec<Report>, SessionsFault>
             requires cross { IsSend D.row × IsSend W.row × IsSend J.row × IsSync J.row × IsSync R.row × IsSync V.row }
-            requires book { front.trail.book ≡ house.now.book }
-            requires none { IsOwed (gathered intake.rings.items) front.trail.log [] }
             requires ready { All (λ client. SameBoard house.now client.viewer × (client.waiting.items ≡ [])) clients.items }
             ensures board { IfOk result (λ reports. All (λ report. SameBoard house.entry.now report.viewer) reports.items) }
             ensures seats { IfOk result (λ reports. map (λ report. report.seat) reports.items ≡ map (λ client. client.seat) clients.items) }
@@ -157,19 +204,7 @@ pub(crate) fn run_threads<
         {
             let reports = Vec::with_capacity(alloc, clients.len())?;
             let threads = Vec::with_capacity(alloc, clients.len())?;
-            let commit = move || -> Intake<Halt>
-                requires book { front.trail.book ≡ house.now.book }
-                requires none { IsOwed (gathered intake.rings.items) front.trail.log [] }
-            {
-                let mut front = front;
-                committer(rt, house, intake, &OpenGate, &mut front)
-            };
-            let Ok(commits) = scope.spawn(commit) else {
-                house.dismiss();
-                return Err(SessionsFault::Memory);
-            };
-            let Ok(checkpoints) = scope.spawn(move || checkpointer(rt, house, &Rounds::new(watch)))
-            else {
+            let Some(workers) = start_workers(scope, rt, house, incoming, watch) else {
                 finish_clients(rt, clients);
                 return Err(SessionsFault::Memory);
             };
@@ -177,8 +212,7 @@ pub(crate) fn run_threads<
                 scope, rt, alloc, house, clients, listener, watch, threads,
             )?;
             let joined = join_sessions(rt, house, threads, reports);
-            commits.join(rt);
-            checkpoints.join(rt);
+            let _ = workers.join(rt);
             watch.look();
             joined
         },

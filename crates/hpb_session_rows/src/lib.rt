@@ -6,6 +6,8 @@ mod caller;
 #[cfg(test)]
 mod devices;
 #[cfg(test)]
+mod in_time;
+#[cfg(test)]
 mod one_session;
 #[cfg(test)]
 mod outputs;

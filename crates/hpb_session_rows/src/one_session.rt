@@ -1,21 +1,21 @@
 //! A house with its two workers, and a session with its only client.
 ghost use Rattle.std.specs.Prelude.{◌≡◌, [], IfOk, IfSome};
 ghost use Rattle.std.specs.Thread.{IsSend, IsSync};
-ghost use Rattle.hpb_rings.specs.Gathering.{gathered};
 ghost use Rattle.hpb_board.specs.Publication.{Viewing};
 ghost use Rattle.hpb_house.specs.Boards.{SameBoard};
-ghost use Rattle.hpb_house.specs.Committing.{IsOwed};
 ghost use Rattle.hpb_house.specs.Namings.{IsOf};
 ghost use Rattle.hpb_house.specs.Starts.{AreBegun};
 ghost use Rattle.hpb_sessions.specs.Ends.{viewer_of};
 
 use crate::devices::{faulty_opened, new_opened};
-use hpb_board::Front;
 use hpb_codec::JournalShape;
 use hpb_disk::Disk;
-use hpb_house::{Halt, House, Naming, OpenGate, Ready, Started, checkpointer, committer};
+use hpb_house::{
+    Halt, House, Incoming, Naming, OpenGate, Over, Ready, Settled, Settles, Started, checkpointer,
+    committer,
+};
 use hpb_recover::Opened;
-use hpb_rings::{Client, Intake};
+use hpb_rings::Client;
 use hpb_server::Fault;
 use hpb_sessions::{Session, SessionEnd, run_session};
 use std::alloc::{AllocError, Global};
@@ -24,7 +24,7 @@ use std::marker::Brand;
 use std::sync::Wait;
 use std::test::Fail;
 use std::thread;
-use std::thread::Threads;
+use std::thread::{JoinHandle, PromisedHandle, Scope, Threads};
 
 /// How often the session looks for an answer before it sleeps.
 const LOOKS: u32 = 0;
@@ -42,6 +42,50 @@ pub(crate) struct Outcome {
     pub(crate) has_failed: bool,
 }
 
+/// The workers of a house, each in a thread of its own.
+#[derive(Drop)]
+struct Workers<J: Naming> {
+    committing: PromisedHandle<Settled, Settles<J>>,
+    checkpointing: JoinHandle<Result<Over<J>, Halt>>,
+}
+
+impl<J: Naming> Workers<J> {
+    /// Waits for their ends.
+    fn join<R: Threads>(self, rt: &R) {
+        let Workers {
+            committing,
+            checkpointing,
+        } = self;
+        committing.join(rt);
+        let _ = checkpointing.join(rt);
+    }
+}
+
+/// Starts the workers of a house.
+fn start_workers<
+    's,
+    E,
+    D: Disk + Drop + Send,
+    W: Wait + Drop + Send,
+    J: Naming + Send + Sync,
+    R: Threads + Wait + Sync,
+>(
+    scope: &Scope<'s, E>,
+    rt: &'s R,
+    house: &'s House<D, W, J>,
+    incoming: Incoming<J>,
+) -> Result<Workers<J>, AllocError> {
+    let committing = scope.spawn_with(
+        Settles::<J>::new(),
+        move || committer(rt, house, incoming, &OpenGate),
+    )?;
+    let checkpointing = scope.spawn(move || checkpointer(rt, house, &OpenGate))?;
+    Ok(Workers {
+        committing,
+        checkpointing,
+    })
+}
+
 /// Runs a session on these lines beside the two workers of its house, all to their ends.
 fn run_threads<
     D: Disk + Drop + Send,
@@ -53,14 +97,11 @@ fn run_threads<
     rt: &R,
     alloc: Global,
     house: &House<D, W, J>,
-    front: Front,
-    intake: Intake<Halt>,
+    incoming: Incoming<J>,
     client: Client<Halt>,
     lines: &[u8],
     output: &mut O,
 ) -> Result<Session<Halt>, AllocError>
-    requires book { front.trail.book ≡ house.now.book }
-    requires none { IsOwed (gathered intake.rings.items) front.trail.log [] }
     requires idle { client.waiting.items ≡ [] }
     requires same { SameBoard house.now client.viewer }
     ensures { IfOk result (λ session. SameBoard house.now (viewer_of session.end)) }
@@ -70,25 +111,14 @@ fn run_threads<
         rt,
         move |scope| -> Result<Session<Halt>, AllocError>
             requires cross { IsSend D.row × IsSend W.row × IsSend J.row × IsSync J.row × IsSync R.row }
-            requires book { front.trail.book ≡ house.now.book }
-            requires none { IsOwed (gathered intake.rings.items) front.trail.log [] }
             requires idle { client.waiting.items ≡ [] }
             requires same { SameBoard house.now client.viewer }
             ensures { IfOk result (λ session. SameBoard house.entry.now (viewer_of session.end)) }
         {
-            let commit = move || -> Intake<Halt>
-                requires book { front.trail.book ≡ house.now.book }
-                requires none { IsOwed (gathered intake.rings.items) front.trail.log [] }
-            {
-                let mut front = front;
-                committer(rt, house, intake, &OpenGate, &mut front)
-            };
-            let commits = scope.spawn(commit)?;
-            let checkpoints = scope.spawn(move || checkpointer(rt, house, &OpenGate))?;
+            let workers = start_workers(scope, rt, house, incoming)?;
             let mut input = lines;
             let session = run_session(rt, alloc, &mut input, output, client, LOOKS);
-            commits.join(rt);
-            checkpoints.join(rt);
+            workers.join(rt);
             Ok(session)
         },
     )
@@ -143,20 +173,17 @@ fn run_started<
 ) -> Result<Outcome, Fail>
     requires eye { (started.eye ≡ J.eye) × (started.eye.list ≡ []) }
     requires own { IsOf J.eye J.image J.failures started.keeper }
-    requires book { started.front.trail.book ≡ started.eye.book }
-    requires none { IsOwed (gathered started.intake.rings.items) started.front.trail.log [] }
     requires begun { AreBegun started.eye started.clients.items 1 }
 {
     let Ready {
         house,
-        front,
-        intake,
+        incoming,
         clients,
     } = started.named::<J>();
     let Some(client) = last_client(clients) else {
         return Err(Fail::new("the house has no client"));
     };
-    let session = run_threads(rt, alloc, &house, front, intake, client, lines, output)?;
+    let session = run_threads(rt, alloc, &house, incoming, client, lines, output)?;
     close_house(house, session)
 }
 

@@ -1,5 +1,6 @@
 //! A session on a house without connections.
 
+use crate::in_time::run_in_time;
 use crate::one_session::{Outcome, run_on_faulty_device, run_on_new_device};
 use crate::outputs::Deaf;
 use hpb_engine_rows::over_layouts;
@@ -75,6 +76,28 @@ fn session_cut_short(rt: HostRuntime) -> Result<(), Fail> {
             assert_eq!(rt; outcome, wanted, "{call}");
             assert_eq!(rt; String::from_utf8(answers)?.as_str(), FAILED, "{call}");
         }
+    });
+    Ok(())
+}
+
+/// A refusal, a command that is accepted, and a refusal again.
+const REFUSED: &str = "BID x 1 a 105\nBID x 1 a 100\nBID x 1 a 110\n";
+
+// The session sleeps until it is answered: nobody but the committer wakes it.
+#[test]
+fn refused_session_is_woken(rt: HostRuntime) -> Result<(), Fail> {
+    let alloc = rt.alloc();
+    over_layouts!(shape => {
+        let spoken = run_in_time(&rt, alloc, shape, REFUSED)?;
+        let wanted = Outcome {
+            taken: 3,
+            ..ACCEPTED
+        };
+        assert_eq!(rt; spoken.outcome, Some(wanted));
+        assert_eq!(rt;
+            String::from_utf8(spoken.answers)?.as_str(),
+            "ERR 21 step\nOK 1\nERR 14 ticket\n"
+        );
     });
     Ok(())
 }

@@ -1,7 +1,5 @@
-use Rattle.std.proofs.Common.{◌≡◌, [], All, sym, subst}
+use Rattle.std.proofs.Common.{◌≡◌, All}
 use Rattle.hpb_house.specs.Boards.{SameBoard}
-use Rattle.hpb_house.specs.Committing.{IsOwed}
-use Rattle.hpb_rings.specs.Gathering.{gathered}
 use Rattle.hpb_house_rows.proofs.Beginning.{begun_same, lent_book, lent_opened}
 use Rattle.hpb_house_rows.proofs.harness.run_started.Goals as goal
 
@@ -10,12 +8,6 @@ pub run_threads-requires-clause-same : goal.run_threads-requires-clause-same
 run_threads-requires-clause-same g c = λ lives outlive.
     let base : All (λ client. SameBoard c.args.started.eye client.viewer) c.args.started.clients.items = begun_same c.args.started.eye c.args.started.clients.items c.args.started.eye.seats c.requires.begun in
     rw (c.named-house.ensures.house, c.named-house.ensures.clients) base
-
--- nothing has come yet
-pub run_threads-requires-clause-none : goal.run_threads-requires-clause-none
-run_threads-requires-clause-none g c = λ lives outlive.
-    subst (λ intake. IsOwed (gathered intake.rings.items) c.named-house.result.front.trail.log []) (sym c.named-house.ensures.intake)
-    (subst (λ front. IsOwed (gathered c.args.started.intake.rings.items) front.trail.log []) (sym c.named-house.ensures.front) c.requires.none)
 
 pub close-closed-requires-clause-book : goal.close-closed-requires-clause-book
 close-closed-requires-clause-book g c = lent_book c.named-house.result.house c.in_ok-reports.reports.items c.deref_mut.result.now c.deref_mut.ensures.value c.in_ok-reports.ensures

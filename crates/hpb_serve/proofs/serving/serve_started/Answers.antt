@@ -11,8 +11,6 @@ use Rattle.hpb_closing.specs.Reports.{accepted_by, total}
 use Rattle.hpb_house.specs.Closings.{LeavesShown, LeavesUnsettled}
 use Rattle.hpb_rings.specs.declared.report.Report.{Report}
 use Rattle.hpb_house.specs.Boards.{SameBoard}
-use Rattle.hpb_house.specs.Committing.{IsOwed}
-use Rattle.hpb_rings.specs.Gathering.{gathered}
 use Rattle.hpb_serve.specs.Ended.{IsLeft}
 use Rattle.hpb_serve.proofs.Reports.{apart, of_book, of_opened, same_seats}
 use Rattle.hpb_serve.proofs.serving.serve_started.Goals as goal
@@ -80,9 +78,3 @@ returns-in-Ok-close-clause-ended g c =
       kept = subst (LeavesShown g.D.Disk.seen g.D.Disk.may_leave g.J.Naming.image c.in-Ok-close.closing) (sym items) closed.kept;
       told = closed.told;
     }
-
--- nothing has come yet
-pub run_threads-requires-clause-none : goal.run_threads-requires-clause-none
-run_threads-requires-clause-none g c = λ lives outlive.
-    subst (λ intake. IsOwed (gathered intake.rings.items) c.named-house.result.front.trail.log []) (sym c.named-house.ensures.intake)
-    (subst (λ front. IsOwed (gathered c.args.started.intake.rings.items) front.trail.log []) (sym c.named-house.ensures.front) c.requires.none)

@@ -1,7 +1,5 @@
-use Rattle.std.proofs.Common.{[], sym, subst}
-use Rattle.hpb_house.specs.Committing.{IsOwed}
+use Rattle.std.proofs.Common.{sym, subst}
 use Rattle.hpb_house.specs.Starts.{AreBegun}
-use Rattle.hpb_rings.specs.Gathering.{gathered}
 use Rattle.hpb_session_rows.proofs.one_session.run_started.Goals as goal
 
 -- the client begins with nothing outstanding
@@ -14,9 +12,3 @@ pub run_threads-requires-clause-same : goal.run_threads-requires-clause-same
 run_threads-requires-clause-same g c = λ lives outlive.
     rw c.named-house.ensures.house
     (c.in-Some.ensures.same c.args.started.eye (subst (λ clients. AreBegun c.args.started.eye clients.items 1) (sym c.named-house.ensures.clients) c.requires.begun))
-
--- nothing has come yet
-pub run_threads-requires-clause-none : goal.run_threads-requires-clause-none
-run_threads-requires-clause-none g c = λ lives outlive.
-    subst (λ intake. IsOwed (gathered intake.rings.items) c.named-house.result.front.trail.log []) (sym c.named-house.ensures.intake)
-    (subst (λ front. IsOwed (gathered c.args.started.intake.rings.items) front.trail.log []) (sym c.named-house.ensures.front) c.requires.none)

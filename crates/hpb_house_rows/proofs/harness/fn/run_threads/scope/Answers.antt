@@ -1,26 +1,7 @@
 use Rattle.std.proofs.Common.{rules, ◌≡◌, ◌∙◌, ap}
-use denote.Param.Send.{sendable}
-use Rattle.hpb_house.proofs.keeper.Halt.TheSendSync as Halt
-use Rattle.hpb_board.proofs.front.Front.TheSendSync as Front
-use Rattle.hpb_rings.proofs.intake.Intake.TheSendSync as Intake
 use Rattle.hpb_house.specs.Boards.{SameBoard}
 use Rattle.hpb_house_rows.proofs.Beginning.{all_and_one, next_of, rest_of}
-use Rattle.hpb_house.proofs.Crossing.{House-sync}
 use Rattle.hpb_house_rows.proofs.harness.fn.run_threads.scope.Goals as goal
-
-pub spawn-requires-send-F : goal.spawn-requires-send-F
-spawn-requires-send-F g c κs within =
-    let f = c.requires.cross in
-    let house = House-sync _ _ _ g.D.Disk g.J.Naming f.0 f.1 f.2 in
-    let intake = Intake.the_send _ Halt.the_send in
-    let front = Front.the_send in
-    search sendable depth 20
-
-pub spawn-requires-2-send-F : goal.spawn-requires-2-send-F
-spawn-requires-2-send-F g c κs within =
-    let f = c.requires.cross in
-    let house = House-sync _ _ _ g.D.Disk g.J.Naming f.0 f.1 f.2 in
-    search sendable depth 20
 
 pub spawn_with-requires-clause-keeps : goal.spawn_with-requires-clause-keeps
 spawn_with-requires-clause-keeps g c κs within r post =

@@ -1,0 +1,43 @@
+//! A session on a house that is given some time.
+
+use crate::one_session::{Outcome, run_on_new_device};
+use crate::serving::goes_up;
+use hpb_codec::JournalShape;
+use std::alloc::Global;
+use std::sync::atomic::{AtomicBool, Ordering};
+use std::sync::{Arc, Wait};
+use std::test::Fail;
+use std::thread;
+use std::thread::Threads;
+use std::time::Clock;
+
+/// What came of a session, if it could be run, and what it wrote.
+#[derive(Drop)]
+pub(crate) struct Spoken {
+    pub(crate) outcome: Option<Outcome>,
+    pub(crate) answers: Vec<u8>,
+}
+
+/// Runs a session on these lines, on a house over a new device in memory, by a thread of its own. Fails where it has not ended
+/// after the most tries.
+pub(crate) fn run_in_time<H: Threads + Wait + Clock + Sync + Send + Copy + 'static>(
+    rt: &H,
+    alloc: Global,
+    shape: JournalShape,
+    lines: &'static str,
+) -> Result<Spoken, Fail> {
+    let has_ended = Arc::new(alloc, AtomicBool::new(false))?;
+    let is_over = Arc::try_clone(&has_ended)?;
+    let own = *rt;
+    let thread = thread::spawn(rt, move || {
+        let mut answers = Vec::new(alloc);
+        let outcome = run_on_new_device(&own, alloc, shape, lines, &mut answers).ok();
+        is_over.store(true, Ordering::SeqCst);
+        Spoken { outcome, answers }
+    })?;
+    if goes_up(rt, &has_ended) {
+        Ok(thread.join(rt))
+    } else {
+        Err(Fail::new("the session has not ended"))
+    }
+}
