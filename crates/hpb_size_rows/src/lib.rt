@@ -1,0 +1,7 @@
+//! Tests of devices, engines and houses of the least and the greatest sizes.
+#![tactic(auto)]
+
+#[cfg(test)]
+mod auctions;
+#[cfg(test)]
+mod rows;

@@ -1,0 +1,174 @@
+//! Sizes at which all that is asked for has to be answered.
+
+ghost use Rattle.std.specs.Prelude.{◌≤◌};
+
+use crate::auctions::{Sent, Size, are_accepted, definition, events};
+use anyhow::{Error, Result, bail};
+use hpb_codec::{JournalLayout, JournalShape};
+use hpb_disk::MemoryDisk;
+use hpb_engine::{Driven, drive};
+use hpb_engine_rows::devices::{device_bytes, opened_or_cause, started};
+use hpb_format::format_layout;
+use hpb_house::House;
+use std::alloc::Global;
+use std::sync::Wait;
+use std::test::Fail;
+
+const GREATEST: Size = Size {
+    nodes: 127,
+    packages: 63,
+    bidders: 64,
+};
+
+fn pages(frames: u32) -> JournalShape {
+    JournalShape {
+        layout: JournalLayout::Pages,
+        frames,
+    }
+}
+
+fn cells(frames: u32) -> JournalShape {
+    JournalShape {
+        layout: JournalLayout::Cells,
+        frames,
+    }
+}
+
+/// A device of such a size.
+fn formatted(alloc: Global, size: Size, shape: JournalShape) -> Result<MemoryDisk> {
+    let definition = definition(alloc, size)?;
+    let disk = MemoryDisk::zeros(alloc, device_bytes(shape))?;
+    match format_layout(alloc, disk, &definition, shape.frames, shape.layout.byte()) {
+        Ok(disk) => Ok(disk),
+        Err(fault) => Err(Error::from(fault.cause)),
+    }
+}
+
+/// Formats a device, opens it, starts an engine and drives it: each command is accepted, and is found when the device is opened
+/// again.
+fn works(alloc: Global, size: Size, shape: JournalShape, commands: u32, batch: u32) -> Result<()> {
+    let sent = Sent {
+        commands,
+        batch,
+        frames: shape.frames,
+    };
+    let events = events(alloc, &definition(alloc, size)?, size, sent)?;
+    let engine = started(
+        alloc,
+        opened_or_cause(alloc, formatted(alloc, size, shape)?)?,
+    )?;
+    let Ok(
+        Driven {
+            engine,
+            answers,
+            fault,
+        },
+    ) = drive(alloc, engine, &events)
+    else {
+        bail!("memory was refused");
+    };
+    if fault.is_some() || answers.len() != commands as usize || !are_accepted(&answers) {
+        bail!("{size:?}, {shape:?}: an answer");
+    }
+    let opened = opened_or_cause(alloc, engine.finish())?;
+    if opened.auction().count() != commands {
+        bail!("{size:?}, {shape:?}: what is opened");
+    }
+    Ok(())
+}
+
+/// The least journal of each layout, some rounds.
+fn works_in_both(alloc: Global, nodes: u64, packages: u64, bidders: u64) -> Result<()> {
+    let size = Size {
+        nodes,
+        packages,
+        bidders,
+    };
+    works(alloc, size, pages(4), 300, 16)?;
+    works(alloc, size, cells(16), 300, 16)
+}
+
+#[test]
+fn each_number_of_nodes(rt: HostRuntime) -> Result<(), Fail> {
+    works_in_both(rt.alloc(), 1, 0, 3)?;
+    works_in_both(rt.alloc(), 2, 0, 3)?;
+    works_in_both(rt.alloc(), 64, 0, 3)?;
+    works_in_both(rt.alloc(), 65, 1, 3)?;
+    works_in_both(rt.alloc(), 127, 63, 3)?;
+    Ok(())
+}
+
+#[test]
+fn each_number_of_bidders(rt: HostRuntime) -> Result<(), Fail> {
+    works_in_both(rt.alloc(), 127, 63, 1)?;
+    works_in_both(rt.alloc(), 127, 63, 63)?;
+    works_in_both(rt.alloc(), 127, 63, 64)?;
+    Ok(())
+}
+
+#[test]
+fn each_number_of_pages(rt: HostRuntime) -> Result<(), Fail> {
+    works(rt.alloc(), GREATEST, pages(4), 300, 64)?;
+    works(rt.alloc(), GREATEST, pages(5), 300, 64)?;
+    works(rt.alloc(), GREATEST, pages(64), 300, 64)?;
+    works(rt.alloc(), GREATEST, pages(1_024), 300, 64)?;
+    Ok(())
+}
+
+#[test]
+fn each_number_of_cells(rt: HostRuntime) -> Result<(), Fail> {
+    works(rt.alloc(), GREATEST, cells(16), 300, 64)?;
+    works(rt.alloc(), GREATEST, cells(24), 300, 64)?;
+    works(rt.alloc(), GREATEST, cells(64), 300, 64)?;
+    works(rt.alloc(), GREATEST, cells(1_024), 300, 64)?;
+    Ok(())
+}
+
+fn batches(alloc: Global, batch: u32) -> Result<()> {
+    works(alloc, GREATEST, pages(4), 200, batch)?;
+    works(alloc, GREATEST, cells(16), 200, batch)
+}
+
+#[test]
+fn each_size_of_batches(rt: HostRuntime) -> Result<(), Fail> {
+    batches(rt.alloc(), 1)?;
+    batches(rt.alloc(), 63)?;
+    batches(rt.alloc(), 64)?;
+    Ok(())
+}
+
+fn commands(alloc: Global, commands: u32) -> Result<()> {
+    works(alloc, GREATEST, pages(64), commands, 64)?;
+    works(alloc, GREATEST, cells(64), commands, 64)
+}
+
+#[test]
+fn each_number_of_commands(rt: HostRuntime) -> Result<(), Fail> {
+    commands(rt.alloc(), 0)?;
+    commands(rt.alloc(), 1)?;
+    commands(rt.alloc(), 65_536)?;
+    Ok(())
+}
+
+/// A house over a new device has a client for each session.
+fn starts<R: Wait>(rt: &R, alloc: Global, shape: JournalShape, sessions: u8) -> Result<()>
+    requires { (1 ≤ sessions) × (sessions ≤ 32) }
+{
+    let opened = opened_or_cause(alloc, formatted(alloc, GREATEST, shape)?)?;
+    let Ok(started) = House::start(rt, alloc, opened, sessions) else {
+        bail!("the house was not started");
+    };
+    if started.clients.len() != usize::from(sessions) {
+        bail!("{} clients", started.clients.len());
+    }
+    Ok(())
+}
+
+#[test]
+fn each_number_of_sessions(rt: HostRuntime) -> Result<(), Fail> {
+    starts(&rt, rt.alloc(), pages(4), 1)?;
+    starts(&rt, rt.alloc(), cells(1_024), 2)?;
+    starts(&rt, rt.alloc(), pages(1_024), 31)?;
+    starts(&rt, rt.alloc(), cells(16), 32)?;
+    Ok(())
+}
