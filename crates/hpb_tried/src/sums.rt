@@ -1,0 +1,53 @@
+//! Sums of what calls are given and give: other bytes have most likely another sum.
+
+use hpb_auction::Auction;
+use hpb_codec::{
+    HEAD_SIZE, JournalLayout, JournalShape, STATE_SIZE, StateFormat, encode_head, encode_state,
+};
+use hpb_rules::Saved;
+use hpb_tree::{Definition, Draft};
+use std::alloc::{AllocError, Global};
+
+/// Where a sum begins, and by what it is multiplied at each byte: those of the hash FNV-1a of 64 bits.
+const BASIS: u64 = 0xcbf2_9ce4_8422_2325;
+
+const PRIME: u64 = 0x0000_0100_0000_01b3;
+
+const JOURNAL: JournalShape = JournalShape {
+    layout: JournalLayout::Pages,
+    frames: 4,
+};
+
+/// The sum of bytes.
+pub fn sum_of(bytes: &[u8]) -> u64 {
+    let mut sum = BASIS;
+    for byte in bytes {
+        sum = (sum ^ u64::from(*byte)).wrapping_mul(PRIME);
+    }
+    sum
+}
+
+/// The sum of a draft, as it is written for people.
+pub fn sum_of_draft(alloc: Global, draft: &Draft) -> Result<u64, AllocError> {
+    let text = format!(in alloc; "{draft:?}")?;
+    Ok(sum_of(text.as_bytes()))
+}
+
+/// The sum of a definition: that of the head that keeps it.
+pub fn sum_of_definition(alloc: Global, definition: &Definition) -> Result<u64, AllocError> {
+    let mut head = vec![in alloc; 0; HEAD_SIZE]?;
+    let head = head.as_mut_slice();
+    encode_head(definition, JOURNAL, StateFormat::Two, head);
+    Ok(sum_of(head))
+}
+
+/// The sum of an auction: that of its definition and of its state.
+pub fn sum_of_auction(alloc: Global, auction: &Auction) -> Result<u64, AllocError> {
+    let mut state = vec![in alloc; 0; STATE_SIZE]?;
+    let state = state.as_mut_slice();
+    let mut saved = Saved::empty();
+    auction.save(&mut saved);
+    encode_state(&saved, 0, state);
+    let definition = sum_of_definition(alloc, auction.definition())?;
+    Ok(sum_of(state).wrapping_mul(PRIME) ^ definition)
+}

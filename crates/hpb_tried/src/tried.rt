@@ -1,0 +1,59 @@
+//! A call that was tried.
+
+use crate::came::Came;
+use crate::sums::{sum_of_auction, sum_of_definition};
+use hpb_auction::Auction;
+use hpb_rules::Refusal;
+use hpb_tree::Definition;
+use std::alloc::{AllocError, Global};
+use std::io;
+
+/// A call that was made once, and once more with memory.
+#[derive(Clone, Copy, Debug, PartialEq, Eq)]
+pub struct Tried {
+    pub first: Came,
+    /// Whether what it was given is afterwards what it was before.
+    pub is_same: bool,
+    pub again: Came,
+}
+
+impl Tried {
+    /// A call that succeeded, and took what it was given.
+    pub fn well(came: Came) -> Self {
+        Tried {
+            first: came,
+            is_same: true,
+            again: came,
+        }
+    }
+}
+
+/// Writes what came of a call, whether what it was given is as it was, and what came of it the second time.
+pub fn tell<R: Print>(rt: &R, tried: &Tried) -> io::Result<()> {
+    let Tried {
+        first,
+        is_same,
+        again,
+    } = *tried;
+    let given = if is_same { "same" } else { "changed" };
+    println!(rt; "{first}, {given}, {again}")
+}
+
+/// What came of a call that makes a definition.
+pub fn definition_came(
+    alloc: Global,
+    made: Result<Definition, AllocError>,
+) -> Result<Came, AllocError> {
+    match made {
+        Ok(definition) => Ok(Came::Well(sum_of_definition(alloc, &definition)?)),
+        Err(_) => Ok(Came::Refused(Refusal::Memory)),
+    }
+}
+
+/// What came of a call that makes an auction.
+pub fn auction_came(alloc: Global, made: Result<Auction, AllocError>) -> Result<Came, AllocError> {
+    match made {
+        Ok(auction) => Ok(Came::Well(sum_of_auction(alloc, &auction)?)),
+        Err(_) => Ok(Came::Refused(Refusal::Memory)),
+    }
+}
