@@ -2,6 +2,7 @@
 use Rattle.std.proofs.Common.{◌≡◌, ◌↔◌, ℕ, All, Bool, IsTrue, List, true, false, ◌++◌, ◌∙◌, ap, length, sym, subst}
 use Rattle.hpb_rules.specs.declared.command.Command.{Command}
 use Rattle.hpb_rules.specs.declared.letter.Answer.{Answer}
+use Rattle.hpb_rules.specs.AuctionValue.{AuctionValue}
 use Rattle.hpb_rules.specs.Letters.{new_commands}
 use Rattle.hpb_letters.specs.Laws.{JudgedIsShown}
 use Rattle.hpb_image.specs.Standing.{Stands}
