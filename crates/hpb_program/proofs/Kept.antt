@@ -28,26 +28,27 @@ use Rattle.hpb_program.specs.Keeping.{IsNotOpened, IsOfOpening, IsRun, ServesFro
 pub are_kept : (a b : Option (List ℕ)) → AreKept (streams a b) (streams a b)
 are_kept a b = (Keeps-refl a, Keeps-refl b)
 
--- an engine was run that has the auction which is read in an image, and keeps each history that the image stands for
-pub is_run : {D : Type 0} (seen : D → List ℕ) (may_leave : D → List ℕ → Type 0) (failures : D → ℕ) (image : List ℕ) (before after : Streams)
+-- an engine was run that has the auction which is read on a device, and keeps each history that the device stood for
+pub is_run : {D : Type 0} (seen : D → List ℕ) (may_leave : D → List ℕ → Type 0) (failures : D → ℕ) (opened : D) (before after : Streams)
     (first : D) (start : Progress) (broken : Bool) (disk : D) (progress : Progress) (failed : Bool) (end : Result ⊤ Fault)
-    → ((found : Found) × Reads found image × (start.committed ≡ last_value found))
-    → ((history : List Command) → Stands history image → Keeps seen may_leave first start broken (at_rest history))
+    → ((found : Found) × Reads found (seen opened) × (start.committed ≡ last_value found))
+    → ((history : List Command) → Stands history (seen opened) → Keeps seen may_leave first start broken (at_rest history))
     → broken ≡ false
+    → failures first ≡ failures opened
     → ((history : List Command) → Keeps seen may_leave first start broken (at_rest history)
     → (state : State) × Serves rules_at never_over RepliesAt ShowsAt MOST_LETTERS true [] MOST_READ_BYTES before after (at_start start.committed.rules history (failures first) broken) state end
     × IsAt seen may_leave failures disk progress failed state)
-    → IsRun seen may_leave failures image before after disk progress failed end
-is_run seen may_leave failures image before after first start broken disk progress failed end read keeps works ran = record {
+    → IsRun seen may_leave failures opened before after disk progress failed end
+is_run seen may_leave failures opened before after first start broken disk progress failed end read keeps works same ran = record {
   found = read.0;
   reads = read.1;
   shows = λ history stands. subst (λ (value : AuctionValue). Shows value history) read.2 (keeps history stands).shows;
-  failed_before = failures first;
   serves = λ history stands.
       let ran_well : ServesFrom seen may_leave failures start.committed (failures first) history before after disk progress failed end =
       subst (λ (b : Bool). (state : State) × Serves rules_at never_over RepliesAt ShowsAt MOST_LETTERS true [] MOST_READ_BYTES before after (at_start start.committed.rules history (failures first) b) state end
       × IsAt seen may_leave failures disk progress failed state) works (ran history (keeps history stands)) in
-      subst (λ (value : AuctionValue). ServesFrom seen may_leave failures value (failures first) history before after disk progress failed end) read.2 ran_well;
+      let of_number = subst (λ (n : ℕ). ServesFrom seen may_leave failures start.committed n history before after disk progress failed end) same ran_well in
+      subst (λ (value : AuctionValue). ServesFrom seen may_leave failures value (failures opened) history before after disk progress failed end) read.2 of_number;
 }
 
 -- why a device is not opened

@@ -34,17 +34,17 @@ unopened image port contents faults.Order not = ⊎_elim (λ e. absurd (cc)) (λ
 unopened image port contents faults.Counts not = ⊎_elim (λ e. absurd (cc)) (λ e. absurd (cc)) not
 
 -- one that is opened is not served to its end
-pub unserved : (D : Type 0) (image : List ℕ) (port : ℕ) (old new : Option (List ℕ)) (fault : ServeFault) (made : JobFault) → IsReadable image → made ≡ made_of_serving fault
+pub unserved : (D : Type 0) (image : List ℕ) (port : ℕ) (old new : Option (List ℕ)) (fault : ServeFault D) (made : JobFault) → IsReadable image → made ≡ made_of_serving fault
     → Announces {A = Served D} (listening_line port) old new (Err fault) → IsUnserved image port old new made
 unserved D image port old new fault made read is written = subst (λ (m : JobFault). IsUnserved image port old new m) (sym is) (go fault written)
   where
-    go : (fault : ServeFault) → Announces {A = Served D} (listening_line port) old new (Err fault) → IsUnserved image port old new (made_of_serving fault)
+    go : (fault : ServeFault D) → Announces {A = Served D} (listening_line port) old new (Err fault) → IsUnserved image port old new (made_of_serving fault)
     go serving.Memory written = written
     go serving.Writer written = (read, written)
     go (serving.Start starting.Memory) written = inl written
     go (serving.Start starting.Place) written = (read, written)
-    go serving.Order written = (read, written)
-    go serving.Counts written = (read, written)
+    go (serving.Order client) written = (read, written)
+    go (serving.Counts differing) written = (read, written)
 
 -- a file that is not opened is not served
 pub unopened_file : (sessions port : ℕ) (contents : Option (List ℕ)) (fault : FileFault) (made : JobFault) → made ≡ made_of_file fault → ServesFile sessions port contents contents (Err made)

@@ -77,13 +77,13 @@ made_of_opening opening.Memory = faults.Memory
 made_of_opening cause = faults.Open cause
 
 -- and where it was not served, or not to its end.
-abbrev pub made_of_serving : ServeFault → JobFault
+abbrev pub made_of_serving : {D : Type 0} → ServeFault D → JobFault
 made_of_serving serving.Memory = faults.Memory
 made_of_serving serving.Writer = faults.Writer
 made_of_serving (serving.Start starting.Memory) = faults.Memory
 made_of_serving (serving.Start starting.Place) = faults.Place
-made_of_serving serving.Order = faults.Order
-made_of_serving serving.Counts = faults.Counts
+made_of_serving (serving.Order client) = faults.Order
+made_of_serving (serving.Counts differing) = faults.Counts
 
 -- A fault of a job's file, or of memory.
 abbrev pub IsOfFile : JobFault → Type 0

@@ -26,13 +26,12 @@ ServesFrom seen may_leave failures value failed_before history before after disk
     (state : State) × Serves rules_at never_over RepliesAt ShowsAt MOST_LETTERS true [] MOST_READ_BYTES before after (at_start value.rules history failed_before false) state end
     × IsAt seen may_leave failures disk progress failed state
 
--- The auction that is read in an image was run: by each history that the image stands for the lines were answered.
-pub record IsRun {D : Type 0} (seen : D → List ℕ) (may_leave : D → List ℕ → Type 0) (failures : D → ℕ) (image : List ℕ) (before after : Streams) (disk : D) (progress : Progress) (failed : Bool) (end : Result ⊤ Fault) : Type 0 where
+-- The auction that is read on a device was run: by each history that the device stood for the lines were answered.
+pub record IsRun {D : Type 0} (seen : D → List ℕ) (may_leave : D → List ℕ → Type 0) (failures : D → ℕ) (opened : D) (before after : Streams) (disk : D) (progress : Progress) (failed : Bool) (end : Result ⊤ Fault) : Type 0 where
   pub found : Found
-  pub reads : Reads found image
-  pub shows : IsKept image (last_value found)
-  pub failed_before : ℕ
-  pub serves : (history : List Command) → Stands history image → ServesFrom seen may_leave failures (last_value found) failed_before history before after disk progress failed end
+  pub reads : Reads found (seen opened)
+  pub shows : IsKept (seen opened) (last_value found)
+  pub serves : (history : List Command) → Stands history (seen opened) → ServesFrom seen may_leave failures (last_value found) (failures opened) history before after disk progress failed end
 
 -- A device was not opened: its flaw is there, or the machine failed.
 abbrev pub IsNotOpened : List ℕ → JobFault → Type 0
@@ -48,5 +47,5 @@ IsOfOpening fault = ⊥
 
 -- An auction was run by what a file held, of which nothing else is known; or the file was not opened, and nothing was read or written.
 abbrev pub RunsFile : (before after : Streams) → Result RunEnd JobFault → Type 0
-RunsFile before after (Ok end) = (image : List ℕ) × (disk : FileDisk) × (progress : Progress) × IsRun file_seen file_left file_failures image before after disk progress end.failed end.end
+RunsFile before after (Ok end) = (opened : FileDisk) × (disk : FileDisk) × (progress : Progress) × IsRun file_seen file_left file_failures opened before after disk progress end.failed end.end
 RunsFile before after (Err fault) = IsOfOpening fault × AreKept before after

@@ -14,6 +14,7 @@ use Rattle.hpb_program.specs.declared.words.WordsFault.TheVariants.{Memory, Refu
 use Rattle.hpb_program.specs.declared.job_fault.JobFault.{JobFault}
 use Rattle.hpb_program.specs.declared.job_fault.JobFault.TheVariants as faults
 use Rattle.hpb_program.specs.declared.run_end.RunEnd.{RunEnd}
+use Rattle.hpb_program.specs.declared.serving.FileEnd.{FileEnd}
 use Rattle.hpb_program.specs.Keeping.{RunsFile}
 use Rattle.hpb_program.specs.Serving.{ServesFile}
 use Rattle.hpb_program.specs.Words.{AsksFor}
@@ -81,10 +82,15 @@ TellsEnded errors_old errors_new (Ok done) false status = Keeps errors_old error
 TellsEnded errors_old errors_new (Ok done) true status = TellsOf errors_old errors_new refusals.Device × (status ≡ ILL)
 TellsEnded errors_old errors_new (Err fault) failed status = TellsOf errors_old errors_new (sessions.refusal_of fault) × (status ≡ ILL)
 
--- What both outputs are told of how a run of a file or its serving ended, and its status. Once it has begun the output is told nothing more.
+-- What both outputs are told of how a run of a file ended, and its status. Once it has begun the output is told nothing more.
 abbrev pub TellsRun : (old new errors_old errors_new : Option (List ℕ)) → Result RunEnd JobFault → ℕ → Type 0
 TellsRun old new errors_old errors_new (Ok end) status = Keeps old new × TellsEnded errors_old errors_new end.end end.failed status
 TellsRun old new errors_old errors_new (Err fault) status = TellsEnd old new errors_old errors_new (Err fault) status
+
+-- The same where a file was served.
+abbrev pub TellsServed : (old new errors_old errors_new : Option (List ℕ)) → Result FileEnd JobFault → ℕ → Type 0
+TellsServed old new errors_old errors_new (Ok end) status = Keeps old new × TellsEnded errors_old errors_new end.said end.has_failed status
+TellsServed old new errors_old errors_new (Err fault) status = TellsEnd old new errors_old errors_new (Err fault) status
 
 -- A job on a file does this, and then its end is told.
 abbrev pub RunsToEnd : (Streams → Streams → Result ⊤ JobFault → Type 0) → (before after : Streams) (errors_old errors_new : Option (List ℕ)) → ℕ → Type 0
@@ -106,8 +112,8 @@ RunsJob is_terminal (Run file batch every) before after errors_old errors_new st
     (done : Streams) × (end : Result RunEnd JobFault) × RunsFile before done end
     × Keeps done.remaining after.remaining × TellsRun done.contents after.contents errors_old errors_new end status
 RunsJob is_terminal (Serve file port sessions) before after errors_old errors_new status =
-    (served : Option (List ℕ)) × (end : Result RunEnd JobFault) × ServesFile sessions port before.contents served end
-    × Keeps before.remaining after.remaining × TellsRun served after.contents errors_old errors_new end status
+    (served : Option (List ℕ)) × (end : Result FileEnd JobFault) × ServesFile sessions port before.contents served end
+    × Keeps before.remaining after.remaining × TellsServed served after.contents errors_old errors_new end status
 
 -- A standard stream leads to the file of a job: nothing is read, and 91 is told on the output and the errors, but nothing on the one that leads there.
 abbrev pub RefusesStreams : (before after : Streams) (errors_old errors_new : Option (List ℕ)) → ℕ → Type 0

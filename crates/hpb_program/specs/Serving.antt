@@ -12,7 +12,7 @@ use Rattle.hpb_serve.specs.Announcing.{listening_line}
 use Rattle.hpb_server.specs.Writing.{Sends}
 use Rattle.hpb_program.specs.declared.job_fault.JobFault.{JobFault}
 use Rattle.hpb_program.specs.declared.job_fault.JobFault.TheVariants as faults
-use Rattle.hpb_program.specs.declared.run_end.RunEnd.{RunEnd}
+use Rattle.hpb_program.specs.declared.serving.FileEnd.{FileEnd}
 use Rattle.hpb_program.specs.declared.serving.ServeEnd.{ServeEnd}
 use Rattle.hpb_program.specs.declared.serving.Unsaid.{Unsaid}
 use Rattle.hpb_program.specs.Jobs.{StopsWriting}
@@ -21,18 +21,17 @@ use Rattle.hpb_program.specs.Jobs.{StopsWriting}
 abbrev pub closed_line : ℕ → List ℕ
 closed_line count = codes "CLOSED " ++ decimal count ++ codes "\n"
 
--- So many sessions have ended, which were served with the auction that is read in an image, and the listening line alone was written.
-pub record Ends {D : Type 0} (seen : D → List ℕ) (may_leave : D → List ℕ → Type 0) (failures : D → ℕ) (image : List ℕ) (sessions port : ℕ) (old new : Option (List ℕ)) (served : Served D) : Type 0 where
+-- So many sessions have ended, which were served with the auction that is read on a device, and the listening line alone was written.
+pub record Ends {D : Type 0} (seen : D → List ℕ) (may_leave : D → List ℕ → Type 0) (failures : D → ℕ) (disk : D) (sessions port : ℕ) (old new : Option (List ℕ)) (served : Served D) : Type 0 where
   pub found : Found
-  pub reads : Reads found image
-  pub failed_before : ℕ
-  pub ended : EndsAll seen may_leave failures image failed_before (last_value found) sessions served
+  pub reads : Reads found (seen disk)
+  pub ended : EndsAll seen may_leave failures (seen disk) (failures disk) (last_value found) sessions served
   pub listens : Appends old new (listening_line port)
 
 -- The same, and then the closing line was written, or a front of it: with the number of commands that are accepted in the auction that the device then keeps.
-pub record Closes {D : Type 0} (seen : D → List ℕ) (may_leave : D → List ℕ → Type 0) (failures : D → ℕ) (image : List ℕ) (sessions port : ℕ) (old new : Option (List ℕ)) (end : ServeEnd D) : Type 0 where
+pub record Closes {D : Type 0} (seen : D → List ℕ) (may_leave : D → List ℕ → Type 0) (failures : D → ℕ) (disk : D) (sessions port : ℕ) (old new : Option (List ℕ)) (end : ServeEnd D) : Type 0 where
   pub listening : Option (List ℕ)
-  pub ends : Ends seen may_leave failures image sessions port old listening end.served
+  pub ends : Ends seen may_leave failures disk sessions port old listening end.served
   pub closes : Sends listening new (closed_line end.served.closing.auction.count) end.said
 
 -- There is an auction to be read in an image.
@@ -56,14 +55,14 @@ IsUnserved image port old new faults.Counts = IsReadable image × Appends old ne
 IsUnserved image port old new fault = ⊥
 
 -- What a device holds was served to so many sessions at a port; or it was not, or not to the end.
-abbrev pub ServesKept : {D : Type 0} (seen : D → List ℕ) (may_leave : D → List ℕ → Type 0) (failures : D → ℕ) (image : List ℕ) (sessions port : ℕ) (old new : Option (List ℕ)) → Result (ServeEnd D) JobFault → Type 0
-ServesKept seen may_leave failures image sessions port old new (Ok end) = Closes seen may_leave failures image sessions port old new end
-ServesKept seen may_leave failures image sessions port old new (Err fault) = IsUnserved image port old new fault
+abbrev pub ServesKept : {D : Type 0} (seen : D → List ℕ) (may_leave : D → List ℕ → Type 0) (failures : D → ℕ) (disk : D) (sessions port : ℕ) (old new : Option (List ℕ)) → Result (ServeEnd D) JobFault → Type 0
+ServesKept seen may_leave failures disk sessions port old new (Ok end) = Closes seen may_leave failures disk sessions port old new end
+ServesKept seen may_leave failures disk sessions port old new (Err fault) = IsUnserved (seen disk) port old new fault
 
 -- What a device holds was served up to the closing line, for which there is room; or it was not, or not to the end.
-abbrev pub ServesUnsaid : {D : Type 0} (seen : D → List ℕ) (may_leave : D → List ℕ → Type 0) (failures : D → ℕ) (image : List ℕ) (sessions port : ℕ) (old new : Option (List ℕ)) → Result (Unsaid D) JobFault → Type 0
-ServesUnsaid seen may_leave failures image sessions port old new (Ok unsaid) = Ends seen may_leave failures image sessions port old new unsaid.served × (string_bytes unsaid.room ≡ [])
-ServesUnsaid seen may_leave failures image sessions port old new (Err fault) = IsUnserved image port old new fault
+abbrev pub ServesUnsaid : {D : Type 0} (seen : D → List ℕ) (may_leave : D → List ℕ → Type 0) (failures : D → ℕ) (disk : D) (sessions port : ℕ) (old new : Option (List ℕ)) → Result (Unsaid D) JobFault → Type 0
+ServesUnsaid seen may_leave failures disk sessions port old new (Ok unsaid) = Ends seen may_leave failures disk sessions port old new unsaid.served × (string_bytes unsaid.room ≡ [])
+ServesUnsaid seen may_leave failures disk sessions port old new (Err fault) = IsUnserved (seen disk) port old new fault
 
 -- A fault of looking for the files and connections that there may be at a time.
 abbrev pub IsOfDescriptors : JobFault → Type 0
@@ -71,11 +70,13 @@ IsOfDescriptors faults.Memory = Unit {0}
 IsOfDescriptors (faults.Descriptors sessions wanted error) = Unit {0}
 IsOfDescriptors fault = ⊥
 
--- The same of a file, of whose bytes nothing else is known, and how its serving ended; or it was not opened, or too few files and connections may be had at a time, and nothing was written.
-abbrev pub ServesFile : (sessions port : ℕ) (old new : Option (List ℕ)) → Result RunEnd JobFault → Type 0
-ServesFile sessions port old new (Ok end) =
-    (image : List ℕ) × (served : ServeEnd FileDisk) × Closes file_seen file_left file_failures image sessions port old new served
-    × (end.end ≡ served.said) × (end.failed ≡ served.served.closing.has_failed)
+-- What was served of a file, with its disk as the house left it.
+abbrev pub end_of : FileEnd → ServeEnd FileDisk
+end_of end = record { served = record { closing = record { disk = end.left.value; auction = end.auction; has_failed = end.has_failed }; reports = end.reports }; said = end.said }
+
+-- The same of a file: what its disk held when it was opened was served, and the disk that was closed keeps what the sessions were told; or the file was not opened, or too few files and connections may be had at a time, and nothing was written.
+abbrev pub ServesFile : (sessions port : ℕ) (old new : Option (List ℕ)) → Result FileEnd JobFault → Type 0
+ServesFile sessions port old new (Ok end) = Closes file_seen file_left file_failures end.opened.value sessions port old new (end_of end)
 ServesFile sessions port old new (Err (faults.File fault)) = Keeps old new
 ServesFile sessions port old new (Err (faults.Descriptors held wanted error)) = Keeps old new
 ServesFile sessions port old new (Err faults.Memory) = StopsAnywhere port old new

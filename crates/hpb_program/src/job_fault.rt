@@ -6,7 +6,7 @@ use crate::escaped::Escaped;
 use crate::noted::Failures;
 use crate::stream_words::{write_reading, write_writing};
 use hpb_define::{DefineCause, DefineFault};
-use hpb_disk::FileFault;
+use hpb_disk::{Disk, FileFault};
 use hpb_format::FormatCause;
 use hpb_house::StartCause;
 use hpb_image::Flaw;
@@ -129,16 +129,16 @@ impl From<Cause> for JobFault {
     }
 }
 
-impl From<ServeFault> for JobFault {
+impl<D: Disk + Drop> From<ServeFault<D>> for JobFault {
     ghost from_gives = { λ fault made. made ≡ made_of_serving fault };
 
-    fn from(fault: ServeFault) -> JobFault {
+    fn from(fault: ServeFault<D>) -> JobFault {
         match fault {
             ServeFault::Memory | ServeFault::Start(StartCause::Memory) => JobFault::Memory,
             ServeFault::Writer => JobFault::Writer,
             ServeFault::Start(StartCause::Place) => JobFault::Place,
-            ServeFault::Order => JobFault::Order,
-            ServeFault::Counts => JobFault::Counts,
+            ServeFault::Order(_) => JobFault::Order,
+            ServeFault::Counts(_) => JobFault::Counts,
         }
     }
 }

@@ -58,7 +58,7 @@ pub fn run_kept<D: Disk + Drop, R: Read, W: Write>(
     input: &mut R,
     output: &mut W,
 ) -> Result<Ran<D>, JobFault>
-    ensures run { IfOk result (λ ran. IsRun D.seen D.may_leave D.failures (D.seen disk) (streams (R.remaining input.old) (W.contents output.old)) (streams (R.remaining input.new) (W.contents output.new))
+    ensures run { IfOk result (λ ran. IsRun D.seen D.may_leave D.failures disk (streams (R.remaining input.old) (W.contents output.old)) (streams (R.remaining input.new) (W.contents output.new))
         ran.engine.disk ran.engine.progress ran.engine.failed ran.end) }
     ensures fault { IfErr result (IsNotOpened (D.seen disk)) }
     ensures nothing { OnErr result (AreKept (streams (R.remaining input.old) (W.contents output.old)) (streams (R.remaining input.new) (W.contents output.new))) }
@@ -76,6 +76,7 @@ fn start_engine<D: Disk + Drop>(alloc: Global, disk: D) -> Result<Engine<D>, Job
         → IfOk result (λ engine. Keeps D.seen D.may_leave engine.disk engine.progress engine.failed (at_rest history)) }
     ensures read { IfOk result (λ engine. (found : Found) × Reads found (D.seen disk) × (engine.progress.committed ≡ last_value found)) }
     ensures works { IfOk result (λ engine. engine.failed ≡ false) }
+    ensures counted { IfOk result (λ engine. D.failures engine.disk ≡ D.failures disk) }
     ensures fault { IfErr result (IsNotOpened (D.seen disk)) }
 {
     let opened = match open(alloc, disk) {

@@ -31,7 +31,7 @@ pub use laws::words_ask_for;
 pub use noted::Noted;
 pub use run_end::RunEnd;
 pub use running::{program, refuse_streams, refuse_words};
-pub use serving::{ServeEnd, serve_kept};
+pub use serving::{FileEnd, ServeEnd, serve_kept};
 pub use stack::hold_stack;
 pub use streams::hold_streams;
 pub use telling::answer_memory;

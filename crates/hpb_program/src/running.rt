@@ -1,6 +1,6 @@
 ghost use Rattle.std.specs.Prelude.{◌≡◌, ◌≢◌, ◌≤◌, IfErr, IfOk, map};
 ghost use Rattle.std.specs.IoError.{error_kind};
-ghost use Rattle.hpb_program.specs.Program.{AnswersFault, HasStatus, RunsAsked, RunsJob, RunsProgram, SaysFault, TellsEnd, TellsEnded, TellsRun, TellsScript, hint_text, status_of_fault, status_of_script};
+ghost use Rattle.hpb_program.specs.Program.{AnswersFault, HasStatus, RunsAsked, RunsJob, RunsProgram, SaysFault, TellsEnd, TellsEnded, TellsRun, TellsScript, TellsServed, hint_text, status_of_fault, status_of_script};
 ghost use Rattle.hpb_server.specs.Streams.{streams};
 ghost use Rattle.hpb_rules.specs.declared.refusal.Refusal.TheVariants as refusals;
 ghost use Rattle.hpb_program.specs.Words.{HasRanges};
@@ -15,7 +15,7 @@ use crate::noted::{Failures, Noted};
 use crate::run_end::{RunAdvice, RunEnd};
 use crate::script_end::ScriptAdvice;
 use crate::served_end::ServedAdvice;
-use crate::serving::serve_file;
+use crate::serving::{FileEnd, serve_file};
 use crate::status::{ILL, WELL, WRONG_WORDS};
 use crate::stream_words::StreamsAdvice;
 use crate::streams::{Led, refuse_led};
@@ -254,16 +254,20 @@ fn tell_run<W: Write, E: Write>(
 fn tell_served<W: Write, E: Write>(
     alloc: Global,
     file: &str,
-    end: Result<RunEnd, JobFault>,
+    end: Result<FileEnd, JobFault>,
     failures: Failures,
     output: &mut W,
     errors: &mut E,
 ) -> u8
     ensures status { result ≤ WRONG_WORDS }
-    ensures told { TellsRun (W.contents output.old) (W.contents output.new) (E.contents errors.old) (E.contents errors.new) end result }
+    ensures told { TellsServed (W.contents output.old) (W.contents output.new) (E.contents errors.old) (E.contents errors.new) end result }
 {
     match end {
         Ok(end) => {
+            let end = RunEnd {
+                end: end.said,
+                failed: end.has_failed,
+            };
             let advice = ServedAdvice {
                 file,
                 end,

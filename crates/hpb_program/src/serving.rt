@@ -8,9 +8,11 @@ ghost use Rattle.hpb_server.specs.Writing.{Sends};
 use crate::descriptors::look_for_descriptors;
 use crate::job_fault::JobFault;
 use crate::lookout::Lookout;
-use crate::run_end::RunEnd;
+use hpb_auction::Auction;
 use hpb_disk::{Disk, FileDisk};
+use hpb_house::Closing;
 use hpb_recover::{Opened, open};
+use hpb_rings::Report;
 use hpb_serve::{Served, Unwatched, Watch, serve_watched};
 use hpb_server::{Fault, send_bytes};
 use std::alloc::{AllocError, Global};
@@ -18,17 +20,35 @@ use std::fs::{File, Files};
 use std::io;
 use std::io::Write;
 use std::net::{Ipv4Addr, Net, TcpListener, TcpStream};
+use std::snapshot::Snapshot;
 use std::sync::Wait;
 use std::thread::Threads;
 
 /// As many bytes as the line of the end may have: the number of commands has 32 bits, so ten digits at most.
 const CLOSED_BYTES: usize = 18;
 
-/// How serving ended that had begun.
+/// How serving a device ended that had begun.
 #[derive(Drop)]
 pub struct ServeEnd<D: Disk + Drop> {
     /// What was served, and what the house leaves.
     pub served: Served<D>,
+    /// Whether the last line was written.
+    pub said: Result<(), Fault>,
+}
+
+/// How serving a file ended that had begun. The file is closed.
+#[derive(Drop)]
+pub struct FileEnd {
+    /// The disk in the file when it was opened, which only clauses read.
+    pub opened: Snapshot<FileDisk>,
+    /// The same as the house left it, before it was closed.
+    pub left: Snapshot<FileDisk>,
+    /// The committed auction.
+    pub auction: Auction,
+    /// Whether a call of the disk has failed (91).
+    pub has_failed: bool,
+    /// The report of each session's client, from seat 0 on.
+    pub reports: Vec<Report>,
     /// Whether the last line was written.
     pub said: Result<(), Fault>,
 }
@@ -42,7 +62,7 @@ struct Unsaid<D: Disk + Drop> {
 }
 
 /// Serves so many sessions with the auction that the file of a path keeps, as `serve_kept` says, once there may be as many
-/// connections at a time as that takes.
+/// connections at a time as that takes. The file is closed before the last line is written.
 #[tactic(auto, using(crate::proofs::Served::of_device, crate::proofs::Served::unheld, crate::proofs::Served::unopened_file))]
 pub(crate) fn serve_file<
     H: Files<File = File> + Net<Listener = TcpListener, Stream = TcpStream> + Threads + Wait + Sync,
@@ -54,7 +74,7 @@ pub(crate) fn serve_file<
     port: u16,
     sessions: u8,
     output: &mut W,
-) -> Result<RunEnd, JobFault>
+) -> Result<FileEnd, JobFault>
     requires { (1 ≤ sessions) × (sessions ≤ 32) }
     ensures { ServesFile sessions port (W.contents output.old) (W.contents output.new) result }
 {
@@ -69,18 +89,31 @@ pub(crate) fn serve_file<
     if let Err(fault) = look_for_descriptors(rt, alloc, sessions) {
         return Err(fault);
     }
+    let opened = Snapshot::of(&disk);
     let Unsaid { served, room } = match serve_device(
         rt, alloc, disk, port, sessions, output, &lookout,
     ) {
         Ok(unsaid) => unsaid,
         Err(fault) => return Err(fault),
     };
-    let count = served.closing.auction.count();
-    let failed = served.closing.has_failed;
+    let Served { closing, reports } = served;
+    let Closing {
+        disk,
+        auction,
+        has_failed,
+    } = closing;
+    let left = Snapshot::of(&disk);
     // Whoever reads the last line may open the file.
-    drop(served);
-    match say_closed(room, count, output) {
-        Ok(end) => Ok(RunEnd { end, failed }),
+    drop(disk);
+    match say_closed(room, auction.count(), output) {
+        Ok(said) => Ok(FileEnd {
+            opened,
+            left,
+            auction,
+            has_failed,
+            reports,
+            said,
+        }),
         Err(_) => Err(JobFault::Memory),
     }
 }
@@ -106,7 +139,7 @@ pub fn serve_kept<
     output: &mut W,
 ) -> Result<ServeEnd<D>, JobFault>
     requires { (1 ≤ sessions) × (sessions ≤ 32) }
-    ensures { ServesKept D.seen D.may_leave D.failures (D.seen disk) sessions port (W.contents output.old) (W.contents output.new) result }
+    ensures { ServesKept D.seen D.may_leave D.failures disk sessions port (W.contents output.old) (W.contents output.new) result }
 {
     let Unsaid { served, room } = match serve_device(
         rt, alloc, disk, port, sessions, output, &Unwatched,
@@ -137,7 +170,7 @@ fn serve_device<
     watch: &V,
 ) -> Result<Unsaid<D>, JobFault>
     requires { (1 ≤ sessions) × (sessions ≤ 32) }
-    ensures { ServesUnsaid D.seen D.may_leave D.failures (D.seen disk) sessions port (W.contents output.old) (W.contents output.new) result }
+    ensures { ServesUnsaid D.seen D.may_leave D.failures disk sessions port (W.contents output.old) (W.contents output.new) result }
 {
     let opened = match open_device(alloc, disk) {
         Ok(opened) => opened,
@@ -163,6 +196,7 @@ fn serve_device<
 fn open_device<D: Disk + Drop>(alloc: Global, disk: D) -> Result<Opened<D>, JobFault>
     ensures read { IfOk result (λ opened. (found : Found) × Reads found (D.seen disk) × (opened.plan.auction ≡ last_value found)) }
     ensures same { IfOk result (λ opened. D.seen opened.disk ≡ D.seen disk) }
+    ensures works { IfOk result (λ opened. D.failures opened.disk ≡ D.failures disk) }
     ensures fault { IfErr result (IsNotOpened (D.seen disk)) }
 {
     match open(alloc, disk) {

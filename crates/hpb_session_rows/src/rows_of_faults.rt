@@ -4,7 +4,7 @@ use crate::caller::Caller;
 use crate::outputs::Deaf;
 use crate::serving::{Came, serve_faulty_device, serve_new_device};
 use hpb_engine_rows::over_layouts;
-use hpb_serve::ServeFault;
+use hpb_rules::Refusal;
 use std::test::*;
 
 #[test]
@@ -49,7 +49,7 @@ fn nobody_hears_the_line(rt: HostRuntime) -> Result<(), Fail> {
         if let Ok(caller) = Caller::connect(&rt, alloc, serving.port) {
             assert!(rt; caller.is_turned_away());
         }
-        assert_eq!(rt; serving.ended(&rt)?.served, Err(ServeFault::Writer));
+        assert_eq!(rt; serving.ended(&rt)?.served, Err(Refusal::Stream));
     });
     Ok(())
 }

@@ -6,7 +6,8 @@ use crate::devices::{faulty_opened, file_opened, new_opened};
 use hpb_codec::JournalShape;
 use hpb_disk::Disk;
 use hpb_recover::Opened;
-use hpb_serve::{ServeFault, serve_opened};
+use hpb_rules::Refusal;
+use hpb_serve::serve_opened;
 use std::alloc::Global;
 use std::fs::{File, Files};
 use std::io::Write;
@@ -46,12 +47,12 @@ pub(crate) struct Came {
 /// What serving came to, and its output.
 #[derive(Drop)]
 pub(crate) struct Ended<W: Drop> {
-    pub(crate) served: Result<Came, ServeFault>,
+    pub(crate) served: Result<Came, Refusal>,
     pub(crate) output: W,
 }
 
 /// What it comes to where so many commands are accepted in all, and no call of the device has failed.
-pub(crate) fn well(count: u32) -> Result<Came, ServeFault> {
+pub(crate) fn well(count: u32) -> Result<Came, Refusal> {
     Ok(Came {
         count,
         has_failed: false,
@@ -115,7 +116,7 @@ fn serve_over<
                     count: served.closing.auction.count(),
                     has_failed: served.closing.has_failed,
                 }),
-                Err(fault) => Err(fault),
+                Err(fault) => Err(fault.refusal()),
             };
             Ended { served, output }
         },

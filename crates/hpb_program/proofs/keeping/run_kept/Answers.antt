@@ -4,6 +4,6 @@ use Rattle.hpb_program.proofs.keeping.run_kept.Goals as goal
 
 pub returns-in-Ok-clause-run : goal.returns-in-Ok-clause-run
 returns-in-Ok-clause-run g c =
-    is_run g.D.Disk.seen g.D.Disk.may_leave g.D.Disk.failures (g.D.Disk.seen c.args.disk) (streams _ _) (streams _ _) c.in-Ok.engine.disk c.in-Ok.engine.progress c.in-Ok.engine.failed
+    is_run g.D.Disk.seen g.D.Disk.may_leave g.D.Disk.failures c.args.disk (streams _ _) (streams _ _) c.in-Ok.engine.disk c.in-Ok.engine.progress c.in-Ok.engine.failed
     c.run_device.result.engine.disk c.run_device.result.engine.progress c.run_device.result.engine.failed c.run_device.result.end
-    c.in-Ok.ensures.read c.in-Ok.ensures.keeps c.in-Ok.ensures.works c.run_device.ensures.ran
+    c.in-Ok.ensures.read c.in-Ok.ensures.keeps c.in-Ok.ensures.works c.in-Ok.ensures.counted c.run_device.ensures.ran

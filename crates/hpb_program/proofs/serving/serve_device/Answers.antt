@@ -17,16 +17,16 @@ returns-in-Err-serve_watched g c =
 
 pub returns-in-Ok-serve_watched : goal.returns-in-Ok-serve_watched
 returns-in-Ok-serve_watched g c =
+    let d = g.D.Disk in
     let read = c.in-Ok.ensures.read in
-    let failed_before = g.D.Disk.failures c.in-Ok.opened.disk in
     let served = c.in-Ok-serve_watched.served in
-    let EndsBy : List ℕ → AuctionValue → Type 0 = λ image before. EndsAll g.D.Disk.seen g.D.Disk.may_leave g.D.Disk.failures image failed_before before c.args.sessions served in (
+    let EndsBy : List ℕ → ℕ → AuctionValue → Type 0 = λ image failures before. EndsAll d.seen d.may_leave d.failures image failures before c.args.sessions served in
+    let of_image = subst (λ image. EndsBy image (d.failures c.in-Ok.opened.disk) c.in-Ok.opened.plan.auction) c.in-Ok.ensures.same c.in-Ok-serve_watched.ensures.ended in
+    let of_number = subst (λ failures. EndsBy (d.seen c.args.disk) failures c.in-Ok.opened.plan.auction) c.in-Ok.ensures.works of_image in (
       record {
         found = read.0;
         reads = read.1;
-        failed_before = failed_before;
-        ended = subst (EndsBy (g.D.Disk.seen c.args.disk)) read.2
-            (subst (λ image. EndsBy image c.in-Ok.opened.plan.auction) c.in-Ok.ensures.same c.in-Ok-serve_watched.ensures.ended);
+        ended = subst (EndsBy (d.seen c.args.disk) (d.failures c.args.disk)) read.2 of_number;
         listens = search rules;
       },
       search rules,
