@@ -205,7 +205,7 @@ fn commit<D: Disk + Drop, W: Wait + Drop, J: Naming, G: Gate, R: Wait>(
 {
     for _ in rt.forever() {
         match house.commit(rt) {
-            Ok(Step::Went) => {}
+            Ok(Step::Went) => gate.at(rt, Point::Turned),
             Ok(Step::Idle) => return Turned::Free { expected: 0 },
             Ok(Step::Done(answers)) => {
                 wake_answered(intake, &answers);

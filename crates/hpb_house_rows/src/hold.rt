@@ -99,3 +99,88 @@ impl Gate for Pages {
         }
     }
 }
+
+/// Holds a checkpoint behind its first page until a commit stands between two of its turns, and that commit until the next page
+/// is written. The commit is the second one: there is nothing to write before the first.
+#[derive(Drop)]
+pub(crate) struct Crossing {
+    commits: AtomicU32,
+    pages: AtomicU32,
+    stands: AtomicBool,
+    has_crossed: AtomicBool,
+    is_open: AtomicBool,
+    committing: Parker,
+    checkpointing: Parker,
+}
+
+impl Crossing {
+    /// A gate that nobody has come to.
+    pub(crate) fn new() -> Crossing {
+        Crossing {
+            commits: AtomicU32::new(0),
+            pages: AtomicU32::new(0),
+            stands: AtomicBool::new(false),
+            has_crossed: AtomicBool::new(false),
+            is_open: AtomicBool::new(false),
+            committing: Parker::new(),
+            checkpointing: Parker::new(),
+        }
+    }
+
+    /// Whether a page was written while the commit stood between two turns.
+    pub(crate) fn has_crossed(&self) -> bool {
+        self.has_crossed.load(Ordering::SeqCst)
+    }
+
+    /// Lets both workers pass, now and from then on.
+    pub(crate) fn open(&self) {
+        self.is_open.store(true, Ordering::SeqCst);
+        self.committing.unpark();
+        self.checkpointing.unpark();
+    }
+
+    fn stand<R: Wait>(&self, rt: &R) {
+        if self.commits.load(Ordering::SeqCst) == 0 {
+            return;
+        }
+        self.stands.store(true, Ordering::SeqCst);
+        self.checkpointing.unpark();
+        for _ in rt.forever() {
+            if self.pages.load(Ordering::SeqCst) > 1 {
+                self.has_crossed.store(true, Ordering::SeqCst);
+                return;
+            }
+            if self.is_open.load(Ordering::SeqCst) {
+                return;
+            }
+            self.committing.park(rt);
+        }
+    }
+
+    fn write<R: Wait>(&self, rt: &R, page: u8) {
+        self.pages.fetch_add(1, Ordering::SeqCst);
+        self.committing.unpark();
+        if page > 0 {
+            return;
+        }
+        for _ in rt.forever() {
+            if self.stands.load(Ordering::SeqCst) || self.is_open.load(Ordering::SeqCst) {
+                return;
+            }
+            self.checkpointing.park(rt);
+        }
+    }
+}
+
+impl Gate for Crossing {
+    fn at<R: Wait>(&self, rt: &R, point: Point) {
+        match point {
+            Point::Committed => {
+                self.commits.fetch_add(1, Ordering::SeqCst);
+            }
+            Point::Turned => self.stand(rt),
+            Point::Page(page) => self.write(rt, page),
+            Point::Gathered | Point::Retired => {}
+        }
+    }
+}

@@ -4,7 +4,7 @@ ghost use Rattle.hpb_house.specs.Boards.{SameBoard};
 
 use crate::devices::six_nodes_opened;
 use crate::harness::{Outcome, Session, run_in_memory};
-use crate::hold::{Hold, Pages};
+use crate::hold::{Crossing, Hold, Pages};
 use crate::script::{accepted_command, ask_places};
 use crate::turns::{TURNS, pause, post, take_within};
 use hpb_engine_rows::devices::count_on;
@@ -212,6 +212,43 @@ fn checkpoints_between_turns(rt: HostRuntime) -> Result<(), Fail> {
         assert_eq!(rt; session.accepted.load(Ordering::SeqCst), 10);
         assert!(rt; run.outcome.is_closed);
         assert_eq!(rt; count_on(alloc, run.disk)?, 10);
+    });
+    Ok(())
+}
+
+/// Commits twice, the second time across a page of a checkpoint, and twice more.
+#[derive(Drop)]
+struct Across {
+    crossing: Crossing,
+    accepted: AtomicU64,
+}
+
+impl Session for Across {
+    fn run<R: Wait>(&self, rt: &R, client: Client<Halt>) -> Client<Halt> {
+        let mut client = client;
+        let accepted = ask_places(rt, &mut client, 0, 2);
+        self.crossing.open();
+        let rest = ask_places(rt, &mut client, 2, 4);
+        self.accepted
+            .store(accepted.saturating_add(rest), Ordering::SeqCst);
+        client
+    }
+}
+
+#[test]
+fn page_between_two_turns_of_a_commit(rt: HostRuntime) -> Result<(), Fail> {
+    let alloc = rt.alloc();
+    over_layouts!(shape => {
+        let session = Across {
+            crossing: Crossing::new(),
+            accepted: AtomicU64::new(0),
+        };
+        let opened = six_nodes_opened(alloc, shape)?;
+        let run = run_in_memory(&rt, alloc, opened, 1, &session.crossing, &session)?;
+        assert!(rt; session.crossing.has_crossed());
+        assert_eq!(rt; session.accepted.load(Ordering::SeqCst), 4);
+        assert_eq!(rt; run.outcome.committed, 4);
+        assert_eq!(rt; count_on(alloc, run.disk)?, 4);
     });
     Ok(())
 }

@@ -1,7 +1,6 @@
 //! A house from an opening to a stop.
-ghost use Rattle.std.specs.Prelude.{◌≡◌, ◌↔◌, ◌<◌, [], IsTrue};
+ghost use Rattle.std.specs.Prelude.{◌↔◌, ◌<◌, IsTrue};
 ghost use Rattle.hpb_board.specs.Publication.{AreSeated};
-ghost use Rattle.hpb_house.specs.Namings.{IsOf};
 
 use crate::bidding::{BIDDERS, next_command};
 use crate::random::{Random, Stop};
@@ -11,12 +10,11 @@ use anyhow::{Result, bail};
 use hpb_disk::{MemoryDisk, OnceDisk};
 use hpb_engine::{Fault, Rest, Step};
 use hpb_engine_rows::devices::{opened, opened_or_cause};
-use hpb_house::{CloseFault, Closing, House, Naming, Offered, Ready, Reason, Started};
+use hpb_house::{Halt, House, Keeper, Offered, Reason, Started};
 use hpb_recover::{Cause, Opened};
-use hpb_rings::Report;
+use hpb_rings::{Client, Intake};
 use hpb_rules::{Letter, Letters};
 use std::alloc::Global;
-use std::marker::Brand;
 use std::sync::Wait;
 
 /// How many clients a house has: four for the bidders, one for the auctioneer, and two more for the first two bidders.
@@ -40,12 +38,12 @@ pub(crate) struct World {
 /// A house without a lock, with its clients.
 #[derive(Drop)]
 pub(crate) struct Life<W: Wait + Drop> {
-    started: Started<Device, W>,
+    keeper: Keeper<Device, W>,
+    intake: Intake<Halt>,
+    clients: Vec<Client<Halt>>,
     // Letters that were handed back, and are offered again.
     held: Option<Letters>,
     is_committing: bool,
-    ghost board: { (started.keeper.board.book ≡ started.eye.book) × (started.keeper.board.opened ≡ started.eye.opened) × (started.keeper.board.seats ≡ started.eye.seats) },
-    ghost fresh: { started.eye.list ≡ [] },
 }
 
 impl<W: Wait + Drop> Life<W> {
@@ -57,8 +55,17 @@ impl<W: Wait + Drop> Life<W> {
             sender.repeat();
         }
         match House::start(rt, world.alloc, opened, SEATS) {
-            Ok(started) => Ok(Life {
-                started,
+            Ok(
+                Started {
+                    keeper,
+                    intake,
+                    clients,
+                    ..
+                },
+            ) => Ok(Life {
+                keeper,
+                intake,
+                clients,
                 held: None,
                 is_committing: false,
             }),
@@ -130,7 +137,7 @@ impl<W: Wait + Drop> Life<W> {
             return Ok(());
         }
         let ahead = world.senders[seat].ahead();
-        let auction = self.started.keeper.committed();
+        let auction = self.keeper.committed();
         let place = seat % (BIDDERS + 1);
         if let Some(command) = next_command(&mut world.random, auction, place, ahead) {
             world.senders[seat].send(command)?;
@@ -140,13 +147,13 @@ impl<W: Wait + Drop> Life<W> {
 
     /// A client posts the next of its commands that has no answer.
     fn post(&mut self, world: &mut World, seat: usize) -> Result<()> {
-        if seat >= world.senders.len() || seat >= self.started.clients.len() {
+        if seat >= world.senders.len() || seat >= self.clients.len() {
             return Ok(());
         }
         let Some(command) = world.senders[seat].next() else {
             return Ok(());
         };
-        let client = &mut self.started.clients[seat];
+        let client = &mut self.clients[seat];
         let letter = Letter {
             seat: client.seat,
             command,
@@ -160,10 +167,10 @@ impl<W: Wait + Drop> Life<W> {
 
     /// A client takes an answer.
     fn take(&mut self, world: &mut World, seat: usize) -> Result<()> {
-        if seat >= world.senders.len() || seat >= self.started.clients.len() {
+        if seat >= world.senders.len() || seat >= self.clients.len() {
             return Ok(());
         }
-        let client = &mut self.started.clients[seat];
+        let client = &mut self.clients[seat];
         let _ = client.poll();
         world
             .tale
@@ -188,10 +195,10 @@ impl<W: Wait + Drop> Life<W> {
         if letters.len() == 0 {
             return Ok(());
         }
-        if !are_seated(self.started.keeper.seats(), letters.as_slice()) {
+        if !are_seated(self.keeper.seats(), letters.as_slice()) {
             bail!("a seat that nobody has");
         }
-        match self.started.keeper.offer(letters) {
+        match self.keeper.offer(letters) {
             Offered::InFlight => {
                 self.is_committing = true;
                 tale.line("offer flight")?;
@@ -209,7 +216,7 @@ impl<W: Wait + Drop> Life<W> {
     }
 
     fn gather(&mut self, tale: &mut Tale) -> Result<Letters> {
-        let letters = self.started.intake.gather();
+        let letters = self.intake.gather();
         for letter in letters.as_slice() {
             tale.letter("gather", letter)?;
         }
@@ -217,7 +224,7 @@ impl<W: Wait + Drop> Life<W> {
     }
 
     fn commit(&mut self, tale: &mut Tale) -> Result<()> {
-        match self.started.keeper.commit() {
+        match self.keeper.commit() {
             Ok(Step::Idle) => tale.line("commit idle")?,
             Ok(Step::Went) => tale.line("commit went")?,
             Ok(Step::Done(answers)) => {
@@ -237,7 +244,7 @@ impl<W: Wait + Drop> Life<W> {
     }
 
     fn checkpoint(&mut self, tale: &mut Tale) -> Result<()> {
-        match self.started.keeper.checkpoint() {
+        match self.keeper.checkpoint() {
             Ok(Rest::Idle) => tale.line("checkpoint idle")?,
             Ok(Rest::Went(_)) => tale.line("checkpoint went")?,
             Ok(Rest::Whole) => tale.line("checkpoint whole")?,
@@ -254,11 +261,11 @@ impl<W: Wait + Drop> Life<W> {
 
     /// After a fault each client is told.
     fn halt(&mut self) -> Result<()> {
-        let Some(halt) = self.started.keeper.halt() else {
+        let Some(halt) = self.keeper.halt() else {
             bail!("a fault that nobody is told");
         };
-        self.started.intake.halt(halt);
-        for client in self.started.clients.iter_mut() {
+        self.intake.halt(halt);
+        for client in self.clients.iter_mut() {
             if !client.halted() {
                 bail!("a client that isn't told");
             }
@@ -268,14 +275,15 @@ impl<W: Wait + Drop> Life<W> {
 
     /// The device has what a stop leaves of it.
     pub(crate) fn stop(self, world: &mut World) -> Result<()> {
-        let Life { started, .. } = self;
+        let Life { keeper, .. } = self;
         let stop = world.random.stop();
         world.tale.line(match stop {
             Stop::Kept => "stop kept",
             Stop::Lost => "stop lost",
             Stop::Torn => "stop torn",
         })?;
-        let disk = device_in(world.alloc, started).into_inner();
+        let (disk, _) = keeper.finish();
+        let disk = disk.into_inner();
         let fates = world.random.fates(world.alloc, stop)?;
         world.disk = Some(disk.after_stop(world.alloc, &fates)?);
         Ok(())
@@ -296,27 +304,6 @@ fn opened_in(world: &mut World, fault: u64) -> Result<Opened<Device>> {
             world.tale.line("open device")?;
             opened_or_cause(world.alloc, OnceDisk::new(fault.disk.into_inner(), 0))
         }
-    }
-}
-
-/// The device of a house that wasn't named, whatever is on its way.
-fn device_in<W: Wait + Drop>(alloc: Global, started: Started<Device, W>) -> Device
-    requires board { (started.keeper.board.book ≡ started.eye.book) × (started.keeper.board.opened ≡ started.eye.opened) × (started.keeper.board.seats ≡ started.eye.seats) }
-    requires fresh { started.eye.list ≡ [] }
-{
-    device_of::<Brand, W>(alloc, started)
-}
-
-/// The device of a house of a name.
-fn device_of<J: Naming, W: Wait + Drop>(alloc: Global, started: Started<Device, W>) -> Device
-    requires eye { (started.eye ≡ J.eye) × (started.eye.list ≡ []) }
-    requires own { IsOf J.eye J.image J.failures started.keeper }
-{
-    let Ready { house, .. } = started.named::<J>();
-    let mut reports: Vec<Report> = Vec::new(alloc);
-    match house.close(&mut reports) {
-        Ok(Closing { disk, .. }) => disk,
-        Err(CloseFault { disk, .. }) => disk,
     }
 }
 
