@@ -1,6 +1,6 @@
 -- How the sessions of a house end.
 -- Source: this project's own.
-use Rattle.std.specs.Prelude.{◌≡◌, ℕ, ◌-◌, ◌^◌, List, ◌++◌, All, Contains, IsPermutation, Option, flat_map, map, min}
+use Rattle.std.specs.Prelude.{◌≡◌, ◌≢◌, ℕ, ◌-◌, ◌^◌, false, List, ◌++◌, All, Contains, IsPermutation, Option, flat_map, map, min}
 use Rattle.std.specs.List.{range_with_len}
 use Rattle.hpb_rules.specs.declared.command.Command.{Command}
 use Rattle.hpb_rules.specs.AuctionValue.{AuctionValue, Shows}
