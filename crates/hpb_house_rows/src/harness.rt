@@ -7,8 +7,8 @@ ghost use Rattle.hpb_house.specs.Boards.{SameBoard};
 
 use hpb_disk::{Disk, MemoryDisk, OnceDisk};
 use hpb_house::{
-    CloseFault, Closing, Gate, Halt, House, Incoming, Naming, OpenGate, Over, Ready, Settled,
-    Settles, Started, checkpointer, committer,
+    CloseFault, Closing, Gate, Halt, House, Incoming, Naming, Over, Ready, Settled, Settles,
+    Started, checkpointer, committer,
 };
 use hpb_recover::Opened;
 use hpb_rings::{Client, Report};
@@ -138,7 +138,7 @@ fn start_workers<
 ) -> Result<Workers<J>, AllocError> {
     let committing = scope.spawn_with(
         Settles::<J>::new(),
-        move || committer(rt, house, incoming, &OpenGate),
+        move || committer(rt, house, incoming, gate),
     )?;
     let checkpointing = scope.spawn(move || checkpointer(rt, house, gate))?;
     Ok(Workers {
