@@ -11,10 +11,10 @@ use std::fs::{File, Files};
 use std::test::Fail;
 
 /// A new device in memory, opened.
-pub(crate) fn new_opened(alloc: Global, shape: JournalShape) -> Result<Opened<MemoryDisk>, Fail> {
+pub(crate) fn new_opened(alloc: Global, shape: JournalShape) -> Result<Opened<MemoryDisk>, Error> {
     match opened(alloc, new_device(alloc, shape)?) {
         Ok(opened) => Ok(opened),
-        Err(fault) => Err(Fail::from(Error::from(fault.cause))),
+        Err(fault) => Err(Error::from(fault.cause)),
     }
 }
 
@@ -23,12 +23,12 @@ pub(crate) fn faulty_opened(
     alloc: Global,
     shape: JournalShape,
     call: u64,
-) -> Result<Opened<OnceDisk<MemoryDisk>>, Fail> {
+) -> Result<Opened<OnceDisk<MemoryDisk>>, Error> {
     let fault = calls_of_opening(alloc, shape)?.saturating_add(call);
     let disk = OnceDisk::new(new_device(alloc, shape)?, fault);
     match opened(alloc, disk) {
         Ok(opened) => Ok(opened),
-        Err(fault) => Err(Fail::from(Error::from(fault.cause))),
+        Err(fault) => Err(Error::from(fault.cause)),
     }
 }
 

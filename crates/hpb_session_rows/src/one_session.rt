@@ -8,6 +8,7 @@ ghost use Rattle.hpb_house.specs.Starts.{AreBegun};
 ghost use Rattle.hpb_sessions.specs.Ends.{viewer_of};
 
 use crate::devices::{faulty_opened, new_opened};
+use anyhow::{Result, bail};
 use hpb_codec::JournalShape;
 use hpb_disk::Disk;
 use hpb_house::{
@@ -22,7 +23,6 @@ use std::alloc::{AllocError, Global};
 use std::io::Write;
 use std::marker::Brand;
 use std::sync::Wait;
-use std::test::Fail;
 use std::thread;
 use std::thread::{JoinHandle, PromisedHandle, Scope, Threads};
 
@@ -137,12 +137,12 @@ fn last_client(clients: Vec<Client<Halt>>) -> Option<Client<Halt>>
 fn close_house<D: Disk + Drop, W: Wait + Drop, J: Naming>(
     house: House<D, W, J>,
     session: Session<Halt>,
-) -> Result<Outcome, Fail>
+) -> Result<Outcome>
     requires { SameBoard house (viewer_of session.end) }
 {
     let Session { end, fault } = session;
     let SessionEnd::Finished(report) = end else {
-        return Err(Fail::new("the client has not finished"));
+        bail!("the client has not finished");
     };
     let taken = report.taken;
     match house.close(&mut [report]) {
@@ -152,7 +152,7 @@ fn close_house<D: Disk + Drop, W: Wait + Drop, J: Naming>(
             count: closing.auction.count(),
             has_failed: closing.has_failed,
         }),
-        Err(_) => Err(Fail::new("what the client took isn't what was committed")),
+        Err(_) => bail!("what the client took isn't what was committed"),
     }
 }
 
@@ -164,13 +164,7 @@ fn run_started<
     W: Wait + Drop + Send,
     R: Threads + Wait + Sync,
     O: Write,
->(
-    rt: &R,
-    alloc: Global,
-    started: Started<D, W>,
-    lines: &[u8],
-    output: &mut O,
-) -> Result<Outcome, Fail>
+>(rt: &R, alloc: Global, started: Started<D, W>, lines: &[u8], output: &mut O) -> Result<Outcome>
     requires eye { (started.eye ≡ J.eye) × (started.eye.list ≡ []) }
     requires own { IsOf J.eye J.image J.failures started.keeper }
     requires begun { AreBegun started.eye started.clients.items 1 }
@@ -181,7 +175,7 @@ fn run_started<
         clients,
     } = started.named::<J>();
     let Some(client) = last_client(clients) else {
-        return Err(Fail::new("the house has no client"));
+        bail!("the house has no client");
     };
     let session = run_threads(rt, alloc, &house, incoming, client, lines, output)?;
     close_house(house, session)
@@ -194,9 +188,9 @@ fn run_on_house<D: Disk + Drop + Send, R: Threads + Wait + Sync, O: Write>(
     opened: Opened<D>,
     lines: &str,
     output: &mut O,
-) -> Result<Outcome, Fail> {
+) -> Result<Outcome> {
     let Ok(started) = House::start(rt, alloc, opened, 1) else {
-        return Err(Fail::new("the house was not started"));
+        bail!("the house was not started");
     };
     run_started::<Brand, D, &R, R, O>(rt, alloc, started, lines.as_bytes(), output)
 }
@@ -208,7 +202,7 @@ pub(crate) fn run_on_new_device<R: Threads + Wait + Sync, O: Write>(
     shape: JournalShape,
     lines: &str,
     output: &mut O,
-) -> Result<Outcome, Fail> {
+) -> Result<Outcome> {
     run_on_house(rt, alloc, new_opened(alloc, shape)?, lines, output)
 }
 
@@ -220,6 +214,6 @@ pub(crate) fn run_on_faulty_device<R: Threads + Wait + Sync, O: Write>(
     call: u64,
     lines: &str,
     output: &mut O,
-) -> Result<Outcome, Fail> {
+) -> Result<Outcome> {
     run_on_house(rt, alloc, faulty_opened(alloc, shape, call)?, lines, output)
 }
