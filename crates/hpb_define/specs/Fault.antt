@@ -11,6 +11,9 @@ use Rattle.serde_json.specs.declared.error.Error.{Error}
 use Rattle.hpb_define.specs.declared.fault.DefineCause.{DefineCause}
 use Rattle.hpb_define.specs.declared.fault.DefineCause.TheVariants.{Memory, Json, Field, Number, Refused}
 
+-- The contract of `read_definition` is `Answers`, of what it gives by cause: a fault has besides what people are told of it, and nothing is claimed
+-- of these words. Each cause is told by one refusal; those of a draft are told by their own.
+--
 -- The refusal that a fault is told by.
 abbrev pub refusal_of : DefineCause → Refusal
 refusal_of Memory = refusals.Memory

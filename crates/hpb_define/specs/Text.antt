@@ -13,6 +13,11 @@ use Rattle.hpb_define.specs.declared.fault.DefineCause.TheVariants.{Memory, Json
 use Rattle.hpb_define.specs.Shape.{has_shape}
 use Rattle.hpb_define.specs.Spelling.{rules_in}
 
+-- **Reading.** What bytes are answered is a relation. They are JSON where they are UTF-8, not more than 65,536, and `serde_json` reads a value of
+-- them. A value has the shape of a definition where it has its fields, no other, and each is of its type. It spells rules where besides all its
+-- numbers are whole and fit 64 bits. So 60 comes before 61 and 61 before 62, wherever the faults stand; then the rules are refused as a draft is.
+-- Where memory was refused nothing is said of the bytes.
+--
 -- The bytes are the text of a JSON value, and not too many.
 abbrev pub IsJson : List ℕ → Data → Type 0
 IsJson bytes value = (length bytes ≤ MOST_DEFINITION_BYTES) × IsUtf8 bytes × (read bytes ≡ Some value)

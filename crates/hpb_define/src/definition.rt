@@ -2,7 +2,7 @@ ghost use Rattle.hpb_define.specs.Text.{Answers, by_cause};
 
 use crate::fault::{DefineCause, DefineFault};
 use crate::reading::read_draft;
-use hpb_reasons::reason;
+use hpb_reasons::{Explanation, reason};
 use hpb_tree::Definition;
 use std::alloc::Global;
 
@@ -28,7 +28,7 @@ pub fn read_definition(alloc: Global, bytes: &[u8]) -> Result<Definition, Define
 }
 
 /// What is said of bytes that are refused, as far as memory allows.
-fn reason_for(alloc: Global, bytes: &[u8], cause: DefineCause) -> Option<String> {
+fn reason_for(alloc: Global, bytes: &[u8], cause: DefineCause) -> Option<Explanation> {
     match cause {
         DefineCause::Memory => None,
         _ => reason(alloc, bytes, cause.refusal()).ok(),

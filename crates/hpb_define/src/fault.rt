@@ -2,7 +2,7 @@ ghost use Rattle.std.specs.Prelude.{◌≡◌};
 ghost use Rattle.hpb_define.specs.declared.fault.DefineCause.TheVariants.{Memory};
 ghost use Rattle.hpb_define.specs.Fault.{refusal_of, refused, unread};
 
-use hpb_reasons::NOTHING_FOUND;
+use hpb_reasons::{Explanation, NOTHING_FOUND};
 use hpb_rules::Refusal;
 use hpb_tree::DefinitionFault;
 use serde_json::Category;
@@ -36,7 +36,7 @@ pub struct DefineFault {
     pub cause: DefineCause,
     /// The place, and what is wrong there, for whoever wrote the definition (`hpb_reasons::reason`). Nothing is decided
     /// by it. There is none where memory was refused for it.
-    pub reason: Option<String>,
+    pub reason: Option<Explanation>,
 }
 
 impl DefineFault {
@@ -50,8 +50,16 @@ impl DefineFault {
     /// What is said of it: its reason, or where that is to be read.
     pub fn said(&self) -> &str {
         match &self.reason {
-            Some(reason) => reason.as_str(),
+            Some(reason) => reason.text.as_str(),
             None => NOTHING_FOUND,
+        }
+    }
+
+    /// Whether its reason is that the bytes end before the definition does, or are blanks alone.
+    pub fn ends_early(&self) -> bool {
+        match &self.reason {
+            Some(reason) => reason.ends_early,
+            None => false,
         }
     }
 }

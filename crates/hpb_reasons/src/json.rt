@@ -22,6 +22,13 @@ pub(crate) enum TextFault {
     At(Spot, TextMisfit),
 }
 
+impl TextFault {
+    /// Whether more text could mend it.
+    pub(crate) fn ends_early(self) -> bool {
+        matches!(self, TextFault::Blank | TextFault::At(_, TextMisfit::End))
+    }
+}
+
 impl fmt::Display for TextFault {
     fn fmt<W: fmt::Write>(&self, f: &mut fmt::Formatter<W>) -> fmt::Result {
         match self {
@@ -29,7 +36,7 @@ impl fmt::Display for TextFault {
                 let most = Limit(MOST_DEFINITION_BYTES as u64);
                 write!(f, "more than {most} bytes")
             }
-            TextFault::Blank => f.write_str("the first line is empty"),
+            TextFault::Blank => f.write_str("the definition is empty"),
             TextFault::At(spot, misfit) => write!(f, "{spot}: {misfit}"),
         }
     }

@@ -13,8 +13,9 @@ mod shown;
 mod telling;
 mod terms;
 mod tree;
+mod written;
 
-pub use telling::{NOTHING_FOUND, reason};
+pub use telling::{Explanation, NOTHING_FOUND, reason};
 
 #[cfg(test)]
 mod tests;

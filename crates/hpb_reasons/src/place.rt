@@ -38,6 +38,11 @@ impl Item {
     pub(crate) fn field(self, key: &str) -> Place<'_> {
         Place::FieldOf(self, key)
     }
+
+    /// Whether it is the item of this index, from 0 on, of the list in this field.
+    pub(crate) fn is(self, field: &[u8], index: usize) -> bool {
+        self.list.field().as_bytes() == field && self.index == index
+    }
 }
 
 impl fmt::Display for Item {

@@ -15,32 +15,53 @@ use std::alloc::{AllocError, Global};
 /// What is said where no reason is found, or memory is refused for it.
 pub const NOTHING_FOUND: &str = "docs/PROTOCOL.md says what a definition must be";
 
-/// Why the text of a definition is refused by this refusal: the place, and what is wrong there. It is text for people,
-/// beside the refusal's own number and word, and nothing is decided by it. Where this refusal isn't found in the text,
-/// it names the document that says what a definition must be. Memory may be refused.
-pub fn reason(alloc: Global, text: &[u8], refusal: Refusal) -> Result<String, AllocError> {
-    if refusal == Refusal::Json {
-        return reason_of_text(alloc, text);
-    }
-    match Value::from_slice(alloc, text) {
-        Ok(definition) => match check(&definition, refusal) {
-            Ok(()) => String::from_str(alloc, NOTHING_FOUND),
-            Err(fault) => format!(in alloc; "{fault}"),
-        },
-        Err(error) if error.is_memory() => Err(AllocError),
-        Err(_) => String::from_str(alloc, NOTHING_FOUND),
+/// Why the text of a definition is refused.
+#[derive(Debug, Drop, PartialEq)]
+pub struct Explanation {
+    /// The place, and what is wrong there. It is for people, beside the refusal's own number and word.
+    pub text: String,
+    /// Whether the text of the definition ends before the definition does, or has blanks alone.
+    pub ends_early: bool,
+}
+
+impl Explanation {
+    fn of(text: String) -> Explanation {
+        Explanation {
+            text,
+            ends_early: false,
+        }
     }
 }
 
-fn reason_of_text(alloc: Global, text: &[u8]) -> Result<String, AllocError> {
+/// Why the text of a definition is refused by this refusal. Nothing is decided by it. Where this refusal isn't found in the
+/// text, it names the document that says what a definition must be. Memory may be refused.
+pub fn reason(alloc: Global, text: &[u8], refusal: Refusal) -> Result<Explanation, AllocError> {
+    if refusal == Refusal::Json {
+        return reason_of_text(alloc, text);
+    }
+    let said = match Value::from_slice(alloc, text) {
+        Ok(definition) => match check(&definition, text, refusal) {
+            Ok(()) => String::from_str(alloc, NOTHING_FOUND)?,
+            Err(fault) => format!(in alloc; "{fault}")?,
+        },
+        Err(error) if error.is_memory() => return Err(AllocError),
+        Err(_) => String::from_str(alloc, NOTHING_FOUND)?,
+    };
+    Ok(Explanation::of(said))
+}
+
+fn reason_of_text(alloc: Global, text: &[u8]) -> Result<Explanation, AllocError> {
     match text_fault(alloc, text)? {
-        Some(fault) => format!(in alloc; "{fault}"),
-        None => String::from_str(alloc, NOTHING_FOUND),
+        Some(fault) => Ok(Explanation {
+            text: format!(in alloc; "{fault}")?,
+            ends_early: fault.ends_early(),
+        }),
+        None => Ok(Explanation::of(String::from_str(alloc, NOTHING_FOUND)?)),
     }
 }
 
 /// Whether a definition keeps the rule of a refusal, and else what is wrong at the first place where it doesn't.
-fn check(definition: &Value, refusal: Refusal) -> Result<(), Fault<'_>> {
+fn check<'v>(definition: &'v Value, text: &'v [u8], refusal: Refusal) -> Result<(), Fault<'v>> {
     match refusal {
         Refusal::Empty => check_lists(definition),
         Refusal::Name => check_names(definition),
@@ -51,7 +72,7 @@ fn check(definition: &Value, refusal: Refusal) -> Result<(), Fault<'_>> {
         Refusal::Limits => check_limits(definition),
         Refusal::Terms => check_terms(definition),
         Refusal::Field => check_fields(definition),
-        Refusal::Number => check_numbers(definition),
+        Refusal::Number => check_numbers(definition, text),
         _ => Ok(()),
     }
 }

@@ -11,8 +11,8 @@ const WORKED: &str =
 
 // Texts, and why they are no JSON.
 static TEXTS: [(&str, &str); 20] = [
-    ("", "the first line is empty"),
-    (" \t\r\n", "the first line is empty"),
+    ("", "the definition is empty"),
+    (" \t\r\n", "the definition is empty"),
     (
         "\u{feff}{}",
         "line 1 column 1: a byte order mark stands before the definition",
@@ -68,7 +68,7 @@ static BYTES: [(&[u8], &str); 3] = [
 ];
 
 // Changes of the worked definition: what stands there instead, by which refusal it is refused, and why.
-static CHANGED: [(&str, &str, Refusal, &str); 68] = [
+static CHANGED: [(&str, &str, Refusal, &str); 72] = [
     // Fields that are unknown.
     (
         r#""step":10"#,
@@ -237,7 +237,7 @@ static CHANGED: [(&str, &str, Refusal, &str); 68] = [
         r#""units":10,"opening":100"#,
         r#""units":10,"opening":1e3"#,
         Number,
-        "nodes[2].opening: 1000.0 is no whole number in plain digits",
+        "nodes[2].opening: 1e3 is no whole number in plain digits",
     ),
     (
         r#""step":10,"percent":10"#,
@@ -261,7 +261,33 @@ static CHANGED: [(&str, &str, Refusal, &str); 68] = [
         r#""name":"w","units":25"#,
         r#""name":"w","units":18446744073709551616"#,
         Number,
-        "bidders[3].units: 1.8446744073709552e+19 is no whole number in plain digits",
+        "bidders[3].units: 18446744073709551616 is too large: it doesn't fit 64 bits",
+    ),
+    (
+        r#""name":"x","units":10"#,
+        r#""n\u0061me":"\"units\":7","units" : 100000000000000000000000000000000 "#,
+        Number,
+        "bidders[0].units: 10000000000000000000000000000000.. is too large: it doesn't fit 64 bits",
+    ),
+    (
+        "[80,95]",
+        "[80,95,1000.0]",
+        Number,
+        "stages[2]: 1000.0 is no whole number in plain digits",
+    ),
+    // Of a number that is written twice the last one counts.
+    (
+        r#""step":10"#,
+        r#""step":10,"waivers":1.50,"waivers":2.50"#,
+        Number,
+        "waivers: 2.50 is no whole number in plain digits",
+    ),
+    // Where a field's name has an escape its number is shown as it was understood.
+    (
+        r#""step":10"#,
+        r#""st\u0065p":1e1"#,
+        Number,
+        "step: 10.0 is no whole number in plain digits",
     ),
     // Numbers out of range.
     (
@@ -411,7 +437,7 @@ static CHANGED: [(&str, &str, Refusal, &str); 68] = [
         r#"{"name":"all","parent":null}"#,
         r#"{"name":"all","parent":null},{"name":"twin","parent":null}"#,
         Children,
-        "nodes[1]: the package \"twin\" has no child; a package has 2 or more",
+        "nodes[1]: \"twin\" has no child, no units and no opening; a licence has units and opening, a package 2 children or more",
     ),
     (
         r#""name":"b","parent":"east""#,
@@ -524,11 +550,11 @@ fn texts_that_are_no_json(rt: HostRuntime) -> Result<(), Fail> {
     let alloc = rt.alloc();
     for (text, expected) in &TEXTS {
         let said = reason(alloc, text.as_bytes(), Json)?;
-        assert_eq!(rt; said.as_str(), *expected, "{text}");
+        assert_eq!(rt; said.text.as_str(), *expected, "{text}");
     }
     for (bytes, expected) in &BYTES {
         let said = reason(alloc, bytes, Json)?;
-        assert_eq!(rt; said.as_str(), *expected);
+        assert_eq!(rt; said.text.as_str(), *expected);
     }
     Ok(())
 }
@@ -539,8 +565,8 @@ fn changed_definitions(rt: HostRuntime) -> Result<(), Fail> {
     for (old, new, refusal, expected) in &CHANGED {
         let text = WORKED.replacen(alloc, *old, new, 1)?;
         let said = reason(alloc, text.as_bytes(), *refusal)?;
-        assert_eq!(rt; said.as_str(), *expected, "{new}");
-        assert_ne!(rt; said.as_str(), FALLBACK, "{new}");
+        assert_eq!(rt; said.text.as_str(), *expected, "{new}");
+        assert_ne!(rt; said.text.as_str(), FALLBACK, "{new}");
     }
     Ok(())
 }
@@ -551,7 +577,7 @@ fn definitions_without_that_fault(rt: HostRuntime) -> Result<(), Fail> {
     for (new, refusal) in &NOTHING_FOUND {
         let text = WORKED.replacen(alloc, "\"step\":10", new, 1)?;
         let said = reason(alloc, text.as_bytes(), *refusal)?;
-        assert_eq!(rt; said.as_str(), FALLBACK, "{new}");
+        assert_eq!(rt; said.text.as_str(), FALLBACK, "{new}");
     }
     Ok(())
 }
@@ -561,7 +587,7 @@ fn whole_definitions(rt: HostRuntime) -> Result<(), Fail> {
     let alloc = rt.alloc();
     for (text, refusal, expected) in &WHOLE {
         let said = reason(alloc, text.as_bytes(), *refusal)?;
-        assert_eq!(rt; said.as_str(), *expected, "{text}");
+        assert_eq!(rt; said.text.as_str(), *expected, "{text}");
     }
     Ok(())
 }
@@ -579,26 +605,26 @@ fn long_and_deep_texts(rt: HostRuntime) -> Result<(), Fail> {
     let alloc = rt.alloc();
     let long = repeated(alloc, " ", 65_537)?;
     let said = reason(alloc, long.as_bytes(), Json)?;
-    assert_eq!(rt; said.as_str(), "more than 65,536 bytes");
+    assert_eq!(rt; said.text.as_str(), "more than 65,536 bytes");
     let blank = repeated(alloc, " ", 65_536)?;
     let said = reason(alloc, blank.as_bytes(), Json)?;
-    assert_eq!(rt; said.as_str(), "the first line is empty");
+    assert_eq!(rt; said.text.as_str(), "the definition is empty");
     let deep = repeated(alloc, "[", 128)?;
     let said = reason(alloc, deep.as_bytes(), Json)?;
     assert_eq!(rt;
-        said.as_str(),
+        said.text.as_str(),
         "line 1 column 128: nested more than 127 deep"
     );
     let deep = repeated(alloc, "[", 127)?;
     let said = reason(alloc, deep.as_bytes(), Json)?;
     assert_eq!(rt;
-        said.as_str(),
+        said.text.as_str(),
         "line 1 column 127: the text ends before the JSON does"
     );
     let keyed = repeated(alloc, "{\"[\\\"[\":", 127)?;
     let said = reason(alloc, keyed.as_bytes(), Json)?;
     assert_eq!(rt;
-        said.as_str(),
+        said.text.as_str(),
         "line 1 column 1016: the text ends before the JSON does"
     );
     Ok(())
@@ -657,18 +683,21 @@ fn passed_limits(rt: HostRuntime) -> Result<(), Fail> {
     // The worked definition has 6 nodes, 4 of them licences, and 4 bidders.
     let nodes = with_licences(alloc, 122)?;
     let said = reason(alloc, nodes.as_bytes(), Limits)?;
-    assert_eq!(rt; said.as_str(), "nodes: 128 are more than 127");
+    assert_eq!(rt; said.text.as_str(), "nodes: 128 are more than 127");
     let licences = with_licences(alloc, 61)?;
     let said = reason(alloc, licences.as_bytes(), Limits)?;
-    assert_eq!(rt; said.as_str(), "nodes: 65 licences are more than 64");
+    assert_eq!(rt; said.text.as_str(), "nodes: 65 licences are more than 64");
     let bidders = with_bidders(alloc, 61)?;
     let said = reason(alloc, bidders.as_bytes(), Limits)?;
-    assert_eq!(rt; said.as_str(), "bidders: 65 are more than 64");
+    assert_eq!(rt; said.text.as_str(), "bidders: 65 are more than 64");
     let tower = with_tower(alloc, 8)?;
     let said = reason(alloc, tower.as_bytes(), Limits)?;
-    assert_eq!(rt; said.as_str(), "nodes[8]: on level 9; there are 8 at most");
+    assert_eq!(rt;
+        said.text.as_str(),
+        "nodes[8]: on level 9; there are 8 at most"
+    );
     let tower = with_tower(alloc, 7)?;
     let said = reason(alloc, tower.as_bytes(), Limits)?;
-    assert_eq!(rt; said.as_str(), FALLBACK);
+    assert_eq!(rt; said.text.as_str(), FALLBACK);
     Ok(())
 }

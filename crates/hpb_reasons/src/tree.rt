@@ -3,11 +3,9 @@ use crate::entries::{has_text, is_licence, items, place_named, text};
 use crate::fault::{Fault, Misfit};
 use crate::place::{Item, List, Place};
 use crate::shown::Quoted;
+use hpb_rules::LEAST_CHILDREN;
 use serde_json::Value;
 use std::fmt;
-
-/// The fewest children of a package.
-const LEAST_CHILDREN: usize = 2;
 
 /// What is wrong with a node's parent or its children.
 #[derive(Clone, Copy)]
@@ -23,11 +21,10 @@ pub(crate) enum TreeMisfit<'v> {
         parent: &'v str,
         at: Item,
     },
-    /// A package has fewer than two children.
-    Thin {
-        package: &'v str,
-        children: usize,
-    },
+    /// A node has no child, and lacks what a licence has.
+    Bare(&'v str),
+    /// A package has one child.
+    Thin(&'v str),
     /// A licence has a child.
     Child {
         licence: &'v str,
@@ -48,14 +45,16 @@ impl fmt::Display for TreeMisfit<'_> {
             TreeMisfit::Behind { parent, at } => {
                 write!(f, "{} stands at {at}, not before it", Quoted(parent))
             }
-            TreeMisfit::Thin { package, children } => {
-                let package = Quoted(package);
-                let count = if children == 0 { "no" } else { "one" };
-                write!(
-                    f,
-                    "the package {package} has {count} child; a package has 2 or more"
-                )
-            }
+            TreeMisfit::Bare(name) => write!(
+                f,
+                "{} has no child, no units and no opening; a licence has units and opening, a package 2 children or more",
+                Quoted(name)
+            ),
+            TreeMisfit::Thin(package) => write!(
+                f,
+                "the package {} has one child; a package has 2 or more",
+                Quoted(package)
+            ),
             TreeMisfit::Child { licence, child, at } => {
                 let (licence, child) = (Quoted(licence), Quoted(child));
                 write!(
@@ -108,7 +107,11 @@ pub(crate) fn check_packages(definition: &Value) -> Result<(), Fault<'_>> {
             .filter(|child| has_text(child, "parent", package))
             .count();
         if children < LEAST_CHILDREN {
-            let misfit = TreeMisfit::Thin { package, children };
+            let misfit = if children == 0 {
+                TreeMisfit::Bare(package)
+            } else {
+                TreeMisfit::Thin(package)
+            };
             return Err(Misfit::Tree(misfit).at(Place::Item(List::Nodes.item(index))));
         }
     }

@@ -6,6 +6,8 @@ use Rattle.hpb_rules.specs.Answer.{is_reply_new}
 use Rattle.hpb_rules.specs.AuctionValue.{AuctionValue}
 use Rattle.hpb_rules.specs.Values.{reply_in, next_value}
 
+-- **Accepted commands.** Which commands a value newly accepts one after another, and that these are what may follow in a history that it shows.
+--
 -- A value newly accepts a command.
 abbrev pub Accepts : AuctionValue → Command → Type 0
 Accepts value command = is_reply_new value.count (reply_in value command) ≡ true

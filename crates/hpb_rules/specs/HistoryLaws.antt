@@ -20,7 +20,8 @@ pub record IsNew (rules : Rules) (past : List Command) (command : Command) : Typ
   pub goes_on : History.is_over past ≡ false
   pub faultless : fault rules past command ≡ None
 
--- A command is accepted under the next number exactly where it is new.
+-- A command is accepted under the next number exactly where its names are known, it bears its sender's next ticket, there is room for it, the auction
+-- is not over, and nothing is wrong with it.
 abbrev pub AcceptedIsNew : Type 0
 AcceptedIsNew = (rules : Rules) (history : List Command) (command : Command)
     → (answer rules history command ≡ replies.Ok (suc (length history))) ↔ IsNew rules (reverse history) command
@@ -35,12 +36,14 @@ pub record MeetsRules (rules : Rules) (from node amount : ℕ) : Type 0 where
   pub positive : 0 < amount
   pub possible : amount ≤ MOST_AMOUNT
 
--- In a past of a definition that is not refused each bid meets the rules.
+-- In a past of a definition that isn't refused each bid has a bidder and a node of the definition, and its amount is a multiple of the step, at least
+-- the node's opening, more than 0, and at most the greatest.
 abbrev pub BidsMeetRules : Type 0
 BidsMeetRules = (rules : Rules) (past : List Command) (place from ticket node amount : ℕ) → draft_refusal rules ≡ None → IsPast rules past
     → slice_get past place ≡ Some (Bid from ticket node amount) → MeetsRules rules from node amount
 
--- A sender's tickets count its commands: each bears one more than the last ticket before it.
+-- Each command of a history bears one more than its sender's last ticket before it. So in a history a sender's last ticket is the ticket of its last
+-- command.
 abbrev pub TicketsCount : Type 0
 TicketsCount = (rules : Rules) (history : List Command) (place : ℕ) (command : Command) → IsHistory rules history → slice_get history place ≡ Some command
     → History.ticket_of command ≡ suc (History.last_ticket (reverse (take place history)) (History.sender_of command))
@@ -52,7 +55,8 @@ pub record IsLast (history : List Command) (sender : History.Sender) (last : Com
   pub stands : slice_get history (last.1 - 1) ≡ Some last.0
   pub none_later : (place : ℕ) (later : Command) → last.1 ≤ place → slice_get history place ≡ Some later → History.sender_of later ≢ sender
 
--- The last command of a sender is its last, and there is none exactly where it sent nothing.
+-- A sender's last command is its own, stands in the list under its number, and none of the sender's comes later; and there is none exactly where the
+-- sender sent nothing.
 abbrev pub LastStands : Type 0
 LastStands = (history : List Command) (sender : History.Sender)
     → MatchOption (History.last_of (reverse history) sender)
@@ -84,7 +88,8 @@ RepeatChangesNothing = (rules : Rules) (history : List Command) (command : Comma
     → History.last_of (reverse history) (History.sender_of command) ≡ Some (command, number)
     → (answer rules history command ≡ replies.Ok number) × (after rules (reverse history) command ≡ reverse history)
 
--- An answer depends on nothing but the value: where two histories lead to one value, each command is answered alike.
+-- An answer depends on nothing but the value. Several histories may lead to one value; they all answer alike. It is a law about histories: a value
+-- keeps a sender's last command, and only in a history is the ticket of that command the number of the sender's commands.
 abbrev pub AnswerIsShown : Type 0
 AnswerIsShown = (rules : Rules) (one other : List Command) (command : Command) → IsHistory rules one → IsHistory rules other
     → value_of rules (reverse one) ≡ value_of rules (reverse other) → answer rules one command ≡ answer rules other command

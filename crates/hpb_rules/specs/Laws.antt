@@ -8,6 +8,8 @@ use Rattle.hpb_rules.specs.Tree.{Node, Rules, IsTree, IsAtOrUnder, Disjoint, par
 use Rattle.hpb_rules.specs.Choices.{IsChoice, IsWinners, IsBest, revenue, winners, best, top_revenue}
 use Rattle.hpb_rules.specs.Prices.{IsShares, shares, IsMinimum, minimum_of, Covers, price_of_all, licence_price, price, children_among, surplus, carried}
 
+-- Of a thing that is defined by a property, the laws say that it has the property, and that nothing else has.
+--
 -- A property holds of one thing alone where it holds of it, and what else it holds of is equal to it.
 abbrev pub HoldsAlone : {A : Type 0} → (A → Type 0) → A → Type 0
 HoldsAlone {A = A} property value = property value × ((other : A) → property other → other ≡ value)
@@ -60,17 +62,17 @@ abbrev pub DisjointIsApart : Type 0
 DisjointIsApart = (nodes : List Node) (one other : ℕ) → IsTree nodes → one < length nodes → other < length nodes
     → Disjoint nodes one other ↔ ((IsAtOrUnder nodes one other → ⊥) × (IsAtOrUnder nodes other one → ⊥))
 
--- A draft is not refused exactly where it is a definition.
+-- A draft is not refused exactly where it is a definition. So where a law asks that a definition isn't refused, it asks for all of `IsDefinition`.
 abbrev pub AcceptedIsDefinition : Type 0
 AcceptedIsDefinition = (rules : Rules) → (draft_refusal rules ≡ None) ↔ IsDefinition rules
 
--- A top node has depth 1, and each other one more than its parent.
+-- In a tree the computed depth of a top node is 1, and that of each other node one more than its parent's.
 abbrev pub DepthIsOneMore : Type 0
 DepthIsOneMore = (nodes : List Node) (node : ℕ) → IsTree nodes
     → (parent_of nodes node ≡ None → depth nodes node ≡ 1)
     × ((parent : ℕ) → parent_of nodes node ≡ Some parent → depth nodes node ≡ suc (depth nodes parent))
 
--- Nothing is carried to a top node. What is carried to another is its share, by its place among its parent's children, of what is
+-- In a tree nothing is carried to a top node, and what is carried to another is its share, by its place among its parent's children, of what is
 -- carried to the parent and of the parent's surplus.
 abbrev pub CarriedIsShare : Type 0
 CarriedIsShare = (nodes : List Node) (bid : ℕ → ℕ) (node : ℕ) → IsTree nodes

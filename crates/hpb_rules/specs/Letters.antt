@@ -7,12 +7,17 @@ use Rattle.hpb_rules.specs.declared.letter.Letter.{Letter}
 use Rattle.hpb_rules.specs.Tree.{Rules}
 use Rattle.hpb_rules.specs.Answer.{answer, is_reply_new, history_after}
 
--- An answer fits a list of accepted commands where it is what the first of them give, and a command that it accepts stands behind these.
+-- An answer fits a list of accepted commands where it is what the first of them give, so many as were accepted before it, and a command that it newly
+-- accepts stands behind these.
 pub record Fits (rules : Rules) (seen : List Command) (answered : Answer) : Type 0 where
   pub within : answered.at ≤ length seen
   pub reply : answered.reply ≡ answer rules (take answered.at seen) answered.letter.command
   pub stands : is_reply_new answered.at answered.reply ≡ true → slice_get seen answered.at ≡ Some answered.letter.command
 
+-- **Letter, answer, fits.** A letter is a command from a seat, a client's place from 0 to 31. An answer is a letter with its reply and the number of
+-- commands accepted before it; both are types of the code. Letters that come together are answered one after another, each after the history with
+-- what those before it have added.
+--
 -- The answers to letters one after another, each judged after the commands accepted before it.
 abbrev pub judged : Rules → List Command → List Letter → List Answer
 judged rules history [] = []

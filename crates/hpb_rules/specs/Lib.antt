@@ -7,6 +7,8 @@ pub mod History
 pub mod Answer
 pub mod Laws
 pub mod RoundLaws
+pub mod CountLaws
+pub mod Order
 pub mod HistoryLaws
 pub mod Fronts
 pub mod MachineLaws

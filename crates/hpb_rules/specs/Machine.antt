@@ -7,6 +7,11 @@ use Rattle.hpb_rules.specs.declared.letter.Letter.{Letter}
 use Rattle.hpb_rules.specs.Tree.{Rules}
 use Rattle.hpb_rules.specs.Letters.{judged, new_commands}
 
+-- **Machine.** It has the acknowledged commands and perhaps a flight: answers on their way, with the turns that they have had. Letters are offered
+-- where nothing is in flight; where none is newly accepted, the answers leave at once. A flight has four turns. By the third it has landed; at the
+-- fourth it is acknowledged: its commands count, and all its answers leave. A stop keeps the acknowledged commands, and once a flight has landed it
+-- may keep its commands too.
+--
 -- What is in flight: answers, at least one of which newly accepts a command, with the turns that they have had. At the third turn they land.
 pub record Flight : Type 0 where
   pub answers : List Answer
@@ -32,11 +37,11 @@ pub record Effect : Type 0 where
 abbrev pub landed : ℕ
 landed = 3
 
--- The machine with nothing in flight.
+-- The machine with these acknowledged commands and nothing in flight.
 abbrev pub at_rest : List Command → Machine
 at_rest acknowledged = record { acknowledged = acknowledged; flight = None }
 
--- The machine with answers in flight that have had so many turns.
+-- The machine with these acknowledged commands, and answers in flight that have had so many turns.
 abbrev pub in_flight : List Command → List Answer → ℕ → Machine
 in_flight acknowledged answers turns = record { acknowledged = acknowledged; flight = Some (record { answers = answers; turns = turns }) }
 
@@ -89,6 +94,8 @@ MayStand machine history = elim machine.flight [
       ⊎ ((flight.turns ≡ landed) × (history ≡ machine.acknowledged ++ new_commands flight.answers))
 ]
 
+-- **Moves.** A move is one event, or a stop, after which the machine is at rest with what may stand.
+--
 -- One move of the machine, with the answers that leave: an event, or a stop, after which it is at rest with what may stand.
 pub data Moves (rules : Rules) : Machine → List Answer → Machine → Type 0 where
   event : {before : Machine} (what : Event) → Moves rules before (effect_of rules before what).leaving (effect_of rules before what).machine

@@ -9,6 +9,9 @@ use Rattle.hpb_rules.specs.Fronts.{IsFront}
 use Rattle.hpb_rules.specs.Letters.{Fits, judged, new_commands}
 use Rattle.hpb_rules.specs.Machine.{Flight, Machine, Event, landed, at_rest, run, MayStand, Reaches}
 
+-- **Sound, durable.** A machine is sound where its acknowledged commands are a history, and a flight has the answers of letters judged after these,
+-- at least one command newly accepted, and at most three turns behind it.
+--
 -- A flight is sound after acknowledged commands where its answers are those of letters judged after these, at least one of them newly accepts a command,
 -- and it has had at most three turns.
 pub record IsSoundFlight (rules : Rules) (acknowledged : List Command) (flight : Flight) : Type 0 where
@@ -34,7 +37,8 @@ pub record IsDurable (rules : Rules) (before : Machine) (leaving : List Answer) 
   pub stands : (history : List Command) → MayStand after history → IsHistory rules history × IsFront after.acknowledged history
   pub fits : All (Fits rules after.acknowledged) leaving
 
--- Moves one after another, stops among them, are durable from every sound machine on.
+-- Moves one after another, stops among them, are durable from every sound machine on. So no answer leaves before its command is acknowledged, and
+-- none is taken back by a stop.
 abbrev pub MachineKeeps : Type 0
 MachineKeeps = (rules : Rules) (before after : Machine) (leaving : List Answer)
     → IsSound rules before → Reaches rules before leaving after → IsDurable rules before leaving after

@@ -15,7 +15,7 @@ use Rattle.hpb_rules.specs.RowRules.{small}
 abbrev pub from_first_seat : Command → Letter
 from_first_seat command = record { seat = 0; command = command }
 
--- A bid.
+-- The bid of bidder 0 with ticket 1 on node 2 of 100 dollars.
 abbrev pub first_bid : Command
 first_bid = Bid 0 1 2 100
 
@@ -23,7 +23,7 @@ first_bid = Bid 0 1 2 100
 abbrev pub second_bid : Command
 second_bid = Bid 0 2 2 120
 
--- Both are offered.
+-- The event that two bids are offered, of which `first_bid` is newly accepted and the other one is refused.
 abbrev pub two_bids : Event
 two_bids = offer (from_first_seat first_bid ∷ from_first_seat second_bid ∷ [])
 
@@ -31,7 +31,7 @@ two_bids = offer (from_first_seat first_bid ∷ from_first_seat second_bid ∷ [
 abbrev pub two_answers : List Answer
 two_answers = record { letter = from_first_seat first_bid; at = 0; reply = replies.Ok 1 } ∷ record { letter = from_first_seat second_bid; at = 1; reply = replies.Refused refusals.Again } ∷ []
 
--- The machine after events from the beginning.
+-- The machine after events from the beginning on, under the definition `small`.
 abbrev pub machine_after : List Event → Machine
 machine_after events = (run small (at_rest []) events).machine
 
@@ -62,8 +62,8 @@ a_landed_flight_may_outlast_a_stop = further (event two_bids) (further (event co
 its_bid_then_gets_its_number_at_once : run small (at_rest (first_bid ∷ [])) (two_bids ∷ []) ≡ record { leaving = record { letter = from_first_seat first_bid; at = 1; reply = replies.Ok 1 } ∷ record { letter = from_first_seat second_bid; at = 1; reply = replies.Refused refusals.Again } ∷ []; machine = at_rest (first_bid ∷ []) }
 its_bid_then_gets_its_number_at_once = refl
 
--- Before the third turn a stop leaves the acknowledged commands alone. After it, failed or not, it may leave these, or the flight's with them.
--- Once the flight is acknowledged its commands stand.
+-- Of two bids, one of which is newly accepted, a stop leaves nothing before the third turn, nothing or the accepted one from the third turn on,
+-- failed or not, and the accepted one once it is acknowledged.
 pub record Stops : Type 0 where
   pub when_offered : (history : List Command) → MayStand (machine_after (two_bids ∷ [])) history ↔ (history ≡ [])
   pub before_landing : (history : List Command) → MayStand (machine_after (two_bids ∷ commit ∷ commit ∷ [])) history ↔ (history ≡ [])

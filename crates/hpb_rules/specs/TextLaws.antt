@@ -46,7 +46,7 @@ NamesAreFound = (rules : Rules) (place : ℕ) → draft_refusal rules ≡ None
 abbrev pub NumberIsOne : Type 0
 NumberIsOne = (most number : ℕ) (word : List ℕ) → most < 2 ^ 64 → (number_up_to most word ≡ Some number) ↔ ((number ≤ most) × (word ≡ decimal number))
 
--- Under a definition a line asks for a request exactly where it is the line of that request, and the request is one that can be asked.
+-- Under a definition that isn't refused a line asks for a request exactly where it is the line of that request, and the request can be asked.
 abbrev pub RequestIsOne : Type 0
 RequestIsOne = (rules : Rules) (line : List ℕ) (request : Request) → draft_refusal rules ≡ None
     → (request_of rules line ≡ Ok request) ↔ (CanBeAsked rules request × (line ≡ request_line rules request))

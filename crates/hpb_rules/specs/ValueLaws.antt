@@ -27,12 +27,13 @@ RunIsShown = (value : AuctionValue) (past commands : List Command) → ShowsPast
 abbrev pub TextIsShown : Type 0
 TextIsShown = (value : AuctionValue) (past : List Command) (input : List ℕ) → ShowsPast value past → text_in value input ≡ text_after value.rules past input
 
--- The winners by a value's high bids are the best choice: its revenue is theirs and the greatest of all choices, and its prices certify it.
+-- **Best choice.** The nodes that win in a value are the winners by its high bids; no choice has more than its revenue, which is theirs; and its
+-- prices certify them: they cover every high bid and sum to that revenue.
 pub record IsBestChoice (value : AuctionValue) : Type 0 where
   pub winners : IsWinners value.rules.nodes (high_bid_in value) (wins_in value)
   pub greatest : (other : List Bool) → IsChoice value.rules.nodes (high_bid_in value) other → revenue (high_bid_in value) other ≤ revenue_in value
   pub certificate : IsCertificate value.rules.nodes (high_bid_in value) (price_in value) (wins_in value)
 
--- Of every value under a definition that is not refused the winners are the best choice, and the prices prove it.
+-- Of every value under a definition that is not refused the winners are the best choice and the prices prove it, whether it shows a history or not.
 abbrev pub ValueIsBestChoice : Type 0
 ValueIsBestChoice = (value : AuctionValue) → draft_refusal value.rules ≡ None → IsBestChoice value

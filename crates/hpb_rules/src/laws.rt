@@ -7,17 +7,17 @@ pub fn shares_are_one()
     ensures { SharesAreOne }
 {}
 
-/// The minimum is the one least bid.
+/// There is exactly one minimum, and it is the computed one.
 pub fn minimum_is_one()
     ensures { MinimumIsOne }
 {}
 
-/// There is exactly one set of winners.
+/// There is exactly one set of winners, and it is the computed one.
 pub fn winners_are_one()
     ensures { WinnersAreOne }
 {}
 
-/// The best inside a node is one number, and the plain program gives it.
+/// The best inside a node is one number, the greatest revenue inside, and it is the computed one.
 pub fn best_is_one()
     ensures { BestIsOne }
 {}

@@ -1,9 +1,16 @@
 ghost use Rattle.hpb_rules.specs.HistoryLaws.{AcceptedIsNew, BidsMeetRules, TicketsCount, LastStands, SameIsEqual, PercentageIsKnown, HistoryGrows, FrontIsHistory, RepeatChangesNothing, AnswerIsShown, ShownIsOne};
+ghost use Rattle.hpb_rules.specs.Order.{AnswerIsFirst};
 
 /// A command is accepted under the next number exactly where its names are known, it bears its sender's next ticket,
 /// there is room for it, the auction is not over, and nothing is wrong with it.
 pub fn accepted_is_new()
     ensures { AcceptedIsNew }
+{}
+
+/// A command is answered by the first test that applies in the order of refusals, and where none does it is accepted under
+/// the next number.
+pub fn answer_is_first()
+    ensures { AnswerIsFirst }
 {}
 
 /// Each bid's bidder and node are the definition's, and its amount is a multiple of the step, at least the node's
@@ -12,7 +19,7 @@ pub fn bids_meet_rules()
     ensures { BidsMeetRules }
 {}
 
-/// A sender's tickets count its commands.
+/// A sender's tickets count its commands: each bears one more than the last ticket before it.
 pub fn tickets_count()
     ensures { TicketsCount }
 {}
@@ -47,7 +54,7 @@ pub fn repeat_changes_nothing()
     ensures { RepeatChangesNothing }
 {}
 
-/// An answer depends on nothing but what a history says.
+/// After histories an answer depends on nothing but the value.
 pub fn answer_is_shown()
     ensures { AnswerIsShown }
 {}

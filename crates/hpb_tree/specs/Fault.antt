@@ -4,7 +4,7 @@ use Rattle.hpb_rules.specs.declared.refusal.Refusal.TheVariants as refusals
 use Rattle.hpb_tree.specs.declared.fault.DefinitionFault.{DefinitionFault}
 use Rattle.hpb_tree.specs.declared.fault.DefinitionFault.TheVariants as faults
 
--- The refusal that a fault is told by.
+-- The refusal that a fault of a draft is told by: the one of the same name.
 abbrev pub refusal_of : DefinitionFault → Refusal
 refusal_of faults.Memory = refusals.Memory
 refusal_of faults.Number = refusals.Number

@@ -1,13 +1,12 @@
 ghost use Rattle.std.specs.Prelude.{◌≡◌, ◌<◌, ◌&&◌, nat_lt, length, is_some, is_none};
 ghost use Rattle.hpb_rules.specs.Drafts.{is_late, has_late_parent, children_of, has_thin_package, has_licence_with_child};
 ghost use Rattle.hpb_rules.specs.Tree.{terms_of};
+ghost use Rattle.hpb_rules.specs.declared.limits.TheConstants.{LEAST_CHILDREN};
 ghost use Rattle.hpb_tree.specs.Draft.{nodes_said};
 
 use crate::draft::NodeDraft;
 use crate::outline::{children_before, is_licence, parent_at};
-
-/// The fewest children of a package.
-const LEAST_CHILDREN: usize = 2;
+use hpb_rules::LEAST_CHILDREN;
 
 /// Whether a parent doesn't stand before its node.
 pub(crate) fn has_late_parent(nodes: &[NodeDraft]) -> bool
