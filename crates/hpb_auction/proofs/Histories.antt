@@ -1,5 +1,5 @@
 -- What a value answers and becomes is what the history says that it shows.
-use Rattle.std.proofs.Common.{◌≡◌, ℕ, suc, ◌+◌, ◌≤◌, false, List, reverse, refl, sym, ap, ◌∙◌, arith, subst}
+use Rattle.std.proofs.Common.{◌≡◌, ℕ, suc, ◌+◌, ◌≤◌, true, false, List, reverse, refl, sym, ap, ◌∙◌, arith, subst}
 use Rattle.std.specs.Prelude.{if◌then◌else◌}
 use Rattle.std.proofs.lemmas.Bool.{eq-eqb, ne_eqb}
 use Rattle.hpb_rules.specs.declared.command.Command.{Command}
@@ -24,17 +24,23 @@ shown_after q history command shows = subst (λ past. ShowsPast (next_value q co
 pub shown_at : (q next : AuctionValue) (command : Command) → next ≡ next_value q command → (history : List Command) → Shows q history → Shows next (history_after q.rules history command)
 shown_at q next command e history shows = subst (λ (v : AuctionValue). Shows v (history_after q.rules history command)) (sym e) (shown_after q history command shows)
 
--- a new command changes the value
-pub next_new : (q : AuctionValue) (command : Command) (number : ℕ) → replies.Ok number ≡ reply_in q command → number ≡ q.count + 1 → changed q command ≡ next_value q command
-next_new q command number reply e =
-    sym (ap (λ b. if b then changed q command else q) (eq-eqb number (suc q.count) (e ∙ omega arith)))
-    ∙ ap (λ (r : Reply). if is_reply_new q.count r then changed q command else q) reply
+-- a new command is told so, and any other is not
+pub new_told : (q : AuctionValue) (command : Command) (number : ℕ) → replies.Ok number ≡ reply_in q command → number ≡ q.count + 1 → is_reply_new q.count (reply_in q command) ≡ true
+new_told q command number reply e = sym (ap (λ (r : Reply). is_reply_new q.count r) reply) ∙ eq-eqb number (suc q.count) (e ∙ omega arith)
 
--- any other leaves it
-pub next_old : (q : AuctionValue) (command : Command) (verdict : Verdict) → reply_of verdict ≡ reply_in q command → ((number : ℕ) → verdict ≡ New number → ⊥) → IfRepeat verdict (λ number. number ≤ q.count) → q ≡ next_value q command
-next_old q command verdict reply not_new older = sym (ap (λ b. if b then changed q command else q) (by verdict not_new older)) ∙ ap (λ (r : Reply). if is_reply_new q.count r then changed q command else q) reply
+pub old_told : (q : AuctionValue) (command : Command) (verdict : Verdict) → reply_of verdict ≡ reply_in q command → ((number : ℕ) → verdict ≡ New number → ⊥) → IfRepeat verdict (λ number. number ≤ q.count)
+    → is_reply_new q.count (reply_in q command) ≡ false
+old_told q command verdict reply not_new older = sym (ap (λ (r : Reply). is_reply_new q.count r) reply) ∙ by verdict not_new older
   where
     by : (verdict : Verdict) → ((number : ℕ) → verdict ≡ New number → ⊥) → IfRepeat verdict (λ number. number ≤ q.count) → is_reply_new q.count (reply_of verdict) ≡ false
     by (New number) other h = absurd (other number refl)
     by (Repeat number) other h = ne_eqb number (suc q.count) (λ e. omega (arith, e, h))
     by (Refused refusal) other h = refl
+
+-- a new command changes the value
+pub next_new : (q : AuctionValue) (command : Command) (number : ℕ) → replies.Ok number ≡ reply_in q command → number ≡ q.count + 1 → changed q command ≡ next_value q command
+next_new q command number reply e = sym (ap (λ b. if b then changed q command else q) (new_told q command number reply e))
+
+-- any other leaves it
+pub next_old : (q : AuctionValue) (command : Command) (verdict : Verdict) → reply_of verdict ≡ reply_in q command → ((number : ℕ) → verdict ≡ New number → ⊥) → IfRepeat verdict (λ number. number ≤ q.count) → q ≡ next_value q command
+next_old q command verdict reply not_new older = sym (ap (λ b. if b then changed q command else q) (old_told q command verdict reply not_new older))

@@ -3,3 +3,4 @@ pub mod Inside
 pub mod Rows
 pub mod Acceptable
 pub mod Saving
+pub mod Formed

@@ -11,6 +11,7 @@ mod sender;
 mod verdict;
 mod views;
 
+pub use applying::Applied;
 pub use auction::Auction;
 pub use restorable::is_saved;
 pub use running::{Run, run_commands};

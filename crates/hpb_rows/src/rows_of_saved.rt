@@ -11,7 +11,7 @@ use std::alloc::Global;
 use std::test::Fail;
 
 /// A bid by the places of its bidder and its node.
-fn bid(bidder: usize, ticket: u32, node: usize, amount: u64) -> Command
+pub(crate) fn bid(bidder: usize, ticket: u32, node: usize, amount: u64) -> Command
     requires bidder { bidder < 64 }
     requires node { node < 127 }
 {
@@ -24,7 +24,7 @@ fn bid(bidder: usize, ticket: u32, node: usize, amount: u64) -> Command
 }
 
 /// An auction of six nodes before its first command.
-fn six_nodes(alloc: Global) -> Result<Auction, Fail> {
+pub(crate) fn six_nodes(alloc: Global) -> Result<Auction, Fail> {
     let definition = read_definition(alloc, SIX_NODES.as_bytes())?;
     Ok(Auction::new(alloc, &definition)?)
 }
