@@ -18,7 +18,8 @@ batch_fields index first count records = concat (
     ∷ records
     ∷ [])
 
--- A body has 4,080 bytes, and what is left is zero.
+-- The body of a frame of one page for a batch, 4,080 bytes: its index and its first number in 8 bytes each, how many records in 2, 6 zeros, the
+-- records, and zeros up to the end.
 abbrev pub batch_of : Batch → List ℕ
 batch_of batch = filled 4080 (batch_fields batch.index batch.first (length batch.commands) (flat_map record_of batch.commands))
 

@@ -18,19 +18,19 @@ pub record IsOneToOne {V : Type 0} (Spells : List ℕ → V → Type 0) : Type 0
   pub one_spelling : (value : V) (bytes others : List ℕ) → Spells bytes value → Spells others value → bytes ≡ others
   pub one_value : (bytes : List ℕ) (value other : V) → Spells bytes value → Spells bytes other → value ≡ other
 
--- So it is of records.
+-- A command has one record, and bytes are the record of one command at most.
 abbrev pub RecordsAreOne : Type 0
 RecordsAreOne = IsOneToOne SpellsRecord
 
--- So it is of the bodies of frames.
+-- A batch has one body, and bytes are the body of one batch at most.
 abbrev pub BatchesAreOne : Type 0
 BatchesAreOne = (rules : Rules) → IsOneToOne (SpellsBatch rules)
 
--- Such a body begins with the batch's index.
+-- The body of a batch begins with its index.
 abbrev pub BatchBegins : Type 0
 BatchBegins = (rules : Rules) (bytes : List ℕ) (batch : Batch) → SpellsBatch rules bytes batch → leading 8 bytes ≡ batch.index
 
--- So it is of cells.
+-- A batch has one spelling in cells, and bytes are the cells of one batch at most.
 abbrev pub CellsAreOne : Type 0
 CellsAreOne = (rules : Rules) → IsOneToOne (SpellsCells rules)
 
@@ -43,18 +43,17 @@ pub record CellsBegin : Type 0 where
 abbrev pub CellsAreFewest : Type 0
 CellsAreFewest = (count further : ℕ) → (further_cells count ≤ further) ↔ (24 + 16 * count ≤ 488 + 496 * further)
 
--- So it is of the bodies of slots in each format, which spell what is saved and a batch index; and bytes spell at most one such, whatever the
--- format.
+-- What is saved, with a batch index, has one body in each format, and bytes are the body of one such at most, whatever the format.
 abbrev pub StatesAreOne : Type 0
 StatesAreOne = ((format : StateFormat) (rules : Rules) → IsOneToOne {V = Saved × ℕ} (λ bytes state. SpellsStateIn format rules bytes state.0 state.1))
     × ((rules : Rules) (bytes : List ℕ) (state other : Saved × ℕ) → SpellsState rules bytes state.0 state.1 → SpellsState rules bytes other.0 other.1 → state ≡ other)
 
--- So it is of heads that tell a format, and bytes spell at most one head, whatever the format.
+-- A definition with the shape of its journal has one head in each format of states, and bytes are the head of one such at most, whatever the format.
 abbrev pub HeadsAreOne : Type 0
 HeadsAreOne = ((format : StateFormat) → IsOneToOne (SpellsHeadIn format))
     × ((bytes : List ℕ) (head other : Head) → SpellsHead bytes head → SpellsHead bytes other → head ≡ other)
 
--- Behind the text that it begins with a head has the byte of its layout.
+-- A head names the layout of its journal by the byte behind the text that it begins with.
 abbrev pub LayoutIsNamed : Type 0
 LayoutIsNamed = (bytes : List ℕ) (head : Head) → SpellsHead bytes head → leading 1 (rest (length magic) bytes) ≡ layout_byte head.journal.layout
 
@@ -62,6 +61,6 @@ LayoutIsNamed = (bytes : List ℕ) (head : Head) → SpellsHead bytes head → l
 unfoldable pub chunk_of : ℕ → List ℕ → List ℕ
 chunk_of i body = take 4096 (drop (i * 4096) body)
 
--- The four chunks of a body, one behind the other, are the body.
+-- The four chunks of a state's body, one behind the other, are the body.
 abbrev pub ChunksAreBody : Type 0
 ChunksAreBody = (body : List ℕ) → length body ≡ 16384 → body ≡ chunk_of 0 body ++ chunk_of 1 body ++ chunk_of 2 body ++ chunk_of 3 body

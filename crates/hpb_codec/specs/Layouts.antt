@@ -5,6 +5,9 @@ use Rattle.hpb_codec.specs.declared.layout.JournalLayout.TheVariants.{Pages, Cel
 use Rattle.hpb_codec.specs.declared.layout.JournalShape.{JournalShape}
 use Rattle.hpb_codec.specs.declared.layout.TheConstants.{LEAST_FRAMES, LEAST_CELL_FRAMES, CELL_FRAMES_STEP, MOST_FRAMES}
 
+-- The shape of a journal is a layout and a number of frames. Each layout has a byte in the head, a least number of frames, and a number that theirs
+-- is a multiple of, so that they fill whole pages.
+--
 -- The byte that names a layout in a head.
 abbrev pub layout_byte : JournalLayout → ℕ
 layout_byte Pages = 1

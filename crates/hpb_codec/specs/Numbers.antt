@@ -23,13 +23,14 @@ value_from n (b ∷ bytes) = value_from (n * 256 + b) bytes
 abbrev pub value : List ℕ → ℕ
 value bytes = value_from 0 bytes
 
--- The number in the first k bytes, and the bytes after them.
+-- The number that the first bytes of a list are, so many of them, the greatest byte first.
 unfoldable pub leading : ℕ → List ℕ → ℕ
 leading k bytes = value (take k bytes)
 
+-- `rest n bytes`: what is left behind the first n of some bytes.
 unfoldable pub rest : ℕ → List ℕ → List ℕ
 rest k bytes = drop k bytes
 
--- The first k bytes.
+-- `before n bytes`: the first n of some bytes.
 unfoldable pub before : ℕ → List ℕ → List ℕ
 before k bytes = take k bytes

@@ -1,5 +1,6 @@
 //! The law of each table: a value has one spelling, and bytes spell at most one value.
 ghost use Rattle.hpb_codec.specs.Laws.{BatchBegins, BatchesAreOne, CellsAreFewest, CellsAreOne, CellsBegin, ChunksAreBody, HeadsAreOne, LayoutIsNamed, RecordsAreOne, StatesAreOne};
+ghost use Rattle.hpb_codec.specs.Limits.{LimitsAre};
 
 /// A command has one record, and bytes are the record of at most one command.
 pub fn records_are_one()
@@ -51,4 +52,9 @@ pub fn layout_is_named()
 /// The chunks of a state's body, one behind the other, are the body.
 pub fn chunks_are_body()
     ensures { ChunksAreBody }
+{}
+
+/// Each size and each limit of the code is the number that the written format names.
+pub fn limits_are()
+    ensures { LimitsAre }
 {}

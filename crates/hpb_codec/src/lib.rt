@@ -31,13 +31,13 @@ pub use cells::{CELLS_SIZE, decode_cells, encode_cells};
 pub use head::{HEAD_SIZE, Head, decode_head, encode_head, has_magic};
 pub use laws::{
     batch_begins, batches_are_one, cells_are_fewest, cells_are_one, cells_begin, chunks_are_body,
-    heads_are_one, layout_is_named, records_are_one, states_are_one,
+    heads_are_one, layout_is_named, limits_are, records_are_one, states_are_one,
 };
 pub use layout::{
     CELL_FRAMES_STEP, JournalLayout, JournalShape, LEAST_CELL_FRAMES, LEAST_FRAMES, MOST_FRAMES,
 };
 pub use record::RECORD_SIZE;
 pub use state::{
-    CHUNK_SIZE, CHUNKS, STATE_SIZE, chunk, decode_state, encode_state, encode_state_1,
+    CHUNK_SIZE, CHUNKS, STATE_SIZE, chunk, count_said, decode_state, encode_state, encode_state_1,
 };
 pub use state_format::StateFormat;

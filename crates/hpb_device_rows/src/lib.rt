@@ -8,6 +8,8 @@ mod images;
 #[cfg(test)]
 mod rows_of_bytes;
 #[cfg(test)]
+mod rows_of_doubts;
+#[cfg(test)]
 mod rows_of_formatting;
 #[cfg(test)]
 mod rows_of_frames;

@@ -5,3 +5,4 @@ pub mod Regions
 pub mod GateBytes
 pub mod Runs
 pub mod Replacements
+pub mod Turns

@@ -3,6 +3,7 @@ use Rattle.std.specs.Prelude.{ℕ, ◌+◌, ◌-◌, Bool, List, length}
 use Rattle.hpb_disk.specs.declared.disk.Disk.{Ghosts}
 use Rattle.hpb_disk.specs.declared.faulty.FaultyDisk.{FaultyDisk}
 use Rattle.hpb_disk.specs.declared.faulty.Faults.{Ghosts as FaultsGhosts}
+use Rattle.hpb_disk.specs.Asked.{Asked, asked_of}
 use Rattle.hpb_disk.specs.Faults.{faults_of, passed_since}
 
 module _ {D F : Type 0} {behind : Ghosts D} {faults : FaultsGhosts F} where
@@ -45,3 +46,7 @@ module _ {D F : Type 0} {behind : Ghosts D} {faults : FaultsGhosts F} where
   -- Its failures are those of that device and its own: its member `failures`.
   abbrev pub all_failures : FaultyDisk D F behind faults → ℕ
   all_failures disk = behind.failures disk.inner + faults_of disk.trace.events
+
+  -- What it was asked for itself: its member `asked`.
+  abbrev pub all_asked : FaultyDisk D F behind faults → List Asked
+  all_asked disk = asked_of disk.asked.events

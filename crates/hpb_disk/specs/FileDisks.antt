@@ -3,6 +3,7 @@ use Rattle.std.specs.Prelude.{ℕ, pos, ◌≤ℤ◌, Bool, List, length}
 use Rattle.std.specs.Fd.{file_raw_fd}
 use Rattle.std.specs.declared.fs.File.{File}
 use Rattle.hpb_disk.specs.declared.file.FileDisk.{FileDisk}
+use Rattle.hpb_disk.specs.Asked.{Asked, asked_of}
 use Rattle.hpb_disk.specs.Calls.{Call, calls_of, left_of, since_of, failures_of}
 
 -- Its calls, the newest first.
@@ -28,6 +29,10 @@ file_since disk = since_of disk.trace.first (file_calls disk)
 -- How many calls failed: its member `failures`.
 abbrev pub file_failures : FileDisk → ℕ
 file_failures disk = failures_of (file_calls disk)
+
+-- What it was asked for: its member `asked`.
+abbrev pub file_asked : FileDisk → List Asked
+file_asked disk = asked_of disk.trace.events
 
 -- A write or a sync of it has failed.
 abbrev pub file_is_broken : FileDisk → Bool

@@ -2,6 +2,8 @@
 use Rattle.std.specs.Prelude.{◌≡◌, ◌≢◌, ℕ, List, [], ◌∷◌}
 use Rattle.hpb_disk.specs.Images.{part}
 
+-- **Gate.** A byte that says whether what stands behind it counts. It is open at one value alone.
+--
 -- The byte of an open gate.
 abbrev pub open_byte : List ℕ
 open_byte = 165 ∷ []

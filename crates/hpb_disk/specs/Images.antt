@@ -2,6 +2,9 @@
 -- may leave is a set of images.
 use Rattle.std.specs.Prelude.{◌≡◌, ◌⊎◌, ℕ, ◌+◌, ◌<◌, ◌≤◌, List, ◌++◌, length, take, drop, Result, MatchResult}
 
+-- **Part, put, torn.** `hpb_disk/specs`. What is put somewhere takes the place of as many bytes there. An image is torn somewhere where it is the old
+-- one but for so many bytes there, which may be any.
+--
 -- So many bytes from an offset on.
 abbrev pub part : ℕ → ℕ → List ℕ → List ℕ
 part at count image = take count (drop at image)

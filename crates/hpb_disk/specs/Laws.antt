@@ -3,11 +3,11 @@ use Rattle.std.specs.Prelude.{◌≡◌, ◌⊎◌, ℕ, ◌+◌, ◌<◌, ◌�
 use Rattle.hpb_disk.specs.Gates.{HasOpenGate, HasClosedGate}
 use Rattle.hpb_disk.specs.Images.{part, put, Torn}
 
--- What is put somewhere is read there.
+-- What is put somewhere in an image is read there.
 abbrev pub PutIsRead : Type 0
 PutIsRead = (at : ℕ) (bytes image : List ℕ) → at + length bytes ≤ length image → part at (length bytes) (put at bytes image) ≡ bytes
 
--- It changes nothing else, and not the length.
+-- What is put somewhere changes nothing else, and not the length: the image is torn only there.
 abbrev pub PutIsTorn : Type 0
 PutIsTorn = (at : ℕ) (bytes image : List ℕ) → at + length bytes ≤ length image → Torn at (length bytes) image (put at bytes image)
 

@@ -3,6 +3,7 @@ pub mod Gates
 pub mod Laws
 pub mod Replacing
 pub mod Events
+pub mod Asked
 pub mod Calls
 pub mod Devices
 pub mod Fates

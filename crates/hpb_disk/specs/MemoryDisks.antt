@@ -1,6 +1,7 @@
 -- What a device in memory shows.
 use Rattle.std.specs.Prelude.{ℕ, List, length}
 use Rattle.hpb_disk.specs.declared.memory.MemoryDisk.{MemoryDisk}
+use Rattle.hpb_disk.specs.Asked.{Asked, asked_of}
 use Rattle.hpb_disk.specs.Calls.{Call, calls_of, left_of, since_of, failures_of, base_of, pending_of}
 
 -- Its calls, the newest first.
@@ -26,6 +27,10 @@ memory_since disk = since_of disk.trace.first (memory_calls disk)
 -- How many calls failed: its member `failures`.
 abbrev pub memory_failures : MemoryDisk → ℕ
 memory_failures disk = failures_of (memory_calls disk)
+
+-- What it was asked for: its member `asked`.
+abbrev pub memory_asked : MemoryDisk → List Asked
+memory_asked disk = asked_of disk.trace.events
 
 -- The image that its newest sync found, or the one that it was made of.
 abbrev pub memory_base : MemoryDisk → List ℕ

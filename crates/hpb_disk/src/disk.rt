@@ -1,6 +1,8 @@
 //! A device: what a read gives, and what a crash may leave.
-ghost use Rattle.std.specs.Prelude.{◌≡◌, ◌+◌, ◌≤◌, List, ℕ, length, OnOk};
+ghost use Rattle.std.specs.Prelude.{◌≡◌, ◌+◌, ◌≤◌, List, [], ◌∷◌, ℕ, length, OnOk};
 ghost use Rattle.hpb_disk.specs.Images.{part, put, Only, TornFrom, Within, Elapses, CountsFailure};
+ghost use Rattle.hpb_disk.specs.Asked.{Asked, Asks};
+ghost use Rattle.hpb_disk.specs.Asked.Asked.{writes, syncs};
 
 use thiserror::Error;
 
@@ -28,6 +30,9 @@ pub trait Disk {
     /// How many calls have failed.
     ghost failures: { Self → ℕ };
 
+    /// The writes and syncs that it was asked for, the newest first, and before each call that failed a mark.
+    ghost asked: { Self → List Asked };
+
     fn len(&self) -> usize
         // A device is as long as what a read of all of it gives.
         ensures { result ≡ length (seen self.now) };
@@ -46,7 +51,9 @@ pub trait Disk {
         ensures time { Elapses (moment self.old) (moment self.new) (left_since self.old) (left_since self.new)
             (may_leave self.old) }
         // A failure is told, and nothing else is told as one.
-        ensures cause { CountsFailure result (failures self.old) (failures self.new) };
+        ensures cause { CountsFailure result (failures self.old) (failures self.new) }
+        // It was asked for no write and no sync.
+        ensures asked { Asks result [] (asked self.old) (asked self.new) };
 
     fn write_at(&mut self, at: usize, bytes: &[u8]) -> Result<(), DiskFailed>
         // A caller stays within the device.
@@ -61,7 +68,9 @@ pub trait Disk {
         ensures time { Elapses (moment self.old) (moment self.new) (left_since self.old) (left_since self.new)
             (TornFrom at (length bytes.now) (may_leave self.old)) }
         // A failure is told, and nothing else is told as one.
-        ensures cause { CountsFailure result (failures self.old) (failures self.new) };
+        ensures cause { CountsFailure result (failures self.old) (failures self.new) }
+        // It was asked for this write, whether it succeeds or not.
+        ensures asked { Asks result (writes at bytes.now ∷ []) (asked self.old) (asked self.new) };
 
     fn sync(&mut self) -> Result<(), DiskFailed>
         // After a sync that succeeds a crash leaves what a read gives, all of it, whoever wrote it.
@@ -74,7 +83,9 @@ pub trait Disk {
         ensures time { Elapses (moment self.old) (moment self.new) (left_since self.old) (left_since self.new)
             (may_leave self.old) }
         // A failure is told, and nothing else is told as one.
-        ensures cause { CountsFailure result (failures self.old) (failures self.new) };
+        ensures cause { CountsFailure result (failures self.old) (failures self.new) }
+        // It was asked for a sync, whether it succeeds or not.
+        ensures asked { Asks result (syncs ∷ []) (asked self.old) (asked self.new) };
 
     /// A crash may leave what a read gives: all that was written may be on the medium already.
     ghost seen_may_stay: { (disk : Self) → may_leave disk (seen disk) };

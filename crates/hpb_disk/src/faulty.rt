@@ -1,6 +1,7 @@
 //! A device that is made to fail: from a call on, or at that call alone.
-ghost use Rattle.std.specs.Prelude.{◌≡◌, ◌+◌, ◌-◌, ◌≤◌, Bool, true, false, length, IsErr, OnOk};
+ghost use Rattle.std.specs.Prelude.{◌≡◌, ◌+◌, ◌-◌, ◌≤◌, Bool, true, false, [], ◌∷◌, length, IsErr, OnOk};
 ghost use Rattle.hpb_disk.specs.Images.{part, put, Only, TornFrom, Within, Elapses, CountsFailure};
+ghost use Rattle.hpb_disk.specs.Asked.{Asks};
 ghost use Rattle.hpb_disk.specs.Faults.{faults_of, faults_among, is_fault, is_late, passed_since};
 ghost use Rattle.hpb_disk.specs.Behind.{now_behind};
 ghost use Rattle.std.proofs.Math.Nat.{sub-le};
@@ -52,6 +53,8 @@ pub struct FaultyDisk<D: Disk + Drop, F: Faults> {
     fault: u64,
     away: u64,
     trace: Trace,
+    // What it was asked for itself.
+    asked: Trace,
     kind: PhantomData<F>,
     ghost counted: { away ≡ fault - length trace.events },
     ghost fails: { faults_of trace.events ≡ faults_among F.LATER fault (length trace.events) },
@@ -72,6 +75,7 @@ impl<D: Disk + Drop, F: Faults> FaultyDisk<D, F> {
             fault,
             away: fault,
             trace: Trace::new(&[]),
+            asked: Trace::new(&[]),
             kind: PhantomData,
         }
     }
@@ -107,7 +111,8 @@ impl<D: Disk + Drop, F: Faults> FaultyDisk<D, F> {
 }
 
 impl<D: Disk + Drop, F: Faults> Disk for FaultyDisk<D, F> {
-    ghost use Rattle.hpb_disk.specs.FaultyDisks.{inner as inner_of, fault as fault_of_disk, calls, moment_behind, seen_behind, left_behind, since_behind, failures_behind, all_failures};
+    ghost use Rattle.hpb_disk.specs.FaultyDisks.{inner as inner_of, fault as fault_of_disk, calls, moment_behind, seen_behind, left_behind, since_behind, failures_behind, all_failures, all_asked};
+    ghost use Rattle.hpb_disk.specs.Asked.Asked.{writes, syncs};
 
     ghost seen = { seen_behind };
 
@@ -118,6 +123,8 @@ impl<D: Disk + Drop, F: Faults> Disk for FaultyDisk<D, F> {
     ghost left_since = { since_behind };
 
     ghost failures = { all_failures };
+
+    ghost asked = { all_asked };
 
     ghost seen_may_stay = { λ f. D.seen_may_stay f.inner };
 
@@ -140,6 +147,7 @@ impl<D: Disk + Drop, F: Faults> Disk for FaultyDisk<D, F> {
         ensures time { Elapses (calls self.old) (calls self.new) (since_behind self.old) (since_behind self.new)
             (left_behind self.old) }
         ensures cause { CountsFailure result (all_failures self.old) (all_failures self.new) }
+        ensures asked { Asks result [] (all_asked self.old) (all_asked self.new) }
         // Beyond the trait: which calls fail, and which the device behind it has.
         ensures fault { fault_of_disk self.new ≡ fault_of_disk self.old }
         ensures fails { is_fault F.LATER (fault_of_disk self.old) (calls self.old + 1) ≡ true → IsErr result }
@@ -150,10 +158,20 @@ impl<D: Disk + Drop, F: Faults> Disk for FaultyDisk<D, F> {
         self.away = self.away.saturating_sub(1);
         if fails {
             self.trace.held();
+            self.asked.read_failed();
             return Err(DiskFailed);
         }
         self.trace.passed();
-        self.inner.read_into(at, out)
+        match self.inner.read_into(at, out) {
+            Ok(()) => {
+                self.asked.read();
+                Ok(())
+            }
+            Err(failed) => {
+                self.asked.read_failed();
+                Err(failed)
+            }
+        }
     }
 
     fn write_at(&mut self, at: usize, bytes: &[u8]) -> Result<(), DiskFailed>
@@ -164,6 +182,7 @@ impl<D: Disk + Drop, F: Faults> Disk for FaultyDisk<D, F> {
         ensures time { Elapses (calls self.old) (calls self.new) (since_behind self.old) (since_behind self.new)
             (TornFrom at (length bytes.now) (left_behind self.old)) }
         ensures cause { CountsFailure result (all_failures self.old) (all_failures self.new) }
+        ensures asked { Asks result (writes at bytes.now ∷ []) (all_asked self.old) (all_asked self.new) }
         // Beyond the trait: which calls fail, and which the device behind it has.
         ensures fault { fault_of_disk self.new ≡ fault_of_disk self.old }
         ensures fails { is_fault F.LATER (fault_of_disk self.old) (calls self.old + 1) ≡ true → IsErr result }
@@ -174,6 +193,7 @@ impl<D: Disk + Drop, F: Faults> Disk for FaultyDisk<D, F> {
     {
         if self.is_next_late() {
             self.trace.held();
+            self.asked.write_refused(at, bytes);
             return Err(DiskFailed);
         }
         let fails = self.is_next_fault();
@@ -181,10 +201,20 @@ impl<D: Disk + Drop, F: Faults> Disk for FaultyDisk<D, F> {
         let answer = self.inner.write_at(at, bytes);
         if fails {
             self.trace.broken();
+            self.asked.write_refused(at, bytes);
             return Err(DiskFailed);
         }
         self.trace.passed();
-        answer
+        match answer {
+            Ok(()) => {
+                self.asked.wrote(at, bytes);
+                Ok(())
+            }
+            Err(failed) => {
+                self.asked.write_refused(at, bytes);
+                Err(failed)
+            }
+        }
     }
 
     fn sync(&mut self) -> Result<(), DiskFailed>
@@ -194,6 +224,7 @@ impl<D: Disk + Drop, F: Faults> Disk for FaultyDisk<D, F> {
         ensures time { Elapses (calls self.old) (calls self.new) (since_behind self.old) (since_behind self.new)
             (left_behind self.old) }
         ensures cause { CountsFailure result (all_failures self.old) (all_failures self.new) }
+        ensures asked { Asks result (syncs ∷ []) (all_asked self.old) (all_asked self.new) }
         // Beyond the trait: which calls fail, and which the device behind it has.
         ensures fault { fault_of_disk self.new ≡ fault_of_disk self.old }
         ensures fails { is_fault F.LATER (fault_of_disk self.old) (calls self.old + 1) ≡ true → IsErr result }
@@ -204,9 +235,19 @@ impl<D: Disk + Drop, F: Faults> Disk for FaultyDisk<D, F> {
         self.away = self.away.saturating_sub(1);
         if fails {
             self.trace.held();
+            self.asked.sync_failed();
             return Err(DiskFailed);
         }
         self.trace.passed();
-        self.inner.sync()
+        match self.inner.sync() {
+            Ok(()) => {
+                self.asked.synced();
+                Ok(())
+            }
+            Err(failed) => {
+                self.asked.sync_failed();
+                Err(failed)
+            }
+        }
     }
 }

@@ -1,6 +1,7 @@
 //! A device in a file of the operating system.
-ghost use Rattle.std.specs.Prelude.{◌≡◌, ◌+◌, ◌≤◌, ◌^◌, true, false, ◌∷◌, length, replicate, IsErr, IfOk, OnOk, OnErr, MatchResult};
+ghost use Rattle.std.specs.Prelude.{◌≡◌, ◌+◌, ◌≤◌, ◌^◌, true, false, [], ◌∷◌, length, replicate, IsErr, IfOk, OnOk, OnErr, MatchResult};
 ghost use Rattle.hpb_disk.specs.Images.{part, put, Only, TornFrom, Within, Elapses, CountsFailure};
+ghost use Rattle.hpb_disk.specs.Asked.{Asks};
 ghost use Rattle.hpb_disk.specs.Calls.{calls_of, seen_of};
 ghost use Rattle.hpb_disk.specs.Devices as devices;
 
@@ -34,6 +35,7 @@ pub struct FileDisk {
     file: File,
     bytes: Vec<u8>,
     broken: bool,
+    code: Option<i32>,
     trace: Trace,
     ghost shown: { bytes.items ≡ seen_of trace.first (calls_of trace.events) },
 }
@@ -53,6 +55,7 @@ impl FileDisk {
             file,
             bytes,
             broken: false,
+            code: None,
             trace,
         }
     }
@@ -182,6 +185,11 @@ impl FileDisk {
         }
     }
 
+    /// The system's number of the write or the sync that failed, where one did and the system told one.
+    pub fn code(&self) -> Option<i32> {
+        self.code
+    }
+
     /// Which file it is, and how long.
     pub fn mark(&self) -> io::Result<FileMark> {
         Ok(FileMark::of(&self.file.metadata()?))
@@ -189,7 +197,8 @@ impl FileDisk {
 }
 
 impl Disk for FileDisk {
-    ghost use Rattle.hpb_disk.specs.FileDisks.{file_calls, file_seen, file_left, file_moment, file_since, file_failures, file_is_broken};
+    ghost use Rattle.hpb_disk.specs.FileDisks.{file_calls, file_seen, file_left, file_moment, file_since, file_failures, file_asked, file_is_broken};
+    ghost use Rattle.hpb_disk.specs.Asked.Asked.{writes, syncs};
     ghost use Rattle.hpb_disk.specs.Calls.Call.{read, wrote, synced, failed, write_failed};
 
     ghost seen = { file_seen };
@@ -201,6 +210,8 @@ impl Disk for FileDisk {
     ghost left_since = { file_since };
 
     ghost failures = { file_failures };
+
+    ghost asked = { file_asked };
 
     ghost seen_may_stay = { λ d. devices.shown_may_stay d.trace.first (calls_of d.trace.events) d.bytes.items d.shown };
 
@@ -223,6 +234,7 @@ impl Disk for FileDisk {
         ensures time { Elapses (file_moment self.old) (file_moment self.new) (file_since self.old) (file_since self.new)
             (file_left self.old) }
         ensures cause { CountsFailure result (file_failures self.old) (file_failures self.new) }
+        ensures asked { Asks result [] (file_asked self.old) (file_asked self.new) }
         // Beyond the trait: the call that is noted, and that none succeeds after a write or a sync that failed.
         ensures called { MatchResult result
             (λ _. file_calls self.new ≡ read ∷ file_calls self.old)
@@ -231,12 +243,12 @@ impl Disk for FileDisk {
         ensures stays_broken { file_is_broken self.old ≡ true → file_is_broken self.new ≡ true }
     {
         if self.broken {
-            self.trace.failed();
+            self.trace.read_failed();
             return Err(DiskFailed);
         }
         let read = self.file.read_exact_at(out, at as u64);
         if read.is_err() || !are_same(out, &self.bytes[at..at + out.len()]) {
-            self.trace.failed();
+            self.trace.read_failed();
             return Err(DiskFailed);
         }
         self.trace.read();
@@ -251,6 +263,7 @@ impl Disk for FileDisk {
         ensures time { Elapses (file_moment self.old) (file_moment self.new) (file_since self.old) (file_since self.new)
             (TornFrom at (length bytes.now) (file_left self.old)) }
         ensures cause { CountsFailure result (file_failures self.old) (file_failures self.new) }
+        ensures asked { Asks result (writes at bytes.now ∷ []) (file_asked self.old) (file_asked self.new) }
         // Beyond the trait: the call that is noted, and that none succeeds after a write or a sync that failed.
         ensures called { MatchResult result
             (λ _. file_calls self.new ≡ wrote at bytes.now ∷ file_calls self.old)
@@ -259,7 +272,7 @@ impl Disk for FileDisk {
         ensures breaks { OnErr result (file_is_broken self.new ≡ true) }
     {
         if self.broken {
-            self.trace.failed();
+            self.trace.write_refused(at, bytes);
             return Err(DiskFailed);
         }
         match self.file.write_all_at(bytes, at as u64) {
@@ -268,8 +281,9 @@ impl Disk for FileDisk {
                 self.trace.wrote(at, bytes);
                 Ok(())
             }
-            Err(_) => {
+            Err(error) => {
                 self.broken = true;
+                self.code = error.raw_os_error();
                 self.trace.write_failed(at, bytes);
                 Err(DiskFailed)
             }
@@ -283,6 +297,7 @@ impl Disk for FileDisk {
         ensures time { Elapses (file_moment self.old) (file_moment self.new) (file_since self.old) (file_since self.new)
             (file_left self.old) }
         ensures cause { CountsFailure result (file_failures self.old) (file_failures self.new) }
+        ensures asked { Asks result (syncs ∷ []) (file_asked self.old) (file_asked self.new) }
         // Beyond the trait: the call that is noted, and that none succeeds after a write or a sync that failed.
         ensures called { MatchResult result
             (λ _. file_calls self.new ≡ synced ∷ file_calls self.old)
@@ -291,7 +306,7 @@ impl Disk for FileDisk {
         ensures breaks { OnErr result (file_is_broken self.new ≡ true) }
     {
         if self.broken {
-            self.trace.failed();
+            self.trace.sync_failed();
             return Err(DiskFailed);
         }
         match self.file.sync_data() {
@@ -299,9 +314,10 @@ impl Disk for FileDisk {
                 self.trace.synced();
                 Ok(())
             }
-            Err(_) => {
+            Err(error) => {
                 self.broken = true;
-                self.trace.failed();
+                self.code = error.raw_os_error();
+                self.trace.sync_failed();
                 Err(DiskFailed)
             }
         }

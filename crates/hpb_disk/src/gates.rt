@@ -1,5 +1,7 @@
 //! Gates: a byte that says whether what stands behind it counts.
-ghost use Rattle.std.specs.Prelude.{◌≡◌, ◌<◌, ◌↔◌, true, false, length, IsTrue, IfOk, OnOk};
+ghost use Rattle.std.specs.Prelude.{◌≡◌, ◌<◌, ◌↔◌, true, false, [], ◌∷◌, length, IsTrue, IfOk, OnOk};
+ghost use Rattle.hpb_disk.specs.Asked.{Asks};
+ghost use Rattle.hpb_disk.specs.Asked.Asked.{writes};
 ghost use Rattle.hpb_disk.specs.Gates.{open_byte, closed_byte, HasOpenGate, HasClosedGate};
 ghost use Rattle.hpb_disk.specs.Images.{put, TornFrom, Within, Elapses, CountsFailure};
 
@@ -19,6 +21,7 @@ pub fn gate_is_open<D: Disk>(disk: &mut D, at: usize) -> Result<bool, DiskFailed
     ensures time { Elapses (D.moment disk.old) (D.moment disk.new) (D.left_since disk.old) (D.left_since disk.new)
         (D.may_leave disk.old) }
     ensures cause { CountsFailure result (D.failures disk.old) (D.failures disk.new) }
+    ensures asked { Asks result [] (D.asked disk.old) (D.asked disk.new) }
 {
     let mut gate = [0];
     match disk.read_into(at, &mut gate) {
@@ -38,6 +41,7 @@ pub fn open_gate<D: Disk>(disk: &mut D, at: usize) -> Result<(), DiskFailed>
     ensures time { Elapses (D.moment disk.old) (D.moment disk.new) (D.left_since disk.old) (D.left_since disk.new)
         (TornFrom at 1 (D.may_leave disk.old)) }
     ensures cause { CountsFailure result (D.failures disk.old) (D.failures disk.new) }
+    ensures asked { Asks result (writes at open_byte ∷ []) (D.asked disk.old) (D.asked disk.new) }
 {
     match disk.write_at(at, &[OPEN]) {
         Ok(()) => Ok(()),
@@ -58,6 +62,7 @@ pub fn close_gate<D: Disk>(disk: &mut D, at: usize, may_be_open: bool) -> Result
     ensures time { may_be_open ≡ true → Elapses (D.moment disk.old) (D.moment disk.new) (D.left_since disk.old) (D.left_since disk.new)
         (TornFrom at 1 (D.may_leave disk.old)) }
     ensures cause { CountsFailure result (D.failures disk.old) (D.failures disk.new) }
+    ensures asked { may_be_open ≡ true → Asks result (writes at closed_byte ∷ []) (D.asked disk.old) (D.asked disk.new) }
 {
     if !may_be_open {
         return Ok(());

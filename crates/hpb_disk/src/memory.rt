@@ -1,6 +1,7 @@
 //! A device in memory, which keeps a record of its calls.
 ghost use Rattle.std.specs.Prelude.{◌≡◌, ◌+◌, ◌≤◌, [], ◌∷◌, ◌++◌, length, drop, replicate, vec_len, OnOk, OnErr, IfOk, MatchResult};
 ghost use Rattle.hpb_disk.specs.Images.{part, put, Only, TornFrom, Within, Elapses, CountsFailure};
+ghost use Rattle.hpb_disk.specs.Asked.{Asks};
 ghost use Rattle.hpb_disk.specs.Calls.{calls_of, seen_of, failures_of, base_of, pending_of};
 ghost use Rattle.hpb_disk.specs.Fates.{stopped};
 ghost use Rattle.hpb_disk.specs.Records.{writes_of};
@@ -120,7 +121,8 @@ impl MemoryDisk {
 }
 
 impl Disk for MemoryDisk {
-    ghost use Rattle.hpb_disk.specs.MemoryDisks.{memory_calls, memory_seen, memory_left, memory_moment, memory_since, memory_failures};
+    ghost use Rattle.hpb_disk.specs.MemoryDisks.{memory_calls, memory_seen, memory_left, memory_moment, memory_since, memory_failures, memory_asked};
+    ghost use Rattle.hpb_disk.specs.Asked.Asked.{writes, syncs};
     ghost use Rattle.hpb_disk.specs.Calls.Call.{read, wrote, synced, failed};
 
     ghost seen = { memory_seen };
@@ -132,6 +134,8 @@ impl Disk for MemoryDisk {
     ghost left_since = { memory_since };
 
     ghost failures = { memory_failures };
+
+    ghost asked = { memory_asked };
 
     ghost seen_may_stay = { λ d. devices.shown_may_stay d.trace.first (calls_of d.trace.events) d.bytes.items d.shown };
 
@@ -154,6 +158,7 @@ impl Disk for MemoryDisk {
         ensures time { Elapses (memory_moment self.old) (memory_moment self.new) (memory_since self.old) (memory_since self.new)
             (memory_left self.old) }
         ensures cause { CountsFailure result (memory_failures self.old) (memory_failures self.new) }
+        ensures asked { Asks result [] (memory_asked self.old) (memory_asked self.new) }
         // Beyond the trait: the call that its record has.
         ensures called { MatchResult result
             (λ _. memory_calls self.new ≡ read ∷ memory_calls self.old)
@@ -166,7 +171,7 @@ impl Disk for MemoryDisk {
                 Ok(())
             }
             Err(_) => {
-                self.trace.failed();
+                self.trace.read_failed();
                 Err(DiskFailed)
             }
         }
@@ -180,6 +185,7 @@ impl Disk for MemoryDisk {
         ensures time { Elapses (memory_moment self.old) (memory_moment self.new) (memory_since self.old) (memory_since self.new)
             (TornFrom at (length bytes.now) (memory_left self.old)) }
         ensures cause { CountsFailure result (memory_failures self.old) (memory_failures self.new) }
+        ensures asked { Asks result (writes at bytes.now ∷ []) (memory_asked self.old) (memory_asked self.new) }
         // Beyond the trait: the call that its record has.
         ensures called { MatchResult result
             (λ _. memory_calls self.new ≡ wrote at bytes.now ∷ memory_calls self.old)
@@ -192,7 +198,7 @@ impl Disk for MemoryDisk {
                 Ok(())
             }
             Err(_) => {
-                self.trace.failed();
+                self.trace.write_refused(at, bytes);
                 Err(DiskFailed)
             }
         }
@@ -205,6 +211,7 @@ impl Disk for MemoryDisk {
         ensures time { Elapses (memory_moment self.old) (memory_moment self.new) (memory_since self.old) (memory_since self.new)
             (memory_left self.old) }
         ensures cause { CountsFailure result (memory_failures self.old) (memory_failures self.new) }
+        ensures asked { Asks result (syncs ∷ []) (memory_asked self.old) (memory_asked self.new) }
         // Beyond the trait: the call that its record has.
         ensures called { MatchResult result
             (λ _. memory_calls self.new ≡ synced ∷ memory_calls self.old)
@@ -218,7 +225,7 @@ impl Disk for MemoryDisk {
                 Ok(())
             }
             Err(_) => {
-                self.trace.failed();
+                self.trace.sync_failed();
                 Err(DiskFailed)
             }
         }

@@ -5,7 +5,7 @@ ghost use Rattle.hpb_disk.specs.Events.{Event, event_of};
 
 use std::marker::{Model, PhantomData};
 
-// The kinds of an entry, as `call_of` reads them.
+// The kinds of an entry, as `call_of` and `asked_by` read them.
 const READ: u64 = 0;
 
 const WROTE: u64 = 1;
@@ -14,7 +14,11 @@ const SYNCED: u64 = 2;
 
 const WRITE_FAILED: u64 = 3;
 
-const FAILED: u64 = 4;
+const READ_FAILED: u64 = 4;
+
+const WRITE_REFUSED: u64 = 5;
+
+const SYNC_FAILED: u64 = 6;
 
 // The kinds of an entry of a device that is made to fail, as `passed_on` and `fault_of` read them.
 const PASSED: u64 = 0;
@@ -77,11 +81,25 @@ impl Trace {
         self.note(&[WRITE_FAILED, at as u64], bytes);
     }
 
-    /// A call failed that did nothing.
-    pub(crate) fn failed(&mut self)
+    /// A read failed.
+    pub(crate) fn read_failed(&mut self)
         ensures { (self.new.first ≡ self.old.first) × (self.new.events ≡ event_of (4 ∷ 0 ∷ []) [] ∷ self.old.events) }
     {
-        self.note(&[FAILED, 0], &[]);
+        self.note(&[READ_FAILED, 0], &[]);
+    }
+
+    /// A write failed that did nothing.
+    pub(crate) fn write_refused(&mut self, at: usize, bytes: &[u8])
+        ensures { (self.new.first ≡ self.old.first) × (self.new.events ≡ event_of (5 ∷ at ∷ []) bytes.now ∷ self.old.events) }
+    {
+        self.note(&[WRITE_REFUSED, at as u64], bytes);
+    }
+
+    /// A sync failed.
+    pub(crate) fn sync_failed(&mut self)
+        ensures { (self.new.first ≡ self.old.first) × (self.new.events ≡ event_of (6 ∷ 0 ∷ []) [] ∷ self.old.events) }
+    {
+        self.note(&[SYNC_FAILED, 0], &[]);
     }
 
     /// A call was passed on.

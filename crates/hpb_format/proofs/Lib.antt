@@ -4,3 +4,4 @@ pub mod Made
 pub mod Unheaded
 pub mod Beginning
 pub mod Standing
+pub mod Turns

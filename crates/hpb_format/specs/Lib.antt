@@ -1,3 +1,5 @@
 pub mod Stages
 pub mod Beginnings
+pub mod Asking
 pub mod Outcomes
+pub mod Limits

@@ -1,5 +1,6 @@
 -- What a device is after it was formatted, and why it was not.
 use Rattle.std.specs.Prelude.{◌≡◌, ◌⊎◌, ◌↔◌, ℕ, ◌<◌, List, [], length, Result, Ok, Err, IfOk}
+use Rattle.hpb_disk.specs.Asked.{Asked}
 use Rattle.hpb_disk.specs.Images.{part, LeavesOnly, Only, Within}
 use Rattle.hpb_rules.specs.declared.refusal.Refusal.{Refusal}
 use Rattle.hpb_rules.specs.declared.refusal.Refusal.TheVariants as refusals
@@ -14,6 +15,7 @@ use Rattle.hpb_codec.specs.declared.state_format.StateFormat.TheVariants.{Two}
 use Rattle.hpb_image.specs.Heads.{IsFormatted, IsLaidOut}
 use Rattle.hpb_image.specs.declared.limits.TheConstants.{HEAD_AT}
 use Rattle.hpb_image.specs.Standing.{Stands}
+use Rattle.hpb_format.specs.Asking.{AsksToFormat}
 use Rattle.hpb_format.specs.declared.fault.FormatCause.{FormatCause}
 use Rattle.hpb_format.specs.declared.fault.FormatCause.TheVariants as causes
 use Rattle.hpb_format.specs.declared.fault.FormatFault.{FormatFault}
@@ -80,7 +82,7 @@ CountsCause (Err causes.Device) old new = old < new
 CountsCause (Err _) old new = new ≡ old
 
 -- What a call did that was to format a device for a journal of this shape: the device before it, and its result.
-pub record FormatsAs {D : Type 0} (seen : D → List ℕ) (may_leave : D → List ℕ → Type 0) (moment : D → ℕ) (left_since : D → ℕ → List ℕ → Type 0) (failures : D → ℕ)
+pub record FormatsAs {D : Type 0} (seen : D → List ℕ) (may_leave : D → List ℕ → Type 0) (moment : D → ℕ) (left_since : D → ℕ → List ℕ → Type 0) (failures : D → ℕ) (asked : D → List Asked)
     (rules : Rules) (journal : JournalShape) (disk : D) (result : Result D (FormatFault D)) : Type 0 where
   -- At `Ok` each crash leaves an image that stands for no command, under this definition and with such a journal.
   pub stands : IfOk result (λ new. Within (may_leave new) (IsNew rules journal))
@@ -101,3 +103,5 @@ pub record FormatsAs {D : Type 0} (seen : D → List ℕ) (may_leave : D → Lis
       → LeavesOnly (moment disk) (moment (given result)) (left_since disk) (left_since (given result)) (may_leave (given result)) (IsBlank rules journal)
   -- 91 is told exactly where a call failed.
   pub cause : CountsCause (answer_of result) (failures disk) (failures (given result))
+  -- The device was asked for this, in this order, and nothing else.
+  pub asks : AsksToFormat rules journal (answer_of result) (asked disk) (asked (given result))

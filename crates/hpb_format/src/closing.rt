@@ -1,5 +1,8 @@
 //! Closing the gates of a device that is not formatted, before anything is written behind them.
-ghost use Rattle.std.specs.Prelude.{◌≡◌, ◌⊎◌, ◌+◌, ◌<◌, ◌≤◌, ℕ, length, OnOk};
+ghost use Rattle.std.specs.Prelude.{◌≡◌, ◌⊎◌, ◌+◌, ◌<◌, ◌≤◌, ℕ, List, ◌∷◌, length, OnOk};
+ghost use Rattle.hpb_codec.specs.declared.layout.JournalShape.{JournalShape};
+ghost use Rattle.hpb_disk.specs.Asked.{Asked, Asks, AsksInTurn};
+ghost use Rattle.hpb_disk.specs.Asked.Asked.{syncs};
 ghost use Rattle.hpb_disk.specs.Gates.{HasClosedGate};
 ghost use Rattle.hpb_disk.specs.Images.{Only, SameBefore, Torn, CountsFailure};
 ghost use Rattle.hpb_journal.specs.Changes.{ChangesGate};
@@ -7,6 +10,7 @@ ghost use Rattle.hpb_journal.specs.Frames.{IsClosed};
 ghost use Rattle.hpb_journal.specs.declared.limits.TheConstants.{JOURNAL_AT};
 ghost use Rattle.hpb_slots.specs.declared.slot.Slot.{Slot};
 ghost use Rattle.hpb_slots.specs.Slots.{IsClosed as IsClosedSlot};
+ghost use Rattle.hpb_format.specs.Asking.{AreClosings, Closes, MayClose};
 ghost use Rattle.hpb_format.specs.Stages.{AreClosed, OnlyCloses};
 ghost use Rattle.hpb_image.specs.declared.limits.TheConstants.{HEAD_AT, MAGIC_BYTES};
 ghost use Rattle.hpb_format.specs.declared.place.TheConstants.{HEAD_GATE};
@@ -25,6 +29,7 @@ fn close_if_open<D: Disk>(disk: &mut D, at: usize) -> Result<(), DiskFailed>
     ensures size { length (D.seen disk.new) ≡ length (D.seen disk.old) }
     ensures any_moment { OnlyCloses D.may_leave D.moment D.left_since disk.old disk.new }
     ensures cause { CountsFailure result (D.failures disk.old) (D.failures disk.new) }
+    ensures asked { (calls : List Asked) × MayClose at calls × Asks result calls (D.asked disk.old) (D.asked disk.new) }
 {
     elsewhere_stays();
     put_is_torn();
@@ -50,6 +55,7 @@ fn close_frame_if_open<D: Disk, F: Frames>(
     ensures size { length (D.seen disk.new) ≡ length (D.seen disk.old) }
     ensures any_moment { OnlyCloses D.may_leave D.moment D.left_since disk.old disk.new }
     ensures cause { CountsFailure result (D.failures disk.old) (D.failures disk.new) }
+    ensures asked { Closes (F.shape frames.now) 1 result (D.asked disk.old) (D.asked disk.new) }
 {
     if matches!(frames.read_frame(disk, index, definition)?, Frame::Closed) {
         return Ok(());
@@ -72,6 +78,7 @@ fn close_frames<D: Disk, F: Frames>(
     ensures size { length (D.seen disk.new) ≡ length (D.seen disk.old) }
     ensures any_moment { OnlyCloses D.may_leave D.moment D.left_since disk.old disk.new }
     ensures cause { CountsFailure result (D.failures disk.old) (D.failures disk.new) }
+    ensures asked { Closes (F.shape frames.now) (F.layout frames.now).count result (D.asked disk.old) (D.asked disk.new) }
 {
     frames.laws();
     for index in 0..u64::from(frames.count()) {
@@ -88,6 +95,7 @@ fn close_head_and_slots<D: Disk>(disk: &mut D) -> Result<(), DiskFailed>
     ensures size { length (D.seen disk.new) ≡ length (D.seen disk.old) }
     ensures any_moment { OnlyCloses D.may_leave D.moment D.left_since disk.old disk.new }
     ensures cause { CountsFailure result (D.failures disk.old) (D.failures disk.new) }
+    ensures asked { (journal : JournalShape) → Closes journal 3 result (D.asked disk.old) (D.asked disk.new) }
 {
     elsewhere_stays();
     close_if_open(disk, HEAD_GATE)?;
@@ -110,6 +118,7 @@ pub(crate) fn close_all<D: Disk, F: Frames>(
     ensures size { length (D.seen disk.new) ≡ length (D.seen disk.old) }
     ensures any_moment { OnlyCloses D.may_leave D.moment D.left_since disk.old disk.new }
     ensures cause { CountsFailure result (D.failures disk.old) (D.failures disk.new) }
+    ensures asked { (calls : List Asked) × AreClosings (F.shape frames.now) (3 + (F.layout frames.now).count) calls × AsksInTurn result (syncs ∷ calls) (D.asked disk.old) (D.asked disk.new) }
 {
     frames.laws();
     close_head_and_slots(disk)?;

@@ -1,6 +1,8 @@
 //! Formatting a device.
-ghost use Rattle.std.specs.Prelude.{◌≡◌, ◌⊎◌, ◌+◌, ◌≤◌, ◌↔◌, List, ℕ, length, IfOk, IfSome, IsNone, IsTrue, OnOk};
+ghost use Rattle.std.specs.Prelude.{◌≡◌, ◌⊎◌, ◌+◌, ◌≤◌, ◌↔◌, List, [], ◌∷◌, ℕ, length, IfOk, IfSome, IsNone, IsTrue, OnOk};
 ghost use Rattle.hpb_codec.specs.declared.state.TheConstants.{STATE_SIZE};
+ghost use Rattle.hpb_disk.specs.Asked.{Asks};
+ghost use Rattle.hpb_disk.specs.Asked.Asked.{syncs};
 ghost use Rattle.hpb_disk.specs.Images.{Only, Within, CountsFailure, LeavesOnly};
 ghost use Rattle.hpb_image.specs.Heads.{IsFormatted, IsHeaded};
 ghost use Rattle.hpb_codec.specs.declared.head.TheConstants.{HEAD_SIZE};
@@ -8,6 +10,7 @@ ghost use Rattle.hpb_image.specs.declared.limits.TheConstants.{HEAD_AT, MAGIC_BY
 ghost use Rattle.hpb_format.specs.Beginnings.{IsFirstHead, IsFirstState};
 ghost use Rattle.hpb_codec.specs.declared.layout.JournalShape.{JournalShape};
 ghost use Rattle.hpb_journal.specs.Shapes.{shape_of};
+ghost use Rattle.hpb_format.specs.Asking.{AsksToFormat};
 ghost use Rattle.hpb_format.specs.Outcomes.{answer_of, given, paged, CountsCause, FailsAtMostBy, FailsBy, FormatsAs, HasLength, IsNew, Names, WasOrIsBlank};
 ghost use Rattle.hpb_format.specs.declared.fault.FormatCause.TheVariants.{Formatted, Length, Memory};
 
@@ -31,6 +34,7 @@ fn is_headed<D: Disk>(disk: &mut D) -> Result<bool, DiskFailed>
     ensures any_moment { LeavesOnly (D.moment disk.old) (D.moment disk.new) (D.left_since disk.old) (D.left_since disk.new) (D.may_leave disk.new)
         (D.may_leave disk.old) }
     ensures cause { CountsFailure result (D.failures disk.old) (D.failures disk.new) }
+    ensures asked { Asks result [] (D.asked disk.old) (D.asked disk.new) }
 {
     if !gate_is_open(disk, HEAD_GATE)? {
         return Ok(false);
@@ -67,6 +71,7 @@ fn settle_and_read<D: Disk>(disk: &mut D) -> Result<bool, DiskFailed>
     ensures any_moment { LeavesOnly (D.moment disk.old) (D.moment disk.new) (D.left_since disk.old) (D.left_since disk.new) (D.may_leave disk.new)
         (D.may_leave disk.old) }
     ensures cause { CountsFailure result (D.failures disk.old) (D.failures disk.new) }
+    ensures asked { Asks result (syncs ∷ []) (D.asked disk.old) (D.asked disk.new) }
 {
     disk.sync()?;
     match is_headed(disk) {
@@ -98,6 +103,7 @@ fn format_fitting<D: Disk>(
     ensures any_moment { LeavesOnly (D.moment disk.old) (D.moment disk.new) (D.left_since disk.old) (D.left_since disk.new) (D.may_leave disk.new)
         (WasOrIsBlank D.may_leave disk.old definition.now (shape_of frames.now)) }
     ensures cause { CountsCause result (D.failures disk.old) (D.failures disk.new) }
+    ensures asked { AsksToFormat definition.now (shape_of frames.now) result (D.asked disk.old) (D.asked disk.new) }
 {
     frames.laws();
     holds_one();
@@ -131,6 +137,7 @@ fn format_in_place<D: Disk>(
     ensures any_moment { LeavesOnly (D.moment disk.old) (D.moment disk.new) (D.left_since disk.old) (D.left_since disk.new) (D.may_leave disk.new)
         (WasOrIsBlank D.may_leave disk.old definition.now journal) }
     ensures cause { CountsCause result (D.failures disk.old) (D.failures disk.new) }
+    ensures asked { AsksToFormat definition.now journal result (D.asked disk.old) (D.asked disk.new) }
 {
     let Some(frames) = frames_of(journal, disk.len()) else {
         return Err(FormatCause::Length);
@@ -148,7 +155,7 @@ fn format_shape<D: Disk + Drop>(
     definition: &Definition,
     journal: JournalShape,
 ) -> Result<D, FormatFault<D>>
-    ensures { FormatsAs D.seen D.may_leave D.moment D.left_since D.failures definition.now journal disk result }
+    ensures { FormatsAs D.seen D.may_leave D.moment D.left_since D.failures D.asked definition.now journal disk result }
 {
     let mut disk = disk;
     match format_in_place(alloc, &mut disk, definition, journal) {
@@ -172,7 +179,7 @@ pub fn format<D: Disk + Drop>(
     definition: &Definition,
     frames: u32,
 ) -> Result<D, FormatFault<D>>
-    ensures formats { FormatsAs D.seen D.may_leave D.moment D.left_since D.failures definition.now (paged frames) disk result }
+    ensures formats { FormatsAs D.seen D.may_leave D.moment D.left_since D.failures D.asked definition.now (paged frames) disk result }
 {
     let layout = JournalLayout::Pages;
     format_shape(alloc, disk, definition, JournalShape { layout, frames })
@@ -192,7 +199,7 @@ pub fn format_layout<D: Disk + Drop>(
     ensures unnamed { ((journal : JournalShape) → Names layout frames journal → ⊥) → FailsBy (answer_of result) Length × (given result ≡ disk) }
     // and by any other the device is formatted in that layout.
     ensures formats { (journal : JournalShape) → Names layout frames journal
-        → FormatsAs D.seen D.may_leave D.moment D.left_since D.failures definition.now journal disk result }
+        → FormatsAs D.seen D.may_leave D.moment D.left_since D.failures D.asked definition.now journal disk result }
 {
     match JournalLayout::of_byte(layout) {
         Some(layout) => format_shape(alloc, disk, definition, JournalShape { layout, frames }),

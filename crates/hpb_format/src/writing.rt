@@ -1,10 +1,15 @@
 //! Writing a new device behind its closed gates, and opening it.
-ghost use Rattle.std.specs.Prelude.{◌≡◌, ◌≤◌, ℕ, List, length, OnOk};
+ghost use Rattle.std.specs.Prelude.{◌≡◌, ◌≤◌, ◌+◌, ℕ, List, [], ◌∷◌, ◌++◌, length, OnOk};
 ghost use Rattle.hpb_codec.specs.declared.state.TheConstants.{CHUNKS, STATE_SIZE};
+ghost use Rattle.hpb_disk.specs.Asked.{Asked, Asks, AsksInTurn};
+ghost use Rattle.hpb_disk.specs.Asked.Asked.{syncs, writes};
+ghost use Rattle.hpb_disk.specs.Gates.{open_byte};
 ghost use Rattle.hpb_disk.specs.Images.{part, Only, Torn, Within, CountsFailure, LeavesOnly};
 ghost use Rattle.hpb_slots.specs.declared.limits.TheConstants.{SLOTS_AT, SLOTS_END};
 ghost use Rattle.hpb_slots.specs.declared.slot.Slot.TheVariants.{First};
 ghost use Rattle.hpb_slots.specs.Slots.{HasChunks};
+ghost use Rattle.hpb_slots.specs.Writes.{opens_slot};
+ghost use Rattle.hpb_format.specs.Asking.{AreClosings, writes_chunks, writing};
 ghost use Rattle.hpb_format.specs.Stages.{AreClosed, ChangesBody, IsClosedOrMade, IsMade, IsOpenAndMade, IsUnheadedOrMade, IsWritten, StaysClosed};
 ghost use Rattle.hpb_image.specs.Heads.{IsHeaded};
 ghost use Rattle.hpb_codec.specs.declared.head.TheConstants.{HEAD_SIZE};
@@ -32,6 +37,7 @@ fn write_head<D: Disk>(disk: &mut D, head: &[u8]) -> Result<(), DiskFailed>
     ensures size { length (D.seen disk.new) ≡ length (D.seen disk.old) }
     ensures any_moment { StaysClosed D.may_leave D.moment D.left_since disk.old disk.new }
     ensures cause { CountsFailure result (D.failures disk.old) (D.failures disk.new) }
+    ensures asked { Asks result (writes HEAD_AT head.now ∷ []) (D.asked disk.old) (D.asked disk.new) }
 {
     elsewhere_stays();
     put_is_read();
@@ -51,6 +57,7 @@ fn write_state<D: Disk>(disk: &mut D, state: &[u8]) -> Result<(), DiskFailed>
     ensures size { length (D.seen disk.new) ≡ length (D.seen disk.old) }
     ensures any_moment { StaysClosed D.may_leave D.moment D.left_since disk.old disk.new }
     ensures cause { CountsFailure result (D.failures disk.old) (D.failures disk.new) }
+    ensures asked { AsksInTurn result (writes_chunks CHUNKS state.now) (D.asked disk.old) (D.asked disk.new) }
 {
     for i in 0..CHUNKS {
         write_chunk(disk, Slot::First, i, state)?;
@@ -73,6 +80,7 @@ fn write_all<D: Disk, F: Frames>(
     ensures size { length (D.seen disk.new) ≡ length (D.seen disk.old) }
     ensures any_moment { StaysClosed D.may_leave D.moment D.left_since disk.old disk.new }
     ensures cause { CountsFailure result (D.failures disk.old) (D.failures disk.new) }
+    ensures asked { AsksInTurn result (syncs ∷ writes_chunks CHUNKS state.now ++ writes HEAD_AT head.now ∷ []) (D.asked disk.old) (D.asked disk.new) }
 {
     frames.laws();
     elsewhere_stays();
@@ -94,6 +102,7 @@ fn open_first<D: Disk, F: Frames>(disk: &mut D, frames: &F) -> Result<(), DiskFa
     ensures size { length (D.seen disk.new) ≡ length (D.seen disk.old) }
     ensures any_moment { StaysClosed D.may_leave D.moment D.left_since disk.old disk.new }
     ensures cause { CountsFailure result (D.failures disk.old) (D.failures disk.new) }
+    ensures asked { AsksInTurn result (syncs ∷ opens_slot First ∷ []) (D.asked disk.old) (D.asked disk.new) }
 {
     frames.laws();
     open_slot(disk, Slot::First)?;
@@ -118,6 +127,7 @@ fn write_behind<D: Disk, F: Frames>(
     ensures size { length (D.seen disk.new) ≡ length (D.seen disk.old) }
     ensures any_moment { StaysClosed D.may_leave D.moment D.left_since disk.old disk.new }
     ensures cause { CountsFailure result (D.failures disk.old) (D.failures disk.new) }
+    ensures asked { AsksInTurn result (writing new.now.head.items new.now.state.items) (D.asked disk.old) (D.asked disk.new) }
 {
     frames.laws();
     write_all(disk, frames, &new.head, &new.state)?;
@@ -137,6 +147,7 @@ fn open_head<D: Disk, F: Frames>(disk: &mut D, frames: &F) -> Result<(), DiskFai
         → LeavesOnly (D.moment disk.old) (D.moment disk.new) (D.left_since disk.old) (D.left_since disk.new) (D.may_leave disk.new)
         (IsClosedOrMade (F.layout frames.now) head state) }
     ensures cause { CountsFailure result (D.failures disk.old) (D.failures disk.new) }
+    ensures asked { AsksInTurn result (syncs ∷ writes HEAD_GATE open_byte ∷ []) (D.asked disk.old) (D.asked disk.new) }
 {
     frames.laws();
     elsewhere_stays();
@@ -166,6 +177,8 @@ pub(crate) fn write_new<D: Disk, F: Frames>(
     ensures any_moment { LeavesOnly (D.moment disk.old) (D.moment disk.new) (D.left_since disk.old) (D.left_since disk.new) (D.may_leave disk.new)
         (IsUnheadedOrMade (F.layout frames.now) new.now.head.items new.now.state.items) }
     ensures cause { CountsFailure result (D.failures disk.old) (D.failures disk.new) }
+    ensures asked { (calls : List Asked) × AreClosings (F.shape frames.now) (3 + (F.layout frames.now).count) calls
+        × AsksInTurn result ((syncs ∷ writes HEAD_GATE open_byte ∷ []) ++ writing new.now.head.items new.now.state.items ++ syncs ∷ calls) (D.asked disk.old) (D.asked disk.new) }
 {
     frames.laws();
     open_or_closed();

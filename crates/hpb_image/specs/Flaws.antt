@@ -12,6 +12,9 @@ use Rattle.hpb_codec.specs.declared.head.Head.{Head}
 use Rattle.hpb_image.specs.Heads.{IsFormatted, IsLaidOut}
 use Rattle.hpb_image.specs.Readings.{Found, Reaches, HasLater, layout_in, next_index, last_value}
 
+-- **Flaws.** An image is refused for what is wrong with it: it isn't that of a formatted device (40), it isn't laid out (42), no slot holds a state
+-- (44), or reading stops though that frame or a later one is its batch's own (45).
+--
 -- The frame after the last batch spells none that goes on with it.
 abbrev pub Stops : Found → List ℕ → Type 0
 Stops found image = (commands : List Command) → IsFrame (layout_in found) found.head.definition (next_index found) (suc (last_value found).count) commands image

@@ -13,6 +13,9 @@ use Rattle.hpb_slots.specs.Newest.{IsNewest}
 use Rattle.hpb_codec.specs.declared.head.Head.{Head}
 use Rattle.hpb_image.specs.Heads.{IsFormatted, IsLaidOut, layout_of}
 
+-- **What is read.** A reading is by values alone: the head, the newest slot with what is saved there, and the batches behind it, each command of
+-- which is newly accepted after those before. It is all that there is to be read where no frame behind the last batch is its batch's own.
+--
 -- The head, the newest slot, how many batches it covers and what is saved there, and the batches after it.
 pub record Found : Type 0 where
   pub head : Head

@@ -12,8 +12,8 @@ use Rattle.hpb_slots.specs.Newest.{IsNewest}
 use Rattle.hpb_codec.specs.declared.head.Head.{Head}
 use Rattle.hpb_image.specs.Heads.{IsFormatted, IsLaidOut, layout_of}
 
--- An image stands for a list of commands where the newest slot shows a front of the list, and the frames from the slot's index on spell the
--- rest, batch by batch, up to a frame that isn't open with its own index, as none after it is.
+-- **Stands.** An image stands for a list of commands where the newest slot shows a front of the list, and the frames from the slot's index on spell
+-- the rest, batch by batch, up to a frame that isn't open with its own index, as none after it is.
 pub record Stands (history : List Command) (image : List ℕ) : Type 0 where
   -- The image is that of a formatted device, of the length that its layout wants.
   pub formatted : IsFormatted image

@@ -4,6 +4,8 @@ use Rattle.hpb_disk.specs.Images.{SameBefore}
 use Rattle.hpb_journal.specs.declared.limits.TheConstants.{JOURNAL_AT}
 use Rattle.hpb_journal.specs.Layouts.{Layout, AreApart}
 
+-- The laws of a journal are of each layout of frames.
+--
 -- The images differ at most in the body of this frame.
 pub record ChangesBody (layout : Layout) (b : ℕ) (old new : List ℕ) : Type 0 where
   pub before : SameBefore JOURNAL_AT old new

@@ -17,6 +17,9 @@ pub record MayBeKept (rules : Rules) (batch : Batch) : Type 0 where
   pub tickets : AllByRecursion HasTicket batch.commands
   pub known : AllByRecursion (λ command. unknown rules command ≡ None) batch.commands
 
+-- **The journal.** A frame is a batch's own where its gate is open and its body has the batch's index. From an index on a journal contains these
+-- batches where the frame of each is open and spells it, numbered on.
+--
 -- The gate of the frame is open.
 abbrev pub IsOpen : Layout → ℕ → List ℕ → Type 0
 IsOpen layout b image = layout.gate b image ≡ open_byte

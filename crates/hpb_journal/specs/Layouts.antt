@@ -7,6 +7,11 @@ use Rattle.hpb_disk.specs.Images.{SameFrom}
 use Rattle.hpb_codec.specs.declared.layout.TheConstants.{LEAST_FRAMES, MOST_FRAMES}
 use Rattle.hpb_journal.specs.declared.limits.TheConstants.{JOURNAL_AT}
 
+-- **Layouts.** `hpb_journal/specs`. A layout says where the frames of a journal stand, and what their bytes say. A frame serves many batches, one
+-- after another: two batches whose indexes are equal modulo the number of frames have one frame. Of a layout `count` is the number of frames and
+-- `size` the bytes of a device; `gate` and `body` have the bytes of a batch's frame in an image; `index` is the index that a body has, whether it
+-- spells a batch or not, and `spells` says that a body spells a batch under a definition.
+--
 -- The frame of a batch is named by the batch's index: a frame serves many batches, one after another.
 pub record Layout : Type 1 where
   -- how many frames there are, and how many bytes a device has

@@ -1,7 +1,9 @@
 //! Frames of three cells each.
-ghost use Rattle.std.specs.Prelude.{◌≡◌, ◌+◌, ◌*◌, ◌%◌, ◌≤◌, ◌<◌, length, OnOk};
+ghost use Rattle.std.specs.Prelude.{◌≡◌, ◌+◌, ◌*◌, ◌%◌, ◌≤◌, ◌<◌, [], ◌∷◌, length, OnOk};
 ghost use Rattle.hpb_codec.specs.Cells.{cells_of, BeginsCells};
 ghost use Rattle.hpb_codec.specs.declared.cells.TheConstants.{CELLS_SIZE};
+ghost use Rattle.hpb_disk.specs.Asked.{Asks};
+ghost use Rattle.hpb_disk.specs.Asked.Asked.{writes};
 ghost use Rattle.hpb_disk.specs.Images.{part, put, CountsFailure, Elapses, TornFrom, Within};
 ghost use Rattle.hpb_journal.specs.Frames.{MayBeKept};
 ghost use Rattle.hpb_rules.specs.Tree.{Rules};
@@ -64,6 +66,7 @@ pub fn write_cells<D: Disk>(disk: &mut D, at: usize, batch: &Batch) -> Result<()
     ensures time { Elapses (D.moment disk.old) (D.moment disk.new) (D.left_since disk.old) (D.left_since disk.new)
         (TornFrom at (length (cells_of batch.now)) (D.may_leave disk.old)) }
     ensures cause { CountsFailure result (D.failures disk.old) (D.failures disk.new) }
+    ensures asked { Asks result (writes at (cells_of batch.now) ∷ []) (D.asked disk.old) (D.asked disk.new) }
 {
     let mut body = [0; CELLS_SIZE];
     let size = encode_cells(batch, &mut body);
@@ -75,9 +78,12 @@ pub fn write_cells<D: Disk>(disk: &mut D, at: usize, batch: &Batch) -> Result<()
 }
 
 impl Frames for CellFrames {
+    ghost use Rattle.hpb_codec.specs.declared.layout.JournalLayout.TheVariants.{Cells};
     ghost use Rattle.hpb_journal.specs.Cells.{cell_layout};
 
     ghost layout = { λ frames. cell_layout frames.count };
+
+    ghost shape = { λ frames. record { layout = Cells; frames = frames.count } };
 
     fn count(&self) -> u32 {
         self.count

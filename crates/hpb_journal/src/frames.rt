@@ -1,9 +1,12 @@
 //! The frames of a journal.
-ghost use Rattle.std.specs.Prelude.{◌≡◌, ◌≤◌, length, true, false, OnOk, IfOk};
+ghost use Rattle.std.specs.Prelude.{◌≡◌, ◌≤◌, [], ◌∷◌, length, true, false, OnOk, IfOk};
 ghost use Rattle.hpb_rules.specs.Tree.{Rules};
+ghost use Rattle.hpb_codec.specs.declared.layout.JournalShape.{JournalShape};
+ghost use Rattle.hpb_disk.specs.Asked.{Asks};
 ghost use Rattle.hpb_disk.specs.Images.{Within, Elapses, CountsFailure};
 ghost use Rattle.hpb_journal.specs.Layouts.{Layout, IsLayout};
 ghost use Rattle.hpb_journal.specs.Frames.{IsOpen, IsClosed, IsRead, MayBeKept, Says};
+ghost use Rattle.hpb_journal.specs.Places.{writes_body, opens_frame, closes_frame};
 ghost use Rattle.hpb_journal.specs.Changes.{ChangesBody, ChangesGate, TornBody, TornGate};
 
 use crate::Frame;
@@ -20,6 +23,9 @@ use hpb_tree::Definition;
 pub trait Frames {
     /// Where the frames stand, and what their bytes say.
     ghost layout: { Self → Layout };
+
+    /// The kind of layout, and how many frames there are.
+    ghost shape: { Self → JournalShape };
 
     /// How many frames there are, from `LEAST_FRAMES` to `MOST_FRAMES`.
     fn count(&self) -> u32
@@ -42,7 +48,9 @@ pub trait Frames {
         ensures crash { Within (D.may_leave disk.new) (TornBody (layout self.now) batch.now.index (D.may_leave disk.old)) }
         ensures time { Elapses (D.moment disk.old) (D.moment disk.new) (D.left_since disk.old) (D.left_since disk.new)
             (TornBody (layout self.now) batch.now.index (D.may_leave disk.old)) }
-        ensures cause { CountsFailure result (D.failures disk.old) (D.failures disk.new) };
+        ensures cause { CountsFailure result (D.failures disk.old) (D.failures disk.new) }
+        // The device was asked for this write alone, whether it succeeds or not.
+        ensures asked { Asks result (writes_body (shape self.now) batch.now ∷ []) (D.asked disk.old) (D.asked disk.new) };
 
     /// Opens the gate of a batch's frame. It counts after the next sync; until then a crash may leave it open or closed.
     fn open_frame<D: Disk>(&self, disk: &mut D, index: u64) -> Result<(), DiskFailed>
@@ -53,7 +61,8 @@ pub trait Frames {
         ensures crash { Within (D.may_leave disk.new) (TornGate (layout self.now) index (D.may_leave disk.old)) }
         ensures time { Elapses (D.moment disk.old) (D.moment disk.new) (D.left_since disk.old) (D.left_since disk.new)
             (TornGate (layout self.now) index (D.may_leave disk.old)) }
-        ensures cause { CountsFailure result (D.failures disk.old) (D.failures disk.new) };
+        ensures cause { CountsFailure result (D.failures disk.old) (D.failures disk.new) }
+        ensures asked { Asks result (opens_frame (shape self.now) index ∷ []) (D.asked disk.old) (D.asked disk.new) };
 
     /// Closes the gate of a batch's frame, if it may be open. One that is closed in all that a crash may leave isn't written,
     /// as a torn byte could open what stands behind it: its caller says so, and the device has no call.
@@ -72,7 +81,8 @@ pub trait Frames {
         ensures crash { may_be_open ≡ true → Within (D.may_leave disk.new) (TornGate (layout self.now) index (D.may_leave disk.old)) }
         ensures time { may_be_open ≡ true → Elapses (D.moment disk.old) (D.moment disk.new) (D.left_since disk.old) (D.left_since disk.new)
             (TornGate (layout self.now) index (D.may_leave disk.old)) }
-        ensures cause { CountsFailure result (D.failures disk.old) (D.failures disk.new) };
+        ensures cause { CountsFailure result (D.failures disk.old) (D.failures disk.new) }
+        ensures asked { may_be_open ≡ true → Asks result (closes_frame (shape self.now) index ∷ []) (D.asked disk.old) (D.asked disk.new) };
 
     /// Reads the frame of a batch, whatever its bytes are. The device has one read.
     fn read_frame<D: Disk>(
@@ -88,7 +98,8 @@ pub trait Frames {
         ensures crash_kept { Within (D.may_leave disk.old) (D.may_leave disk.new) }
         ensures time { Elapses (D.moment disk.old) (D.moment disk.new) (D.left_since disk.old) (D.left_since disk.new)
             (D.may_leave disk.old) }
-        ensures cause { CountsFailure result (D.failures disk.old) (D.failures disk.new) };
+        ensures cause { CountsFailure result (D.failures disk.old) (D.failures disk.new) }
+        ensures asked { Asks result [] (D.asked disk.old) (D.asked disk.new) };
 
     /// What is so of each layout. It does nothing.
     fn laws(&self)

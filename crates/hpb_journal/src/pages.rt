@@ -43,9 +43,12 @@ impl PageFrames {
 }
 
 impl Frames for PageFrames {
+    ghost use Rattle.hpb_codec.specs.declared.layout.JournalLayout.TheVariants.{Pages};
     ghost use Rattle.hpb_journal.specs.Pages.{page_layout};
 
     ghost layout = { λ frames. page_layout frames.count };
+
+    ghost shape = { λ frames. record { layout = Pages; frames = frames.count } };
 
     fn count(&self) -> u32 {
         self.count

@@ -4,3 +4,5 @@ pub mod Heading
 pub mod Planning
 pub mod Faulting
 pub mod Quietly
+pub mod Reading
+pub mod Doubting

@@ -1,5 +1,7 @@
 -- Why a call ended early.
-use Rattle.std.specs.Prelude.{◌≡◌, ℕ, ◌*◌, ◌%◌, ◌<◌, ◌≤◌, List, length}
+use Rattle.std.specs.Prelude.{◌≡◌, ℕ, ◌*◌, ◌%◌, ◌<◌, ◌≤◌, List, ◌∷◌, length, Result, MatchResult}
+use Rattle.hpb_disk.specs.Asked.{Asked}
+use Rattle.hpb_disk.specs.Asked.Asked.{fails}
 use Rattle.hpb_disk.specs.Gates.{HasOpenGate}
 use Rattle.hpb_image.specs.declared.limits.TheConstants.{PAGE_BYTES, LEAST_PAGES}
 use Rattle.hpb_image.specs.declared.flaw.Flaw.{Flaw}
@@ -49,3 +51,13 @@ abbrev pub IsUnlessMachine : Flaw → Cause → Type 0
 IsUnlessMachine flaw (causes.Flawed other) = other ≡ flaw
 IsUnlessMachine flaw causes.Memory = Unit {0}
 IsUnlessMachine flaw causes.Device = Unit {0}
+
+-- What a device was asked for in all, where a call ended for this cause: then the mark of a failure, where it was the device's.
+abbrev pub ended_by : Cause → List Asked → List Asked
+ended_by (causes.Flawed flaw) asked = asked
+ended_by causes.Memory asked = asked
+ended_by causes.Device asked = fails ∷ asked
+
+-- A device was asked for reads alone.
+abbrev pub OnlyReads : {T : Type 0} → Result T Cause → (old new : List Asked) → Type 0
+OnlyReads result old new = MatchResult result (λ _. new ≡ old) (λ cause. new ≡ ended_by cause old)

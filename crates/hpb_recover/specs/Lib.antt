@@ -4,3 +4,5 @@ pub mod Quiet
 pub mod Checkpoints
 pub mod Beginnings
 pub mod Plans
+pub mod Doubts
+pub mod Limits

@@ -1,7 +1,7 @@
 //! The journal behind a checkpoint.
 ghost use Rattle.std.specs.Prelude.{◌≡◌, ◌+◌, ◌≤◌, ◌*◌, length, IfErr, IfOk, MatchOption, OnOk};
 ghost use Rattle.hpb_rules.specs.declared.limits.TheConstants.{MOST_COMMANDS};
-ghost use Rattle.hpb_recover.specs.Causes.{HasCause};
+ghost use Rattle.hpb_recover.specs.Causes.{HasCause, OnlyReads};
 ghost use Rattle.hpb_recover.specs.Quiet.{IsQuiet};
 ghost use Rattle.hpb_recover.specs.Replaying.{IsBroken, IsWhole};
 
@@ -40,6 +40,7 @@ pub(crate) fn read_journal<D: Disk, F: Frames>(
         (λ journal. IsWhole (F.layout frames.now) covered auction.old (D.seen disk.old) journal.next journal.clean_end journal.gates.items auction.new)) }
     ensures quiet { IsQuiet D.seen D.may_leave D.moment D.left_since (F.layout frames.now).count disk.old disk.new }
     ensures works { OnOk result (D.failures disk.new ≡ D.failures disk.old) }
+    ensures asked { OnlyReads result (D.asked disk.old) (D.asked disk.new) }
     ensures cause { IfErr result (HasCause (D.failures disk.old) (D.failures disk.new)) }
 {
     frames.laws();

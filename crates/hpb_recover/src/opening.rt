@@ -1,13 +1,15 @@
 //! Opening a device.
-ghost use Rattle.std.specs.Prelude.{◌≡◌, ◌+◌, ◌≤◌, List, IfErr, IfOk, IsErrAnd, MatchResult, OnOk};
+ghost use Rattle.std.specs.Prelude.{◌≡◌, ◌+◌, ◌≤◌, List, [], ◌∷◌, IfErr, IfOk, IsErrAnd, MatchResult, OnOk};
 ghost use Rattle.hpb_rules.specs.declared.command.Command.{Command};
 ghost use Rattle.hpb_rules.specs.AuctionValue.{Shows};
 ghost use Rattle.hpb_image.specs.declared.flaw.Flaw.{Flaw};
 ghost use Rattle.hpb_image.specs.Flaws.{HasFlaw};
 ghost use Rattle.hpb_image.specs.Standing.{Stands};
 ghost use Rattle.hpb_image.specs.Readings.{Found, Reads};
+ghost use Rattle.hpb_disk.specs.Asked.{Asks};
+ghost use Rattle.hpb_disk.specs.Asked.Asked.{syncs};
 ghost use Rattle.hpb_disk.specs.Images.{CountsFailure, Only, Within};
-ghost use Rattle.hpb_recover.specs.Causes.{AsksMemory, IsCauseAt, IsMachine, IsUnlessMachine};
+ghost use Rattle.hpb_recover.specs.Causes.{ended_by, AsksMemory, IsCauseAt, IsMachine, IsUnlessMachine, OnlyReads};
 ghost use Rattle.hpb_recover.specs.Plans.{HasClean, IsPlan, IsPlanOf};
 ghost use Rattle.hpb_recover.specs.Quiet.{IsQuiet, LeavesNothingNew, reads_in};
 
@@ -28,6 +30,7 @@ fn settle<D: Disk>(disk: &mut D) -> Result<(), DiskFailed>
     ensures settled { OnOk result (Only (D.seen disk.new) (D.may_leave disk.new)) }
     ensures quiet { IsQuiet D.seen D.may_leave D.moment D.left_since 1 disk.old disk.new }
     ensures cause { CountsFailure result (D.failures disk.old) (D.failures disk.new) }
+    ensures asked { Asks result (syncs ∷ []) (D.asked disk.old) (D.asked disk.new) }
 {
     match disk.sync() {
         Ok(()) => Ok(()),
@@ -41,6 +44,7 @@ fn read_plan<D: Disk>(alloc: Global, disk: &mut D) -> Result<Plan, Cause>
     ensures plan { IfOk result (λ plan. IsPlan plan (D.seen disk.old)) }
     ensures quiet { IsQuiet D.seen D.may_leave D.moment D.left_since (reads_in (D.seen disk.old)) disk.old disk.new }
     ensures works { OnOk result (D.failures disk.new ≡ D.failures disk.old) }
+    ensures asked { OnlyReads result (D.asked disk.old) (D.asked disk.new) }
     ensures memory { IfErr result (AsksMemory (D.seen disk.old)) }
     ensures cause { IfErr result (IsCauseAt (D.seen disk.old) (D.failures disk.old) (D.failures disk.new)) }
 {
@@ -99,6 +103,10 @@ pub fn open<D: Disk + Drop>(alloc: Global, disk: D) -> Result<Opened<D>, OpenFau
     ensures calls { MatchResult result
         (λ opened. D.moment opened.disk ≤ D.moment disk + 1 + reads_in (D.seen disk))
         (λ fault. D.moment fault.disk ≤ D.moment disk + 1 + reads_in (D.seen disk)) }
+    // Besides reads there is that sync alone, and of all calls one failed where the device is the cause, and else none.
+    ensures asked { MatchResult result
+        (λ opened. D.asked opened.disk ≡ syncs ∷ D.asked disk)
+        (λ fault. D.asked fault.disk ≡ ended_by fault.cause (syncs ∷ D.asked disk)) }
 {
     stands_is_read();
     read_is_shown();

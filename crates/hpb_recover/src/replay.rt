@@ -5,7 +5,7 @@ ghost use Rattle.hpb_rules.specs.Values.{value_after};
 ghost use Rattle.hpb_rules.specs.AcceptedRuns.{AllAccepted};
 ghost use Rattle.hpb_recover.specs.Quiet.{IsQuiet};
 ghost use Rattle.hpb_recover.specs.Replaying.{GoesOn, HasBrokenOff, IsReplayed, Leads};
-ghost use Rattle.hpb_recover.specs.Causes.{HasCause};
+ghost use Rattle.hpb_recover.specs.Causes.{HasCause, OnlyReads};
 
 use crate::Cause;
 use hpb_auction::Auction;
@@ -74,6 +74,7 @@ pub(crate) fn replay<D: Disk, F: Frames>(
     // Each read of which a gate is known.
     ensures each { IfOk result (λ next. OnSome next (D.moment disk.new ≤ D.moment disk.old + length gates.new.items)) }
     ensures works { OnOk result (D.failures disk.new ≡ D.failures disk.old) }
+    ensures asked { OnlyReads result (D.asked disk.old) (D.asked disk.new) }
     ensures cause { IfErr result (HasCause (D.failures disk.old) (D.failures disk.new)) }
 {
     kept_goes_on(frames);

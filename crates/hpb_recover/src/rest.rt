@@ -1,7 +1,7 @@
 //! The frames behind the last batch.
 ghost use Rattle.std.specs.Prelude.{◌≡◌, ◌+◌, ◌-◌, ◌<◌, ◌≤◌, ℕ, Bool, true, false, length, slice_index_or, IfErr, IfOk, MatchBool, OnOk};
 ghost use Rattle.hpb_rules.specs.declared.limits.TheConstants.{MOST_COMMANDS};
-ghost use Rattle.hpb_recover.specs.Causes.{HasCause};
+ghost use Rattle.hpb_recover.specs.Causes.{HasCause, OnlyReads};
 ghost use Rattle.hpb_recover.specs.Quiet.{IsQuiet};
 ghost use Rattle.hpb_recover.specs.Replaying.{AreGates, NoneIsOwn, OneIsOwn};
 
@@ -30,6 +30,7 @@ pub(crate) fn read_rest<D: Disk, F: Frames>(
         (OneIsOwn (F.layout frames.now) (covered + length gates.old.items) (covered + (F.layout frames.now).count) (D.seen disk.old))) }
     ensures quiet { IsQuiet D.seen D.may_leave D.moment D.left_since ((F.layout frames.now).count - length gates.old.items) disk.old disk.new }
     ensures works { OnOk result (D.failures disk.new ≡ D.failures disk.old) }
+    ensures asked { OnlyReads result (D.asked disk.old) (D.asked disk.new) }
     ensures cause { IfErr result (HasCause (D.failures disk.old) (D.failures disk.new)) }
 {
     frames.laws();

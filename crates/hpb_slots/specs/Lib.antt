@@ -1,4 +1,5 @@
 pub mod Slots
+pub mod Writes
 pub mod Changes
 pub mod Newest
 pub mod Laws

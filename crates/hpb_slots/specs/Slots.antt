@@ -11,6 +11,8 @@ use Rattle.hpb_slots.specs.declared.limits.TheConstants.{SLOTS_AT, SLOT_BYTES, P
 use Rattle.hpb_slots.specs.declared.slot.Slot.{Slot}
 use Rattle.hpb_slots.specs.declared.slot.Slot.TheVariants.{First, Second}
 
+-- **Slots.** `hpb_slots/specs`. A device has two places for a state. Each has a gate, and a body of four chunks behind it.
+--
 -- The place of a slot among the two.
 abbrev pub place_of : Slot → ℕ
 place_of First = 0
@@ -45,9 +47,16 @@ IsOpen slot image = gate_of slot image ≡ open_byte
 abbrev pub IsClosed : Slot → List ℕ → Type 0
 IsClosed slot image = gate_of slot image ≢ open_byte
 
+-- **The newest slot.** A slot holds a state where its gate is open and its body spells the state under the definition. Of the slots that hold one,
+-- the newest covers the most batches; of two that cover as many it is the first.
+--
 -- The slot is open with a state under the definition, and the number of batches that it covers.
 abbrev pub Holds : Rules → Slot → ℕ → Saved → List ℕ → Type 0
 Holds rules slot index saved image = IsOpen slot image × SpellsState rules (body_of slot image) saved index
+
+-- The slot is open, and its body spells no state under the definition.
+abbrev pub IsBroken : Rules → Slot → List ℕ → Type 0
+IsBroken rules slot image = IsOpen slot image × ((index : ℕ) (saved : Saved) → Holds rules slot index saved image → ⊥)
 
 -- The first chunks of the body are those of these bytes.
 abbrev pub HasChunks : Slot → ℕ → List ℕ → List ℕ → Type 0

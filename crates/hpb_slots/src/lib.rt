@@ -17,6 +17,6 @@ mod writing;
 pub use laws::{chunks_are_whole, holds_one, newest_is_one, open_or_closed, slots_stay};
 pub use limits::{SLOTS_AT, SLOTS_END};
 pub use newest::Newest;
-pub use reading::{read_newest, slot_is_open};
+pub use reading::{read_broken, read_newest, slot_is_open};
 pub use slot::Slot;
 pub use writing::{close_slot, open_slot, write_chunk};

@@ -1,12 +1,14 @@
 //! Reading the newest checkpoint.
-ghost use Rattle.std.specs.Prelude.{◌≡◌, ◌↔◌, ◌+◌, ◌≤◌, List, ℕ, length, IfOk, IsTrue, MatchOption};
+ghost use Rattle.std.specs.Prelude.{◌≡◌, ◌↔◌, ◌+◌, ◌≤◌, [], List, ℕ, length, IfOk, IsTrue, MatchOption};
 ghost use Rattle.hpb_rules.specs.Tree.{Rules};
 ghost use Rattle.hpb_rules.specs.declared.saved.Saved.{Saved};
 ghost use Rattle.hpb_codec.specs.declared.state.TheConstants.{STATE_SIZE};
+ghost use Rattle.hpb_disk.specs.Asked.{Asks};
 ghost use Rattle.hpb_disk.specs.Images.{Within, Elapses, LeavesOnly, CountsFailure};
 ghost use Rattle.hpb_slots.specs.declared.limits.TheConstants.{SLOTS_END};
 ghost use Rattle.hpb_slots.specs.declared.slot.Slot.TheVariants.{First, Second};
-ghost use Rattle.hpb_slots.specs.Slots.{IsOpen};
+ghost use Rattle.hpb_slots.specs.Slots.{IsBroken, IsOpen, body_of};
+ghost use Rattle.hpb_codec.specs.States.{count_in};
 ghost use Rattle.hpb_slots.specs.Newest.{IsWithout, IsRead};
 ghost use Rattle.hpb_slots.specs.Reading.{IsFound, IsChosen, state_of_slot};
 
@@ -14,7 +16,7 @@ use crate::found::Found;
 use crate::limits::PAGE_BYTES;
 use crate::writing::gate_offset;
 use crate::{Newest, Slot, holds_one};
-use hpb_codec::decode_state;
+use hpb_codec::{count_said, decode_state};
 use hpb_disk::{Disk, DiskFailed, gate_is_open};
 use hpb_rules::Saved;
 use hpb_tree::Definition;
@@ -29,6 +31,7 @@ pub fn slot_is_open<D: Disk>(disk: &mut D, slot: Slot) -> Result<bool, DiskFaile
     ensures time { Elapses (D.moment disk.old) (D.moment disk.new) (D.left_since disk.old) (D.left_since disk.new)
         (D.may_leave disk.old) }
     ensures cause { CountsFailure result (D.failures disk.old) (D.failures disk.new) }
+    ensures asked { Asks result [] (D.asked disk.old) (D.asked disk.new) }
 {
     gate_is_open(disk, gate_offset(slot))
 }
@@ -51,6 +54,7 @@ fn read_slot<D: Disk>(
         (D.may_leave disk.new) (D.may_leave disk.old) }
     ensures calls { D.moment disk.new ≤ D.moment disk.old + 2 }
     ensures cause { CountsFailure result (D.failures disk.old) (D.failures disk.new) }
+    ensures asked { Asks result [] (D.asked disk.old) (D.asked disk.new) }
 {
     if !slot_is_open(disk, slot)? {
         return Ok(Found {
@@ -63,6 +67,39 @@ fn read_slot<D: Disk>(
         is_open: true,
         index: decode_state(body, definition, saved),
     })
+}
+
+/// Reads whether a slot is open with a body that says nothing, which no honest device leaves: its gate is opened once its body
+/// is whole. Then it gives the count of accepted commands that the body's bytes have, true or not. `body` and `saved` are room
+/// for a state.
+pub fn read_broken<D: Disk>(
+    disk: &mut D,
+    slot: Slot,
+    definition: &Definition,
+    body: &mut [u8],
+    saved: &mut Saved,
+) -> Result<Option<u32>, DiskFailed>
+    requires room { SLOTS_END ≤ length (D.seen disk.old) }
+    requires body { length body.old ≡ STATE_SIZE }
+    ensures broken { IfOk result (λ broken. MatchOption broken (IsBroken definition.now slot (D.seen disk.old) → ⊥)
+        (λ count. IsBroken definition.now slot (D.seen disk.old) × (count ≡ count_in (body_of slot (D.seen disk.old))))) }
+    ensures seen { D.seen disk.new ≡ D.seen disk.old }
+    ensures crash { Within (D.may_leave disk.new) (D.may_leave disk.old) }
+    ensures crash_kept { Within (D.may_leave disk.old) (D.may_leave disk.new) }
+    ensures time { LeavesOnly (D.moment disk.old) (D.moment disk.new) (D.left_since disk.old) (D.left_since disk.new)
+        (D.may_leave disk.new) (D.may_leave disk.old) }
+    ensures calls { D.moment disk.new ≤ D.moment disk.old + 2 }
+    ensures cause { CountsFailure result (D.failures disk.old) (D.failures disk.new) }
+{
+    let is_open = slot_is_open(disk, slot)?;
+    if !is_open {
+        return Ok(None);
+    }
+    disk.read_into(gate_offset(slot) + PAGE_BYTES, body)?;
+    match decode_state(body, definition, saved) {
+        Some(_) => Ok(None),
+        None => Ok(Some(count_said(body))),
+    }
 }
 
 /// The slot with the greater index of those that hold a state; of two equal ones the first.
@@ -132,6 +169,7 @@ pub fn read_newest<D: Disk>(
     // Two reads of a slot.
     ensures calls { D.moment disk.new ≤ D.moment disk.old + 4 }
     ensures cause { CountsFailure result (D.failures disk.old) (D.failures disk.new) }
+    ensures asked { Asks result [] (D.asked disk.old) (D.asked disk.new) }
 {
     let first = read_slot(disk, Slot::First, definition, body, saved)?;
     let mut later = *saved;

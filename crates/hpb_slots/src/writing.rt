@@ -1,10 +1,12 @@
 //! Writing a checkpoint.
-ghost use Rattle.std.specs.Prelude.{◌≡◌, ◌<◌, ◌≤◌, length, true, false, OnOk};
+ghost use Rattle.std.specs.Prelude.{◌≡◌, ◌<◌, ◌≤◌, [], ◌∷◌, length, true, false, OnOk};
 ghost use Rattle.hpb_codec.specs.declared.state.TheConstants.{CHUNKS, STATE_SIZE};
 ghost use Rattle.hpb_codec.specs.Laws.{chunk_of};
+ghost use Rattle.hpb_disk.specs.Asked.{Asks};
 ghost use Rattle.hpb_disk.specs.Images.{Within, Elapses, CountsFailure};
 ghost use Rattle.hpb_slots.specs.declared.limits.TheConstants.{SLOTS_END};
 ghost use Rattle.hpb_slots.specs.Slots.{IsOpen, IsClosed, chunk_at, gate_at, piece_of};
+ghost use Rattle.hpb_slots.specs.Writes.{writes_chunk, opens_slot, closes_slot};
 ghost use Rattle.hpb_slots.specs.Changes.{ChangesGate, ChangesChunk, TornGate, TornChunk};
 
 use crate::Slot;
@@ -41,6 +43,7 @@ pub fn write_chunk<D: Disk>(
     ensures time { Elapses (D.moment disk.old) (D.moment disk.new) (D.left_since disk.old) (D.left_since disk.new)
         (TornChunk slot i (D.may_leave disk.old)) }
     ensures cause { CountsFailure result (D.failures disk.old) (D.failures disk.new) }
+    ensures asked { Asks result (writes_chunk slot i body.now ∷ []) (D.asked disk.old) (D.asked disk.new) }
 {
     elsewhere_stays();
     put_is_read();
@@ -64,6 +67,7 @@ pub fn open_slot<D: Disk>(disk: &mut D, slot: Slot) -> Result<(), DiskFailed>
     ensures time { Elapses (D.moment disk.old) (D.moment disk.new) (D.left_since disk.old) (D.left_since disk.new)
         (TornGate slot (D.may_leave disk.old)) }
     ensures cause { CountsFailure result (D.failures disk.old) (D.failures disk.new) }
+    ensures asked { Asks result (opens_slot slot ∷ []) (D.asked disk.old) (D.asked disk.new) }
 {
     elsewhere_stays();
     put_is_torn();
@@ -86,6 +90,7 @@ pub fn close_slot<D: Disk>(disk: &mut D, slot: Slot, may_be_open: bool) -> Resul
     ensures time { may_be_open ≡ true → Elapses (D.moment disk.old) (D.moment disk.new) (D.left_since disk.old) (D.left_since disk.new)
         (TornGate slot (D.may_leave disk.old)) }
     ensures cause { CountsFailure result (D.failures disk.old) (D.failures disk.new) }
+    ensures asked { may_be_open ≡ true → Asks result (closes_slot slot ∷ []) (D.asked disk.old) (D.asked disk.new) }
 {
     elsewhere_stays();
     put_is_torn();

@@ -1,7 +1,9 @@
-use Rattle.std.proofs.Common.{List, ℕ, ◌∙◌, ap}
+use Rattle.std.proofs.Common.{List, [], ◌∷◌, ◌+◌, ℕ, length, ◌∙◌, ap}
+use Rattle.hpb_disk.specs.Asked.Asked.{syncs, writes}
 use Rattle.hpb_disk.specs.Gates.{open_byte}
 use Rattle.hpb_disk.specs.Images.{put}
 use Rattle.hpb_disk.proofs.Replacements.{after_write, after_sync, after_gate, stands_after}
+use Rattle.hpb_disk.proofs.Turns.{and_then, at_first, at_last, at_later, breaks_with}
 use Rattle.hpb_disk.proofs.replacing.replace_record.Goals as goal
 
 pub returns-in_err-open_gate-clause-any_moment : goal.returns-in_err-open_gate-clause-any_moment
@@ -32,3 +34,24 @@ returns-in-Ok-clause-kept g c =
     let d = g.D.Disk in
     stands_after d.seen d.may_leave d.moment d.left_since c.args.bytes.now c.args.disk.now c.requires.room c.requires.closed c.requires.settled c.sync-2.new.self (d.seen c.open_gate.new.disk) c.in-Ok.ensures.durable
     (c.in_ok-open_gate.ensures.written ∙ ap (λ (image : List ℕ). put 0 open_byte image) (c.in_ok-sync.ensures.seen ∙ c.in_ok-write_at.ensures.written))
+
+pub returns-in_err-write_at-clause-asked : goal.returns-in_err-write_at-clause-asked
+returns-in_err-write_at-clause-asked g c =
+    let d = g.D.Disk in let old = d.asked c.args.disk.now in let new = d.asked c.write_at.new.self in
+    let one = writes (1 + length c.args.bytes.now) c.args.bytes.now ∷ [] in let rest = syncs ∷ writes 0 open_byte ∷ syncs ∷ [] in
+    breaks_with _ c.from_residual.result (syncs ∷ writes 0 open_byte ∷ syncs ∷ one) old new c.from_residual.ensures.1 (at_first one rest old new (at_last one old new c.in_err-write_at.ensures.asked))
+
+pub returns-in_err-sync-clause-asked : goal.returns-in_err-sync-clause-asked
+returns-in_err-sync-clause-asked g c =
+    let d = g.D.Disk in let old = d.asked c.args.disk.now in let middle = d.asked c.write_at.new.self in let new = d.asked c.sync.new.self in
+    let one = writes (1 + length c.args.bytes.now) c.args.bytes.now ∷ [] in let rest = syncs ∷ writes 0 open_byte ∷ [] in
+    breaks_with _ c.from_residual-in_err-sync.result (syncs ∷ writes 0 open_byte ∷ syncs ∷ one) old new c.from_residual-in_err-sync.ensures.1
+    (at_first (syncs ∷ one) rest old new (at_later one (syncs ∷ []) old middle new c.in_ok-write_at.ensures.asked (at_last (syncs ∷ []) middle new c.in_err-sync.ensures.asked)))
+
+pub returns-in_err-open_gate-clause-asked : goal.returns-in_err-open_gate-clause-asked
+returns-in_err-open_gate-clause-asked g c =
+    let d = g.D.Disk in let old = d.asked c.args.disk.now in let first = d.asked c.write_at.new.self in let second = d.asked c.sync.new.self in let new = d.asked c.open_gate.new.disk in
+    let one = writes (1 + length c.args.bytes.now) c.args.bytes.now ∷ [] in let gate = writes 0 open_byte ∷ [] in
+    breaks_with _ c.from_residual-in_err-open_gate.result (syncs ∷ writes 0 open_byte ∷ syncs ∷ one) old new c.from_residual-in_err-open_gate.ensures.1
+    (at_first (writes 0 open_byte ∷ syncs ∷ one) (syncs ∷ []) old new
+    (at_later (syncs ∷ one) gate old second new (and_then one (syncs ∷ []) old first second c.in_ok-write_at.ensures.asked c.in_ok-sync.ensures.asked) (at_last gate second new c.in_err-open_gate.ensures.asked)))

@@ -1,4 +1,6 @@
-use Rattle.std.proofs.Common.{◌≡◌, ◌<◌, ℕ, length}
+use Rattle.std.proofs.Common.{◌≡◌, ◌<◌, ℕ, List, ◌++◌, length}
+use Rattle.hpb_disk.specs.Asked.{Asked}
+use Rattle.hpb_format.specs.Asking.{AreClosings}
 use Rattle.hpb_journal.specs.declared.limits.TheConstants.{JOURNAL_AT}
 use Rattle.hpb_journal.specs.Frames.{IsClosed}
 use Rattle.hpb_disk.specs.Images.{SameBefore}
@@ -12,5 +14,6 @@ invariant-loop-index g l = record {
   before : SameBefore JOURNAL_AT (g.D.Disk.seen l.fn.disk) (g.D.Disk.seen l.disk);
   size : length (g.D.Disk.seen l.disk) ≡ length (g.D.Disk.seen l.fn.disk);
   any_moment : OnlyCloses g.D.Disk.may_leave g.D.Disk.moment g.D.Disk.left_since l.fn.disk l.disk;
+  asked : (calls : List Asked) × AreClosings (g.F.Frames.shape l.frames) l.index calls × (g.D.Disk.asked l.disk ≡ calls ++ g.D.Disk.asked l.fn.disk);
   failures : g.D.Disk.failures l.disk ≡ g.D.Disk.failures l.fn.disk;
 }

@@ -1,6 +1,10 @@
-use Rattle.std.proofs.Common.{refl, sym, subst}
+use Rattle.std.proofs.Common.{inl, inr, List, [], ◌∷◌, refl, sym, ◌∙◌, ap, subst}
 use Rattle.hpb_disk.specs.Gates.{HasOpenGate}
 use Rattle.hpb_format.proofs.Closed.{closes_on, quiet_closes, gate_closes}
+use Rattle.hpb_disk.specs.Asked.{Asked}
+use Rattle.hpb_disk.specs.Asked.Asked.{writes, fails}
+use Rattle.hpb_disk.specs.Gates.{closed_byte}
+use Rattle.hpb_disk.proofs.Turns.{failed_with}
 use Rattle.hpb_format.proofs.closing.close_if_open.Goals as goal
 
 pub returns-in-Ok-clause-any_moment : goal.returns-in-Ok-clause-any_moment
@@ -20,3 +24,19 @@ returns-in-Err-clause-any_moment g c =
     (quiet_closes d.seen d.may_leave d.moment d.left_since first middle read.time read.crash)
     (gate_closes d.seen d.may_leave d.moment d.left_since c.elsewhere_stays.ensures c.args.at c.requires.apart middle last (g.met.D.Disk.seen_may_stay middle)
     (subst (HasOpenGate c.args.at) (sym read.seen) (read.open.0 c.if-not-branch.false)) (close.time refl) (close.crash refl))
+
+pub returns-in_err-gate_is_open-clause-asked : goal.returns-in_err-gate_is_open-clause-asked
+returns-in_err-gate_is_open-clause-asked g c =
+    let d = g.D.Disk in
+    ([], inl refl, failed_with _ c.from_residual.result [] (d.asked c.args.disk.now) (d.asked c.gate_is_open.new.disk) c.from_residual.ensures.1 c.in_err-gate_is_open.ensures.asked)
+
+pub returns-then-not-branch-clause-asked : goal.returns-then-not-branch-clause-asked
+returns-then-not-branch-clause-asked g c = ([], inl refl, c.in_ok-gate_is_open.ensures.asked)
+
+pub returns-in-Ok-clause-asked : goal.returns-in-Ok-clause-asked
+returns-in-Ok-clause-asked g c =
+    (writes c.args.at closed_byte ∷ [], inr refl, c.in-Ok.ensures.asked refl ∙ ap (λ (l : List Asked). writes c.args.at closed_byte ∷ l) c.in_ok-gate_is_open.ensures.asked)
+
+pub returns-in-Err-clause-asked : goal.returns-in-Err-clause-asked
+returns-in-Err-clause-asked g c =
+    (writes c.args.at closed_byte ∷ [], inr refl, c.in-Err.ensures.asked refl ∙ ap (λ (l : List Asked). fails ∷ writes c.args.at closed_byte ∷ l) c.in_ok-gate_is_open.ensures.asked)

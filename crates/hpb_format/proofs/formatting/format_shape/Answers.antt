@@ -19,6 +19,7 @@ returns-in-Ok g c =
       blank = λ settled not. of_more d.may_leave d.moment d.left_since old new (WasOrIsBlank d.may_leave old c.args.definition.now c.args.journal) (IsBlank c.args.definition.now c.args.journal)
           (λ image is. ⊎_elim (λ was. inl (λ formatted. not (subst IsFormatted (settled image was) formatted))) (λ blank. blank) is) out.any_moment;
       cause = out.cause;
+      asks = out.asked;
     }
 
 pub returns-in-Err : goal.returns-in-Err
@@ -36,4 +37,5 @@ returns-in-Err g c =
       blank = λ settled not. of_more d.may_leave d.moment d.left_since old new (WasOrIsBlank d.may_leave old c.args.definition.now c.args.journal) (IsBlank c.args.definition.now c.args.journal)
           (λ image is. ⊎_elim (λ was. inl (λ formatted. not (subst IsFormatted (settled image was) formatted))) (λ blank. blank) is) out.any_moment;
       cause = out.cause;
+      asks = out.asked;
     }

@@ -1,7 +1,11 @@
-use Rattle.std.proofs.Common.{sym, subst, arith}
+use Rattle.std.proofs.Common.{[], ◌∷◌, sym, subst, arith}
 use Rattle.hpb_format.specs.Stages.{IsOpenAndMade, IsClosedOrMade}
 use Rattle.hpb_format.proofs.Made.{head_opens, head_opened}
 use Rattle.hpb_format.proofs.Runs.{after_run, quiet_keeps}
+use Rattle.hpb_disk.specs.Asked.Asked.{syncs, writes}
+use Rattle.hpb_disk.specs.Gates.{open_byte}
+use Rattle.hpb_format.specs.declared.place.TheConstants.{HEAD_GATE}
+use Rattle.hpb_disk.proofs.Turns.{and_then, at_first, at_last, at_later, breaks_with}
 use Rattle.hpb_format.proofs.writing.open_head.Goals as goal
 
 pub returns-in_err-open_gate-clause-any_moment : goal.returns-in_err-open_gate-clause-any_moment
@@ -34,3 +38,19 @@ returns-in-Err-clause-any_moment g c head state was =
     c.args.disk.now c.open_gate.new.disk c.requires.settled was c.in_ok-open_gate.ensures.time c.in_ok-open_gate.ensures.crash in
     after_run d.may_leave d.moment d.left_since c.args.disk.now c.open_gate.new.disk c.sync.new.self (IsClosedOrMade (g.F.Frames.layout c.args.frames.now) head state) first
     (quiet_keeps d.may_leave d.moment d.left_since (IsClosedOrMade (g.F.Frames.layout c.args.frames.now) head state) c.open_gate.new.disk c.sync.new.self c.in-Err.ensures.time c.in-Err.ensures.crash first.after)
+
+pub returns-in_err-open_gate-clause-asked : goal.returns-in_err-open_gate-clause-asked
+returns-in_err-open_gate-clause-asked g c =
+    let d = g.D.Disk in let old = d.asked c.args.disk.now in let new = d.asked c.open_gate.new.disk in let gate = writes HEAD_GATE open_byte ∷ [] in
+    breaks_with _ c.from_residual.result (syncs ∷ gate) old new c.from_residual.ensures.1
+    (at_first gate (syncs ∷ []) old new (at_last gate old new c.in_err-open_gate.ensures.asked))
+
+pub returns-in-Ok-clause-asked : goal.returns-in-Ok-clause-asked
+returns-in-Ok-clause-asked g c =
+    let d = g.D.Disk in
+    and_then (writes HEAD_GATE open_byte ∷ []) (syncs ∷ []) (d.asked c.args.disk.now) (d.asked c.open_gate.new.disk) (d.asked c.sync.new.self) c.in_ok-open_gate.ensures.asked c.in-Ok.ensures.asked
+
+pub returns-in-Err-clause-asked : goal.returns-in-Err-clause-asked
+returns-in-Err-clause-asked g c =
+    let d = g.D.Disk in let middle = d.asked c.open_gate.new.disk in let new = d.asked c.sync.new.self in
+    at_later (writes HEAD_GATE open_byte ∷ []) (syncs ∷ []) (d.asked c.args.disk.now) middle new c.in_ok-open_gate.ensures.asked (at_last (syncs ∷ []) middle new c.in-Err.ensures.asked)

@@ -1,9 +1,13 @@
-use Rattle.std.proofs.Common.{ℕ, List, length, sym, ◌∙◌, ap, subst, arith}
+use Rattle.std.proofs.Common.{ℕ, List, [], ◌∷◌, ◌++◌, length, sym, ◌∙◌, ap, subst, arith}
 use Rattle.hpb_disk.specs.Gates.{HasClosedGate}
 use Rattle.hpb_format.specs.Stages.{IsWritten}
 use Rattle.hpb_format.specs.declared.place.TheConstants.{HEAD_GATE}
 use Rattle.hpb_format.proofs.Made.{written}
 use Rattle.hpb_format.proofs.Runs.{keeps_on, quiet_keeps}
+use Rattle.hpb_disk.specs.Asked.Asked.{syncs, writes}
+use Rattle.hpb_format.specs.Asking.{writes_chunks}
+use Rattle.hpb_image.specs.declared.limits.TheConstants.{HEAD_AT}
+use Rattle.hpb_disk.proofs.Turns.{and_then, at_first, at_last, at_later, breaks_with}
 use Rattle.hpb_format.proofs.writing.write_all.Goals as goal
 
 pub returns-in_err-write_state-clause-any_moment : goal.returns-in_err-write_state-clause-any_moment
@@ -42,3 +46,30 @@ returns-in-Err-clause-any_moment g c =
     keeps_on d.may_leave d.moment d.left_since (HasClosedGate HEAD_GATE) c.args.disk.now c.write_state.new.disk c.sync.new.self
     (keeps_on d.may_leave d.moment d.left_since (HasClosedGate HEAD_GATE) c.args.disk.now c.write_head.new.disk c.write_state.new.disk c.in_ok-write_head.ensures.any_moment c.in_ok-write_state.ensures.any_moment)
     (quiet_keeps d.may_leave d.moment d.left_since (HasClosedGate HEAD_GATE) c.write_state.new.disk c.sync.new.self c.in-Err.ensures.time c.in-Err.ensures.crash)
+
+pub returns-in_err-write_head-clause-asked : goal.returns-in_err-write_head-clause-asked
+returns-in_err-write_head-clause-asked g c =
+    let d = g.D.Disk in let old = d.asked c.args.disk.now in let new = d.asked c.write_head.new.disk in
+    let head = writes HEAD_AT c.args.head.now ∷ [] in let chunks = writes_chunks 4 c.args.state.now in
+    breaks_with _ c.from_residual.result (syncs ∷ chunks ++ head) old new c.from_residual.ensures.1
+    (at_first head (syncs ∷ chunks) old new (at_last head old new c.in_err-write_head.ensures.asked))
+
+pub returns-in_err-write_state-clause-asked : goal.returns-in_err-write_state-clause-asked
+returns-in_err-write_state-clause-asked g c =
+    let d = g.D.Disk in let old = d.asked c.args.disk.now in let first = d.asked c.write_head.new.disk in let new = d.asked c.write_state.new.disk in
+    let head = writes HEAD_AT c.args.head.now ∷ [] in let chunks = writes_chunks 4 c.args.state.now in
+    breaks_with _ c.from_residual-in_err-write_state.result (syncs ∷ chunks ++ head) old new c.from_residual-in_err-write_state.ensures.1
+    (at_first (chunks ++ head) (syncs ∷ []) old new (at_later head chunks old first new c.in_ok-write_head.ensures.asked c.in_err-write_state.ensures.asked))
+
+pub returns-in-Ok-clause-asked : goal.returns-in-Ok-clause-asked
+returns-in-Ok-clause-asked g c =
+    let d = g.D.Disk in let old = d.asked c.args.disk.now in let first = d.asked c.write_head.new.disk in let second = d.asked c.write_state.new.disk in
+    let head = writes HEAD_AT c.args.head.now ∷ [] in let chunks = writes_chunks 4 c.args.state.now in
+    and_then (chunks ++ head) (syncs ∷ []) old second (d.asked c.sync.new.self) (and_then head chunks old first second c.in_ok-write_head.ensures.asked c.in_ok-write_state.ensures.asked) c.in-Ok.ensures.asked
+
+pub returns-in-Err-clause-asked : goal.returns-in-Err-clause-asked
+returns-in-Err-clause-asked g c =
+    let d = g.D.Disk in let old = d.asked c.args.disk.now in let first = d.asked c.write_head.new.disk in let second = d.asked c.write_state.new.disk in
+    let head = writes HEAD_AT c.args.head.now ∷ [] in let chunks = writes_chunks 4 c.args.state.now in
+    at_later (chunks ++ head) (syncs ∷ []) old second (d.asked c.sync.new.self) (and_then head chunks old first second c.in_ok-write_head.ensures.asked c.in_ok-write_state.ensures.asked)
+    (at_last (syncs ∷ []) second (d.asked c.sync.new.self) c.in-Err.ensures.asked)

@@ -1,8 +1,14 @@
-use Rattle.std.proofs.Common.{List, ℕ, subst}
+use Rattle.std.proofs.Common.{◌≡◌, List, [], ◌∷◌, ◌++◌, ℕ, subst}
 use Rattle.hpb_disk.specs.Gates.{HasClosedGate}
 use Rattle.hpb_format.specs.Stages.{IsMade}
 use Rattle.hpb_format.specs.declared.place.TheConstants.{HEAD_GATE}
 use Rattle.hpb_format.proofs.Runs.{keeps_on}
+use Rattle.hpb_disk.specs.Asked.Asked.{syncs, writes}
+use Rattle.hpb_format.specs.Asking.{writes_chunks}
+use Rattle.hpb_image.specs.declared.limits.TheConstants.{HEAD_AT}
+use Rattle.hpb_slots.specs.Writes.{opens_slot}
+use Rattle.hpb_slots.specs.declared.slot.Slot.TheVariants.{First}
+use Rattle.hpb_disk.proofs.Turns.{Breaks, and_then, at_first, at_later, breaks_with}
 use Rattle.hpb_format.proofs.writing.write_behind.Goals as goal
 
 pub returns-in-Ok-clause-made : goal.returns-in-Ok-clause-made
@@ -21,3 +27,33 @@ pub returns-in-Err-clause-any_moment : goal.returns-in-Err-clause-any_moment
 returns-in-Err-clause-any_moment g c =
     let d = g.D.Disk in
     keeps_on d.may_leave d.moment d.left_since (HasClosedGate HEAD_GATE) c.args.disk.now c.write_all.new.disk c.open_first.new.disk c.in_ok-write_all.ensures.any_moment c.in-Err.ensures.any_moment
+
+pub returns-in_err-write_all-clause-asked : goal.returns-in_err-write_all-clause-asked
+returns-in_err-write_all-clause-asked g c =
+    let d = g.D.Disk in let old = d.asked c.args.disk.now in let middle = d.asked c.write_all.new.disk in
+    let written = λ (head state : List ℕ). syncs ∷ writes_chunks 4 state ++ writes HEAD_AT head ∷ [] in
+    let all = written c.args.new.now.head.items c.args.new.now.state.items in let gate = syncs ∷ opens_slot First ∷ [] in
+    let breaks : Breaks all old middle =
+    subst (λ (head : List ℕ). Breaks (written head c.args.new.now.state.items) old middle) c.deref.ensures.value
+    (subst (λ (state : List ℕ). Breaks (written c.deref.result.now state) old middle) c.deref-2.ensures.value c.in_err-write_all.ensures.asked) in
+    breaks_with _ c.from_residual.result (gate ++ all) old middle c.from_residual.ensures.1 (at_first all gate old middle breaks)
+
+pub returns-in-Ok-clause-asked : goal.returns-in-Ok-clause-asked
+returns-in-Ok-clause-asked g c =
+    let d = g.D.Disk in let old = d.asked c.args.disk.now in let middle = d.asked c.write_all.new.disk in
+    let written = λ (head state : List ℕ). syncs ∷ writes_chunks 4 state ++ writes HEAD_AT head ∷ [] in
+    let all = written c.args.new.now.head.items c.args.new.now.state.items in let gate = syncs ∷ opens_slot First ∷ [] in
+    let first : middle ≡ all ++ old =
+    subst (λ (head : List ℕ). middle ≡ written head c.args.new.now.state.items ++ old) c.deref.ensures.value
+    (subst (λ (state : List ℕ). middle ≡ written c.deref.result.now state ++ old) c.deref-2.ensures.value c.in_ok-write_all.ensures.asked) in
+    and_then all gate old middle (d.asked c.open_first.new.disk) first c.in-Ok.ensures.asked
+
+pub returns-in-Err-clause-asked : goal.returns-in-Err-clause-asked
+returns-in-Err-clause-asked g c =
+    let d = g.D.Disk in let old = d.asked c.args.disk.now in let middle = d.asked c.write_all.new.disk in
+    let written = λ (head state : List ℕ). syncs ∷ writes_chunks 4 state ++ writes HEAD_AT head ∷ [] in
+    let all = written c.args.new.now.head.items c.args.new.now.state.items in let gate = syncs ∷ opens_slot First ∷ [] in
+    let first : middle ≡ all ++ old =
+    subst (λ (head : List ℕ). middle ≡ written head c.args.new.now.state.items ++ old) c.deref.ensures.value
+    (subst (λ (state : List ℕ). middle ≡ written c.deref.result.now state ++ old) c.deref-2.ensures.value c.in_ok-write_all.ensures.asked) in
+    at_later all gate old middle (d.asked c.open_first.new.disk) first c.in-Err.ensures.asked

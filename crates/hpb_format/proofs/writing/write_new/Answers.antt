@@ -1,7 +1,12 @@
-use Rattle.std.proofs.Common.{arith}
+use Rattle.std.proofs.Common.{[], ◌∷◌, ◌++◌, arith}
 use Rattle.hpb_format.specs.Stages.{IsUnheadedOrMade}
 use Rattle.hpb_format.proofs.Runs.{after_run}
 use Rattle.hpb_format.proofs.Unheaded.{unheaded_closing, unheaded_behind, unheaded_opening}
+use Rattle.hpb_disk.specs.Asked.Asked.{syncs, writes}
+use Rattle.hpb_disk.specs.Gates.{open_byte}
+use Rattle.hpb_format.specs.Asking.{writing}
+use Rattle.hpb_format.specs.declared.place.TheConstants.{HEAD_GATE}
+use Rattle.hpb_disk.proofs.Turns.{and_then, at_first, at_later, breaks_with}
 use Rattle.hpb_format.proofs.writing.write_new.Goals as goal
 
 pub returns-in_err-close_all-clause-any_moment : goal.returns-in_err-close_all-clause-any_moment
@@ -51,3 +56,41 @@ returns-in-Ok-clause-made g c = c.in-Ok.ensures.made c.args.new.now.head.items c
 
 pub returns-in_err-write_behind-clause-cause : goal.returns-in_err-write_behind-clause-cause
 returns-in_err-write_behind-clause-cause g c = grind (arith, c.from_residual-in_err-write_behind, c.in_ok-close_all.ensures.cause, c.in_err-write_behind.ensures.cause)
+
+pub returns-in_err-close_all-clause-asked : goal.returns-in_err-close_all-clause-asked
+returns-in_err-close_all-clause-asked g c =
+    let d = g.D.Disk in let old = d.asked c.args.disk.now in let first = d.asked c.close_all.new.disk in
+    let close = c.in_err-close_all.ensures.asked in let closed = syncs ∷ close.0 in
+    let behind = writing c.args.new.now.head.items c.args.new.now.state.items in let gate = syncs ∷ writes HEAD_GATE open_byte ∷ [] in
+    (close.0, close.1, breaks_with _ c.from_residual.result (gate ++ behind ++ closed) old first c.from_residual.ensures.1 (at_first closed (gate ++ behind) old first close.2))
+
+pub returns-in_err-write_behind-clause-asked : goal.returns-in_err-write_behind-clause-asked
+returns-in_err-write_behind-clause-asked g c =
+    let d = g.D.Disk in let old = d.asked c.args.disk.now in let first = d.asked c.close_all.new.disk in let second = d.asked c.write_behind.new.disk in
+    let close = c.in_ok-close_all.ensures.asked in let closed = syncs ∷ close.0 in
+    let behind = writing c.args.new.now.head.items c.args.new.now.state.items in let gate = syncs ∷ writes HEAD_GATE open_byte ∷ [] in (
+      close.0,
+      close.1,
+      breaks_with _ c.from_residual-in_err-write_behind.result (gate ++ behind ++ closed) old second c.from_residual-in_err-write_behind.ensures.1
+          (at_first (behind ++ closed) gate old second (at_later closed behind old first second close.2 c.in_err-write_behind.ensures.asked)),
+    )
+
+pub returns-in-Ok-clause-asked : goal.returns-in-Ok-clause-asked
+returns-in-Ok-clause-asked g c =
+    let d = g.D.Disk in let old = d.asked c.args.disk.now in let first = d.asked c.close_all.new.disk in let second = d.asked c.write_behind.new.disk in
+    let close = c.in_ok-close_all.ensures.asked in let closed = syncs ∷ close.0 in
+    let behind = writing c.args.new.now.head.items c.args.new.now.state.items in let gate = syncs ∷ writes HEAD_GATE open_byte ∷ [] in (
+      close.0,
+      close.1,
+      and_then (behind ++ closed) gate old second (d.asked c.open_head.new.disk) (and_then closed behind old first second close.2 c.in_ok-write_behind.ensures.asked) c.in-Ok.ensures.asked,
+    )
+
+pub returns-in-Err-clause-asked : goal.returns-in-Err-clause-asked
+returns-in-Err-clause-asked g c =
+    let d = g.D.Disk in let old = d.asked c.args.disk.now in let first = d.asked c.close_all.new.disk in let second = d.asked c.write_behind.new.disk in
+    let close = c.in_ok-close_all.ensures.asked in let closed = syncs ∷ close.0 in
+    let behind = writing c.args.new.now.head.items c.args.new.now.state.items in let gate = syncs ∷ writes HEAD_GATE open_byte ∷ [] in (
+      close.0,
+      close.1,
+      at_later (behind ++ closed) gate old second (d.asked c.open_head.new.disk) (and_then closed behind old first second close.2 c.in_ok-write_behind.ensures.asked) c.in-Err.ensures.asked,
+    )

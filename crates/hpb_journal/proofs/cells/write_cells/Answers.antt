@@ -1,4 +1,5 @@
-use Rattle.std.proofs.Common.{ℕ, ◌∙◌, List, length, ap, subst, arith}
+use Rattle.std.proofs.Common.{ℕ, ◌∙◌, List, ◌∷◌, length, ap, subst, arith}
+use Rattle.hpb_disk.specs.Asked.Asked.{writes, fails}
 use Rattle.hpb_disk.specs.Images.{put, Elapses, TornFrom, Within}
 use Rattle.hpb_journal.proofs.CellBodies.{cells_are, cells_few, cells_say}
 use Rattle.hpb_journal.proofs.cells.write_cells.Goals as goal
@@ -46,3 +47,13 @@ returns-in-Err-clause-time g c =
     let d = g.D.Disk in
     subst (λ (bytes : List ℕ). Elapses (d.moment c.args.disk.now) (d.moment c.write_at.new.self) (d.left_since c.args.disk.now) (d.left_since c.write_at.new.self) (TornFrom c.args.at (length bytes) (d.may_leave c.args.disk.now)))
     (cells_are c.args.batch.now c.encode_cells-size.result c.encode_cells-size.new.out c.encode_cells-size.ensures.size c.encode_cells-size.ensures.inside c.encode_cells-size.auto.out c.encode_cells-size.ensures.written) c.in-Err.ensures.time
+
+pub returns-in-Ok-clause-asked : goal.returns-in-Ok-clause-asked
+returns-in-Ok-clause-asked g c =
+    c.in-Ok.ensures.asked ∙ ap (λ (bytes : List ℕ). writes c.args.at bytes ∷ g.D.Disk.asked c.args.disk.now)
+    (cells_are c.args.batch.now c.encode_cells-size.result c.encode_cells-size.new.out c.encode_cells-size.ensures.size c.encode_cells-size.ensures.inside c.encode_cells-size.auto.out c.encode_cells-size.ensures.written)
+
+pub returns-in-Err-clause-asked : goal.returns-in-Err-clause-asked
+returns-in-Err-clause-asked g c =
+    c.in-Err.ensures.asked ∙ ap (λ (bytes : List ℕ). fails ∷ writes c.args.at bytes ∷ g.D.Disk.asked c.args.disk.now)
+    (cells_are c.args.batch.now c.encode_cells-size.result c.encode_cells-size.new.out c.encode_cells-size.ensures.size c.encode_cells-size.ensures.inside c.encode_cells-size.auto.out c.encode_cells-size.ensures.written)

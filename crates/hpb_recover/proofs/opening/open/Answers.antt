@@ -1,10 +1,12 @@
-use Rattle.std.proofs.Common.{sym, ◌∙◌, subst, arith}
+use Rattle.std.proofs.Common.{◌∷◌, sym, ◌∙◌, subst, arith}
 use Rattle.hpb_rules.specs.AuctionValue.{AuctionValue, Shows}
+use Rattle.hpb_disk.specs.Asked.Asked.{syncs}
 use Rattle.hpb_image.specs.Flaws.{HasFlaw}
 use Rattle.hpb_image.specs.Standing.{Stands}
 use Rattle.hpb_recover.specs.Plans.{IsPlan}
 use Rattle.hpb_recover.proofs.Faulting.{machine_only}
 use Rattle.hpb_recover.proofs.Quietly.{opened_calls}
+use Rattle.hpb_recover.proofs.Reading.{ended_later}
 use Rattle.hpb_recover.proofs.opening.open.Goals as goal
 
 pub returns-in-Ok-read_plan-clause-shows : goal.returns-in-Ok-read_plan-clause-shows
@@ -53,3 +55,11 @@ pub returns-in-Err-read_plan-clause-calls : goal.returns-in-Err-read_plan-clause
 returns-in-Err-read_plan-clause-calls g c =
     let d = g.D.Disk in
     omega (arith, (opened_calls d.seen d.may_leave d.moment d.left_since c.args.disk c.settle.new.disk c.read_plan.new.disk c.settle.ensures.quiet c.read_plan.ensures.quiet).few)
+
+pub returns-in-Ok-read_plan-clause-asked : goal.returns-in-Ok-read_plan-clause-asked
+returns-in-Ok-read_plan-clause-asked g c = c.in-Ok-read_plan.ensures.asked ∙ c.in-Ok.ensures.asked
+
+pub returns-in-Err-read_plan-clause-asked : goal.returns-in-Err-read_plan-clause-asked
+returns-in-Err-read_plan-clause-asked g c =
+    let d = g.D.Disk in
+    ended_later c.in-Err-read_plan.cause (syncs ∷ d.asked c.args.disk) (d.asked c.settle.new.disk) (d.asked c.read_plan.new.disk) c.in-Ok.ensures.asked c.in-Err-read_plan.ensures.asked

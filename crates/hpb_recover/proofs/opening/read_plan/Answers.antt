@@ -8,6 +8,7 @@ use Rattle.hpb_recover.specs.Replaying.{IsBroken, IsWhole}
 use Rattle.hpb_recover.specs.Quiet.{IsQuiet, reads_in}
 use Rattle.hpb_recover.proofs.Quietly.{at_most, begun_reads, all_reads, named_here}
 use Rattle.hpb_recover.proofs.Planning.{damaged, found, reads, is_plan_of, plan_of_one, cause_of_checkpoint, cause_of_journal}
+use Rattle.hpb_recover.proofs.Reading.{ended_later}
 use Rattle.hpb_recover.proofs.opening.read_plan.Goals as goal
 
 pub returns-in_err-head-clause-quiet : goal.returns-in_err-head-clause-quiet
@@ -121,3 +122,20 @@ returns-clause-quiet g c =
     all_reads d.seen d.may_leave d.moment d.left_since c.in_ok-head.head.journal c.args.disk.now c.read_head.new.disk c.read_checkpoint.new.disk c.read_journal.new.disk
     (named_here c.layout_is_named.ensures c.in_ok-head.head (d.seen c.args.disk.now) c.in_ok-head.ensures.laid.spelled) c.in_ok-head.ensures.laid.size c.read_head.ensures.quiet c.read_checkpoint.ensures.quiet
     (subst (λ (s : JournalShape). IsQuiet d.seen d.may_leave d.moment d.left_since s.frames c.read_checkpoint.new.disk c.read_journal.new.disk) c.new-frames.ensures c.read_journal.ensures.quiet)
+
+pub returns-in-Err-clause-asked : goal.returns-in-Err-clause-asked
+returns-in-Err-clause-asked g c =
+    let d = g.D.Disk in
+    ended_later c.in-Err.cause (d.asked c.args.disk.now) (d.asked c.read_head.new.disk) (d.asked c.read_checkpoint.new.disk) c.in_ok-head.ensures.asked c.in-Err.ensures.asked
+
+pub returns-in-Err-read_journal-clause-asked : goal.returns-in-Err-read_journal-clause-asked
+returns-in-Err-read_journal-clause-asked g c =
+    let d = g.D.Disk in
+    ended_later c.in-Err-read_journal.cause (d.asked c.args.disk.now) (d.asked c.read_checkpoint.new.disk) (d.asked c.read_journal.new.disk)
+    (c.in-Ok.ensures.asked ∙ c.in_ok-head.ensures.asked) c.in-Err-read_journal.ensures.asked
+
+pub returns-in-Ok-None-clause-asked : goal.returns-in-Ok-None-clause-asked
+returns-in-Ok-None-clause-asked g c = c.in-Ok-None.ensures.asked ∙ c.in-Ok.ensures.asked ∙ c.in_ok-head.ensures.asked
+
+pub returns-clause-asked : goal.returns-clause-asked
+returns-clause-asked g c = c.in-Ok-Some.ensures.asked ∙ c.in-Ok.ensures.asked ∙ c.in_ok-head.ensures.asked

@@ -61,6 +61,7 @@ loop-index-preserved g c =
     record {
       quiet = search rules;
       works = c.in_ok-read_frame.ensures.cause ∙ inv.works;
+      asked = c.in_ok-read_frame.ensures.asked ∙ inv.asked;
       leads = leads_on layout c.args.covered c.args.auction.now image b batch.first c.loop-index.auction batch.commands filled.1 c.kept_goes_on.ensures c.goes_on.new.auction inv.leads took.0 took.1;
       gates = search rules;
       known = search rules;

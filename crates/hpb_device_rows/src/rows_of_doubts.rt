@@ -1,0 +1,79 @@
+//! What is told of devices that open, and that no honest device is like.
+
+use crate::devices::{FOUR_PAGES, SIXTEEN_CELLS, new_device};
+use crate::images::{A, B, X, Y, batch, bid, put, put_batch, put_state};
+use hpb_codec::JournalShape;
+use hpb_disk::MemoryDisk;
+use hpb_journal::Frame;
+use hpb_recover::{Doubts, Later, Opened, find_doubts, open};
+use std::alloc::Global;
+use std::process::Abort;
+use std::test::Fail;
+
+/// The last byte of the second slot's body.
+const IN_THE_NEWEST: usize = 53_247;
+
+/// What is told of a device: the count in the bytes of its other slot, and the index of its last later batch with the number of
+/// that batch's first command.
+type Told = (Option<u32>, Option<(u64, u64)>);
+
+/// What is told of a device that was opened, and how many commands it has. `None` where it isn't opened.
+fn told_of(alloc: Global, bytes: &[u8]) -> Result<Option<(u32, Told)>, Fail> {
+    let disk = MemoryDisk::of(alloc, bytes.to_vec(alloc)?)?;
+    let Ok(opened) = open(alloc, disk) else {
+        return Ok(None);
+    };
+    let Opened { mut disk, plan, .. } = opened;
+    let Ok(doubts) = find_doubts(alloc, &mut disk, &plan) else {
+        return Ok(None);
+    };
+    let Doubts { slot, frame } = doubts;
+    let later = match frame {
+        None => None,
+        Some(Later { index, frame }) => match frame {
+            Frame::Batch(batch) => Some((index, batch.first)),
+            _ => Some((index, 0)),
+        },
+    };
+    Ok(Some((plan.auction.count(), (slot, later))))
+}
+
+/// A checkpoint of one command stands in the second slot; then a byte of it is another one. The device opens by the older
+/// checkpoint, and it is told that a newer one said 1.
+fn spoil_newest(rt: &impl Abort, alloc: Global, shape: JournalShape) -> Result<(), Fail> {
+    let mut bytes = new_device(alloc, shape)?;
+    assert_eq!(rt; told_of(alloc, &bytes)?, Some((0, (None, None))));
+    put_state(alloc, &mut bytes, 1, &[bid(X, 1, A, 100)], 1)?;
+    assert_eq!(rt; told_of(alloc, &bytes)?, Some((1, (None, None))));
+    put(&mut bytes, IN_THE_NEWEST, &[1]);
+    assert_eq!(rt; told_of(alloc, &bytes)?, Some((0, (Some(1), None))));
+    Ok(())
+}
+
+#[test]
+fn newest_checkpoint_damaged_is_told(rt: HostRuntime) -> Result<(), Fail> {
+    spoil_newest(&rt, rt.alloc(), FOUR_PAGES)?;
+    spoil_newest(&rt, rt.alloc(), SIXTEEN_CELLS)
+}
+
+/// The first frame holds the batch of one round later, for which only a newer checkpoint can have made room.
+fn put_later(rt: &impl Abort, alloc: Global, shape: JournalShape) -> Result<(), Fail> {
+    let index = u64::from(shape.frames);
+    let mut bytes = new_device(alloc, shape)?;
+    let own = batch(0, 1, &[bid(X, 1, A, 100)]);
+    put_batch(alloc, &mut bytes, shape.layout, 0, &own)?;
+    assert_eq!(rt; told_of(alloc, &bytes)?, Some((1, (None, None))));
+    let later = batch(index, 40, &[bid(Y, 1, B, 150)]);
+    put_batch(alloc, &mut bytes, shape.layout, 0, &later)?;
+    assert_eq!(rt;
+        told_of(alloc, &bytes)?,
+        Some((0, (None, Some((index, 40)))))
+    );
+    Ok(())
+}
+
+#[test]
+fn later_batch_is_told(rt: HostRuntime) -> Result<(), Fail> {
+    put_later(&rt, rt.alloc(), FOUR_PAGES)?;
+    put_later(&rt, rt.alloc(), SIXTEEN_CELLS)
+}

@@ -1,0 +1,44 @@
+-- Calls of a device one after another.
+use Rattle.std.proofs.Common.{◌≡◌, List, [], ◌∷◌, ◌++◌, refl, sym, ◌∙◌, ap, append_assoc}
+use Rattle.std.specs.Prelude.{Result, Ok, Err, IsErrAnd}
+use Rattle.hpb_disk.specs.Asked.{Asked, Asks, AsksInTurn}
+use Rattle.hpb_disk.specs.Asked.Asked.{fails}
+
+-- What a call asks for comes before what was asked for until then.
+pub and_then : (one two old middle new : List Asked) → middle ≡ one ++ old → new ≡ two ++ middle → new ≡ (two ++ one) ++ old
+and_then one two old middle new first second = second ∙ ap (λ (l : List Asked). two ++ l) first ∙ sym (append_assoc two one old)
+
+-- Calls that failed are the first ones of all that were to be made.
+abbrev pub Breaks : (calls old new : List Asked) → Type 0
+Breaks calls old new = (later done : List Asked) × (calls ≡ later ++ done) × (new ≡ fails ∷ done ++ old)
+
+-- The last of them failed.
+pub at_last : (calls old new : List Asked) → new ≡ fails ∷ calls ++ old → Breaks calls old new
+at_last calls old new is = ([], calls, refl, is)
+
+-- One of the first failed.
+pub at_first : (one two old new : List Asked) → Breaks one old new → Breaks (two ++ one) old new
+at_first one two old new breaks = (two ++ breaks.0, breaks.1, ap (λ (l : List Asked). two ++ l) breaks.2 ∙ sym (append_assoc two breaks.0 breaks.1), breaks.3)
+
+-- One of the later ones failed.
+pub at_later : (one two old middle new : List Asked) → middle ≡ one ++ old → Breaks two middle new → Breaks (two ++ one) old new
+at_later one two old middle new first breaks = (
+  breaks.0,
+  breaks.1 ++ one,
+  ap (λ (l : List Asked). l ++ one) breaks.2 ∙ append_assoc breaks.0 breaks.1 one,
+  breaks.3 ∙ ap (λ (l : List Asked). fails ∷ l) (ap (λ (l : List Asked). breaks.1 ++ l) first ∙ sym (append_assoc breaks.1 one old)),
+)
+
+-- The call after these failed.
+pub fails_after : (one two old middle new : List Asked) → middle ≡ one ++ old → new ≡ fails ∷ two ++ middle → new ≡ fails ∷ (two ++ one) ++ old
+fails_after one two old middle new first second =
+    second ∙ ap (λ (l : List Asked). fails ∷ l) (ap (λ (l : List Asked). two ++ l) first ∙ sym (append_assoc two one old))
+
+-- A result that hands an error on tells of the call that failed.
+pub failed_with : {T E : Type 0} (P : E → Type 0) (result : Result T E) (call old new : List Asked) → IsErrAnd result P → new ≡ fails ∷ call ++ old → Asks result call old new
+failed_with P (Ok value) call old new bad is = absurd bad
+failed_with P (Err error) call old new told is = is
+
+pub breaks_with : {T E : Type 0} (P : E → Type 0) (result : Result T E) (calls old new : List Asked) → IsErrAnd result P → Breaks calls old new → AsksInTurn result calls old new
+breaks_with P (Ok value) calls old new bad is = absurd bad
+breaks_with P (Err error) calls old new told is = is

@@ -1,0 +1,64 @@
+-- Writes that close gates, and those of chunks.
+use Rattle.std.proofs.Common.{◌≡◌, ◌⊎◌, inl, inr, ℕ, zero, suc, ◌+◌, ◌-◌, ◌<◌, ◌≤◌, List, [], ◌∷◌, ◌++◌, length, refl, sym, ◌∙◌, ap, subst, append_assoc, length-append, arith}
+use Rattle.std.specs.List.{AllByRecursion}
+use Rattle.std.specs.Prelude.{Result, Ok, Err}
+use Rattle.hpb_codec.specs.declared.layout.JournalShape.{JournalShape}
+use Rattle.hpb_disk.specs.Asked.{Asked, Asks}
+use Rattle.hpb_disk.specs.Asked.Asked.{writes, fails}
+use Rattle.hpb_disk.proofs.Turns.{Breaks}
+use Rattle.hpb_disk.specs.Gates.{closed_byte}
+use Rattle.hpb_slots.specs.Writes.{writes_chunk}
+use Rattle.hpb_slots.specs.declared.slot.Slot.TheVariants.{First}
+use Rattle.hpb_format.specs.Asking.{AreClosings, IsClosing, MayClose, writes_chunks}
+
+all_append : (journal : JournalShape) (one two : List Asked) → AllByRecursion (IsClosing journal) one → AllByRecursion (IsClosing journal) two → AllByRecursion (IsClosing journal) (one ++ two)
+all_append journal [] two first second = second
+all_append journal (call ∷ one) two first second = (first.0, all_append journal one two first.1 second)
+
+-- Closings after closings.
+pub more_closings : (journal : JournalShape) (few more most : ℕ) (one two : List Asked) → few + more ≤ most → AreClosings journal few one → AreClosings journal more two → AreClosings journal most (two ++ one)
+more_closings journal few more most one two fits first second = record {
+  each = all_append journal two one second.each first.each;
+  few = omega (arith, fits, first.few, second.few, length-append two one);
+}
+
+-- None, and one.
+pub no_closings : (journal : JournalShape) (most : ℕ) → AreClosings journal most []
+no_closings journal most = record { each = tt; few = omega arith }
+
+pub one_closing : (journal : JournalShape) (call : Asked) → IsClosing journal call → AreClosings journal 1 (call ∷ [])
+one_closing journal call is = record { each = (is, tt); few = omega arith }
+
+-- The chunks up to one of them are the first ones of all.
+pub first_chunks : (more count : ℕ) (body : List ℕ) → (later : List Asked) × (writes_chunks (more + count) body ≡ later ++ writes_chunks count body)
+first_chunks zero count body = let same : 0 + count ≡ count = omega arith in ([], ap (λ (n : ℕ). writes_chunks n body) same)
+first_chunks (suc more) count body =
+    let rest = first_chunks more count body in
+    let next : suc more + count ≡ suc (more + count) = omega arith in
+    let chunk = writes_chunk First (more + count) body in
+    (chunk ∷ rest.0, ap (λ (n : ℕ). writes_chunks n body) next ∙ ap (λ (l : List Asked). chunk ∷ l) rest.1)
+
+-- What may close a gate are closings.
+pub may_close : (journal : JournalShape) (at : ℕ) (calls : List Asked) → IsClosing journal (writes at closed_byte) → MayClose at calls → AreClosings journal 1 calls
+may_close journal at calls is (inl none) = subst (AreClosings journal 1) (sym none) (no_closings journal 1)
+may_close journal at calls is (inr one) = subst (AreClosings journal 1) (sym one) (one_closing journal (writes at closed_byte) is)
+
+pub widen : (journal : JournalShape) (few most : ℕ) (calls : List Asked) → few ≤ most → AreClosings journal few calls → AreClosings journal most calls
+widen journal few most calls le are = record { each = are.each; few = omega (arith, le, are.few) }
+
+-- The write of a chunk failed: those before it are the first ones of all.
+pub chunk_breaks : (i count : ℕ) (body : List ℕ) (old middle new : List Asked) → i < count → middle ≡ writes_chunks i body ++ old → new ≡ fails ∷ writes_chunk First i body ∷ middle
+    → Breaks (writes_chunks count body) old new
+chunk_breaks i count body old middle new below first second =
+    let split : (count - suc i) + suc i ≡ count = omega (arith, below) in
+    let rest = first_chunks (count - suc i) (suc i) body in (
+      rest.0,
+      writes_chunks (suc i) body,
+      ap (λ (n : ℕ). writes_chunks n body) (sym split) ∙ rest.1,
+      second ∙ ap (λ (l : List Asked). fails ∷ writes_chunk First i body ∷ l) first,
+    )
+
+-- A call that is not done failed.
+pub did_fail : {T E : Type 0} (result : Result T E) (call old new : List Asked) → ((value : T) → result ≡ Ok value → ⊥) → Asks result call old new → new ≡ fails ∷ call ++ old
+did_fail (Ok value) call old new undone asks = absurd (undone value refl)
+did_fail (Err error) call old new undone asks = asks

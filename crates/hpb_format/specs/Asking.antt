@@ -1,0 +1,66 @@
+-- What a device is asked for while it is formatted. Of writes and syncs the newest comes first.
+use Rattle.std.specs.Prelude.{◌≡◌, ◌⊎◌, ℕ, zero, suc, ◌+◌, ◌≤◌, List, [], ◌∷◌, ◌++◌, length, Result, Ok, Err}
+use Rattle.std.specs.List.{AllByRecursion}
+use Rattle.hpb_rules.specs.Tree.{Rules}
+use Rattle.hpb_codec.specs.declared.layout.JournalShape.{JournalShape}
+use Rattle.hpb_codec.specs.declared.state.TheConstants.{CHUNKS}
+use Rattle.hpb_disk.specs.Asked.{Asked, Asks}
+use Rattle.hpb_disk.specs.Asked.Asked.{writes, syncs, fails}
+use Rattle.hpb_disk.specs.Gates.{open_byte, closed_byte}
+use Rattle.hpb_journal.specs.Places.{closes_frame}
+use Rattle.hpb_slots.specs.Writes.{closes_slot, opens_slot, writes_chunk}
+use Rattle.hpb_slots.specs.declared.slot.Slot.{Slot}
+use Rattle.hpb_slots.specs.declared.slot.Slot.TheVariants.{First}
+use Rattle.hpb_image.specs.declared.limits.TheConstants.{HEAD_AT}
+use Rattle.hpb_format.specs.Beginnings.{IsFirstHead, IsFirstState}
+use Rattle.hpb_format.specs.declared.fault.FormatCause.{FormatCause}
+use Rattle.hpb_format.specs.declared.fault.FormatCause.TheVariants as causes
+use Rattle.hpb_format.specs.declared.place.TheConstants.{HEAD_GATE}
+
+-- A write that closes a gate: the head's, a slot's, or that of a frame.
+abbrev pub IsClosing : JournalShape → Asked → Type 0
+IsClosing journal call = (call ≡ writes HEAD_GATE closed_byte) ⊎ ((slot : Slot) × (call ≡ closes_slot slot)) ⊎ ((b : ℕ) × (call ≡ closes_frame journal b))
+
+-- At most so many of them, and nothing else.
+pub record AreClosings (journal : JournalShape) (most : ℕ) (calls : List Asked) : Type 0 where
+  pub each : AllByRecursion (IsClosing journal) calls
+  pub few : length calls ≤ most
+
+-- Nothing, or the write that closes the gate at this offset.
+abbrev pub MayClose : ℕ → List Asked → Type 0
+MayClose at calls = (calls ≡ []) ⊎ (calls ≡ writes at closed_byte ∷ [])
+
+-- At most so many gates were closed.
+abbrev pub Closes : {T E : Type 0} → JournalShape → ℕ → Result T E → (old new : List Asked) → Type 0
+Closes journal most result old new = (calls : List Asked) × AreClosings journal most calls × Asks result calls old new
+
+-- The writes of the first chunks of the first slot's body.
+abbrev pub writes_chunks : ℕ → List ℕ → List Asked
+writes_chunks zero body = []
+writes_chunks (suc count) body = writes_chunk First count body ∷ writes_chunks count body
+
+-- Head and state behind their gates, then a sync, then the gate of the slot, and a sync.
+abbrev pub writing : (head state : List ℕ) → List Asked
+writing head state = syncs ∷ opens_slot First ∷ syncs ∷ writes_chunks CHUNKS state ++ writes HEAD_AT head ∷ []
+
+-- At first a sync, so that what is read stays; then the gates are closed that read open, and a sync; head and state; the gate of the head, and a sync.
+abbrev pub formatting : (head state : List ℕ) → (closings : List Asked) → List Asked
+formatting head state closings = (syncs ∷ writes HEAD_GATE open_byte ∷ []) ++ writing head state ++ (syncs ∷ closings) ++ syncs ∷ []
+
+-- All that a device is asked for which is formatted for a journal of this shape: there is one gate of the head, two of the slots, and one of each frame.
+pub record IsFormatting (rules : Rules) (journal : JournalShape) (calls : List Asked) : Type 0 where
+  pub head : List ℕ
+  pub state : List ℕ
+  pub closings : List Asked
+  pub first_head : IsFirstHead rules journal head
+  pub first_state : IsFirstState rules state
+  pub closes : AreClosings journal (3 + journal.frames) closings
+  pub all : calls ≡ formatting head state closings
+
+-- It was asked for all of that; for the sync alone where it is formatted already; for nothing before the length and memory are known; and for none after a call that failed.
+abbrev pub AsksToFormat : {T : Type 0} → Rules → JournalShape → Result T FormatCause → (old new : List Asked) → Type 0
+AsksToFormat rules journal (Ok _) old new = (calls : List Asked) × IsFormatting rules journal calls × (new ≡ calls ++ old)
+AsksToFormat rules journal (Err causes.Device) old new =
+    (calls later done : List Asked) × IsFormatting rules journal calls × (calls ≡ later ++ done) × (new ≡ fails ∷ done ++ old)
+AsksToFormat rules journal (Err causes.Formatted) old new = new ≡ syncs ∷ old
+AsksToFormat rules journal (Err _) old new = new ≡ old

@@ -1,0 +1,94 @@
+//! What no honest device has, though it opens: what shows that its newest checkpoint was damaged.
+ghost use Rattle.std.specs.Prelude.{◌≡◌, ℕ, List, MatchBool, ◌+◌, ◌≤◌, IfErr, IfOk, OnOk};
+ghost use Rattle.hpb_disk.specs.Images.{CountsFailure};
+ghost use Rattle.hpb_recover.specs.Causes.{HasCause};
+ghost use Rattle.hpb_journal.specs.Frames.{IsOwn, IsRead};
+ghost use Rattle.hpb_recover.specs.Doubts.{IsFrameTold, IsSlotTold};
+ghost use Rattle.hpb_recover.specs.Plans.{IsPlan, layout_in};
+ghost use Rattle.hpb_recover.specs.Quiet.{IsQuiet};
+
+use crate::checkpoint::nothing_saved;
+use crate::{Cause, Plan};
+use hpb_codec::STATE_SIZE;
+use hpb_disk::{Disk, DiskFailed};
+use hpb_journal::{Frame, Frames};
+use hpb_slots::read_broken;
+use std::alloc::Global;
+
+/// A frame that is open with an index past the room of the checkpoint that was opened.
+#[derive(Drop)]
+pub struct Later {
+    /// The index of its batch.
+    pub index: u64,
+    /// What a reader of that batch is told: the batch, or that it is damaged.
+    pub frame: Frame,
+}
+
+/// What was found on a device that no honest device has: a checkpoint that is newer than the one that was opened was
+/// damaged after it counted, so commands that were acknowledged may be missing.
+#[derive(Drop)]
+pub struct Doubts {
+    /// Where the other slot is open and says nothing: the count of accepted commands in its bytes, true or not.
+    pub slot: Option<u32>,
+    /// Of the frames that are open with a batch past the room of the opened checkpoint the last.
+    pub frame: Option<Later>,
+}
+
+/// Looks whether a device that was opened has what no honest device has: a slot that is open and says nothing, or a frame
+/// that is open with an index past the room of the checkpoint that was opened. It reads alone, each of the frames and the
+/// other slot once.
+pub fn find_doubts<D: Disk>(alloc: Global, disk: &mut D, plan: &Plan) -> Result<Doubts, Cause>
+    requires { IsPlan plan.now (D.seen disk.old) }
+    ensures slot { IfOk result (λ doubts. IsSlotTold plan.now (D.seen disk.old) doubts.slot) }
+    ensures frame { IfOk result (λ doubts. IsFrameTold plan.now (D.seen disk.old) doubts.frame) }
+    ensures quiet { IsQuiet D.seen D.may_leave D.moment D.left_since (2 + (layout_in plan.now).count) disk.old disk.new }
+    ensures works { OnOk result (D.failures disk.new ≡ D.failures disk.old) }
+    ensures cause { IfErr result (HasCause (D.failures disk.old) (D.failures disk.new)) }
+{
+    let mut body = vec![in alloc; 0; STATE_SIZE]?;
+    let mut saved = nothing_saved();
+    let slot = read_broken(
+        disk,
+        plan.slot.other(),
+        plan.auction.definition(),
+        &mut body,
+        &mut saved,
+    )?;
+    let frame = find_later(disk, plan)?;
+    Ok(Doubts { slot, frame })
+}
+
+/// Whether a frame is open with the index that it was read for.
+fn is_own(plan: &Plan, frame: &Frame) -> bool
+    ensures { (index : ℕ) (image : List ℕ) → IsRead (layout_in plan.now) plan.now.auction.rules index image frame.now
+        → MatchBool result (IsOwn (layout_in plan.now) index image) (IsOwn (layout_in plan.now) index image → ⊥) }
+{
+    plan.frames.laws();
+    match frame {
+        Frame::Closed | Frame::Other => false,
+        Frame::Damaged => true,
+        Frame::Batch(_) => true,
+    }
+}
+
+/// The last frame that is open with an index past the room of the checkpoint that was opened.
+#[tactic(auto, using(crate::proofs::Doubting::kept_on, crate::proofs::Doubting::latest))]
+fn find_later<D: Disk>(disk: &mut D, plan: &Plan) -> Result<Option<Later>, DiskFailed>
+    requires { IsPlan plan.now (D.seen disk.old) }
+    ensures frame { IfOk result (IsFrameTold plan.now (D.seen disk.old)) }
+    ensures quiet { IsQuiet D.seen D.may_leave D.moment D.left_since ((layout_in plan.now).count) disk.old disk.new }
+    ensures cause { CountsFailure result (D.failures disk.old) (D.failures disk.new) }
+{
+    let frames = &plan.frames;
+    frames.laws();
+    let count = u64::from(frames.count());
+    let start = plan.covered + count;
+    let mut latest = None;
+    for index in start..start + count {
+        let frame = frames.read_frame(disk, index, plan.auction.definition())?;
+        if is_own(plan, &frame) {
+            latest = Some(Later { index, frame });
+        }
+    }
+    Ok(latest)
+}
