@@ -2,6 +2,10 @@
 #![tactic(auto)]
 
 #[cfg(test)]
+mod cuts;
+#[cfg(test)]
+mod paces;
+#[cfg(test)]
 mod rows;
 #[cfg(test)]
 mod sessions;

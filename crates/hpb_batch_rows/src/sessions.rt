@@ -12,7 +12,7 @@ use std::process::Abort;
 use std::test::Fail;
 
 /// A package beats its parts in one round, and they win the tie in the next.
-const LINES: &[u8] =
+pub(crate) const LINES: &[u8] =
     b"BID x 1 a 100\nBID y 1 b 150\nBID z 1 all 500\nBID w 1 c 100\nCLOSE 1\nSHOW\n\
     BID w 2 c 250\nCLOSE 2\nSHOW\nNODE a\n";
 
@@ -21,13 +21,13 @@ const ANSWERS: &[u8] = b"OK 1\nOK 2\nOK 3\nOK 4\nOK 5\nROUND 2 STAGE 1 OPEN REVE
 
 /// What was written, with what the session came to.
 #[derive(Drop)]
-struct Session<D: Disk + Drop> {
-    ran: Ran<D>,
-    written: Vec<u8>,
+pub(crate) struct Session<D: Disk + Drop> {
+    pub(crate) ran: Ran<D>,
+    pub(crate) written: Vec<u8>,
 }
 
 /// Runs lines.
-fn run_lines<D: Disk + Drop>(
+pub(crate) fn run_lines<D: Disk + Drop>(
     alloc: Global,
     engine: Engine<D>,
     lines: &[u8],
@@ -133,7 +133,7 @@ fn waivers_on_a_device(rt: HostRuntime) -> Result<(), Fail> {
 }
 
 /// Runs lines over a device of which one call fails: so many after it was opened.
-fn run_faulty(
+pub(crate) fn run_faulty(
     alloc: Global,
     (shape, call): (JournalShape, u64),
     lines: &[u8],

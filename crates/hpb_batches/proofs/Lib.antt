@@ -1,4 +1,5 @@
 mod Turns
 mod Commits
 mod Rooms
+mod Takings
 mod Runs

@@ -20,12 +20,15 @@ use Rattle.hpb_engine.specs.declared.step.Fault.{Fault}
 use Rattle.hpb_engine.specs.declared.step.Fault.TheVariants as faults
 use Rattle.hpb_engine.specs.declared.step.Rest.{Rest}
 use Rattle.hpb_engine.specs.declared.step.Step.{Step}
-use Rattle.hpb_engine.specs.Checkpoints.{CheckpointLeads}
+use Rattle.hpb_engine.specs.Checkpoints.{CheckpointLeads, IsSettled, SameCore, aim, steps_left}
 use Rattle.hpb_engine.specs.Offers.{StaysUnlessInFlight, Weighs}
 use Rattle.hpb_engine.specs.Runs.{Drove, Follows, HasFailed, IsStepped, IsTold, IsTurned, Mark, Ran, fault_in, last_of}
 use Rattle.hpb_batches.specs.Batches.{EndsBy, HasRoom, KeepsEnded, StaysRefused, commits, ended_by}
+use Rattle.hpb_batches.specs.Takes.{BatchTakes, CheckpointTakes, IsBetween}
 use Rattle.hpb_batches.proofs.Commits.{commit_comes}
 use Rattle.hpb_batches.proofs.Rooms.{device_alone, few_steps, rooms_come, steps, steps_keep}
+use Rattle.hpb_batches.proofs.Takings.{aims_at_all, commit_takes, settled_stay, steps_same, whole_comes}
+use Rattle.hpb_batches.proofs.Turns.{free_by}
 
 -- An event in which the device doesn't fail leaves it working.
 follows_works : (event : Event) (before after : Mark) (leaving : List Answer) → Follows event before after leaving None → before.failed ≡ false → after.failed ≡ false
@@ -98,6 +101,16 @@ module _ {D : Type 0} (seen : D → List ℕ) (may_leave : D → List ℕ → Ty
           sym (ap (λ (p : Progress). p.committed.rules) ran.progress_is) ∙ run_rules events start ran.marks answers fault ran.drove,
         )
 
+    -- What it takes.
+    pub commit_taken : BatchTakes (ended_by fault after) letters s t (moment old) (moment new)
+    commit_taken =
+        let commit = s.commit in
+        let free = free_by commit.busy (record { answers = commit.answers; turns = commit.turns }) (sym keeps.flight) in
+        subst (λ (b : Bool). BatchTakes (ended_by fault b) letters s t (moment old) (moment new)) ran.failed_is
+        (subst (λ (p : Progress). BatchTakes (ended_by fault (last_of start ran.marks).failed) letters s p (moment old) (moment new)) ran.progress_is
+        (subst (λ (m : ℕ). BatchTakes (ended_by fault (last_of start ran.marks).failed) letters s (last_of start ran.marks).progress (moment old) m) ran.at_end
+        (commit_takes letters start free room ran.marks answers fault (subst (λ (l : List Event). Drove l start ran.marks answers fault) are ran.drove))))
+
   -- Steps of checkpoints.
   module _ (n : ℕ) (events : List Event) (are : events ≡ steps n) (ran : Ran seen may_leave moment left_since start events new t after answers fault) where
     drove : Drove (steps n) start ran.marks answers fault
@@ -113,6 +126,32 @@ module _ {D : Type 0} (seen : D → List ℕ) (may_leave : D → List ℕ → Ty
     steps_room enough =
         ⊎_elim (λ off. inl (sym ran.failed_is ∙ off)) (λ room. inr (subst HasRoom ran.progress_is room))
         (rooms_come n start ran.marks answers fault drove told (omega (arith, enough, few_steps s keeps.inside.fits.safe)))
+
+    -- What they take, where none was on its way.
+    aimed : IsBetween s → aim s ≡ s.ring.next
+    aimed between = aims_at_all s keeps.inside.fits.safe between
+
+    comes : IsBetween s → failed ≡ false → 10 + count_of s.ring ≤ n → (fault ≡ None → IsSettled t) × (moment old ≤ moment new) × (moment new ≤ moment old + steps_left s)
+    comes between works enough =
+        let came = whole_comes n start ran.marks answers fault drove told works (aimed between) (omega (arith, enough, few_steps s keeps.inside.fits.safe)) in
+        (λ none. subst IsSettled ran.progress_is (came.0 none), omega (arith, came.1, ran.at_end), omega (arith, came.2, ran.at_end))
+
+    same : SameCore s t
+    same = subst (SameCore s) ran.progress_is (steps_same n start ran.marks answers fault drove)
+
+    pub steps_called : IsBetween s → failed ≡ false → 10 + count_of s.ring ≤ n → SameCore s t × (moment old ≤ moment new) × (moment new ≤ moment old + steps_left s)
+    steps_called between works enough = let came = comes between works enough in (same, came.1, came.2)
+
+    pub steps_whole : IsBetween s → failed ≡ false → 10 + count_of s.ring ≤ n → fault ≡ None → CheckpointTakes s t (moment old) (moment new)
+    steps_whole between works enough none =
+        let came = comes between works enough in
+        record {
+          settled = came.0 none;
+          same = same;
+          least = came.1;
+          most = came.2;
+          none = λ at. let stays = settled_stay n start ran.marks answers fault drove told works at in (sym ran.progress_is ∙ stays.0, sym ran.at_end ∙ stays.1);
+        }
 
     pub steps_failed : (told : Fault) → fault ≡ Some told → after ≡ true
     steps_failed told is = sym ran.failed_is ∙ (steps_keep n start ran.marks answers fault drove).failed (inr (device_alone n start ran.marks answers fault drove told is))

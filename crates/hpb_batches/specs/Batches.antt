@@ -27,7 +27,9 @@ ended_by (Some fault) failed = Some faults.Device
 ended_by None true = Some faults.Failed
 ended_by None false = None
 
--- What letters come to after a history: all are answered, and what they accept is acknowledged with nothing in flight; or none is taken; or they are in flight, and none is acknowledged.
+-- **A batch as a whole.** What letters come to after a history: all are answered, and what they accept is acknowledged with nothing in flight; or
+-- none is taken, as a call of the device failed before their commit (93); or a call failed in their commit (91): they are in flight, and none is
+-- acknowledged.
 abbrev pub EndsBy : Rules → List Command → List Letter → List Answer → Option Fault → Machine → (failed : Bool) → Type 0
 EndsBy rules history letters answers None machine failed =
     (failed ≡ false) × (answers ≡ judged rules history letters) × (machine ≡ at_rest (history ++ new_commands (judged rules history letters)))

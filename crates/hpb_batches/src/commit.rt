@@ -8,6 +8,7 @@ ghost use Rattle.hpb_engine.specs.Offers.{Weighs};
 ghost use Rattle.hpb_engine.specs.Runs.{HasFailed};
 ghost use Rattle.hpb_engine.specs.declared.step.Fault.TheVariants as faults;
 ghost use Rattle.hpb_batches.specs.Batches.{IsStill, KeepsEnded, StaysRefused, ended_by};
+ghost use Rattle.hpb_batches.specs.Takes.{BatchTakes, FullTakes, IsBetween};
 
 use crate::checkpoint::make_checkpoint;
 use hpb_disk::Disk;
@@ -36,6 +37,9 @@ fn run_commit<D: Disk + Drop>(
         → (Weighs engine.old.failed engine.old.progress letters weights.Full → ⊥)
         → IfOk result (λ run. KeepsEnded D.seen D.may_leave engine.new.disk engine.new.progress engine.new.failed
         engine.old.progress.committed.rules history letters run.answers.items (ended_by run.fault engine.new.failed)) }
+    ensures takes { (history : List Command) → Keeps D.seen D.may_leave engine.old.disk engine.old.progress engine.old.failed (at_rest history)
+        → (Weighs engine.old.failed engine.old.progress letters weights.Full → ⊥)
+        → IfOk result (λ run. BatchTakes (ended_by run.fault engine.new.failed) letters engine.old.progress engine.new.progress (D.moment engine.old.disk) (D.moment engine.new.disk)) }
     ensures works { (history : List Command) → Keeps D.seen D.may_leave engine.old.disk engine.old.progress engine.old.failed (at_rest history)
         → IfOk result (λ run. run.fault ≡ None → engine.old.failed ≡ false → engine.new.failed ≡ false) }
     ensures cause { IfOk result (λ run. HasFailed run.fault (D.failures engine.old.disk) (D.failures engine.new.disk)) }
@@ -73,6 +77,9 @@ fn commit_now<D: Disk + Drop>(
         → (Weighs engine.old.failed engine.old.progress letters weights.Full → ⊥)
         → IfOk result (λ ended. KeepsEnded D.seen D.may_leave engine.new.disk engine.new.progress engine.new.failed
         engine.old.progress.committed.rules history letters ended.answers.items ended.fault) }
+    ensures takes { (history : List Command) → Keeps D.seen D.may_leave engine.old.disk engine.old.progress engine.old.failed (at_rest history)
+        → (Weighs engine.old.failed engine.old.progress letters weights.Full → ⊥)
+        → IfOk result (λ ended. BatchTakes ended.fault letters engine.old.progress engine.new.progress (D.moment engine.old.disk) (D.moment engine.new.disk)) }
     ensures well { IfOk result (λ ended. ended.fault ≡ None → D.failures engine.new.disk ≡ D.failures engine.old.disk) }
     ensures ill { IfOk result (λ ended. ended.fault ≡ Some faults.Device → D.failures engine.old.disk < D.failures engine.new.disk) }
     ensures earlier { (history : List Command) → Keeps D.seen D.may_leave engine.old.disk engine.old.progress engine.old.failed (at_rest history)
@@ -90,7 +97,8 @@ fn commit_now<D: Disk + Drop>(
 
 /// Whether no clean frame is left for letters that need one.
 fn lacks_room<D: Disk + Drop>(engine: &Engine<D>, letters: &Letters) -> bool
-    ensures { result ≡ false → Weighs engine.now.failed engine.now.progress letters.now weights.Full → ⊥ }
+    ensures some { result ≡ false → Weighs engine.now.failed engine.now.progress letters.now weights.Full → ⊥ }
+    ensures none { result ≡ true → Weighs engine.now.failed engine.now.progress letters.now weights.Full }
 {
     match engine.weigh(letters) {
         Weight::Full => true,
@@ -113,6 +121,15 @@ pub fn commit_letters<D: Disk + Drop>(
     ensures commits { (history : List Command) → Keeps D.seen D.may_leave engine.old.disk engine.old.progress engine.old.failed (at_rest history)
         → IfOk result (λ ended. KeepsEnded D.seen D.may_leave engine.new.disk engine.new.progress engine.new.failed
         engine.old.progress.committed.rules history letters ended.answers.items ended.fault) }
+    // Unless they find the journal full no checkpoint is made, begun or gone on with, and they take four calls of the device, or
+    // none where none of them is new.
+    ensures takes { (history : List Command) → Keeps D.seen D.may_leave engine.old.disk engine.old.progress engine.old.failed (at_rest history)
+        → (Weighs engine.old.failed engine.old.progress letters weights.Full → ⊥)
+        → IfOk result (λ ended. BatchTakes ended.fault letters engine.old.progress engine.new.progress (D.moment engine.old.disk) (D.moment engine.new.disk)) }
+    // Where they do, a whole checkpoint is made first.
+    ensures full { (history : List Command) → Keeps D.seen D.may_leave engine.old.disk engine.old.progress engine.old.failed (at_rest history)
+        → IsBetween engine.old.progress → Weighs engine.old.failed engine.old.progress letters weights.Full
+        → IfOk result (λ ended. FullTakes ended.fault letters engine.old.progress engine.new.progress (D.moment engine.old.disk) (D.moment engine.new.disk)) }
     // Without a fault no call of the device failed; 91 comes only where one did, and 93 where one did or had before.
     ensures well { IfOk result (λ ended. ended.fault ≡ None → D.failures engine.new.disk ≡ D.failures engine.old.disk) }
     ensures ill { IfOk result (λ ended. ended.fault ≡ Some faults.Device → D.failures engine.old.disk < D.failures engine.new.disk) }

@@ -8,6 +8,9 @@ use Rattle.hpb_rules.specs.Values.{next_value}
 use Rattle.hpb_letters.specs.Judging.{judged_in}
 use Rattle.logbook.specs.Pages.{Book}
 
+-- **What a list leads to.** A list has the published batches of letters, since the auction was opened. Each letter is judged by the auction after
+-- those before it, so a list leads to one auction, and to the answers of each seat.
+--
 -- The letters of all batches, in order.
 abbrev pub joined : List (List Letter) → List Letter
 joined [] = []
@@ -25,11 +28,16 @@ value_by value letters = fold after_letter value letters
 abbrev pub answers_to : ℕ → AuctionValue → List Letter → List Answer
 answers_to seat value letters = filter (λ a. a.letter.seat == seat) (judged_in value letters)
 
+-- **The last 16.** An answer is found by its number among those of its seat, from 1, as long as not more than 15 came after it.
+--
 -- The answer of this number, from 1, where it is among the last 16.
 abbrev pub recent : List Answer → ℕ → Option Answer
 recent answers zero = None
 recent answers (suc i) = if nat_lt (length answers) (i + 17) then slice_get answers i else None
 
+-- **Room.** A seat's answers are counted in 64 bits. Letters have room where no seat's number would pass the greatest; a list that is published has
+-- it of every number, be it a seat's or not. Letters are seated where each one's seat is one of so many.
+--
 -- How many letters of a seat there are.
 abbrev pub tally : ℕ → List Letter → ℕ
 tally seat letters = length (filter (λ l. l.seat == seat) letters)
@@ -46,6 +54,9 @@ IsRoomy batches = (seat : ℕ) → tally seat (joined batches) < 2 ^ 64
 abbrev pub AreSeated : ℕ → List Letter → Type 0
 AreSeated seats letters = All (λ (l : Letter). l.seat < seats) letters
 
+-- **Publishing, viewing.** What a contract sees of a publisher and of a viewer. The book tells whose list it is: the lists of viewers of one book
+-- begin one list. Of the auction that was opened each has the value.
+--
 -- What a publisher is to a contract: the book of its trail, what was opened, how many seats there are, the published batches, and those prepared.
 pub record Publishing : Type 0 where
   pub book : Book

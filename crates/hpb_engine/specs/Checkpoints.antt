@@ -9,6 +9,10 @@ use Rattle.hpb_engine.specs.declared.step.Part.TheVariants as parts
 use Rattle.hpb_engine.specs.declared.step.Rest.{Rest}
 use Rattle.hpb_engine.specs.declared.step.Rest.TheVariants as rests
 
+-- **Steps of a checkpoint.** Nothing of the commands changes. A checkpoint aims at all batches that are committed at its first step. Nine steps write
+-- its state; then each frame that it makes free is one, and a sync is the last, where there are frames to free. At rest, with all covered and clean,
+-- a step is idle, and at no other time.
+--
 -- What is acknowledged and what is in flight are the same.
 pub record SameCore (s t : Progress) : Type 0 where
   pub committed : t.committed ≡ s.committed

@@ -14,6 +14,8 @@ use Rattle.hpb_engine.specs.declared.begun.Begun.TheVariants as outcomes
 use Rattle.hpb_engine.specs.declared.begun.Weight.{Weight}
 use Rattle.hpb_engine.specs.declared.begun.Weight.TheVariants as weights
 
+-- **Offers.**
+--
 -- None of the letters is newly accepted.
 abbrev pub AreOld : Progress → List Letter → Type 0
 AreOld s letters = new_commands (judged_in s.committed letters) ≡ []
@@ -42,6 +44,8 @@ begun_of weights.Old letters leaving = outcomes.Answered leaving
 begun_of weights.Full letters leaving = outcomes.Full letters
 begun_of weights.New letters leaving = outcomes.InFlight
 
+-- Where letters are handed back nothing changes, and the machine has no event; else it takes them.
+--
 -- Letters that aren't taken are handed back.
 abbrev pub HandsBack : List Letter → Begun → Type 0
 HandsBack letters (outcomes.Failed back) = back ≡ letters

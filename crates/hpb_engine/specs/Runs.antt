@@ -19,6 +19,10 @@ use Rattle.hpb_engine.specs.Checkpoints.{CheckpointLeads, SameCore, checkpoint_c
 use Rattle.hpb_engine.specs.Offers.{StaysUnlessInFlight, Weighs, offer_by, weight_of}
 use Rattle.hpb_engine.specs.Steps.{TurnLeads, turn_by, turn_calls}
 
+-- **Runs.** A mark is where an engine is between two events. One event leads from a mark to the next: letters are offered, a turn or a step is made,
+-- with what leaves and whether the device fails. A run has a mark after each event that was taken; the first at which the device fails (91) is the
+-- last.
+--
 -- Where an engine is between two events: the moment, its progress, whether the device has failed, and the state of the machine without a disk that it keeps.
 pub record Mark : Type 0 where
   pub moment : ℕ
@@ -37,7 +41,7 @@ abbrev pub failed_by : {T : Type 0} → Result T Fault → Bool
 failed_by (Ok told) = false
 failed_by (Err fault) = true
 
--- A fault is told exactly where the number of failures has risen, and it is that of a device.
+-- A fault is told exactly where the number of the device's failures has risen, and it is that of a device (91).
 abbrev pub HasFailed : Option Fault → (before after : ℕ) → Type 0
 HasFailed None before after = after ≡ before
 HasFailed (Some fault) before after = (fault ≡ faults.Device) × (before < after)
@@ -106,7 +110,8 @@ abbrev pub StandsAtOne : List Mark → List ℕ → Type 0
 StandsAtOne [] image = ⊥
 StandsAtOne (mark ∷ marks) image = StandsFor mark.machine image ⊎ StandsAtOne marks image
 
--- Since each mark every image that a crash may have left stands for what a stop may leave at that mark or at a later one.
+-- Since each mark every image that a crash may have left stands for what a stop may leave at that mark or at a later one. As acknowledged commands
+-- only grow from mark to mark, it holds all that were acknowledged at that one.
 abbrev pub Holds : (now : ℕ) (since : ℕ → List ℕ → Type 0) → Mark → List Mark → Type 0
 Holds now since mark [] = (mark.moment ≤ now) × ((image : List ℕ) → since mark.moment image → StandsAtOne (mark ∷ []) image)
 Holds now since mark (next ∷ marks) = (mark.moment ≤ now) × ((image : List ℕ) → since mark.moment image → StandsAtOne (mark ∷ next ∷ marks) image) × Holds now since next marks

@@ -2,6 +2,8 @@
 #![tactic(auto)]
 
 #[cfg(test)]
+mod cuts;
+#[cfg(test)]
 mod mixed_run;
 #[cfg(test)]
 mod order_of_calls;

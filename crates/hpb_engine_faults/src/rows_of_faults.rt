@@ -94,7 +94,7 @@ fn unopened<D: Disk + Drop>(fault: OpenFault<D>, moment: Moment) -> Result<D, Fa
 }
 
 /// Drives the events over an opened device.
-fn run<D: Disk + Drop>(
+pub(crate) fn run<D: Disk + Drop>(
     alloc: Global,
     opened: Opened<D>,
     events: &[Event],
@@ -134,12 +134,12 @@ fn has_landed(alloc: Global, disk: &MemoryDisk, moment: Moment) -> Result<bool, 
 }
 
 /// The call of this place, from 0, by its number.
-fn number_of(place: usize) -> u64 {
+pub(crate) fn number_of(place: usize) -> u64 {
     (place as u64).saturating_add(1)
 }
 
 /// Where each call of the run comes.
-fn moments_of_run(
+pub(crate) fn moments_of_run(
     alloc: Global,
     shape: JournalShape,
     events: &[Event],

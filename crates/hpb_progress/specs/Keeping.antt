@@ -9,15 +9,18 @@ use Rattle.hpb_progress.specs.declared.progress.Progress.{Progress}
 use Rattle.hpb_progress.specs.Cuts.{Cut, all}
 use Rattle.hpb_progress.specs.Facts.{Facts, Fits, Reads}
 
+-- **Keeps.**
+--
 -- The flight of the machine without a disk that a commit is.
 abbrev pub flight_of : Commit → Option Flight
 flight_of commit = if commit.busy then Some (record { answers = commit.answers; turns = commit.turns }) else None
 
--- The machine without a disk, by its acknowledged commands and by what is in flight.
+-- The machine with these acknowledged commands and what is in flight by a progress.
 abbrev pub machine_of : Progress → List Command → Machine
 machine_of s history = record { acknowledged = history; flight = flight_of s.commit }
 
--- An image stands for what a stop of the machine may leave: the acknowledged commands or, once a flight has landed, these with its commands.
+-- **Stands for.** An image stands for what a stop of a machine may leave: the acknowledged commands or, once a flight has landed, these with its
+-- commands. From one machine to the next it stands for what a stop of either may leave.
 abbrev pub StandsFor : Machine → List ℕ → Type 0
 StandsFor machine image = (history : List Command) × MayStand machine history × Stands history image
 
@@ -37,8 +40,8 @@ pub record Inside {D : Type 0} (seen : D → List ℕ) (may_leave : D → List �
   pub images : (image : List ℕ) → may_leave disk image → Facts s cut image
   pub reads : failed ≡ false → Reads s cut (seen disk)
 
--- An engine keeps the state of the machine without a disk: what is committed shows the acknowledged commands, the same is in flight, and every image
--- that a crash now may leave stands for what a stop of the machine may leave.
+-- An engine keeps a machine, that without a disk, where what is committed shows its acknowledged commands, the same is in flight with as many turns,
+-- and every image that a crash now may leave stands for what a stop of the machine may leave.
 pub record Keeps {D : Type 0} (seen : D → List ℕ) (may_leave : D → List ℕ → Type 0) (disk : D) (s : Progress) (failed : Bool) (machine : Machine) : Type 0 where
   pub shows : Shows s.committed machine.acknowledged
   pub flight : machine.flight ≡ flight_of s.commit

@@ -20,7 +20,7 @@ count_of ring = (shape_of ring.frames).frames
 abbrev pub layout_of : Ring → Layout
 layout_of ring = shaped (shape_of ring.frames)
 
--- The end of the frames that serve the batches from the newest slot's index on.
+-- The end of the frames that serve the batches from the newest slot's index on: that index and the number of frames.
 abbrev pub end_of : Ring → ℕ
 end_of ring = ring.covered + count_of ring
 
@@ -64,7 +64,8 @@ pub record RetirementFits (ring : Ring) (checkpoint : Checkpoint) (retirement : 
   pub from : ring.clean_end ≤ retirement.upto
   pub to : retirement.upto ≤ end_of ring
 
--- The numbers fit each other. As each batch has a command, no index is beyond all bounds.
+-- The numbers and values of a progress fit each other, whatever is on the device: indexes in their order, turns up to 3, steps up to 8, and no index
+-- beyond all bounds. As each batch has a command, no index is beyond all bounds.
 pub record IsSafe (s : Progress) : Type 0 where
   pub ring : RingFits s.ring
   pub commit : CommitFits s.ring s.committed s.commit

@@ -7,10 +7,13 @@ use Rattle.hpb_slots.specs.Slots.{other_of}
 use Rattle.hpb_progress.specs.declared.progress.Progress.{Progress}
 use Rattle.hpb_progress.specs.Numbers.{end_of}
 
--- A batch is put in flight.
+-- A progress with a batch put in flight, its answers, and the auction after it.
 abbrev pub begun : Progress → Batch → List Answer → AuctionValue → Progress
 begun s batch answers working = record s { commit = record { busy = true; turns = 0; batch = batch; answers = answers; working = working } }
 
+-- **Turns.** Where a turn leads: the fourth alone is the last one, and a third one that fails counts all the same. To the machine it is a turn, of
+-- which the device call works or fails; after a fault there is none.
+--
 -- A batch in flight has had so many turns.
 abbrev pub turned : Progress → ℕ → Progress
 turned s turns = record s { commit = record s.commit { turns = turns } }

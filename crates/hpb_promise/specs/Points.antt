@@ -21,6 +21,9 @@ use Rattle.hpb_engine.specs.Starts.{IsStarted}
 use Rattle.hpb_progress.specs.declared.progress.Progress.{Progress}
 use Rattle.hpb_recover.specs.declared.plan.Plan.{Plan}
 
+-- **The points of a run.** What a caller is told of a run who knows nothing of an engine's insides. A run has a point at its start and one after each
+-- event that was taken, and between two of them the device has one call at most.
+--
 -- A point of a run, its start or the end of an event: the moment of the device, and the moves that the machine without a disk has made.
 pub record Point : Type 0 where
   pub moment : ℕ
@@ -60,6 +63,9 @@ abbrev pub IsCounted : List Command → Answer → Type 0
 IsCounted acknowledged answered = (number : ℕ) → answered.reply ≡ replies.Ok number → (1 ≤ number) × (number ≤ length acknowledged)
 
 module _ (rules : Rules) (first : List Command) where
+  -- What is acknowledged at a point, and which answers have left by then, follow from its moves and from the commands that the device stood for at
+  -- first.
+  --
   -- The machine at a point: from rest with the first commands on, after the point's moves. The answers that have left by then, and what is acknowledged.
   abbrev pub machine_at : Point → Machine
   machine_at point = (run rules (at_rest first) point.moves).machine
@@ -77,6 +83,9 @@ module _ (rules : Rules) (first : List Command) where
   AreMarked (mark ∷ marks) [] = ⊥
   AreMarked (mark ∷ marks) (point ∷ points) = (point.moment ≡ mark.moment) × (machine_at point ≡ mark.machine) × AreMarked marks points
 
+  -- **What a crash leaves of a run.** Whatever a stop left since a point stands for a history that begins with all that was acknowledged there. It is
+  -- whole batches: what may stand after a stop at that point or at a later one. And each answer that had left by the point is true of it.
+  --
   -- A stop at one of the points may leave this history.
   abbrev pub MayStandAt : List Point → List Command → Type 0
   MayStandAt [] history = ⊥
@@ -102,6 +111,9 @@ module _ (rules : Rules) (first : List Command) where
     -- Whatever a stop at this moment or later left.
     pub finds : (image : List ℕ) → since point.moment image → Finds point later image
 
+-- A run of a device that stood for the first commands survives every stop where this is so at each of its points, however they are cut at one. Its
+-- last point is its end, whose answers are those that were handed out; without a fault each event has a point.
+--
 -- A run of a device that stood for the first commands: there are points, one at the start and one after each event, at each of which nothing is lost that was
 -- acknowledged there.
 pub record Survives (rules : Rules) (first : List Command) (start now : ℕ) (since : ℕ → List ℕ → Type 0) (events : List Event) (answers : List Answer) (fault : Option Fault) : Type 0 where

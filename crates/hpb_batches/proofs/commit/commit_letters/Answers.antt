@@ -8,7 +8,7 @@ use Rattle.hpb_batches.proofs.Runs.{failures_rise, failures_same, if_ok, kept_st
 use Rattle.hpb_batches.proofs.commit.commit_letters.Goals as goal
 
 pub returns-then-not-lacks_room-clause-commits : goal.returns-then-not-lacks_room-clause-commits
-returns-then-not-lacks_room-clause-commits g c history keeps = c.commit_now.ensures.commits history keeps (c.lacks_room.ensures c.if-not-lacks_room.true)
+returns-then-not-lacks_room-clause-commits g c history keeps = c.commit_now.ensures.commits history keeps (c.lacks_room.ensures.some c.if-not-lacks_room.true)
 
 pub returns-then-not-lacks_room-clause-earlier : goal.returns-then-not-lacks_room-clause-earlier
 returns-then-not-lacks_room-clause-earlier g c history keeps = if_ok c.commit_now.result (λ ended was is. inl (was is)) (c.commit_now.ensures.earlier history keeps)
@@ -98,3 +98,29 @@ returns-in-Err-clause-stays g c history keeps =
     let new = c.make_checkpoint.new.engine in
     let same = c.in-Err.ensures.stays in
     refused_at_once g.D.Disk.failures old.disk new.disk old.progress new.progress old.failed new.failed same.0 same.1 same.2
+
+pub returns-then-not-lacks_room-clause-takes : goal.returns-then-not-lacks_room-clause-takes
+returns-then-not-lacks_room-clause-takes g c history keeps room = c.commit_now.ensures.takes history keeps room
+
+pub returns-then-not-lacks_room-clause-full : goal.returns-then-not-lacks_room-clause-full
+returns-then-not-lacks_room-clause-full g c history keeps between full = absurd (c.lacks_room.ensures.some c.if-not-lacks_room.true full)
+
+pub returns-in-Ok-None-clause-takes : goal.returns-in-Ok-None-clause-takes
+returns-in-Ok-None-clause-takes g c history keeps room = absurd (room (c.lacks_room.ensures.none c.if-not-lacks_room.false))
+
+pub returns-in-Ok-None-clause-full : goal.returns-in-Ok-None-clause-full
+returns-in-Ok-None-clause-full g c history keeps between full =
+    let d = g.D.Disk in
+    let rested = c.make_checkpoint.new.engine in
+    let made = c.in-Ok-None.ensures in
+    if_ok c.commit_now-in-Ok-None.result
+    (λ ended took. inl (rested.progress, d.moment rested.disk, made.whole history keeps between full.0 c.in-Ok-None.field-0-is, took))
+    (c.commit_now-in-Ok-None.ensures.takes history (made.keeps history keeps) (room_not_full rested.failed rested.progress c.args.letters (made.room history keeps)))
+
+pub returns-in-Ok-Some-clause-takes : goal.returns-in-Ok-Some-clause-takes
+returns-in-Ok-Some-clause-takes g c history keeps room = absurd (room (c.lacks_room.ensures.none c.if-not-lacks_room.false))
+
+pub returns-in-Ok-Some-clause-full : goal.returns-in-Ok-Some-clause-full
+returns-in-Ok-Some-clause-full g c history keeps between full =
+    let made = c.in-Ok-Some.ensures.calls history keeps between full.0 in
+    inr (refl, made.0, made.1, made.2)
