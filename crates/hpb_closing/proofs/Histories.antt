@@ -8,8 +8,8 @@ use Rattle.hpb_rules.specs.AuctionValue.{AuctionValue, Shows}
 use Rattle.hpb_rules.specs.Letters.{new_commands}
 use Rattle.hpb_letters.specs.Judging.{judged_in}
 use Rattle.hpb_board.specs.Publication.{Viewing, joined, value_by, auction_of}
-use Rattle.hpb_closing.specs.Histories.{AreAlong, history_in, history_of}
-use Rattle.hpb_closing.proofs.Prefixes.{prefix_either, prefix_same}
+use Rattle.hpb_closing.specs.Histories.{history_in, history_of}
+use Rattle.hpb_closing.proofs.Prefixes.{prefix_same}
 use Rattle.hpb_closing.proofs.Values.{rules_by, count_by, judged_join, new_join, new_accepted, new_after}
 
 joined-append : (xs ys : List (List Letter)) → joined (xs ++ ys) ≡ joined xs ++ joined ys
@@ -46,12 +46,6 @@ one_history v w all o p q same =
     let c = ap (λ (value : AuctionValue). value.count) o in
     let s = ap (λ (value : AuctionValue). value.count) same in
     prefix_same (history_of v) (history_of w) (new_commands (judged_in v.opened (joined all))) hv (hw.0, hw.1 ∙ whole) (omega (arith, lv, lw, c, s))
-
--- a viewer's history, and that of a list of the same trail
-pub along : (v : Viewing) (opened : AuctionValue) (shown all : List (List Letter)) → v.opened ≡ opened → IsPrefix v.list all → IsPrefix shown all → AreAlong (history_of v) (history_in opened shown)
-along v opened shown all o p q =
-    subst (λ (value : AuctionValue). AreAlong (history_in value v.list) (history_in opened shown)) (sym o)
-    (prefix_either (history_in opened v.list) (history_in opened shown) (history_in opened all) (history_prefix opened v.list all p) (history_prefix opened shown all q))
 
 -- how many commands a list leads on
 pub list_counted : (opened committed : AuctionValue) (list : List (List Letter)) → committed ≡ value_by opened (joined list) → committed.count ≡ opened.count + length (history_in opened list)

@@ -1,5 +1,5 @@
 mod Histories
-mod Lists
+pub mod Lists
 mod Parts
 mod Prefixes
 mod Slices

@@ -1,5 +1,5 @@
 -- Beginnings of one list.
-use Rattle.std.proofs.Common.{◌≡◌, ◌≤◌, ◌⊎◌, inl, inr, List, [], ◌∷◌, ◌++◌, length, refl, ap, sym, ◌∙◌, arith, append_assoc}
+use Rattle.std.proofs.Common.{◌≡◌, ◌≤◌, List, [], ◌∷◌, ◌++◌, length, refl, ap, sym, ◌∙◌, arith, append_assoc}
 use mathlib.Core.List.{IsPrefix}
 
 -- of two beginnings of one list the shorter begins the longer
@@ -32,16 +32,3 @@ prefix_trans xs ys zs p q = (p.0 ++ q.0, sym (append_assoc xs p.0 q.0) ∙ (ap (
 pub prefix_self : {A : Type 0} (xs : List A) → IsPrefix xs xs
 prefix_self [] = ([], refl)
 prefix_self (x ∷ xs) = (let r = prefix_self xs in r.0, ap (λ ys. x ∷ ys) (prefix_self xs).1)
-
--- of two beginnings of one list one begins the other
-pub prefix_either : {A : Type 0} (xs ys zs : List A) → IsPrefix xs zs → IsPrefix ys zs → IsPrefix xs ys ⊎ IsPrefix ys xs
-prefix_either [] ys zs p q = inl (ys, refl)
-prefix_either (x ∷ xs) [] zs p q = inr (x ∷ xs, refl)
-prefix_either (x ∷ xs) (y ∷ ys) [] p q = absurd (cc (p.1))
-prefix_either (x ∷ xs) (y ∷ ys) (z ∷ zs) p q =
-    let heads : x ≡ y = cc (p.1, q.1) in
-    heads_on x y heads xs ys (prefix_either xs ys zs (p.0, cc (p.1)) (q.0, cc (q.1)))
-  where
-    heads_on : {A : Type 0} (x y : A) → x ≡ y → (xs ys : List A) → IsPrefix xs ys ⊎ IsPrefix ys xs → IsPrefix (x ∷ xs) (y ∷ ys) ⊎ IsPrefix (y ∷ ys) (x ∷ xs)
-    heads_on x y heads xs ys (inl more) = inl (more.0, cc (heads, more.1))
-    heads_on x y heads xs ys (inr more) = inr (more.0, cc (heads, more.1))

@@ -11,6 +11,9 @@ use Rattle.hpb_board.specs.Publication.{answers_of}
 use Rattle.hpb_rings.specs.declared.slip.Slip.{Slip}
 use Rattle.hpb_rings.specs.declared.report.Report.{Report}
 
+-- **What a report says.** A client that has finished leaves a report. A last view may make its list longer; what it sent, how many answers it took
+-- and how many of them newly accepted a command stay.
+--
 -- What a last view doesn't change of a report: its seat, what was sent, how many answers were taken and how many of them newly accepted a command, and whether a halt came.
 pub record Said : Type 0 where
   pub seat : ℕ

@@ -9,5 +9,5 @@
 mod comparing;
 mod sameness;
 
-pub use comparing::{Counts, agree, compare, count, view_each};
+pub use comparing::{Counts, agree, compare, count, view_each, whole_trail};
 pub use sameness::same_auction;

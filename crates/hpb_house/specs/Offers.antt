@@ -17,6 +17,9 @@ use Rattle.hpb_house.specs.declared.offered.Reason.{Reason}
 use Rattle.hpb_house.specs.declared.offered.Reason.TheVariants as reasons
 use Rattle.hpb_house.specs.Keepers.{Keeping}
 
+-- **What becomes of letters.** An engine weighs them (`Weighs`). Where it can take them, the board must have room for their answers. Letters that
+-- aren't taken are handed back as they were, with the first reason that applies. The last one is want of memory (90), and no test is named for it.
+--
 -- The engine takes the letters: they are all old, or a clean frame is left.
 abbrev pub CanTake : {D : Type 0} → Keeping D → List Letter → Type 0
 CanTake k letters = Weighs k.failed k.progress letters weights.Old ⊎ Weighs k.failed k.progress letters weights.New
@@ -40,6 +43,9 @@ Becomes k letters (outcomes.Answered answers) =
     Weighs k.failed k.progress letters weights.Old × CanShow k letters × (answers ≡ judged_in k.progress.committed letters)
 Becomes k letters (outcomes.Back back why) = (back ≡ letters) × IsWhy k letters why
 
+-- **What an offer does.** Letters of which none is new are answered and published at once; others are prepared, as one batch. To the machine without
+-- a disk an offer is one event, or none where the letters are handed back.
+--
 -- The batches that are published after an offer: letters that are answered at once are published at once.
 abbrev pub list_after : Offered → List Letter → List (List Letter) → List (List Letter)
 list_after outcomes.InFlight letters list = list
@@ -58,6 +64,8 @@ machine_after outcomes.InFlight rules machine letters = (take_letters rules mach
 machine_after (outcomes.Answered answers) rules machine letters = (take_letters rules machine letters).machine
 machine_after (outcomes.Back back why) rules machine letters = machine
 
+-- **What a step of a commit publishes.** The last one publishes what is prepared; no other publishes anything.
+--
 -- The batches that are published after a step of a commit: the last one publishes what is prepared.
 abbrev pub list_stepped : Result Step Fault → List (List Letter) → List (List Letter) → List (List Letter)
 list_stepped (Ok steps.Idle) list pending = list

@@ -6,6 +6,6 @@ use Rattle.hpb_rules.specs.declared.letter.Letter.{Letter}
 use Rattle.hpb_board.specs.Publication.{joined}
 use Rattle.hpb_rings.specs.Gathering.{at_seat, of_seat}
 
--- All that came of each seat is on the list, in order and once, and then what is held.
+-- **What is owed of letters that came.** All that came of each seat is on the list, in order and once, and then what is held.
 abbrev pub IsOwed : (came : List (List Command)) (list : List (List Letter)) (held : List Letter) → Type 0
 IsOwed came list held = (seat : ℕ) → at_seat came seat ≡ of_seat seat (joined list) ++ of_seat seat held

@@ -8,6 +8,10 @@ use Rattle.hpb_rings.specs.declared.client.Client.{Client}
 use Rattle.hpb_rings.specs.declared.ring.Ring.{Ring}
 use Rattle.rtrb.specs.Ring.{IsPair}
 
+-- **How clients begin.** There is one for each seat from 0 on. Each has entered what the house's own viewer has, has nothing outstanding or taken,
+-- knows of no more commands than were opened, and was told of no halt. It posts into the ring that the committer empties for its seat, and gets that
+-- ring's mark.
+--
 -- A viewer has entered what is published.
 abbrev pub IsViewOf : Publishing → Viewing → Type 0
 IsViewOf board v = (v.book ≡ board.book) × (v.opened ≡ board.opened) × (v.seats ≡ board.seats) × (v.list ≡ board.list)

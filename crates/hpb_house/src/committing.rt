@@ -264,6 +264,8 @@ fn halted<D: Disk + Drop, W: Wait + Drop, J: Naming, R: Wait>(
     ensures comes { (came : List (List Command)) (list : List (List Letter)) → Comes other came list → Comes result came list }
     ensures goes_on { result ≡ End → ⊥ }
 {
+    // The checkpointer ends with the halt at once, and not only when it is rung the next time.
+    house.checkpointing.unpark();
     match house.halt(rt) {
         Some(halt) => Turned::Halted(halt),
         None => other,

@@ -15,12 +15,20 @@ pub enum Point {
     Page(u8),
     /// It has retired a frame.
     Retired,
+    /// The checkpointer ends, since a call of the device has failed.
+    Failed,
 }
 
 /// Is told where the workers stand. It is called outside the lock, and may wait.
 pub trait Gate {
     /// A worker stands at this point.
     fn at<R: Wait>(&self, rt: &R, point: Point);
+}
+
+impl<G: Gate> Gate for &G {
+    fn at<R: Wait>(&self, rt: &R, point: Point) {
+        (**self).at(rt, point);
+    }
 }
 
 /// A gate that lets every worker pass.

@@ -7,7 +7,8 @@ ghost use Rattle.hpb_progress.specs.Keeping.{Keeps};
 ghost use Rattle.hpb_engine.specs.Starts.{IsStarted};
 ghost use Rattle.rtrb.specs.Ring.{received};
 ghost use Rattle.hpb_house.specs.Starts.{AreBegun, HasRing, HaveRings, IsBegun, IsViewOf};
-ghost use Rattle.hpb_house.specs.Told.{refusal_of};
+ghost use Rattle.hpb_house.specs.Told.{cause_of, refusal_of};
+ghost use Rattle.hpb_house.specs.declared.starting.StartPart.TheVariants as parts;
 
 use crate::house::House;
 use crate::keeper::{Halt, Keeper};
@@ -49,12 +50,55 @@ impl StartCause {
     }
 }
 
-/// A house that wasn't started hands the opened device back.
+/// What a house asks for at its start, in this order: the rings, the viewer and the bell are asked for once for each seat.
+#[derive(Clone, Copy, Debug, PartialEq, Eq)]
+pub enum StartPart {
+    /// The board.
+    Board,
+    /// A place on the board for the viewer that shows what was opened.
+    Eye,
+    /// The committer's bell.
+    Bell,
+    /// A place on the board for a client's viewer.
+    Viewer,
+    /// A seat's rings.
+    Rings,
+    /// A client's hold of the committer's bell, or room for one client more.
+    Seat,
+    /// The engine.
+    Engine,
+}
+
+impl StartPart {
+    /// Why a house isn't started that was refused this: 94 `place` for a ring or the place of a viewer, 90 `memory` for all
+    /// else.
+    pub fn cause(self) -> StartCause
+        ensures { result ≡ cause_of self }
+    {
+        match self {
+            StartPart::Eye | StartPart::Viewer | StartPart::Rings => StartCause::Place,
+            StartPart::Board | StartPart::Bell | StartPart::Seat | StartPart::Engine => {
+                StartCause::Memory
+            }
+        }
+    }
+}
+
+/// A house that wasn't started hands the opened device back, and tells which part it was refused.
 #[derive(Drop)]
 pub struct StartFault<D: Disk + Drop> {
     /// As it was handed over.
     pub opened: Opened<D>,
-    pub cause: StartCause,
+    pub part: StartPart,
+}
+
+impl<D: Disk + Drop> StartFault<D> {
+    /// The refusal that it is told by.
+    pub fn cause(&self) -> StartCause
+        ensures { result ≡ cause_of self.now.part }
+    {
+        self.part.cause()
+    }
 }
 
 /// What stands before the engine: the board with its viewers, the rings and the committer's bell.
@@ -74,7 +118,7 @@ fn seat_client<W: Wait + Drop>(
     eye: &Viewer,
     bell: &Arc<Parker, Global>,
     seat: u8,
-) -> Result<(Ring<Halt>, Client<Halt>), StartCause>
+) -> Result<(Ring<Halt>, Client<Halt>), StartPart>
     requires eye { IsViewOf publisher.old eye.now }
     requires seat { seat < publisher.old.seats }
     ensures same { publisher.new ≡ publisher.old }
@@ -84,13 +128,13 @@ fn seat_client<W: Wait + Drop>(
     ensures fresh { IfOk result (λ made. received made.0.letters ≡ []) }
 {
     let Ok(viewer) = publisher.introduce(alloc) else {
-        return Err(StartCause::Place);
+        return Err(StartPart::Viewer);
     };
     let Ok((ends, ring)) = seat_rings(alloc) else {
-        return Err(StartCause::Place);
+        return Err(StartPart::Rings);
     };
     let Ok(bell) = Arc::try_clone(bell) else {
-        return Err(StartCause::Memory);
+        return Err(StartPart::Seat);
     };
     Ok((ring, Client::new(seat, ends, viewer, bell)))
 }
@@ -109,7 +153,7 @@ fn seat_clients<W: Wait + Drop>(
     eye: &Viewer,
     bell: &Arc<Parker, Global>,
     sessions: u8,
-) -> Result<Seats, StartCause>
+) -> Result<Seats, StartPart>
     requires eye { IsViewOf publisher.old eye.now }
     requires seats { publisher.old.seats ≡ sessions }
     ensures same { publisher.new ≡ publisher.old }
@@ -124,11 +168,11 @@ fn seat_clients<W: Wait + Drop>(
         let (ring, client) = seat_client(alloc, publisher, eye, bell, seat)?;
         match rings.push(ring) {
             Ok(()) => {}
-            Err(_) => return Err(StartCause::Memory),
+            Err(_) => return Err(StartPart::Seat),
         }
         match clients.push(client) {
             Ok(()) => {}
-            Err(_) => return Err(StartCause::Memory),
+            Err(_) => return Err(StartPart::Seat),
         }
     }
     Ok(Seats { rings, clients })
@@ -140,7 +184,7 @@ fn make_setting<W: Wait + Drop>(
     alloc: Global,
     auction: &Auction,
     sessions: u8,
-) -> Result<Setting<W>, StartCause>
+) -> Result<Setting<W>, StartPart>
     ensures publisher { IfOk result (λ made. (made.publisher.opened ≡ auction.now) × (made.publisher.seats ≡ sessions) × (made.publisher.list ≡ []) × (made.publisher.pending ≡ [])) }
     ensures eye { IfOk result (λ made. (made.eye.opened ≡ auction.now) × IsViewOf made.publisher made.eye) }
     ensures rings { IfOk result (λ made. vec_len made.rings ≡ sessions) }
@@ -150,13 +194,13 @@ fn make_setting<W: Wait + Drop>(
 {
     let readers = usize::from(sessions) + 1;
     let Ok(mut publisher) = Publisher::open(rt, alloc, auction, sessions, readers) else {
-        return Err(StartCause::Memory);
+        return Err(StartPart::Board);
     };
     let Ok(eye) = publisher.introduce(alloc) else {
-        return Err(StartCause::Place);
+        return Err(StartPart::Eye);
     };
     let Ok(bell) = Arc::new(alloc, Parker::new()) else {
-        return Err(StartCause::Memory);
+        return Err(StartPart::Bell);
     };
     let Seats { rings, clients } = seat_clients(alloc, &mut publisher, &eye, &bell, sessions)?;
     Ok(Setting {
@@ -172,8 +216,8 @@ impl<D: Disk + Drop, W: Wait + Drop> House<D, W, Brand> {
     /// Starts a house over an opened device for so many sessions, from 1 to 32: the house, the committer's side of the
     /// rings, and a client for each seat.
     ///
-    /// 90 `memory` where memory is refused, 94 `place` where a ring or a viewer's place is: both hand the opened device
-    /// back as it was.
+    /// 90 `memory` where memory is refused, 94 `place` where a ring or a viewer's place is: the part that was refused tells
+    /// which (`StartPart::cause`). Both hand the opened device back as it was.
     pub fn start(
         rt: W,
         alloc: Global,
@@ -198,7 +242,7 @@ impl<D: Disk + Drop, W: Wait + Drop> House<D, W, Brand> {
     {
         let setting = match make_setting(rt, alloc, opened.auction(), sessions) {
             Ok(setting) => setting,
-            Err(cause) => return Err(StartFault { opened, cause }),
+            Err(part) => return Err(StartFault { opened, part }),
         };
         let snapshot = Snapshot::of(&opened);
         let engine = match Engine::start(alloc, opened) {
@@ -206,7 +250,7 @@ impl<D: Disk + Drop, W: Wait + Drop> House<D, W, Brand> {
             Err(opened) => {
                 return Err(StartFault {
                     opened,
-                    cause: StartCause::Memory,
+                    part: StartPart::Engine,
                 });
             }
         };

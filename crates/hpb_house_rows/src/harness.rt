@@ -7,8 +7,7 @@ ghost use Rattle.hpb_house.specs.Boards.{SameBoard};
 
 use hpb_disk::{Disk, MemoryDisk, OnceDisk};
 use hpb_house::{
-    CloseFault, Closing, Gate, Halt, House, Incoming, Naming, Over, Ready, Settled, Settles,
-    Started, checkpointer, committer,
+    CloseFault, Closing, Gate, Halt, House, Incoming, Naming, Ready, Started, Workers,
 };
 use hpb_recover::Opened;
 use hpb_rings::{Client, Report};
@@ -18,7 +17,7 @@ use std::snapshot::Snapshot;
 use std::sync::Wait;
 use std::test::Fail;
 use std::thread;
-use std::thread::{JoinHandle, Promise, PromisedHandle, Scope, Threads};
+use std::thread::{Promise, Threads};
 
 /// What the clients of a house do while it is open. Each is called in a thread of its own.
 pub(crate) trait Session {
@@ -101,52 +100,6 @@ fn serve<S: Session, R: Wait>(rt: &R, session: &S, client: Client<Halt>) -> Repo
     finish(rt, session.run(rt, client))
 }
 
-/// The workers of a house, each in a thread of its own.
-#[derive(Drop)]
-struct Workers<J: Naming> {
-    committing: PromisedHandle<Settled, Settles<J>>,
-    checkpointing: JoinHandle<Result<Over<J>, Halt>>,
-}
-
-impl<J: Naming> Workers<J> {
-    /// Waits for their ends.
-    fn join<R: Threads>(self, rt: &R) {
-        let Workers {
-            committing,
-            checkpointing,
-        } = self;
-        committing.join(rt);
-        let _ = checkpointing.join(rt);
-    }
-}
-
-/// Starts the workers of a house. The gate is told where the checkpointer stands.
-fn start_workers<
-    's,
-    E,
-    D: Disk + Drop + Send,
-    W: Wait + Drop + Send,
-    J: Naming + Send + Sync,
-    G: Gate + Sync,
-    R: Threads + Wait + Sync,
->(
-    scope: &Scope<'s, E>,
-    rt: &'s R,
-    house: &'s House<D, W, J>,
-    incoming: Incoming<J>,
-    gate: &'s G,
-) -> Result<Workers<J>, AllocError> {
-    let committing = scope.spawn_with(
-        Settles::<J>::new(),
-        move || committer(rt, house, incoming, gate),
-    )?;
-    let checkpointing = scope.spawn(move || checkpointer(rt, house, gate))?;
-    Ok(Workers {
-        committing,
-        checkpointing,
-    })
-}
-
 /// Runs the threads of a house to their ends. The gate is told where the checkpointer stands.
 fn run_threads<
     D: Disk + Drop + Send,
@@ -176,13 +129,13 @@ fn run_threads<
             ensures { IfOk result (λ rs. All (λ r. SameBoard house.entry.now r.viewer) rs.items) }
         {
             let mut threads = Vec::with_capacity(alloc, clients.len())?;
-            let workers = start_workers(scope, rt, house, incoming, gate)?;
+            let workers = Workers::start(scope, rt, house, incoming, gate, gate)?;
             for client in clients {
                 let promise = OfHouse(Snapshot::of(house));
                 threads.push(scope.spawn_with(promise, move || serve(rt, session, client))?)?;
             }
             let reports = thread::join_promised(rt, threads)?;
-            workers.join(rt);
+            let _ = workers.join(rt);
             Ok(reports)
         },
     )

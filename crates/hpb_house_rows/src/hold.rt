@@ -180,7 +180,7 @@ impl Gate for Crossing {
             }
             Point::Turned => self.stand(rt),
             Point::Page(page) => self.write(rt, page),
-            Point::Gathered | Point::Retired => {}
+            Point::Gathered | Point::Retired | Point::Failed => {}
         }
     }
 }

@@ -16,6 +16,8 @@ mod rows_of_counts;
 #[cfg(test)]
 mod rows_of_faults;
 #[cfg(test)]
+mod rows_of_points;
+#[cfg(test)]
 mod rows_of_views;
 #[cfg(test)]
 mod script;

@@ -7,6 +7,9 @@ use Rattle.hpb_rules.specs.declared.letter.Letter.{Letter}
 use Rattle.hpb_rings.specs.Slips.{commands}
 use Rattle.hpb_rings.specs.declared.ring.Ring.{Ring}
 
+-- **Gathering.** The committer takes letters out of the rings of all seats. What came out of each ring is what was gathered of its seat, in order; a
+-- letter gets the seat of the ring that it came out of.
+--
 -- A command as a letter of a seat.
 abbrev pub letter_of : ℕ → Command → Letter
 letter_of seat command = record { seat = seat; command = command }
@@ -30,6 +33,8 @@ at_seat [] seat = []
 at_seat (first ∷ others) zero = first
 at_seat (first ∷ others) (suc seat) = at_seat others seat
 
+-- **Marks of a halt.** Each seat gets one, and none gets a second.
+--
 -- The marks that went to each seat.
 abbrev pub marks : {M : Type 0} → List (Ring M) → List (List M)
 marks rings = map (λ ring. sent ring.marks) rings

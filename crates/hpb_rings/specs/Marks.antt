@@ -5,6 +5,9 @@ use Rattle.hpb_rules.specs.declared.letter.Answer.{Answer}
 use Rattle.hpb_rules.specs.declared.reply.Reply.{Reply}
 use Rattle.hpb_rules.specs.declared.reply.Reply.TheVariants as replies
 
+-- **Mark.** The greatest number of accepted commands that a client knows of: an answer that is taken raises it to the number that was accepted before
+-- it and, where it accepts, to its own.
+--
 -- The greatest of a mark and the number under which a reply accepts.
 abbrev pub with_reply : ℕ → Reply → ℕ
 with_reply mark (replies.Ok number) = max mark number

@@ -5,6 +5,9 @@ use Rattle.hpb_rules.specs.declared.command.Command.{Command}
 use Rattle.hpb_rings.specs.declared.slip.Slip.{Slip}
 use Rattle.hpb_rings.specs.declared.slip.Slip.TheVariants.{Letter as Post, End}
 
+-- **What a ring carries.** Letters, and behind the last one an end mark. Of a ring's end that takes out, `received` is what came out so far; of the
+-- end that puts in, `sent` is what went in.
+--
 -- The commands of the letters that came, in order.
 abbrev pub commands : List Slip → List Command
 commands [] = []

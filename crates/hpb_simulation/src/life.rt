@@ -282,8 +282,7 @@ impl<W: Wait + Drop> Life<W> {
             Stop::Lost => "stop lost",
             Stop::Torn => "stop torn",
         })?;
-        let (disk, _) = keeper.finish();
-        let disk = disk.into_inner();
+        let disk = keeper.finish().disk.into_inner();
         let fates = world.random.fates(world.alloc, stop)?;
         world.disk = Some(disk.after_stop(world.alloc, &fates)?);
         Ok(())

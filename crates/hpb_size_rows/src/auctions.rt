@@ -75,7 +75,7 @@ pub(crate) fn definition(alloc: Global, size: Size) -> Result<Definition> {
 }
 
 /// A bid of each bidder on each licence, by its place in its round, at its node's minimum; and the close behind the last.
-fn next_letter(auction: &Auction, size: Size, place: u64) -> Letter {
+pub(crate) fn next_letter(auction: &Auction, size: Size, place: u64) -> Letter {
     let licences = size.nodes.saturating_sub(size.packages);
     let bidder = (place % size.bidders.max(1)).min(63) as usize;
     let licence = place / size.bidders.max(1);

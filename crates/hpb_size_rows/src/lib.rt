@@ -4,4 +4,6 @@
 #[cfg(test)]
 mod auctions;
 #[cfg(test)]
+mod houses;
+#[cfg(test)]
 mod rows;

@@ -6,7 +6,7 @@ use crate::auctions::{Sent, Size, are_accepted, definition, events};
 use anyhow::{Error, Result, bail};
 use hpb_codec::{JournalLayout, JournalShape};
 use hpb_disk::MemoryDisk;
-use hpb_engine::{Driven, drive};
+use hpb_engine::{Driven, Event, drive};
 use hpb_engine_rows::devices::{device_bytes, opened_or_cause, started};
 use hpb_format::format_layout;
 use hpb_house::House;
@@ -27,7 +27,7 @@ fn pages(frames: u32) -> JournalShape {
     }
 }
 
-fn cells(frames: u32) -> JournalShape {
+pub(crate) fn cells(frames: u32) -> JournalShape {
     JournalShape {
         layout: JournalLayout::Cells,
         frames,
@@ -35,7 +35,7 @@ fn cells(frames: u32) -> JournalShape {
 }
 
 /// A device of such a size.
-fn formatted(alloc: Global, size: Size, shape: JournalShape) -> Result<MemoryDisk> {
+pub(crate) fn formatted(alloc: Global, size: Size, shape: JournalShape) -> Result<MemoryDisk> {
     let definition = definition(alloc, size)?;
     let disk = MemoryDisk::zeros(alloc, device_bytes(shape))?;
     match format_layout(alloc, disk, &definition, shape.frames, shape.layout.byte()) {
@@ -44,15 +44,14 @@ fn formatted(alloc: Global, size: Size, shape: JournalShape) -> Result<MemoryDis
     }
 }
 
-/// Formats a device, opens it, starts an engine and drives it: each command is accepted, and is found when the device is opened
-/// again.
-fn works(alloc: Global, size: Size, shape: JournalShape, commands: u32, batch: u32) -> Result<()> {
-    let sent = Sent {
-        commands,
-        batch,
-        frames: shape.frames,
-    };
-    let events = events(alloc, &definition(alloc, size)?, size, sent)?;
+/// Formats a device, opens it, starts an engine and drives it: so many commands are accepted, and so many are found when the
+/// device is opened again.
+fn drives(
+    alloc: Global,
+    (size, shape): (Size, JournalShape),
+    events: &[Event],
+    (accepted, found): (u32, u32),
+) -> Result<()> {
     let engine = started(
         alloc,
         opened_or_cause(alloc, formatted(alloc, size, shape)?)?,
@@ -63,18 +62,32 @@ fn works(alloc: Global, size: Size, shape: JournalShape, commands: u32, batch: u
             answers,
             fault,
         },
-    ) = drive(alloc, engine, &events)
+    ) = drive(alloc, engine, events)
     else {
         bail!("memory was refused");
     };
-    if fault.is_some() || answers.len() != commands as usize || !are_accepted(&answers) {
-        bail!("{size:?}, {shape:?}: an answer");
+    if fault.is_some() || answers.len() != accepted as usize || !are_accepted(&answers) {
+        bail!("{size:?}, {shape:?}, {} events: an answer", events.len());
     }
     let opened = opened_or_cause(alloc, engine.finish())?;
-    if opened.auction().count() != commands {
-        bail!("{size:?}, {shape:?}: what is opened");
+    if opened.auction().count() != found {
+        bail!(
+            "{size:?}, {shape:?}, {} events: what is opened",
+            events.len()
+        );
     }
     Ok(())
+}
+
+/// Each command is accepted, and is found when the device is opened again.
+fn works(alloc: Global, size: Size, shape: JournalShape, commands: u32, batch: u32) -> Result<()> {
+    let sent = Sent {
+        commands,
+        batch,
+        frames: shape.frames,
+    };
+    let events = events(alloc, &definition(alloc, size)?, size, sent)?;
+    drives(alloc, (size, shape), &events, (commands, commands))
 }
 
 /// The least journal of each layout, some rounds.
@@ -147,6 +160,33 @@ fn each_number_of_commands(rt: HostRuntime) -> Result<(), Fail> {
     commands(rt.alloc(), 0)?;
     commands(rt.alloc(), 1)?;
     commands(rt.alloc(), 65_536)?;
+    Ok(())
+}
+
+/// The first events of a thousand: an offer of one command and the four turns of its commit, over and over. A command is accepted
+/// with its fourth turn, and is on the device with the third.
+fn events_of(alloc: Global, shape: JournalShape) -> Result<()> {
+    let sent = Sent {
+        commands: 200,
+        batch: 1,
+        frames: shape.frames,
+    };
+    let events = events(alloc, &definition(alloc, GREATEST)?, GREATEST, sent)?;
+    if events.len() != 1_000 {
+        bail!("{} events", events.len());
+    }
+    for count in [1u32, 2, 3, 4, 5, 255, 256, 257, 999, 1_000] {
+        let front = &events[..events.len().min(count as usize)];
+        let found = count.saturating_add(1) / 5;
+        drives(alloc, (GREATEST, shape), front, (count / 5, found))?;
+    }
+    Ok(())
+}
+
+#[test]
+fn each_number_of_events(rt: HostRuntime) -> Result<(), Fail> {
+    events_of(rt.alloc(), pages(256))?;
+    events_of(rt.alloc(), cells(256))?;
     Ok(())
 }
 

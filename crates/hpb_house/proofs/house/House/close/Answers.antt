@@ -1,9 +1,14 @@
-use Rattle.std.proofs.Common.{◌≡◌, ◌∙◌, ◌++◌, All, List, ap, length, refl, sym, subst}
-use Rattle.hpb_rules.specs.declared.command.Command.{Command}
+use Rattle.std.proofs.Common.{◌≡◌, ◌∙◌, ◌++◌, All, List, ap, length, map, refl, sym, subst}
+use mathlib.Core.List.{IsPrefix}
+use Rattle.logbook.specs.Pages.{Book}
+use Rattle.hpb_rules.specs.declared.letter.Letter.{Letter}
 use Rattle.hpb_rules.specs.AuctionValue.{AuctionValue, Shows}
 use Rattle.hpb_board.specs.Publication.{Viewing, auction_of}
-use Rattle.hpb_closing.specs.Histories.{AreAlong, history_in, history_of}
-use Rattle.hpb_house.proofs.Leaving.{leaves_shown, leaves_unsettled}
+use Rattle.hpb_rings.specs.declared.report.Report.{Report}
+use Rattle.hpb_closing.specs.Histories.{history_in, history_of}
+use Rattle.hpb_closing.specs.Reports.{book_of}
+use Rattle.hpb_closing.proofs.Lists.{map-all}
+use Rattle.hpb_house.proofs.Leaving.{leaves_shown, leaves_unsettled, not_busy}
 use Rattle.hpb_house.proofs.house.House.close.Goals as goal
 
 pub settle-settled-requires-clause-book : goal.settle-settled-requires-clause-book
@@ -11,6 +16,16 @@ settle-settled-requires-clause-book g c = subst (λ (v : Viewing). All (λ r. r.
 
 pub settle-settled-requires-clause-opened : goal.settle-settled-requires-clause-opened
 settle-settled-requires-clause-opened g c = subst (λ (v : Viewing). All (λ r. r.viewer.opened ≡ v.opened) c.args.reports.now) (sym c.self.view_is) c.requires.opened
+
+-- the reports follow the keeper's board after the last view too
+of_board : (reports old : List Report) (book board : Book) → map book_of reports ≡ map book_of old → All (λ r. r.viewer.book ≡ book) old → book ≡ board → All (λ r. r.viewer.book ≡ board) reports
+of_board reports old book board same all is = subst (λ (b : Book). All (λ (r : Report). r.viewer.book ≡ b) reports) is (map-all book_of book reports old same all)
+
+pub whole_trail-whole-requires : goal.whole_trail-whole-requires
+whole_trail-whole-requires g c =
+    let own = c.keeper-keeper.ensures.own in
+    let book = ap (λ (v : Viewing). v.book) (sym c.self.view_is ∙ c.self.invariant.0) ∙ (sym own.book ∙ sym c.front.ensures.0) in
+    of_board c.settle-settled.new.reports c.args.reports.now _ _ c.settle-settled.ensures.book c.requires.book book
 
 pub returns-in-Ok-clause-shown : goal.returns-in-Ok-clause-shown
 returns-in-Ok-clause-shown g c =
@@ -29,7 +44,7 @@ returns-in-Ok-clause-kept g c =
     let facts = c.facts.ensures in
     let opened : c.self.inside.eye.opened ≡ k.board.opened = ap (λ (v : Viewing). v.opened) c.self.invariant.0 ∙ sym own.opened in
     let same = ap (λ (v : AuctionValue). history_in v k.board.list) opened in
-    leaves_shown g.D.Disk.seen g.D.Disk.may_leave c.judged_is_shown.ensures k g.J.Naming.image own.image facts.begins facts.keeps _ c.settle-settled.new.reports (history_in k.board.opened k.board.list)
+    leaves_shown g.D.Disk.seen g.D.Disk.may_leave g.met.D.Disk.seen_may_stay c.judged_is_shown.ensures k g.J.Naming.image own.image facts.begins facts.keeps _ c.settle-settled.new.reports (history_in k.board.opened k.board.list)
     c.finish-disk.ensures.disk c.finish-disk.ensures.committed c.has_failed-has_failed.ensures refl c.in-Ok.ensures.rest (λ i d lt. c.in-Ok.ensures.whole i d lt ∙ same) (c.in-Ok.ensures.summed ∙ ap length same)
 
 pub returns-in-Ok-clause-told : goal.returns-in-Ok-clause-told
@@ -42,11 +57,15 @@ returns-clause-left g c =
     let k = c.keeper-keeper.result in
     let own = c.keeper-keeper.ensures.own in
     let facts = c.facts.ensures in
+    let front = c.front.ensures in
     let opened : c.self.inside.eye.opened ≡ k.board.opened = ap (λ (v : Viewing). v.opened) c.self.invariant.0 ∙ sym own.opened in
     let same = ap (λ (v : AuctionValue). history_in v k.board.list) opened in
-    leaves_unsettled g.D.Disk.seen g.D.Disk.may_leave c.judged_is_shown.ensures k g.J.Naming.image own.image facts.begins facts.keeps _ c.settle-settled.new.reports (history_in k.board.opened k.board.list)
-    c.finish-disk.ensures.disk c.finish-disk.ensures.committed c.has_failed-has_failed.ensures refl c.in-Err.ensures.committing
-    (subst (λ (l : List Command). All (λ r. AreAlong (history_of r.viewer) l) c.settle-settled.new.reports) same c.settle-settled.ensures.along) (c.in-Err.ensures.since ∙ ap length same)
+    let book = ap (λ (v : Viewing). v.book) (sym c.self.view_is ∙ c.self.invariant.0) ∙ (sym own.book ∙ (sym front.0 ∙ sym c.whole_trail-whole.ensures.book)) in
+    leaves_unsettled g.D.Disk.seen g.D.Disk.may_leave g.met.D.Disk.seen_may_stay c.judged_is_shown.ensures k g.J.Naming.image own.image facts.begins facts.keeps _ _ c.settle-settled.new.reports
+    c.finish-disk.ensures.disk c.finish-disk.ensures.committed (ap (λ (v : Viewing). v.opened) (sym c.self.view_is) ∙ opened) c.trail-published.ensures.1 c.finish-disk.ensures.in_flight facts.shown facts.prepared
+    (c.in-Err.ensures.since ∙ ap length same) (c.trail-published.ensures.0 ∙ (sym front.0 ∙ sym c.whole_trail-whole.ensures.book))
+    (subst (λ (l : List (List Letter)). IsPrefix l c.whole_trail-whole.result.log) front.1 c.whole_trail-whole.ensures.this)
+    (of_board c.settle-settled.new.reports c.args.reports.now _ _ c.settle-settled.ensures.book c.requires.book book) c.whole_trail-whole.ensures.each
 
 pub returns-clause-told : goal.returns-clause-told
 returns-clause-told g c =
@@ -56,4 +75,4 @@ returns-clause-told g c =
 -- the auction that is handed back is the committed one
 pub returns-clause-only : goal.returns-clause-only
 returns-clause-only g c = λ rest shown.
-    c.in-Err.ensures.only rest (subst (λ (auction : AuctionValue). All (λ r. auction_of r.viewer ≡ auction) c.settle-settled.new.reports) c.finish-disk.ensures.committed shown)
+    c.in-Err.ensures.only (λ works. not_busy c.keeper-keeper.result.progress.commit (sym c.finish-disk.ensures.in_flight ∙ rest (c.has_failed-has_failed.ensures ∙ works))) (subst (λ (auction : AuctionValue). All (λ r. auction_of r.viewer ≡ auction) c.settle-settled.new.reports) c.finish-disk.ensures.committed shown)

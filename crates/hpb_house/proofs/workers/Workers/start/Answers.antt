@@ -1,8 +1,8 @@
 use denote.Param.Send.{sendable}
 use Rattle.hpb_house.proofs.Crossing.{House-sync, Incoming-send}
-use Rattle.hpb_house_rows.proofs.harness.start_workers.Goals as goal
+use Rattle.hpb_house.proofs.workers.Workers.start.Goals as goal
 
--- the committer's thread takes the house and what has come
+-- the committer's thread takes the house, what has come, and its gate
 pub spawn_with-requires-send-F : goal.spawn_with-requires-send-F
 spawn_with-requires-send-F g c κs within =
     let t = c.type_bounds in
@@ -10,7 +10,7 @@ spawn_with-requires-send-F g c κs within =
     let incoming = Incoming-send _ g.J.Naming t.send-J in
     search sendable depth 20
 
--- the checkpointer's takes the house alone
+-- the checkpointer's takes the house and its gate
 pub spawn-requires-send-F : goal.spawn-requires-send-F
 spawn-requires-send-F g c κs within =
     let t = c.type_bounds in

@@ -1,0 +1,68 @@
+//! The workers of a house, each in a thread of its own.
+ghost use Rattle.hpb_house.specs.Committing.{IsSettled};
+
+use crate::checkpointing::checkpointer;
+use crate::committing::committer;
+use crate::gate::Gate;
+use crate::house::House;
+use crate::incoming::{Incoming, Settled, Settles};
+use crate::keeper::Halt;
+use crate::naming::Naming;
+use crate::over::Over;
+use hpb_disk::Disk;
+use std::alloc::AllocError;
+use std::sync::Wait;
+use std::thread::{JoinHandle, PromisedHandle, Scope, Threads};
+
+/// The two workers of a house, each in a thread of its own.
+#[derive(Drop)]
+pub struct Workers<J: Naming> {
+    committing: PromisedHandle<Settled, Settles<J>>,
+    checkpointing: JoinHandle<Result<Over<J>, Halt>>,
+}
+
+impl<J: Naming> Workers<J> {
+    /// Starts the workers, each with a gate that is told where it stands.
+    ///
+    /// 90 where a thread is refused: the committer ends by itself then, if it was started, once every client is finished.
+    pub fn start<
+        's,
+        E,
+        D: Disk + Drop + Send,
+        W: Wait + Drop + Send,
+        C: Gate + Drop + Send + 's,
+        G: Gate + Drop + Send + 's,
+        R: Threads + Wait + Sync,
+    >(
+        scope: &Scope<'s, E>,
+        rt: &'s R,
+        house: &'s House<D, W, J>,
+        incoming: Incoming<J>,
+        commits: C,
+        checkpoints: G,
+    ) -> Result<Workers<J>, AllocError>
+    where
+        J: Send + Sync,
+    {
+        let commit = move || committer(rt, house, incoming, &commits);
+        let committing = scope.spawn_with(Settles::<J>::new(), commit)?;
+        let checkpoint = move || checkpointer(rt, house, &checkpoints);
+        let checkpointing = scope.spawn(checkpoint)?;
+        Ok(Workers {
+            committing,
+            checkpointing,
+        })
+    }
+
+    /// Waits for their ends: what the committer hands back, and why the checkpointer has ended.
+    pub fn join<R: Threads>(self, rt: &R) -> (Settled, Result<Over<J>, Halt>)
+        ensures { IsSettled J.eye result.0 }
+    {
+        let Workers {
+            committing,
+            checkpointing,
+        } = self;
+        let settled = committing.join(rt);
+        (settled, checkpointing.join(rt))
+    }
+}

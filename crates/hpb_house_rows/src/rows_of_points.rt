@@ -1,0 +1,130 @@
+//! The points that the workers of a house tell.
+
+use crate::devices::{faulty_opened, six_nodes_opened};
+use crate::harness::{Session, run_in_memory, run_with_fault};
+use crate::script::accepted_command;
+use crate::turns::{TURNS, pause, post};
+use hpb_engine_rows::over_layouts;
+use hpb_house::{Gate, Halt, Point};
+use hpb_rings::Client;
+use std::sync::Wait;
+use std::sync::atomic::{AtomicU32, Ordering};
+use std::test::*;
+
+/// How often each point was told, but for `Gathered`.
+#[derive(Clone, Copy, Debug, PartialEq, Eq)]
+struct Told {
+    turned: u32,
+    committed: u32,
+    pages: u32,
+    retired: u32,
+    failed: u32,
+}
+
+/// Counts how often each point is told. Of pages it counts those that come in their order.
+#[derive(Drop)]
+struct Tally {
+    gathered: AtomicU32,
+    turned: AtomicU32,
+    committed: AtomicU32,
+    pages: AtomicU32,
+    retired: AtomicU32,
+    failed: AtomicU32,
+}
+
+impl Tally {
+    /// A gate to which nothing was told.
+    fn new() -> Tally {
+        Tally {
+            gathered: AtomicU32::new(0),
+            turned: AtomicU32::new(0),
+            committed: AtomicU32::new(0),
+            pages: AtomicU32::new(0),
+            retired: AtomicU32::new(0),
+            failed: AtomicU32::new(0),
+        }
+    }
+
+    /// How often each was told.
+    fn told(&self) -> Told {
+        Told {
+            turned: self.turned.load(Ordering::SeqCst),
+            committed: self.committed.load(Ordering::SeqCst),
+            pages: self.pages.load(Ordering::SeqCst),
+            retired: self.retired.load(Ordering::SeqCst),
+            failed: self.failed.load(Ordering::SeqCst),
+        }
+    }
+}
+
+impl Gate for Tally {
+    fn at<R: Wait>(&self, _rt: &R, point: Point) {
+        let count = match point {
+            Point::Gathered => &self.gathered,
+            Point::Turned => &self.turned,
+            Point::Committed => &self.committed,
+            Point::Page(page) if u32::from(page) != self.pages.load(Ordering::SeqCst) => return,
+            Point::Page(_) => &self.pages,
+            Point::Retired => &self.retired,
+            Point::Failed => &self.failed,
+        };
+        count.fetch_add(1, Ordering::SeqCst);
+    }
+}
+
+/// Bids, and waits until a frame is retired or a worker has failed.
+#[derive(Drop)]
+struct Telling {
+    tally: Tally,
+}
+
+impl Session for Telling {
+    fn run<R: Wait>(&self, rt: &R, client: Client<Halt>) -> Client<Halt> {
+        let mut client = client;
+        let _ = post(&mut client, accepted_command(0));
+        for _ in 0..TURNS {
+            let told = self.tally.told();
+            if told.retired > 0 || told.failed > 0 {
+                return client;
+            }
+            pause(rt);
+        }
+        client
+    }
+}
+
+#[test]
+fn every_point_is_told(rt: HostRuntime) -> Result<(), Fail> {
+    let alloc = rt.alloc();
+    over_layouts!(shape => {
+        // A commit of four turns, and a checkpoint that retires its frame.
+        let session = Telling { tally: Tally::new() };
+        let opened = six_nodes_opened(alloc, shape)?;
+        let run = run_in_memory(&rt, alloc, opened, 1, &session.tally, &session)?;
+        let wanted = Told {
+            turned: 3,
+            committed: 1,
+            pages: 4,
+            retired: 1,
+            failed: 0,
+        };
+        assert_eq!(rt; session.tally.told(), wanted);
+        assert!(rt; session.tally.gathered.load(Ordering::SeqCst) > 1);
+        assert!(rt; run.outcome.is_closed);
+        // A commit whose second call fails.
+        let session = Telling { tally: Tally::new() };
+        let opened = faulty_opened(alloc, shape, 2)?;
+        let run = run_with_fault(&rt, alloc, opened, 1, &session.tally, &session)?;
+        let wanted = Told {
+            turned: 1,
+            committed: 0,
+            pages: 0,
+            retired: 0,
+            failed: 1,
+        };
+        assert_eq!(rt; session.tally.told(), wanted);
+        assert!(rt; session.tally.gathered.load(Ordering::SeqCst) > 1);
+        assert!(rt; run.outcome.is_closed);
+    });
+    Ok(())
+}
