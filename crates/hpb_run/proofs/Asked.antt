@@ -1,8 +1,9 @@
 -- What commands that are asked together are replied.
-use Rattle.std.proofs.Common.{◌≡◌, inl, inr, suc, ◌<◌, List, [], ◌∷◌, ◌++◌, length, map, reverse, refl, sym, ◌∙◌, ap, arith}
+use Rattle.std.proofs.Common.{◌≡◌, inl, inr, suc, ◌<◌, ◌≤◌, List, [], ◌∷◌, ◌++◌, length, map, reverse, refl, sym, ◌∙◌, ap, arith}
 use Rattle.std.proofs.lemmas.List.{reverse-reverse}
 use Rattle.hpb_rules.specs.declared.command.Command.{Command}
 use Rattle.hpb_rules.specs.declared.letter.Letter.{Letter}
+use Rattle.hpb_rules.specs.declared.limits.TheConstants.{MOST_LETTERS}
 use Rattle.hpb_rules.specs.declared.refusal.Refusal.TheVariants as refusals
 use Rattle.hpb_rules.specs.declared.reply.Reply.TheVariants as replies
 use Rattle.hpb_rules.specs.Answer.{after, answer_after, history_after, past_from, replies_from}
@@ -10,7 +11,7 @@ use Rattle.hpb_rules.specs.LetterLaws.{JudgedIsAnswered}
 use Rattle.hpb_rules.specs.Letters.{judged, new_commands}
 use Rattle.hpb_rules.specs.Tree.{Rules}
 use Rattle.hpb_server.specs.Desk.{AsksAll}
-use Rattle.hpb_run.specs.Device.{Phase, RepliesAt, State, failed, failing, never_over, works}
+use Rattle.hpb_run.specs.Device.{RepliesAt, State, failed, failing, left_of, never_over, works}
 use Rattle.hpb_run.specs.Standing.{letter_of, refused, reply_of}
 
 -- The letters of commands have these commands, and are as many.
@@ -74,53 +75,47 @@ all_failed state (command ∷ commands) = inr (
   replies.Refused refusals.Failed,
   refused (length commands) refusals.Failed,
   record state { phase = failed },
-  inr (inr (refl, refl)),
+  inr (inr (refl, refl, refl)),
   all_failed state commands,
   refl,
 )
 
-pub some_failed : (state : State) (commands : List Command) → 0 < length commands
+pub some_failed : (state : State) (commands : List Command) → 0 < length commands → left_of state.phase ≡ 0
     → AsksAll RepliesAt never_over state commands (refused (length commands) refusals.Failed) (record state { phase = failed })
-some_failed state [] some = absurd (omega (arith, some))
-some_failed state (command ∷ commands) some = inr (
+some_failed state [] some none = absurd (omega (arith, some))
+some_failed state (command ∷ commands) some none = inr (
   refl,
   replies.Refused refusals.Failed,
   refused (length commands) refusals.Failed,
   record state { phase = failed },
-  inr (inr (refl, refl)),
+  inr (inr (none, refl, refl)),
   all_failed state commands,
   refl,
 )
 
--- All are refused by 91, from the first 91 on.
-working_on : (phase : Phase) → phase ≡ works → phase ≡ failed → ⊥
-working_on phase at_work off = absurd (cc)
-
-failing_on : failing ≡ failed → ⊥
-failing_on off = absurd (cc)
-
+-- All are refused by 91, from the first 91 on, as many as are left.
 all_failing : (state : State) (commands : List Command)
-    → AsksAll RepliesAt never_over (record state { phase = failing }) commands (refused (length commands) refusals.Device) (record state { phase = failing })
+    → AsksAll RepliesAt never_over (record state { phase = failing (length commands) }) commands (refused (length commands) refusals.Device) (record state { phase = failing 0 })
 all_failing state [] = (refl, refl)
 all_failing state (command ∷ commands) = inr (
   refl,
   replies.Refused refusals.Device,
   refused (length commands) refusals.Device,
-  record state { phase = failing },
-  inr (inl (failing_on, refl, refl)),
+  record state { phase = failing (length commands) },
+  inr (inl (length commands, inr refl, refl, refl)),
   all_failing state commands,
   refl,
 )
 
-pub some_failing : (state : State) (commands : List Command) → state.phase ≡ works → 0 < length commands
-    → AsksAll RepliesAt never_over state commands (refused (length commands) refusals.Device) (record state { phase = failing })
-some_failing state [] at_work some = absurd (omega (arith, some))
-some_failing state (command ∷ commands) at_work some = inr (
+pub some_failing : (state : State) (commands : List Command) → state.phase ≡ works → 0 < length commands → length commands ≤ MOST_LETTERS
+    → AsksAll RepliesAt never_over state commands (refused (length commands) refusals.Device) (record state { phase = failing 0 })
+some_failing state [] at_work some most = absurd (omega (arith, some))
+some_failing state (command ∷ commands) at_work some most = inr (
   refl,
   replies.Refused refusals.Device,
   refused (length commands) refusals.Device,
-  record state { phase = failing },
-  inr (inl (working_on state.phase at_work, refl, refl)),
+  record state { phase = failing (length commands) },
+  inr (inl (length commands, inl (at_work, omega (arith, most)), refl, refl)),
   all_failing state commands,
   refl,
 )

@@ -1,11 +1,10 @@
 -- What a session on a device came to, by how it was served.
-use Rattle.std.proofs.Common.{◌≡◌, ◌≢◌, ◌⊎◌, inl, inr, ℕ, ◌<◌, Bool, true, false, List, [], Option, refl, sym, ◌∙◌, ap, subst, arith}
+use Rattle.std.proofs.Common.{◌≡◌, ◌≢◌, ◌⊎◌, inl, inr, ℕ, ◌<◌, Bool, true, false, List, [], refl, ◌∙◌, subst, arith}
 use Rattle.std.specs.Prelude.{Result, Ok, Err, OnOk, ⊤}
 use Rattle.std.specs.Io.KnownBytes.{Appends}
 use Rattle.hpb_rules.specs.declared.command.Command.{Command}
 use Rattle.hpb_rules.specs.declared.limits.TheConstants.{MOST_LETTERS}
 use Rattle.hpb_rules.specs.AuctionValue.{Shows}
-use Rattle.hpb_rules.specs.Text.{lines_text, history_after_lines}
 use Rattle.hpb_rules.specs.Tree.{Rules}
 use Rattle.hpb_progress.specs.declared.progress.Progress.{Progress}
 use Rattle.hpb_server.specs.declared.fault.Fault.{Fault}
@@ -19,7 +18,7 @@ use Rattle.hpb_run.proofs.DeviceSessions.{device_session_is_text}
 -- A phase is that of a device that works, unless it has failed.
 works_or_not : (phase : Phase) → (phase ≡ works) ⊎ (phase ≢ works)
 works_or_not works = inl refl
-works_or_not failing = inr (λ is. absurd (cc))
+works_or_not (failing left) = inr (λ is. absurd (cc))
 works_or_not failed = inr (λ is. absurd (cc))
 
 -- The parts of what is so at once.

@@ -1,5 +1,5 @@
 -- Where an engine stands after what a desk has it do.
-use Rattle.std.proofs.Common.{◌≡◌, ◌≢◌, ◌⊎◌, inl, inr, ℕ, ◌<◌, ◌≤◌, Bool, true, false, Option, Some, None, List, ◌++◌, length, map, reverse, refl, sym, ◌∙◌, ap, subst, arith}
+use Rattle.std.proofs.Common.{◌≡◌, ◌≢◌, ◌⊎◌, inl, inr, ℕ, suc, ◌<◌, ◌≤◌, nat_lt, Bool, true, false, ◌&&◌, if◌then◌else◌, Option, Some, None, Result, Ok, Err, OnOk, List, ◌++◌, length, map, reverse, refl, sym, ◌∙◌, ap, subst, arith}
 use Rattle.hpb_rules.specs.declared.command.Command.{Command}
 use Rattle.hpb_rules.specs.declared.letter.Answer.{Answer}
 use Rattle.hpb_rules.specs.declared.letter.Letter.{Letter}
@@ -20,19 +20,35 @@ use Rattle.hpb_engine.specs.Steps.{refusal_of}
 use Rattle.hpb_batches.specs.Batches.{IsStill, KeepsEnded, StaysRefused}
 use Rattle.hpb_server.specs.Desk.{AsksAll}
 use Rattle.hpb_run.specs.Device.{Phase, RepliesAt, ShowsAt, State, at_start, failed, failing, never_over, works}
-use Rattle.hpb_run.specs.Standing.{HasAsked, StandsAt, letter_of, refused, reply_of}
+use Rattle.hpb_batches.specs.Takes.{CheckpointTakes}
+use Rattle.hpb_run.specs.Standing.{AreAlike, HasAsked, IsCovered, StandsAt, commits_after, letter_of, most_counted, refused, reply_of}
 use Rattle.hpb_run.proofs.Asked.{all_by_rules, answered_state, judged_counted, judged_history, judged_replies, some_failed, some_failing}
 
 -- An engine that has not failed stands where all was answered by the rules.
 works_by : (phase : Phase) (off : Bool) → (phase ≢ works → off ≡ true) → off ≡ false → phase ≡ works
 works_by works off stopped on = refl
-works_by failing off stopped on = absurd (let yes = stopped (λ is. absurd (cc)) in cc)
+works_by (failing left) off stopped on = absurd (let yes = stopped (λ is. absurd (cc)) in cc)
 works_by failed off stopped on = absurd (let yes = stopped (λ is. absurd (cc)) in cc)
 
 -- Failures don't go back.
 failures_grow : (fault : Option Fault) (before after : ℕ) → HasFailed fault before after → before ≤ after
 failures_grow None before after has = omega (arith, has)
 failures_grow (Some fault) before after has = omega (arith, has.1)
+
+-- A checkpoint was made, or the device has failed.
+pub covered_by : (s t : Progress) (before after : ℕ) (off : Bool) (fault : Option Fault) → (fault ≡ None → CheckpointTakes s t before after) → ((told : Fault) → fault ≡ Some told → off ≡ true)
+    → IsCovered s t before after off
+covered_by s t before after off None whole told_off = inr (whole refl)
+covered_by s t before after off (Some fault) whole told_off = inl (told_off fault refl)
+
+-- One commit is counted at most where counting began anew.
+pub counts_anew : {A E : Type 0} (result : Result A E) (commits now before after : ℕ) → commits ≡ 0 → OnOk result (now ≡ commits_after commits before after) → OnOk result (now ≤ 1)
+counts_anew (Ok told) commits now before after zero is = subst (λ (n : ℕ). n ≤ 1) (sym is) (by (nat_lt before after && nat_lt commits most_counted))
+  where
+    by : (counts : Bool) → (if counts then suc commits else commits) ≤ 1
+    by true = omega (arith, zero)
+    by false = omega (arith, zero)
+counts_anew (Err error) commits now before after zero is = is
 
 module _ {D : Type 0} (seen : D → List ℕ) (may_leave : D → List ℕ → Type 0) (failures : D → ℕ) where
   abbrev Stands : D → Progress → Bool → State → Type 0
@@ -49,7 +65,11 @@ module _ {D : Type 0} (seen : D → List ℕ) (may_leave : D → List ℕ → Ty
     -- Its committed auction is shown.
     pub shows_committed : ShowsAt state (Some s.committed) state
     shows_committed =
-        (s.committed, refl, stands.0.rules, subst (λ (history : List Command). Shows s.committed history) stands.0.acknowledged stands.0.keeps.shows, refl)
+        (s.committed, refl, stands.0.rules, subst (λ (history : List Command). Shows s.committed history) stands.0.acknowledged stands.0.keeps.shows, refl, stands.0.answered)
+
+    -- One that has failed keeps the acknowledged commands alone, where all was answered by the rules.
+    pub alike_failed : (count : ℕ) (told : List Reply) → told ≡ refused count refusals.Failed → AreAlike seen may_leave old s off state count told
+    alike_failed count told are = inr (are, λ at_work. subst (λ (machine : Machine). Keeps seen may_leave old s off machine) (stands.0.rests at_work) stands.0.keeps)
 
     -- One that has failed refuses each command.
     pub failed_told : off ≡ true → (commands : List Command) (told : List Reply) → 0 < length commands → told ≡ refused (length commands) refusals.Failed
@@ -57,7 +77,7 @@ module _ {D : Type 0} (seen : D → List ℕ) (may_leave : D → List ℕ → Ty
     failed_told is commands told some are =
         let next : State = record state { phase = failed } in (
           next,
-          subst (λ (l : List Reply). AsksAll RepliesAt never_over state commands l next) (sym are) (some_failed state commands some),
+          subst (λ (l : List Reply). AsksAll RepliesAt never_over state commands l next) (sym are) (some_failed state commands some stands.0.answered),
           (
             record {
               machine = stands.0.machine;
@@ -67,6 +87,7 @@ module _ {D : Type 0} (seen : D → List ℕ) (may_leave : D → List ℕ → Ty
               rests = λ at_work. absurd (cc);
               stopped = λ stops. is;
               cause = stands.0.cause;
+              answered = refl;
             },
             stands.1,
           ),
@@ -86,6 +107,7 @@ module _ {D : Type 0} (seen : D → List ℕ) (may_leave : D → List ℕ → Ty
           rests = λ at_work. refl;
           stopped = λ stops. absurd (stops (phase_is on));
           cause = λ is. inr (risen fault work has is);
+          answered = stands.0.answered;
         },
         omega (arith, stands.1, failures_grow fault (failures old) (failures new) has),
       )
@@ -105,6 +127,7 @@ module _ {D : Type 0} (seen : D → List ℕ) (may_leave : D → List ℕ → Ty
           rests = λ at_work. refl;
           stopped = λ stops. absurd (stops (phase_is on));
           cause = λ is. absurd (let no = stays.2 is in cc);
+          answered = stands.0.answered;
         },
         omega (arith, stands.1, stays.1),
       )
@@ -133,6 +156,7 @@ module _ {D : Type 0} (seen : D → List ℕ) (may_leave : D → List ℕ → Ty
                   rests = λ at_work. ended.2.2 ∙ ap at_rest came;
                   stopped = λ stops. absurd (stops (phase_is on));
                   cause = λ is. absurd (let no = ended.2.0 in cc);
+                  answered = stands.0.answered;
                 },
                 omega (arith, stands.1, well),
               ),
@@ -144,7 +168,7 @@ module _ {D : Type 0} (seen : D → List ℕ) (may_leave : D → List ℕ → Ty
         none_taken ended rose told_are =
             let next : State = record state { phase = failed } in (
               next,
-              subst (λ (l : List Reply). AsksAll RepliesAt never_over state commands l next) (sym told_are) (some_failed state commands some),
+              subst (λ (l : List Reply). AsksAll RepliesAt never_over state commands l next) (sym told_are) (some_failed state commands some stands.0.answered),
               (
                 record {
                   machine = ended.0;
@@ -154,6 +178,7 @@ module _ {D : Type 0} (seen : D → List ℕ) (may_leave : D → List ℕ → Ty
                   rests = λ at_work. absurd (cc);
                   stopped = λ stops. ended.2.0;
                   cause = λ is. inr (omega (arith, stands.1, rose));
+                  answered = refl;
                 },
                 omega (arith, stands.1, rose),
               ),
@@ -163,9 +188,9 @@ module _ {D : Type 0} (seen : D → List ℕ) (may_leave : D → List ℕ → Ty
         none_acknowledged : Ended state.rules (Some faults.Device) → failures old < failures new → told ≡ refused (length commands) refusals.Device
             → HasAsked seen may_leave failures new t after state commands told
         none_acknowledged ended rose told_are =
-            let next : State = record state { phase = failing } in (
+            let next : State = record state { phase = failing 0 } in (
               next,
-              subst (λ (l : List Reply). AsksAll RepliesAt never_over state commands l next) (sym told_are) (some_failing state commands (phase_is on) some),
+              subst (λ (l : List Reply). AsksAll RepliesAt never_over state commands l next) (sym told_are) (some_failing state commands (phase_is on) some most),
               (
                 record {
                   machine = ended.0;
@@ -175,6 +200,7 @@ module _ {D : Type 0} (seen : D → List ℕ) (may_leave : D → List ℕ → Ty
                   rests = λ at_work. absurd (cc);
                   stopped = λ stops. ended.2.0;
                   cause = λ is. inr (omega (arith, stands.1, rose));
+                  answered = refl;
                 },
                 omega (arith, stands.1, rose),
               ),
@@ -194,6 +220,14 @@ module _ {D : Type 0} (seen : D → List ℕ) (may_leave : D → List ℕ → Ty
             by (Some faults.Device) ended well ill earlier answered stopped = none_acknowledged ended (ill refl) (stopped faults.Device refl)
             by (Some faults.Failed) ended well ill earlier answered stopped = elim (earlier refl) [ inl is ↦ absurd (cc) | inr rose ↦ none_taken ended rose (stopped faults.Failed refl) ]
 
+        -- Where the device failed they have one refusal.
+        pub alike_told : (fault : Option Fault) → Ended s.committed.rules fault → ((why : Fault) → fault ≡ Some why → told ≡ refused (length commands) (refusal_of why))
+            → after ≡ true → AreAlike seen may_leave new t after state (length commands) told
+        alike_told None ended stopped is = absurd (let no = ended.2.0 in cc)
+        alike_told (Some faults.Device) ended stopped is = inl (stopped faults.Device refl)
+        alike_told (Some faults.Failed) ended stopped is =
+            inr (stopped faults.Failed refl, λ at_work. subst (λ (machine : Machine). Keeps seen may_leave new t after machine) ended.2.1 ended.1)
+
   -- An engine with nothing in flight stands at the start.
   pub starts : (disk : D) (s : Progress) (off : Bool) (history : List Command) → Keeps seen may_leave disk s off (at_rest history)
       → StandsAt seen may_leave failures disk s off (at_start s.committed.rules history (failures disk) off)
@@ -206,6 +240,7 @@ module _ {D : Type 0} (seen : D → List ℕ) (may_leave : D → List ℕ → Ty
       rests = λ at_work. refl;
       stopped = λ stops. absurd (stops refl);
       cause = λ is. inl is;
+      answered = refl;
     },
     omega arith,
   )

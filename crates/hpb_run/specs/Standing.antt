@@ -1,15 +1,19 @@
 -- Where the desk of a device stands, and what its small steps give.
-use Rattle.std.specs.Prelude.{◌≡◌, ℕ, suc, ◌≤◌, ◌==◌, nat_lt, nat_le, Bool, not, ◌&&◌, List, replicate, if◌then◌else◌}
+use Rattle.std.specs.Prelude.{◌≡◌, ◌⊎◌, ℕ, suc, ◌≤◌, ◌==◌, nat_lt, nat_le, Bool, true, not, ◌&&◌, List, replicate, if◌then◌else◌}
 use Rattle.hpb_rules.specs.declared.command.Command.{Command}
 use Rattle.hpb_rules.specs.declared.letter.Answer.{Answer}
 use Rattle.hpb_rules.specs.declared.letter.Letter.{Letter}
 use Rattle.hpb_rules.specs.declared.refusal.Refusal.{Refusal}
+use Rattle.hpb_rules.specs.declared.refusal.Refusal.TheVariants as refusals
 use Rattle.hpb_rules.specs.declared.reply.Reply.{Reply}
 use Rattle.hpb_rules.specs.declared.reply.Reply.TheVariants as replies
+use Rattle.hpb_rules.specs.Machine.{at_rest}
 use Rattle.hpb_rules.specs.Tree.{Rules}
 use Rattle.hpb_progress.specs.declared.progress.Progress.{Progress}
+use Rattle.hpb_progress.specs.Keeping.{Keeps}
+use Rattle.hpb_batches.specs.Takes.{CheckpointTakes}
 use Rattle.hpb_server.specs.Desk.{AsksAll}
-use Rattle.hpb_run.specs.Device.{IsAt, RepliesAt, State, never_over}
+use Rattle.hpb_run.specs.Device.{IsAt, RepliesAt, State, never_over, works}
 
 -- A command as a letter of the one seat that a session has.
 abbrev pub letter_of : Command → Letter
@@ -22,9 +26,19 @@ reply_of answered = answered.reply
 abbrev pub refused : ℕ → Refusal → List Reply
 refused count refusal = replicate count (replies.Refused refusal)
 
+-- Commands that were asked together at a state have one refusal: 91, since a call of the device failed in their commit; or 93, since one had failed before. Where the device had worked, 93 says that it keeps none of them, whatever a crash leaves.
+abbrev pub AreAlike : {D : Type 0} (seen : D → List ℕ) (may_leave : D → List ℕ → Type 0) (disk : D) (s : Progress) (failed : Bool) → State → (count : ℕ) → List Reply → Type 0
+AreAlike seen may_leave disk s failed state count told =
+    (told ≡ refused count refusals.Device)
+    ⊎ ((told ≡ refused count refusals.Failed) × (state.phase ≡ works → Keeps seen may_leave disk s failed (at_rest state.history)))
+
 -- A checkpoint is due after so many commits, where one is wanted.
 abbrev pub is_due : (every commits : ℕ) → Bool
 is_due every commits = not (every == 0) && nat_le every commits
+
+-- A whole checkpoint was made, or the device has failed.
+abbrev pub IsCovered : (s t : Progress) (before after : ℕ) (failed : Bool) → Type 0
+IsCovered s t before after failed = (failed ≡ true) ⊎ CheckpointTakes s t before after
 
 -- The greatest number of commits that is counted.
 abbrev pub most_counted : ℕ

@@ -1,5 +1,5 @@
 -- The desk of a device tells of the acknowledged commands.
-use Rattle.std.specs.Prelude.{◌≡◌, ◌<◌, ◌≤◌, List, Option, Some}
+use Rattle.std.specs.Prelude.{◌≡◌, ◌<◌, ◌≤◌, List, Option}
 use Rattle.std.proofs.Common.{sym, ap, subst, ◌∙◌, inl, inr, arith}
 use Rattle.hpb_rules.specs.declared.command.Command.{Command}
 use Rattle.hpb_rules.specs.declared.limits.TheConstants.{MOST_LETTERS}
@@ -19,8 +19,8 @@ desk_has_rules definition state is = sym is
 
 pub device_keeps_rules : (old new : State) (command : Command) (reply : Reply) → RepliesAt old command reply new → rules_at new ≡ rules_at old
 device_keeps_rules old new command reply (inl it) = ap rules_at it.2
-device_keeps_rules old new command reply (inr (inl it)) = ap rules_at it.2
-device_keeps_rules old new command reply (inr (inr it)) = ap rules_at it.1
+device_keeps_rules old new command reply (inr (inl it)) = ap rules_at it.3
+device_keeps_rules old new command reply (inr (inr it)) = ap rules_at it.2
 
 pub device_replies : (old new : State) (command : Command) (reply : Reply) (told : List Command) → RepliesAt old command reply new → TellsAt old told → RepliesAfter (rules_at old) told command reply (TellsAt new)
 device_replies old new command reply told (inl it) tells = (
@@ -32,9 +32,9 @@ device_replies old new command reply told (inl it) tells = (
   ),
 )
 device_replies old new command reply told (inr (inl it)) tells =
-    (told, front_self told, inr (inr (inr (inl it.1)), tells ∙ sym (ap (λ (state : State). state.history) it.2)))
+    (told, front_self told, inr (inr (inr (inl it.2)), tells ∙ sym (ap (λ (state : State). state.history) it.3)))
 device_replies old new command reply told (inr (inr it)) tells =
-    (told, front_self told, inr (inr (inl it.0), tells ∙ sym (ap (λ (state : State). state.history) it.1)))
+    (told, front_self told, inr (inr (inl it.1), tells ∙ sym (ap (λ (state : State). state.history) it.2)))
 
 pub device_shows : (old new : State) (shown : Option AuctionValue) (told : List Command) → ShowsAt old shown new → TellsAt old told → ShowsAfter told shown (TellsAt new)
 device_shows old new shown told it tells =

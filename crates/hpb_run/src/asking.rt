@@ -1,8 +1,9 @@
 //! What a desk has its engine do.
-ghost use Rattle.std.specs.Prelude.{◌<◌, ◌≤◌, length, IfOk, OnErr};
+ghost use Rattle.std.specs.Prelude.{◌≡◌, ◌<◌, ◌≤◌, true, length, IfOk, OnErr, OnOk};
 ghost use Rattle.hpb_rules.specs.declared.limits.TheConstants.{MOST_LETTERS};
+ghost use Rattle.hpb_batches.specs.Takes.{IsBetween};
 ghost use Rattle.hpb_run.specs.Device.{State};
-ghost use Rattle.hpb_run.specs.Standing.{HasAsked, StandsAt};
+ghost use Rattle.hpb_run.specs.Standing.{AreAlike, HasAsked, IsCovered, StandsAt};
 
 use crate::replies::{all_refused, letters_of, replies_to};
 use hpb_batches::{commit_letters, make_checkpoint};
@@ -21,6 +22,9 @@ pub(crate) fn ask_engine<D: Disk + Drop>(
     requires most { length commands.now ≤ MOST_LETTERS }
     ensures asked { (state : State) → StandsAt D.seen D.may_leave D.failures engine.old.disk engine.old.progress engine.old.failed state
         → IfOk result (λ replies. HasAsked D.seen D.may_leave D.failures engine.new.disk engine.new.progress engine.new.failed state commands.now replies) }
+    // Where the device fails, or had failed, they have one refusal; and 93 where it had worked says that none of them is kept.
+    ensures alike { (state : State) → StandsAt D.seen D.may_leave D.failures engine.old.disk engine.old.progress engine.old.failed state
+        → engine.new.failed ≡ true → IfOk result (AreAlike D.seen D.may_leave engine.new.disk engine.new.progress engine.new.failed state (length commands.now)) }
     ensures kept { (state : State) → StandsAt D.seen D.may_leave D.failures engine.old.disk engine.old.progress engine.old.failed state
         → OnErr result (StandsAt D.seen D.may_leave D.failures engine.new.disk engine.new.progress engine.new.failed state) }
 {
@@ -40,8 +44,10 @@ pub(crate) fn rest_engine<D: Disk + Drop>(
     alloc: Global,
     engine: &mut Engine<D>,
 ) -> Result<(), AllocError>
-    ensures { (state : State) → StandsAt D.seen D.may_leave D.failures engine.old.disk engine.old.progress engine.old.failed state
+    ensures stands { (state : State) → StandsAt D.seen D.may_leave D.failures engine.old.disk engine.old.progress engine.old.failed state
         → StandsAt D.seen D.may_leave D.failures engine.new.disk engine.new.progress engine.new.failed state }
+    ensures whole { (state : State) → StandsAt D.seen D.may_leave D.failures engine.old.disk engine.old.progress engine.old.failed state → IsBetween engine.old.progress
+        → OnOk result (IsCovered engine.old.progress engine.new.progress (D.moment engine.old.disk) (D.moment engine.new.disk) engine.new.failed) }
 {
     if engine.failed {
         return Ok(());

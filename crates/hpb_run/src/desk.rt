@@ -1,12 +1,13 @@
 //! The desk of an auction on a device.
-ghost use Rattle.std.specs.Prelude.{◌≡◌, ◌<◌, ◌≤◌, List, true, length, IfOk, IfErr, IfSome, OnErr};
+ghost use Rattle.std.specs.Prelude.{◌≡◌, ◌<◌, ◌≤◌, List, true, false, length, IfOk, IfErr, IfSome, OnErr, OnOk};
 ghost use Rattle.hpb_rules.specs.declared.command.Command.{Command};
 ghost use Rattle.hpb_rules.specs.declared.limits.TheConstants.{MOST_LETTERS};
 ghost use Rattle.hpb_rules.specs.Machine.{at_rest};
 ghost use Rattle.hpb_progress.specs.Keeping.{Keeps};
 ghost use Rattle.hpb_server.specs.Desk.{AsksAll, HasPlaces, seen};
 ghost use Rattle.hpb_run.specs.Device.{RepliesAt, ShowsAt, State, at_start, never_over};
-ghost use Rattle.hpb_run.specs.Standing.{DeskStands};
+ghost use Rattle.hpb_batches.specs.Takes.{IsBetween};
+ghost use Rattle.hpb_run.specs.Standing.{AreAlike, DeskStands, IsCovered, commits_after, is_due};
 
 use crate::asking::{ask_engine, rest_engine};
 use crate::counting::{count_commit, is_checkpoint_due};
@@ -18,23 +19,28 @@ use hpb_server::Desk;
 use hpb_tree::Definition;
 use std::alloc::{AllocError, Global};
 
-/// The desk of an auction on a device.
+/// The desk of an auction on a device, which `run_device` serves.
 #[derive(Drop)]
-pub(crate) struct DeviceDesk<D: Disk + Drop> {
-    engine: Engine<D>,
-    definition: Definition,
-    batch: usize,
-    every: u32,
+pub struct DeviceDesk<D: Disk + Drop> {
+    pub engine: Engine<D>,
+    /// A copy of the auction's definition, by which lines are read.
+    pub definition: Definition,
+    /// How many commands are asked together, from 1 to 64, where so many have come.
+    pub batch: usize,
+    /// After how many commits a checkpoint is due; with 0 after none.
+    pub every: u32,
     /// How many commits there have been since the last checkpoint that was due.
-    commits: u32,
-    ghost some: { 0 < batch },
-    ghost most: { batch ≤ MOST_LETTERS },
+    pub commits: u32,
+    pub ghost some: { 0 < batch },
+    pub ghost most: { batch ≤ MOST_LETTERS },
 }
 
 impl<D: Disk + Drop> DeviceDesk<D> {
-    /// A desk that asks for so many commands together, from 1 to 64, and has a checkpoint made after so many commits.
-    /// Where memory is refused the engine is handed back.
-    pub(crate) fn new(
+    /// A desk that asks for so many commands together, from 1 to 64 (any other number is taken as the nearest of these), and has a
+    /// checkpoint made after so many commits.
+    ///
+    /// 90 where memory is refused: the engine is handed back.
+    pub fn new(
         alloc: Global,
         engine: Engine<D>,
         batch: usize,
@@ -43,6 +49,9 @@ impl<D: Disk + Drop> DeviceDesk<D> {
         ensures stands { (history : List Command) → Keeps D.seen D.may_leave engine.disk engine.progress engine.failed (at_rest history)
             → IfOk result (λ desk. DeskStands D.seen D.may_leave D.failures desk.engine.disk desk.engine.progress desk.engine.failed desk.definition
             (at_start engine.progress.committed.rules history (D.failures engine.disk) engine.failed)) }
+        ensures every { IfOk result (λ desk. desk.every ≡ every) }
+        ensures batch { IfOk result (λ desk. 0 < batch → batch ≤ MOST_LETTERS → desk.batch ≡ batch) }
+        ensures none { IfOk result (λ desk. desk.commits ≡ 0) }
         ensures back { IfErr result (λ back. back ≡ engine) }
     {
         match engine.progress.committed.definition().copy(alloc) {
@@ -58,17 +67,28 @@ impl<D: Disk + Drop> DeviceDesk<D> {
     }
 
     /// The engine, as it stands.
-    pub(crate) fn into_engine(self) -> Engine<D>
+    pub fn into_engine(self) -> Engine<D>
         ensures { result ≡ self.engine }
     {
         let DeviceDesk { engine, .. } = self;
         engine
     }
 
-    /// Makes a checkpoint where one is due.
-    fn make_due_checkpoint(&mut self, alloc: Global) -> Result<(), AllocError>
+    /// Makes a whole checkpoint where one is due: once there have been `every` commits since the last one that was due. Where none is
+    /// due nothing changes, and the device has no call.
+    ///
+    /// 90 where memory is refused: it stays due.
+    pub fn make_due_checkpoint(&mut self, alloc: Global) -> Result<(), AllocError>
         ensures kept { (state : State) → DeskStands D.seen D.may_leave D.failures self.old.engine.disk self.old.engine.progress self.old.engine.failed self.old.definition state
             → DeskStands D.seen D.may_leave D.failures self.new.engine.disk self.new.engine.progress self.new.engine.failed self.new.definition state }
+        // One that is due is made, and counting begins anew.
+        ensures due { is_due self.old.every self.old.commits ≡ true → OnOk result (self.new.commits ≡ 0) }
+        ensures whole { (state : State) → DeskStands D.seen D.may_leave D.failures self.old.engine.disk self.old.engine.progress self.old.engine.failed self.old.definition state
+            → IsBetween self.old.engine.progress → is_due self.old.every self.old.commits ≡ true → OnOk result
+            (IsCovered self.old.engine.progress self.new.engine.progress (D.moment self.old.engine.disk) (D.moment self.new.engine.disk) self.new.engine.failed) }
+        // Where none is due, none is made.
+        ensures none { is_due self.old.every self.old.commits ≡ false → (self.new.engine ≡ self.old.engine) × (self.new.commits ≡ self.old.commits) }
+        ensures pace { (self.new.batch ≡ self.old.batch) × (self.new.every ≡ self.old.every) }
         ensures definition { self.new.definition ≡ self.old.definition }
     {
         if is_checkpoint_due(self.every, self.commits) {
@@ -78,13 +98,27 @@ impl<D: Disk + Drop> DeviceDesk<D> {
         Ok(())
     }
 
-    /// Asks for commands together, after the checkpoint that is due.
-    fn ask_together(&mut self, alloc: Global, commands: &Commands) -> Result<Replies, AllocError>
+    /// Asks for commands together, after the checkpoint that is due, and counts their commit.
+    ///
+    /// 90 where memory is refused: none is asked.
+    pub fn ask_together(
+        &mut self,
+        alloc: Global,
+        commands: &Commands,
+    ) -> Result<Replies, AllocError>
         requires some { 0 < length commands.now }
         requires most { length commands.now ≤ MOST_LETTERS }
+        // A commit counts where more commands are accepted than before; where a checkpoint was due, counting has begun anew.
+        ensures counted { is_due self.old.every self.old.commits ≡ false
+            → OnOk result (self.new.commits ≡ commits_after self.old.commits self.old.engine.progress.committed.count self.new.engine.progress.committed.count) }
+        ensures anew { is_due self.old.every self.old.commits ≡ true → OnOk result (self.new.commits ≤ 1) }
+        ensures pace { (self.new.batch ≡ self.old.batch) × (self.new.every ≡ self.old.every) }
         ensures asked { (state : State) → DeskStands D.seen D.may_leave D.failures self.old.engine.disk self.old.engine.progress self.old.engine.failed self.old.definition state
             → IfOk result (λ replies. (next : State) × AsksAll RepliesAt never_over state commands.now replies next
             × DeskStands D.seen D.may_leave D.failures self.new.engine.disk self.new.engine.progress self.new.engine.failed self.new.definition next) }
+        // Where the device fails, or had failed, they have one refusal; and 93 where it had worked says that none of them is kept.
+        ensures alike { (state : State) → DeskStands D.seen D.may_leave D.failures self.old.engine.disk self.old.engine.progress self.old.engine.failed self.old.definition state
+            → self.new.engine.failed ≡ true → IfOk result (AreAlike D.seen D.may_leave self.new.engine.disk self.new.engine.progress self.new.engine.failed state (length commands.now)) }
         ensures kept { (state : State) → DeskStands D.seen D.may_leave D.failures self.old.engine.disk self.old.engine.progress self.old.engine.failed self.old.definition state
             → OnErr result (DeskStands D.seen D.may_leave D.failures self.new.engine.disk self.new.engine.progress self.new.engine.failed self.new.definition state) }
         ensures definition { self.new.definition ≡ self.old.definition }
@@ -95,13 +129,18 @@ impl<D: Disk + Drop> DeviceDesk<D> {
         }
     }
 
-    /// Asks for commands together, and counts their commit.
+    /// Asks for commands together, and counts their commit, if it is one: where more commands are accepted than before.
     fn ask_now(&mut self, alloc: Global, commands: &Commands) -> Result<Replies, AllocError>
         requires some { 0 < length commands.now }
         requires most { length commands.now ≤ MOST_LETTERS }
+        ensures counted { OnOk result (self.new.commits ≡ commits_after self.old.commits self.old.engine.progress.committed.count self.new.engine.progress.committed.count) }
+        ensures pace { (self.new.batch ≡ self.old.batch) × (self.new.every ≡ self.old.every) }
         ensures asked { (state : State) → DeskStands D.seen D.may_leave D.failures self.old.engine.disk self.old.engine.progress self.old.engine.failed self.old.definition state
             → IfOk result (λ replies. (next : State) × AsksAll RepliesAt never_over state commands.now replies next
             × DeskStands D.seen D.may_leave D.failures self.new.engine.disk self.new.engine.progress self.new.engine.failed self.new.definition next) }
+        // Where the device fails, or had failed, they have one refusal; and 93 where it had worked says that none of them is kept.
+        ensures alike { (state : State) → DeskStands D.seen D.may_leave D.failures self.old.engine.disk self.old.engine.progress self.old.engine.failed self.old.definition state
+            → self.new.engine.failed ≡ true → IfOk result (AreAlike D.seen D.may_leave self.new.engine.disk self.new.engine.progress self.new.engine.failed state (length commands.now)) }
         ensures kept { (state : State) → DeskStands D.seen D.may_leave D.failures self.old.engine.disk self.old.engine.progress self.old.engine.failed self.old.definition state
             → OnErr result (DeskStands D.seen D.may_leave D.failures self.new.engine.disk self.new.engine.progress self.new.engine.failed self.new.definition state) }
         ensures definition { self.new.definition ≡ self.old.definition }
@@ -193,7 +232,11 @@ impl<D: Disk + Drop> Desk for DeviceDesk<D> {
         false
     }
 
-    fn most_asked(&self) -> usize {
+    fn most_asked(&self) -> usize
+        ensures some { 0 < result }
+        ensures most { result ≤ MOST_LETTERS }
+        ensures own { result ≡ self.now.batch }
+    {
         self.batch
     }
 

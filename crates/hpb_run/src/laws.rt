@@ -1,11 +1,11 @@
 ghost use Rattle.hpb_run.specs.DeviceLaws.{DeviceInputIsText, DeviceSessionIsText};
 
-/// A session on a device is answered by the text of its lines up to the first fault, and keeps the commands that were acknowledged.
+/// A session on a device that works answers an input by the text of lines up to some line, and from there on as by a device that has failed; as long as the device works, all of it.
 pub fn device_input_is_text()
     ensures { DeviceInputIsText }
 {}
 
-/// A session on a device writes what its input is so answered, and at a fault of its own a front of it.
+/// So a session on a device writes the text of what was read, and at a fault of its own a front of it, as much as the fault leaves.
 pub fn device_session_is_text()
     ensures { DeviceSessionIsText }
 {}

@@ -8,5 +8,6 @@ mod laws;
 mod replies;
 mod running;
 
+pub use desk::DeviceDesk;
 pub use laws::{device_input_is_text, device_session_is_text};
 pub use running::{Ran, run_device};

@@ -6,6 +6,8 @@ use Rattle.hpb_rules.specs.Fronts.{IsFront}
 use Rattle.hpb_serve.specs.declared.fault.ServeFault.{ServeFault}
 use Rattle.hpb_serve.specs.declared.fault.ServeFault.TheVariants.{Memory, Writer, Start, Order, Counts}
 
+-- **What is written.** One line with the port, before the first session. Where serving ends ill, as much of it as the fault leaves.
+--
 -- The line that tells of a port that can be connected to.
 abbrev pub listening_line : ℕ → List ℕ
 listening_line port = codes "LISTENING " ++ decimal port ++ codes "\n"

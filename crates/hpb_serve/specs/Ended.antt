@@ -1,6 +1,6 @@
 -- How the sessions of a house end.
 -- Source: this project's own.
-use Rattle.std.specs.Prelude.{◌≡◌, ◌≢◌, ℕ, ◌-◌, ◌^◌, false, List, ◌++◌, All, Contains, IsPermutation, Option, flat_map, map, min}
+use Rattle.std.specs.Prelude.{◌≡◌, ◌≢◌, ℕ, ◌-◌, ◌^◌, false, List, ◌++◌, All, Contains, IsPermutation, None, flat_map, map, min}
 use Rattle.std.specs.List.{range_with_len}
 use Rattle.hpb_rules.specs.declared.command.Command.{Command}
 use Rattle.hpb_rules.specs.AuctionValue.{AuctionValue, Shows}
@@ -20,28 +20,37 @@ use Rattle.hpb_serve.specs.declared.fault.SessionsFault.{SessionsFault}
 use Rattle.hpb_serve.specs.declared.fault.SessionsFault.TheVariants as threads
 use Rattle.hpb_serve.specs.declared.serving.Served.{Served}
 use Rattle.hpb_sessions.specs.declared.end.SessionEnd.{SessionEnd}
-use Rattle.hpb_sessions.specs.declared.stop.Stop.{Stop}
-use Rattle.hpb_sessions.specs.Ends.{EndsBy, seat_of, viewer_of}
+use Rattle.hpb_sessions.specs.declared.end.SessionEnd.TheVariants.{Left}
+use Rattle.hpb_sessions.specs.Ends.{seat_of, viewer_of}
 use Rattle.hpb_sessions.specs.Stops.{IsInOrder}
 
--- A session ended with the client of this seat, on the board that this viewer follows, by what stopped its commands, if something did.
+-- **How a session ends.** With the client of its seat, on the board of its house: the client has finished, or is left since the next answer to its
+-- seat isn't the one that it waits for. The second is what a 95 tells of, which hands that client back: it is the client of one of the seats, and its
+-- viewer began with the auction that was opened.
+--
+-- The next answer to the seat of a client isn't the one that it waits for.
+abbrev pub IsOutOfOrder : Client Halt → Type 0
+IsOutOfOrder client = IsInOrder client.seat client.viewer client.taken client.waiting.items → ⊥
+
+-- A session ended with the client of this seat, on the board that this viewer follows. It left the client only where that is out of order.
 pub record EndsAtSeat (eye : Viewing) (place : ℕ) (end : SessionEnd Halt) : Type 0 where
   pub seat : seat_of end ≡ place
   pub board : SameBoard eye (viewer_of end)
-  pub stop : Option Stop
-  pub ended : EndsBy stop end
+  pub left : (client : Client Halt) → end ≡ Left client → IsOutOfOrder client
 
 -- A session left its client, which is that of one of these seats and began with this auction: the next answer to its seat isn't the one that it waits for.
 pub record IsLeft (auction : AuctionValue) (seats : List ℕ) (client : Client Halt) : Type 0 where
   pub seat : Contains seats client.seat
   pub opened : client.viewer.opened ≡ auction
-  pub order : IsInOrder client.seat client.viewer client.taken client.waiting.items → ⊥
+  pub order : IsOutOfOrder client
 
 -- Where a session of these seats left its client, that is handed back.
 abbrev pub LeavesOne : (auction : AuctionValue) (seats : List ℕ) → SessionsFault → Type 0
 LeavesOne auction seats threads.Memory = Unit {0}
 LeavesOne auction seats (threads.Order client) = IsLeft auction seats client
 
+-- **What sessions that have ended come to.**
+--
 -- So many sessions have ended, which began with this auction, on a device that was opened with these bytes after so many failed calls; and this is told of them.
 pub record EndsAll {D : Type 0} (seen : D → List ℕ) (may_leave : D → List ℕ → Type 0) (fails : D → ℕ) (image : List ℕ) (failures : ℕ) (before : AuctionValue) (sessions : ℕ) (served : Served D) : Type 0 where
   -- There is a report of each seat, and they show the committed auction.
@@ -56,19 +65,22 @@ pub record EndsAll {D : Type 0} (seen : D → List ℕ) (may_leave : D → List 
   -- What is told of failed calls is so of the device.
   pub told : IsTold served.closing.has_failed failures (fails served.closing.disk)
 
+-- **What they come to where serving ends ill.** A 96 hands back the reports, with what the house leaves. Of a 90, a 92 and a 94 nothing is told but
+-- what was written.
+--
 -- The same many sessions have ended, and were answered something else than what was committed.
 pub record EndsDiffering {D : Type 0} (seen : D → List ℕ) (may_leave : D → List ℕ → Type 0) (fails : D → ℕ) (image : List ℕ) (failures : ℕ) (before : AuctionValue) (sessions : ℕ) (differing : Differing D) : Type 0 where
   -- There is a report of each seat.
   pub seats : map (λ (report : Report). report.seat) differing.reports.items ≡ range_with_len 0 sessions
   -- The device keeps what it stood for when it was opened, and then the commands committed since.
-  pub left : LeavesUnsettled seen may_leave image differing.fault differing.reports.items
+  pub left : LeavesUnsettled seen may_leave image before differing.fault differing.reports.items
   -- What is told of failed calls is so of the device.
   pub told : IsTold differing.fault.has_failed failures (fails differing.fault.disk)
   -- The numbers are those of the answers newly accepted, by all reports, and of the commands since the opening.
   pub accepted : differing.fault.counts.accepted ≡ min (total differing.reports.items) (2 ^ 64 - 1)
   pub committed : differing.fault.counts.committed ≡ differing.fault.auction.count - before.count
   -- With nothing in flight, and each report of the committed auction, they differ.
-  pub only : differing.fault.is_committing ≡ false → All (λ report. auction_of report.viewer ≡ differing.fault.auction) differing.reports.items
+  pub only : (differing.fault.has_failed ≡ false → differing.fault.in_flight ≡ None) → All (λ report. auction_of report.viewer ≡ differing.fault.auction) differing.reports.items
       → differing.fault.counts.accepted ≢ differing.fault.counts.committed
 
 -- A session left its client, or all have ended and what they were answered differs; of want of memory, of the writer and of the start nothing more is told.

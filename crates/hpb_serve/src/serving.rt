@@ -65,8 +65,9 @@ pub fn serve_opened<
     )
 }
 
-/// Serves so many sessions as `serve_opened` does, while a watch is told what happens beside them: of each connection that
-/// is not accepted, and then nothing is accepted for a moment. It looks at each checkpoint until it has told people of
+/// Serves so many sessions as `serve_opened` does, while a watch is told what happens beside them: of each place that is taken,
+/// of each connection that is not accepted, and then nothing is accepted for a moment, of a thread that is refused, and of the
+/// first call of the device that fails. It looks at each checkpoint until it has told people of
 /// something, and once all sessions have ended.
 pub fn serve_watched<
     H: Net<Listener = TcpListener, Stream = TcpStream> + Threads + Wait + Sync,
@@ -92,7 +93,7 @@ pub fn serve_watched<
 {
     let started = match House::start(rt, alloc, opened, sessions) {
         Ok(started) => started,
-        Err(fault) => return Err(ServeFault::Start(fault.cause)),
+        Err(fault) => return Err(ServeFault::Start(fault.cause())),
     };
     if let Err(fault) = announce::<D, W>(alloc, port, output) {
         return Err(fault);

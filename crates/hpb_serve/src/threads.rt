@@ -2,7 +2,6 @@
 ghost use Rattle.std.specs.Prelude.{◌≡◌, [], All, IfErr, IfOk, map};
 ghost use Rattle.std.specs.Thread.{IsSend, IsSync};
 ghost use Rattle.hpb_house.specs.Boards.{SameBoard};
-ghost use Rattle.hpb_house.specs.Committing.{IsSettled};
 ghost use Rattle.hpb_serve.specs.Ended.{LeavesOne};
 ghost use Rattle.hpb_serve.specs.declared.fault.SessionsFault.TheVariants.{Memory};
 
@@ -11,9 +10,7 @@ use crate::ends::{OfSeat, join_sessions};
 use crate::fault::SessionsFault;
 use crate::watching::{Rounds, Watch};
 use hpb_disk::Disk;
-use hpb_house::{
-    Halt, House, Incoming, Naming, OpenGate, Over, Settled, Settles, checkpointer, committer,
-};
+use hpb_house::{Halt, House, Incoming, Naming, OpenGate, Workers};
 use hpb_rings::{Client, Report};
 use hpb_sessions::{SessionEnd, finish_client};
 use std::alloc::Global;
@@ -21,7 +18,7 @@ use std::net::{TcpListener, TcpStream};
 use std::snapshot::Snapshot;
 use std::sync::Wait;
 use std::thread;
-use std::thread::{JoinHandle, Parker, PromisedHandle, Scope, Threads};
+use std::thread::{Parker, PromisedHandle, Scope, Threads};
 use std::time::Duration;
 
 /// Finishes clients that have no session.
@@ -83,12 +80,15 @@ fn start_sessions<
     let sessions = clients.len();
     let mut threads = threads;
     let mut open = Some(listener);
+    let mut taken = 0usize;
     for client in clients {
         let Some(listener) = &open else {
             finish_client(rt, client);
             continue;
         };
         let connection = next_connection(rt, listener, watch);
+        taken = taken.saturating_add(1);
+        watch.taken(taken, sessions);
         let promise = OfSeat {
             house: Snapshot::of(house),
             seat: client.seat,
@@ -102,6 +102,7 @@ fn start_sessions<
                 }
             }
             Err(refused) => {
+                watch.refused_thread();
                 open = None;
                 let session = refused.value;
                 session();
@@ -115,63 +116,11 @@ fn start_sessions<
     }
 }
 
-/// The workers of a house, each in a thread of its own.
-#[derive(Drop)]
-struct Workers<J: Naming> {
-    committing: PromisedHandle<Settled, Settles<J>>,
-    checkpointing: JoinHandle<Result<Over<J>, Halt>>,
-}
-
-impl<J: Naming> Workers<J> {
-    /// Waits for their ends: what the committer hands back, and why the checkpointer has ended.
-    fn join<R: Threads>(self, rt: &R) -> (Settled, Result<Over<J>, Halt>)
-        ensures { IsSettled J.eye result.0 }
-    {
-        let Workers {
-            committing,
-            checkpointing,
-        } = self;
-        let settled = committing.join(rt);
-        (settled, checkpointing.join(rt))
-    }
-}
-
-/// Starts the workers of a house. `None` where a thread is refused: the committer ends by itself then, if it was started, once
-/// every client is finished.
-fn start_workers<
-    's,
-    E,
-    D: Disk + Drop + Send,
-    W: Wait + Drop + Send,
-    J: Naming + Send + Sync,
-    R: Threads + Wait + Sync,
-    V: Watch + Sync,
->(
-    scope: &Scope<'s, E>,
-    rt: &'s R,
-    house: &'s House<D, W, J>,
-    incoming: Incoming<J>,
-    watch: &'s V,
-) -> Option<Workers<J>> {
-    let commits = move || committer(rt, house, incoming, &OpenGate);
-    let Ok(committing) = scope.spawn_with(Settles::<J>::new(), commits) else {
-        return None;
-    };
-    let checkpoints = move || checkpointer(rt, house, &Rounds::new(watch));
-    let Ok(checkpointing) = scope.spawn(checkpoints) else {
-        return None;
-    };
-    Some(Workers {
-        committing,
-        checkpointing,
-    })
-}
-
 /// Runs the workers of a house and a session for each client, and waits for all of them: the clients' reports.
 ///
 /// 90 where memory or a thread is refused, 95 where a session left its client: that is handed back. Each client that has no
-/// session is finished, so that the committer ends. A watch is told of connections that were not accepted, and looks at each
-/// checkpoint and at the end.
+/// session is finished, so that the committer ends. A watch is told of places that are taken, of connections that were not
+/// accepted, of a thread that was refused and of a device that failed, and looks at each checkpoint and at the end.
 pub(crate) fn run_threads<
     D: Disk + Drop + Send,
     W: Wait + Drop + Send,
@@ -204,7 +153,9 @@ pub(crate) fn run_threads<
         {
             let reports = Vec::with_capacity(alloc, clients.len())?;
             let threads = Vec::with_capacity(alloc, clients.len())?;
-            let Some(workers) = start_workers(scope, rt, house, incoming, watch) else {
+            let rounds = Rounds::new(watch);
+            let Ok(workers) = Workers::start(scope, rt, house, incoming, OpenGate, rounds) else {
+                watch.refused_thread();
                 finish_clients(rt, clients);
                 return Err(SessionsFault::Memory);
             };
@@ -213,7 +164,7 @@ pub(crate) fn run_threads<
             )?;
             let joined = join_sessions(rt, house, threads, reports);
             let _ = workers.join(rt);
-            watch.look();
+            watch.look_last();
             joined
         },
     )

@@ -31,6 +31,8 @@ Moves {Desk} {State} is_at old new way = (state : State) → is_at old state →
 abbrev pub IsItself : AuctionValue → AuctionValue → Type 0
 IsItself desk state = state ≡ desk
 
+-- **The desk of an auction in memory.** Its states are values. It replies by what a value shows, and shows the value itself.
+--
 -- The rules of an auction in memory.
 abbrev pub rules_in : AuctionValue → Rules
 rules_in value = value.rules

@@ -15,6 +15,9 @@ refusal_of Memory = refusals.Memory
 refusal_of Reader = refusals.Stream
 refusal_of Writer = refusals.Stream
 
+-- **Faults.** Where a session is broken off, a fault tells why. It leaves so much of the answers unwritten: where memory was refused at most so many
+-- of the last lines, where the reader failed nothing, and where the writer failed any end of them.
+--
 -- Texts, each with the end of its line.
 abbrev pub lines_of : List (List ℕ) → List ℕ
 lines_of [] = []

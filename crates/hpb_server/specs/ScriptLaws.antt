@@ -21,6 +21,9 @@ InputIsText = (old new : AuctionValue) (history : List Command) (input text : Li
     → (text ≡ lines_text old.rules history input) × Shows new (history_after_lines old.rules history input)
 
 module _ (rules : Rules) (history : List Command) (budget : ℕ) (before after : Streams) (new : AuctionValue) where
+  -- The first three definitions stand in a section over the rules, the history, what may be read, the streams before and after, and the value at the
+  -- end.
+  --
   -- All was read, to the end of the reader, and its text after a history was written; the auction shows the history that it leads to.
   pub record WritesText : Type 0 where
     pub input : List ℕ
@@ -53,7 +56,8 @@ module _ (rules : Rules) (history : List Command) (budget : ℕ) (before after :
   ServesText (Ok done) = WritesText
   ServesText (Err fault) = ((fault ≡ Memory) × AreKept before after × Shows new history) ⊎ WritesFront fault
 
--- A session with an auction in memory writes the text by each history that the auction shows.
+-- A session with an auction in memory that shows a history answers all that it reads by the text of lines after this history; at a fault a front of
+-- that text is written, as much as the fault leaves.
 abbrev pub SessionIsText : Type 0
 SessionIsText = (budget : ℕ) (before after : Streams) (old new : AuctionValue) (history : List Command) (result : Result ⊤ Fault)
     → Shows old history → Serves rules_in never_over RepliesIn ShowsItself one_asked no_memory [] budget before after old new result

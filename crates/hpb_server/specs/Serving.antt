@@ -22,6 +22,12 @@ use Rattle.hpb_server.specs.Streams.{Streams, AreKept}
 use Rattle.hpb_server.specs.declared.input.TheConstants.{LINE_FEED}
 use Rattle.hpb_rules.specs.declared.refusal.Refusal.TheVariants as refusals
 
+-- **Desk.** What a session asks. It stands at states, and is described by four things: `rules` has the rules of a state, by which lines are read;
+-- `over` says whether the session is over there; `asks` has which reply a command may get, and which state comes then; `looks` has which auction may
+-- be shown, or that none can be shown any more. Definitions stand in a section over these four, and the last ones over what is given at the start
+-- too: the most commands that are asked for together, whether the desk takes memory, what was read before and is unread, how much may be read, the
+-- streams, and the states before and after.
+--
 -- What is shown of a desk's auction, or that it can show none any more.
 abbrev pub shown_by : (AuctionValue → List ℕ) → Option AuctionValue → List ℕ
 shown_by how None = refusal_text refusals.Failed

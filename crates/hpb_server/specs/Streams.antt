@@ -2,6 +2,9 @@
 use Rattle.std.specs.Prelude.{ℕ, List, Option}
 use Rattle.std.specs.Io.KnownBytes.{Keeps}
 
+-- **Streams.** A reader and a writer, as far as their bytes are known: what the reader has left, and what the writer contains. Of a reader at most
+-- one byte more is taken than may be read, as that shows that there is more.
+--
 -- At one time: what the reader has left, and what the writer contains.
 pub record Streams : Type 0 where
   pub remaining : Option (List ℕ)

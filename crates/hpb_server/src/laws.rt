@@ -1,12 +1,11 @@
 ghost use Rattle.hpb_server.specs.ScriptLaws.{InputIsText, SessionIsText};
 
-/// An auction in memory answers by the history that it shows, and its history only goes on.
+/// An auction in memory that shows a history answers an input by the text of lines after it, and then shows the history that the input leads to.
 pub fn input_is_text()
     ensures { InputIsText }
 {}
 
-/// A session with an auction in memory writes the text by the history that the auction shows, and at a fault
-/// a front of the text of what was read.
+/// A session with an auction in memory answers all that it reads by that text, and at a fault a front of it is written, as much as the fault leaves.
 pub fn session_is_text()
     ensures { SessionIsText }
 {}

@@ -58,7 +58,7 @@ pub fn run_script<R: Read, W: Write, E: Write>(
         }
         Err(fault) => {
             let end = refuse_script(writer, fault.cause, &mut output);
-            tell_reason(alloc, &fault, errors);
+            tell_reason(alloc, &fault, text.has_end, errors);
             end
         }
     }

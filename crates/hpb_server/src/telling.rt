@@ -58,12 +58,29 @@ pub(crate) fn greet<E: Write>(is_terminal: bool, errors: &mut E)
     }
 }
 
-/// Tells people why a definition is refused, and of want of memory nothing.
-pub(crate) fn tell_reason<E: Write>(alloc: Global, fault: &DefineFault, errors: &mut E)
+/// What is said of a definition whose first line ends too early, and isn't the last one.
+const ONE_LINE: &str =
+    ": a script has the whole definition in its first line, as `jq -c . definition.json` writes it";
+
+/// Tells people why a script's definition is refused, and of want of memory nothing. Lines may come behind it.
+pub(crate) fn tell_reason<E: Write>(
+    alloc: Global,
+    fault: &DefineFault,
+    has_lines: bool,
+    errors: &mut E,
+)
     ensures { TellsOf (E.contents errors.old) (E.contents errors.new) (refusal_of fault.now.cause) }
 {
     if fault.cause == DefineCause::Memory {
         return;
     }
-    tell_people(alloc, fault.refusal(), fault.said(), errors);
+    let more = if has_lines && fault.ends_early() {
+        ONE_LINE
+    } else {
+        ""
+    };
+    match format!(in alloc; "{}{more}", fault.said()) {
+        Ok(reason) => tell_people(alloc, fault.refusal(), reason.as_str(), errors),
+        Err(_) => tell_people(alloc, fault.refusal(), fault.said(), errors),
+    }
 }

@@ -332,10 +332,28 @@ fn run<R: Read, W: Write>(
 #[test]
 fn people_are_told_of_a_definition(rt: HostRuntime) -> Result<(), Fail> {
     let alloc = rt.alloc();
-    let told = "hpb: 60 json: the first line is empty\n";
+    let empty =
+        "hpb: 60 json: the definition is empty: a script has the whole definition in its first line, as `jq -c . definition.json` writes it\n";
     let table = [
-        (b"\nSHOW\n".as_slice(), false, told),
-        (b"\nSHOW\n".as_slice(), true, told),
+        (b"\nSHOW\n".as_slice(), false, empty),
+        (b"\nSHOW\n".as_slice(), true, empty),
+        (b"", false, "hpb: 60 json: the definition is empty\n"),
+        // A definition that is laid out over many lines, and one that was cut off.
+        (
+            b"{\n\"step\":10}\n",
+            false,
+            "hpb: 60 json: line 1 column 1: the text ends before the JSON does: a script has the whole definition in its first line, as `jq -c . definition.json` writes it\n",
+        ),
+        (
+            b"{\"step\":10",
+            false,
+            "hpb: 60 json: line 1 column 10: the text ends before the JSON does\n",
+        ),
+        (
+            b"{,}\n",
+            false,
+            "hpb: 60 json: line 1 column 2: reading stopped at \",\"\n",
+        ),
         (DEFINITION, false, ""),
         (DEFINITION, true, ACCEPTED),
     ];

@@ -11,10 +11,7 @@ use crate::devices::{faulty_opened, new_opened};
 use anyhow::{Result, bail};
 use hpb_codec::JournalShape;
 use hpb_disk::Disk;
-use hpb_house::{
-    Halt, House, Incoming, Naming, OpenGate, Over, Ready, Settled, Settles, Started, checkpointer,
-    committer,
-};
+use hpb_house::{Halt, House, Incoming, Naming, OpenGate, Ready, Started, Workers};
 use hpb_recover::Opened;
 use hpb_rings::Client;
 use hpb_server::Fault;
@@ -24,7 +21,7 @@ use std::io::Write;
 use std::marker::Brand;
 use std::sync::Wait;
 use std::thread;
-use std::thread::{JoinHandle, PromisedHandle, Scope, Threads};
+use std::thread::Threads;
 
 /// How often the session looks for an answer before it sleeps.
 const LOOKS: u32 = 0;
@@ -40,50 +37,6 @@ pub(crate) struct Outcome {
     pub(crate) count: u32,
     /// Whether a call of the device has failed.
     pub(crate) has_failed: bool,
-}
-
-/// The workers of a house, each in a thread of its own.
-#[derive(Drop)]
-struct Workers<J: Naming> {
-    committing: PromisedHandle<Settled, Settles<J>>,
-    checkpointing: JoinHandle<Result<Over<J>, Halt>>,
-}
-
-impl<J: Naming> Workers<J> {
-    /// Waits for their ends.
-    fn join<R: Threads>(self, rt: &R) {
-        let Workers {
-            committing,
-            checkpointing,
-        } = self;
-        committing.join(rt);
-        let _ = checkpointing.join(rt);
-    }
-}
-
-/// Starts the workers of a house.
-fn start_workers<
-    's,
-    E,
-    D: Disk + Drop + Send,
-    W: Wait + Drop + Send,
-    J: Naming + Send + Sync,
-    R: Threads + Wait + Sync,
->(
-    scope: &Scope<'s, E>,
-    rt: &'s R,
-    house: &'s House<D, W, J>,
-    incoming: Incoming<J>,
-) -> Result<Workers<J>, AllocError> {
-    let committing = scope.spawn_with(
-        Settles::<J>::new(),
-        move || committer(rt, house, incoming, &OpenGate),
-    )?;
-    let checkpointing = scope.spawn(move || checkpointer(rt, house, &OpenGate))?;
-    Ok(Workers {
-        committing,
-        checkpointing,
-    })
 }
 
 /// Runs a session on these lines beside the two workers of its house, all to their ends.
@@ -115,10 +68,10 @@ fn run_threads<
             requires same { SameBoard house.now client.viewer }
             ensures { IfOk result (λ session. SameBoard house.entry.now (viewer_of session.end)) }
         {
-            let workers = start_workers(scope, rt, house, incoming)?;
+            let workers = Workers::start(scope, rt, house, incoming, OpenGate, OpenGate)?;
             let mut input = lines;
             let session = run_session(rt, alloc, &mut input, output, client, LOOKS);
-            workers.join(rt);
+            let _ = workers.join(rt);
             Ok(session)
         },
     )

@@ -16,7 +16,7 @@ use Rattle.hpb_board.specs.Publication.{Viewing, answers_of, auction_of, joined,
 use Rattle.hpb_sessions.specs.declared.stop.Stop.{Stop}
 use Rattle.hpb_sessions.specs.Stops.{is_over, refusal_of}
 
--- A viewer follows the publisher that it followed, from the same opened auction on, and has entered all that it had entered.
+-- **States.** A viewer follows the publisher that it followed, from the same opened auction on, and has entered all that it had entered.
 abbrev pub Follows : Viewing → Viewing → Type 0
 Follows old new = (new.book ≡ old.book) × (new.opened ≡ old.opened) × (new.seats ≡ old.seats) × IsPrefix old.list new.list
 
@@ -65,6 +65,10 @@ pub record GoesFrom (old new : State) : Type 0 where
   pub viewer : Follows old.viewing new.viewing
   pub told : (opened : List Command) → IsFront (told_by opened old) (told_by opened new)
 
+-- **Replies.** A command is replied by an answer to the seat's letter with it, which the viewer tells. The answer fits the history that the viewer
+-- shows, and was judged after a front of it that goes on from what the session was told of. So a session that was told of its own bid, or saw
+-- another's, is never judged by a list without it. Or the desk tells of itself, then and ever after.
+--
 -- Where what was opened shows this history, an answer fits the history that the viewer shows, and was judged after a front of it that goes on from what the session was told of. Then the session is told of that front, with the command at its end where it is newly accepted.
 pub record FitsSession (old : State) (given : Answer) (new : State) (opened : List Command) : Type 0 where
   pub fits : Fits (rules_at old) (seen_by opened new.viewing) given
@@ -92,7 +96,7 @@ pub record Stops (old : State) (reply : Reply) (new : State) : Type 0 where
 abbrev pub RepliesAt : State → Command → Reply → State → Type 0
 RepliesAt old command reply new = GoesFrom old new × (Answers old command reply new ⊎ Stops old reply new)
 
--- The auction that the client's viewer shows is shown, and all of it told of. Or there is none to show any more.
+-- **Looks.** The auction that the client's viewer shows is shown, and all of it told of. Or there is none to show any more.
 abbrev pub ShowsSeen : Option AuctionValue → State → Type 0
 ShowsSeen None new = ⊤
 ShowsSeen (Some value) new = (value ≡ auction_of new.viewing) × ((opened : List Command) → Shows new.viewing.opened opened → (told_by opened new ≡ seen_by opened new.viewing) × Shows value (told_by opened new))
@@ -105,6 +109,8 @@ ShowsAt old shown new = GoesFrom old new × (new.stop ≡ old.stop) × ShowsSeen
 abbrev pub DeskStands : (seat : ℕ) → Viewing → (mark : ℕ) → Option Stop → State → Type 0
 DeskStands seat viewing mark stop state = (state.seat ≡ seat) × (state.viewing ≡ viewing) × (state.told ≤ mark) × (state.stop ≡ stop)
 
+-- **Start and end.** At the end the client has finished; after a 95 it is handed back as it stands.
+--
 -- The state at the start of a session: it counts as told of all that its client's viewer shows.
 abbrev pub at_start : (seat : ℕ) → Viewing → State
 at_start seat viewing = record { seat = seat; viewing = viewing; told = (auction_of viewing).count; stop = None }

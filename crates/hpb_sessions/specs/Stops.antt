@@ -10,6 +10,9 @@ use Rattle.hpb_rings.specs.declared.waiting.Waiting.{Waiting}
 use Rattle.hpb_sessions.specs.declared.stop.Stop.{Stop}
 use Rattle.hpb_sessions.specs.declared.stop.Stop.TheVariants.{Halted, Order}
 
+-- **Why it gets no more answers.** Its client is halted, and one more look found no answer: its commands get 93, and the auction is still shown. Or
+-- an answer came that isn't the one that it waits for: that command gets 95, and the session is over.
+--
 -- The refusal that it is told by.
 abbrev pub refusal_of : Stop → Refusal
 refusal_of Halted = refusals.Failed

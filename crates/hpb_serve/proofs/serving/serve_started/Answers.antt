@@ -50,7 +50,8 @@ returns-in-Err-clause-ill g c =
     let opened = ap (λ (v : Viewing). v.opened) c.named-house.ensures.house in
     record {
       seats = ap (map (λ (report : Report). report.seat)) items ∙ seats ∙ numbered;
-      left = subst (LeavesUnsettled g.D.Disk.seen g.D.Disk.may_leave g.J.Naming.image c.in-Err.fault) (sym items) closed.left;
+      left = subst (λ (value : AuctionValue). LeavesUnsettled g.D.Disk.seen g.D.Disk.may_leave g.J.Naming.image value c.in-Err.fault (with_items c.in-Ok.reports new).items) opened
+          (subst (LeavesUnsettled g.D.Disk.seen g.D.Disk.may_leave g.J.Naming.image c.named-house.result.house.opened c.in-Err.fault) (sym items) closed.left);
       told = closed.told;
       accepted = closed.accepted ∙ ap (λ reports. min (total reports) (2 ^ 64 - 1)) (sym items);
       committed = closed.committed ∙ ap (λ (a : AuctionValue). c.in-Err.fault.auction.count - a.count) opened;
