@@ -17,7 +17,7 @@ fn main(rt: HostRuntime) -> ExitCode {
         Ok(words) => words,
         Err(error) => {
             if error.kind() == ErrorKind::OutOfMemory {
-                answer_memory(&mut rt.stdout());
+                answer_memory(&mut Noted::new(rt.stdout()));
             }
             return ExitCode::from(refuse_words(&error, &mut errors));
         }

@@ -1,8 +1,6 @@
 -- How jobs on files end.
-use Rattle.std.proofs.Common.{◌≡◌, ◌∙◌, ℕ, suc, ◌<◌, List, ◌++◌, length, Option, Result, Ok, Err, sym, ap, subst, refl, arith, ⊎_elim, append_assoc}
-use Rattle.std.specs.Bool.{⊤}
+use Rattle.std.proofs.Common.{◌≡◌, ◌∙◌, ℕ, Bool, true, suc, ◌<◌, List, ◌++◌, length, Option, Ok, Err, sym, ap, subst, refl, arith, ⊎_elim, append_assoc}
 use Rattle.std.specs.Io.KnownBytes.{Appends, IsAtEnd, Keeps}
-use Rattle.std.proofs.KnownBytes.{Keeps-refl}
 use Rattle.hpb_codec.specs.Layouts.{IsShape}
 use Rattle.hpb_codec.specs.declared.layout.JournalShape.{JournalShape}
 use Rattle.hpb_rules.specs.declared.limits.TheConstants.{MOST_DEFINITION_BYTES}
@@ -15,16 +13,21 @@ use Rattle.hpb_define.specs.declared.fault.DefineCause.{DefineCause}
 use Rattle.hpb_define.specs.declared.fault.DefineCause.TheVariants as defining
 use Rattle.hpb_define.specs.declared.fault.DefineFault.{DefineFault}
 use Rattle.hpb_define.specs.Text.{Answers}
+use Rattle.hpb_disk.specs.FileDisks.{file_left}
+use Rattle.hpb_disk.specs.Images.{Within}
+use Rattle.hpb_disk.specs.declared.file.FileDisk.{FileDisk}
 use Rattle.hpb_disk.specs.declared.fault.FileFault.{FileFault}
 use Rattle.hpb_disk.specs.declared.fault.FileFault.TheVariants as files
+use Rattle.hpb_format.specs.Outcomes.{IsNew}
 use Rattle.hpb_format.specs.declared.fault.FormatCause.{FormatCause}
 use Rattle.hpb_format.specs.declared.fault.FormatCause.TheVariants as formatting
-use Rattle.hpb_server.specs.Streams.{Streams, streams}
+use Rattle.hpb_server.specs.Streams.{Streams}
 use Rattle.hpb_server.specs.Writing.{Puts}
 use Rattle.hpb_program.specs.declared.job_fault.JobFault.{JobFault}
 use Rattle.hpb_program.specs.declared.job_fault.JobFault.TheVariants as faults
-use Rattle.hpb_program.specs.Jobs.{check_text, line_of_journal, made_by, made_of_definition, made_of_file, made_of_formatting, nodes_text, Checks, Formats, GivesText, IsDefined, IsKept, IsOfFile, IsRefused, MayFormat, ShowsKept}
-use Rattle.hpb_program.specs.Program.{ChecksFile, RunsToEnd, TellsEnd}
+use Rattle.hpb_program.specs.Jobs.{check_text, line_of_journal, made_by, made_of_definition, made_of_file, made_of_formatting, nodes_text, Formats, GivesText, IsDefined, IsFormatted, IsKept, IsOfFile, IsRefused, MayFormat, ShowsKept}
+use Rattle.hpb_program.specs.Program.{TellsEnd, TellsFault}
+use Rattle.hpb_program.specs.Telling.{IsCutBy}
 use Rattle.hpb_server.proofs.Fronts.{put_front}
 
 -- one node's line more
@@ -47,10 +50,22 @@ shown_short image value a b text e kept is put =
     let front = put_front a b text (Err e) put in
     (value, kept, (front.0, front.1, subst (IsFront front.0) is front.2))
 
--- the shown file is told
-pub checked_to_end : (read a b c errors_old errors_new : Option (List ℕ)) (end : Result ⊤ JobFault) (status : ℕ) → Checks a b end → TellsEnd b c errors_old errors_new end status
-    → RunsToEnd ChecksFile (streams read a) (streams read c) errors_old errors_new status
-checked_to_end read a b c errors_old errors_new end status h told = (streams read b, end, (Keeps-refl read, h), Keeps-refl read, told)
+-- the fault of a job is told, and an output that failed is told nothing more
+module _ (before cut : Bool) (old new errors_old errors_new : Option (List ℕ)) (status : ℕ) (kept : before ≡ true → (cut ≡ true) × Keeps old new) where
+  pub told_end : (fault : JobFault) → IsCutBy before (Err fault) → TellsFault cut old new errors_old errors_new fault status → TellsEnd cut old new errors_old errors_new (Err fault) status
+  told_end faults.Writer by told = let keeps = kept by in (keeps.0, told.0, told.1, told.2)
+  told_end faults.Memory by told = told
+  told_end faults.Reader by told = told
+  told_end (faults.Definition f) by told = told
+  told_end faults.Journal by told = told
+  told_end (faults.File f) by told = told
+  told_end (faults.Format f) by told = told
+  told_end (faults.Open f) by told = told
+  told_end (faults.Port at error) by told = told
+  told_end (faults.Descriptors sessions wanted error) by told = told
+  told_end faults.Place by told = told
+  told_end faults.Order by told = told
+  told_end faults.Counts by told = told
 
 -- the whole input is a definition
 pub defined : (a b : Option (List ℕ)) (text : List ℕ) (rules : Rules) → GivesText a b text → Answers text (Ok rules) → IsDefined a b
@@ -100,12 +115,21 @@ module _ (journal : JournalShape) (before after : Streams) (text : List ℕ) (gi
       go faults.Order of = absurd of
       go faults.Counts of = absurd of
 
--- the line of a formatted file is written in part
-pub told_short : {E : Type 0} (journal : JournalShape) (before after : Streams) (text line : List ℕ) (rules : Rules) (e : E) → GivesText before.remaining after.remaining text → Answers text (Ok rules)
-    → IsShape journal → line ≡ line_of_journal journal → Puts before.contents after.contents line (Err e) → Formats journal before after (Err faults.Writer)
-told_short journal before after text line rules e gives answers journal_is is put =
-    let front = put_front before.contents after.contents line (Err e) put in
-    ((defined before.remaining after.remaining text rules gives answers, journal_is), (front.0, front.1, subst (IsFront front.0) is front.2))
+module _ (journal : JournalShape) (before after : Streams) (text line : List ℕ) (rules : Rules) (gives : GivesText before.remaining after.remaining text) (answers : Answers text (Ok rules)) (shape : IsShape journal)
+    (disk : FileDisk) (new : Within (file_left disk) (IsNew rules journal)) (is : line ≡ line_of_journal journal) where
+  formatted : IsFormatted journal before after
+  unfolding defined
+  formatted = record { may = (defined before.remaining after.remaining text rules gives answers, shape); disk = disk; new = new }
+
+  -- the line of a formatted file is written
+  pub told_whole : Appends before.contents after.contents line → Formats journal before after (Ok tt)
+  told_whole written = (formatted, subst (Appends before.contents after.contents) is written)
+
+  -- or a part of it
+  pub told_short : {E : Type 0} (e : E) → Puts before.contents after.contents line (Err e) → Formats journal before after (Err faults.Writer)
+  told_short e put =
+      let front = put_front before.contents after.contents line (Err e) put in
+      (formatted, (front.0, front.1, subst (IsFront front.0) is front.2))
 
 -- faults of a file
 pub of_file : (fault : FileFault) (made : JobFault) → made ≡ made_of_file fault → IsOfFile made

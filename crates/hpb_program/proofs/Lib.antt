@@ -1,7 +1,10 @@
 mod Asking
 mod Crossing
+mod Cutting
+mod Doubting
 mod Ends
 mod Kept
+mod Lines
 mod Options
 mod Served
 mod Taking

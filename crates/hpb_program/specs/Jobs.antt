@@ -15,11 +15,15 @@ use Rattle.hpb_define.specs.declared.fault.DefineCause.TheVariants as defining
 use Rattle.hpb_define.specs.declared.fault.DefineFault.{DefineFault}
 use Rattle.hpb_define.specs.Fault as definitions
 use Rattle.hpb_define.specs.Text.{Answers}
+use Rattle.hpb_disk.specs.FileDisks.{file_left}
+use Rattle.hpb_disk.specs.Images.{Within}
+use Rattle.hpb_disk.specs.declared.file.FileDisk.{FileDisk}
 use Rattle.hpb_disk.specs.declared.fault.FileFault.{FileFault}
 use Rattle.hpb_disk.specs.declared.fault.FileFault.TheVariants as files
 use Rattle.hpb_format.specs.declared.fault.FormatCause.{FormatCause}
 use Rattle.hpb_format.specs.declared.fault.FormatCause.TheVariants as formatting
 use Rattle.hpb_format.specs.Outcomes as formats
+use Rattle.hpb_format.specs.Outcomes.{IsNew}
 use Rattle.hpb_image.specs.Flaws.{HasFlaw}
 use Rattle.hpb_image.specs.Standing.{Stands}
 use Rattle.hpb_house.specs.declared.starting.StartCause.TheVariants as starting
@@ -33,6 +37,7 @@ use Rattle.hpb_recover.specs.Causes as causes
 use Rattle.hpb_program.specs.declared.formatting.TheConstants.{KEPT_BYTES}
 use Rattle.hpb_program.specs.declared.job_fault.JobFault.{JobFault}
 use Rattle.hpb_program.specs.declared.job_fault.JobFault.TheVariants as faults
+use Rattle.hpb_program.specs.Doubts.{TellsIll, TellsImage}
 use Rattle.hpb_serve.specs.declared.fault.ServeFault.{ServeFault}
 use Rattle.hpb_serve.specs.declared.fault.ServeFault.TheVariants as serving
 use Rattle.hpb_server.specs.Streams.{Streams}
@@ -120,11 +125,11 @@ ShowsKept image old new (Err faults.Writer) = (value : AuctionValue) × IsKept i
 ShowsKept image old new (Err (faults.Open (opening.Flawed flaw))) = Keeps old new × HasFlaw flaw image
 ShowsKept image old new (Err fault) = Keeps old new × ((fault ≡ faults.Memory) ⊎ (fault ≡ faults.Open opening.Device))
 
--- The same of a file, of whose bytes nothing is known.
-abbrev pub Checks : (old new : Option (List ℕ)) → Result ⊤ JobFault → Type 0
-Checks old new (Ok done) = (value : AuctionValue) × Appends old new (check_text value)
-Checks old new (Err faults.Writer) = (value : AuctionValue) × StopsWriting old new (check_text value)
-Checks old new (Err fault) = Keeps old new
+-- The same of a file, of whose bytes nothing is known but that they are those of which people were told; or nothing of it was shown.
+abbrev pub Checks : (old new errors_old errors_new : Option (List ℕ)) → Result ⊤ JobFault → Type 0
+Checks old new errors_old errors_new (Ok done) = (image : List ℕ) × ShowsKept image old new (Ok done) × TellsImage image errors_old errors_new
+Checks old new errors_old errors_new (Err faults.Writer) = (image : List ℕ) × ShowsKept image old new (Err faults.Writer) × TellsImage image errors_old errors_new
+Checks old new errors_old errors_new (Err fault) = Keeps old new × TellsIll errors_old errors_new fault
 
 -- Some bytes were read, one more at most than a definition may have.
 abbrev pub ReadsSome : (old new : Option (List ℕ)) → Type 0
@@ -177,10 +182,16 @@ module _ (journal : JournalShape) (before after : Streams) where
   abbrev pub MayFormat : Type 0
   MayFormat = IsDefined before.remaining after.remaining × IsShape journal
 
+  -- A file was formatted: whatever a crash may leave of its device stands for the definition, with such a journal and no command yet.
+  pub record IsFormatted : Type 0 where
+    pub may : MayFormat
+    pub disk : FileDisk
+    pub new : Within (file_left disk) (IsNew may.0.rules journal)
+
   -- A file was formatted and its line was written; or the writer failed; or nothing was written, and of the faults the first was found.
   abbrev pub Formats : Result ⊤ JobFault → Type 0
-  Formats (Ok done) = MayFormat × Appends before.contents after.contents (line_of_journal journal)
-  Formats (Err faults.Writer) = MayFormat × StopsWriting before.contents after.contents (line_of_journal journal)
+  Formats (Ok done) = IsFormatted × Appends before.contents after.contents (line_of_journal journal)
+  Formats (Err faults.Writer) = IsFormatted × StopsWriting before.contents after.contents (line_of_journal journal)
   Formats (Err (faults.Definition fault)) = IsRefused before.remaining after.remaining fault × Keeps before.contents after.contents
   Formats (Err faults.Journal) = IsDefined before.remaining after.remaining × (IsShape journal → ⊥) × Keeps before.contents after.contents
   Formats (Err (faults.File fault)) = MayFormat × Keeps before.contents after.contents

@@ -1,5 +1,5 @@
 -- What a run of the auction that a file keeps reads and writes.
-use Rattle.std.specs.Prelude.{◌≡◌, ◌⊎◌, ℕ, Bool, true, false, List, [], Result, Ok, Err, ⊤}
+use Rattle.std.specs.Prelude.{◌≡◌, ◌⊎◌, ℕ, Bool, true, false, List, [], Option, Result, Ok, Err, ⊤}
 use Rattle.hpb_rules.specs.declared.command.Command.{Command}
 use Rattle.hpb_rules.specs.declared.limits.TheConstants.{MOST_LETTERS, MOST_READ_BYTES}
 use Rattle.hpb_rules.specs.AuctionValue.{AuctionValue}
@@ -17,6 +17,7 @@ use Rattle.hpb_server.specs.Streams.{AreKept, Streams}
 use Rattle.hpb_program.specs.declared.job_fault.JobFault.{JobFault}
 use Rattle.hpb_program.specs.declared.job_fault.JobFault.TheVariants as faults
 use Rattle.hpb_program.specs.declared.run_end.RunEnd.{RunEnd}
+use Rattle.hpb_program.specs.Doubts.{TellsIll, TellsImage}
 use Rattle.hpb_program.specs.Jobs.{IsKept}
 
 -- Lines were answered from an auction on, and what the device and the progress then keep is where that led. No call of the device had failed when it began.
@@ -45,7 +46,9 @@ IsOfOpening (faults.File fault) = Unit {0}
 IsOfOpening (faults.Open cause) = Unit {0}
 IsOfOpening fault = ⊥
 
--- An auction was run by what a file held, of which nothing else is known; or the file was not opened, and nothing was read or written.
-abbrev pub RunsFile : (before after : Streams) → Result RunEnd JobFault → Type 0
-RunsFile before after (Ok end) = (opened : FileDisk) × (disk : FileDisk) × (progress : Progress) × IsRun file_seen file_left file_failures opened before after disk progress end.failed end.end
-RunsFile before after (Err fault) = IsOfOpening fault × AreKept before after
+-- An auction was run by what a file held, of which nothing else is known but that people were told of it before; or the file was not opened, and nothing was read or written.
+abbrev pub RunsFile : (before after : Streams) (errors_old errors_new : Option (List ℕ)) → Result RunEnd JobFault → Type 0
+RunsFile before after errors_old errors_new (Ok end) =
+    (opened : FileDisk) × (disk : FileDisk) × (progress : Progress) × IsRun file_seen file_left file_failures opened before after disk progress end.failed end.end
+    × TellsImage (file_seen opened) errors_old errors_new
+RunsFile before after errors_old errors_new (Err fault) = IsOfOpening fault × AreKept before after × TellsIll errors_old errors_new fault

@@ -1,5 +1,8 @@
 pub mod Words
+pub mod Telling
 pub mod Jobs
 pub mod Keeping
+pub mod Doubts
 pub mod Serving
 pub mod Program
+pub mod Limits

@@ -67,7 +67,7 @@ serve_shape = (with_rule (with_rule (with_rule (new_app (codes "serve")) file_ru
 abbrev pub hpb_alone : App
 hpb_alone = on_top (λ s. record s { has_version = true; disable_help_subcommand = true }) (new_app (codes "hpb"))
 
--- The program with its commands.
+-- The program as `clap` is told of it: it has a version and the commands `format`, `check`, `run` and `serve`, each with its options.
 abbrev pub hpb : App
 hpb = with_subcommand (with_subcommand (with_subcommand (with_subcommand hpb_alone format_shape) check_shape) run_shape) serve_shape
 
@@ -87,7 +87,7 @@ text_in rows name = unwrap_or (first_of name rows) []
 abbrev pub IsGivenByDigits : List Row → List ℕ → Type 0
 IsGivenByDigits rows name = IfSome (first_of name rows) (λ text. all_ascii_digits text ≡ true)
 
--- The file's name has a character at least, and each number is given by digits alone, without a sign.
+-- The values of options are well given where a file's name has a character at least and each number is digits alone, without a sign.
 abbrev pub AreWellGivenIn : List Row → Type 0
 AreWellGivenIn rows =
     (text_in rows (codes "file") ≢ []) × IsGivenByDigits rows (codes "journal") × IsGivenByDigits rows (codes "layout") × IsGivenByDigits rows (codes "batch")
@@ -197,7 +197,8 @@ run_options_in = option_map (λ found. (found.0, first_of (codes "file") found.1
 abbrev pub serve_options_in : Option (List ℕ × List Row) → Option (List ℕ × Option (List ℕ) × Option (List ℕ) × Option (List ℕ))
 serve_options_in = option_map (λ found. (found.0, first_of (codes "file") found.1, one_of (codes "port") found.1, one_of (codes "sessions") found.1))
 
--- What is wrong with some words behind the program's name, or asked for by them, and which command they ask for.
+-- What is asked for by some words behind the program's name, or wrong with them. None and an end of options ask for a script, others for help or the
+-- version, and what the program doesn't know is wrong.
 pub record WordsAskFor : Type 0 where
   pub none : fault_of hpb [] ≡ []
   pub name : (name : List ℕ) → fault_of hpb (name ∷ []) ≡ []

@@ -1,13 +1,15 @@
 //! Showing the auction that a file keeps.
 ghost use Rattle.std.specs.Prelude.{◌≡◌, IfOk};
+ghost use Rattle.hpb_program.specs.Doubts.{TellsKept};
 ghost use Rattle.hpb_program.specs.Jobs.{Checks, ShowsKept, check_text};
+ghost use Rattle.hpb_program.specs.Telling.{is_cut, IsCutBy};
 
 use crate::job_fault::JobFault;
+use crate::noted::Noted;
+use crate::opening::open_kept;
 use hpb_auction::Auction;
 use hpb_disk::{Disk, FileDisk};
-use hpb_recover::open;
 use hpb_rules::NodeId;
-use hpb_server::send_bytes;
 use hpb_wire::{RESPONSE_BYTES, ResponseText, node, show};
 use std::alloc::{AllocError, Global};
 use std::fs::{File, Files};
@@ -15,38 +17,46 @@ use std::io::Write;
 
 /// Writes the lines of the auction that the file of a path keeps, as `check_device` says. Nothing of the file is
 /// written.
-pub(crate) fn run_check<H: Files<File = File>, W: Write>(
+#[tactic(auto, using(crate::proofs::Cutting::of_opened_file))]
+pub(crate) fn run_check<H: Files<File = File>, W: Write, E: Write>(
     rt: &H,
     alloc: Global,
     file: &str,
-    output: &mut W,
+    output: &mut Noted<W>,
+    errors: &mut E,
 ) -> Result<(), JobFault>
-    ensures { Checks (W.contents output.old) (W.contents output.new) result }
+    ensures checks { Checks (W.contents output.old.stream) (W.contents output.new.stream) (E.contents errors.old) (E.contents errors.new) result }
+    ensures cut { IsCutBy (is_cut output.new) result }
 {
     match FileDisk::open_to_read(rt, alloc, file) {
-        Ok(disk) => check_device(alloc, disk, output),
+        Ok(disk) => check_device(alloc, disk, output, errors),
         Err(fault) => Err(JobFault::from(fault)),
     }
 }
 
 /// Writes the lines of the auction that a device keeps: what `SHOW` is answered, and for each node, in the order of
-/// the definition, what `NODE` is answered. It syncs the device first, and writes nothing on it.
-pub fn check_device<D: Disk + Drop, W: Write>(
+/// the definition, what `NODE` is answered. It syncs the device first, and writes nothing on it. Before, people are told where it has
+/// what no honest device has.
+#[tactic(auto, using(crate::proofs::Doubting::shown_not, crate::proofs::Doubting::cut_not, crate::proofs::Doubting::told_not))]
+pub fn check_device<D: Disk + Drop, W: Write, E: Write>(
     alloc: Global,
     disk: D,
-    output: &mut W,
+    output: &mut Noted<W>,
+    errors: &mut E,
 ) -> Result<(), JobFault>
-    ensures { ShowsKept (D.seen disk) (W.contents output.old) (W.contents output.new) result }
+    ensures shows { ShowsKept (D.seen disk) (W.contents output.old.stream) (W.contents output.new.stream) result }
+    ensures cut { IsCutBy (is_cut output.new) result }
+    ensures told { TellsKept (D.seen disk) (E.contents errors.old) (E.contents errors.new) result }
 {
-    let opened = match open(alloc, disk) {
+    let opened = match open_kept(alloc, disk, errors) {
         Ok(opened) => opened,
-        Err(fault) => return Err(JobFault::from(fault.cause)),
+        Err(fault) => return Err(fault),
     };
     let text = match lines_of(alloc, opened.auction()) {
         Ok(text) => text,
         Err(_) => return Err(JobFault::Memory),
     };
-    match send_bytes(output, text.as_bytes()) {
+    match output.send(text.as_bytes()) {
         Ok(()) => Ok(()),
         Err(_) => Err(JobFault::Writer),
     }

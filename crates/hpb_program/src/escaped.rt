@@ -24,6 +24,45 @@ impl fmt::Display for Escaped<'_> {
     }
 }
 
+/// How many bytes a name in a command has at most.
+const MOST_PASTED: usize = 400;
+
+/// A file's name in a command that is to be pasted: in quotes where a shell wants it, and whole. `F` stands for one that is
+/// longer than a line may be, or has characters that a terminal obeys or doesn't show.
+#[derive(Clone, Copy)]
+pub(crate) struct Pasted<'a>(pub(crate) &'a str);
+
+impl fmt::Display for Pasted<'_> {
+    fn fmt<W: fmt::Write>(&self, f: &mut fmt::Formatter<W>) -> fmt::Result {
+        let name = self.0;
+        if name.len() > MOST_PASTED || name.chars().any(is_escaped) {
+            return f.write_str("F");
+        }
+        // A name that begins as an option does would be taken for one.
+        let front = if name.starts_with('-') { "./" } else { "" };
+        if name.chars().all(is_plain) {
+            return write!(f, "{front}{name}");
+        }
+        write!(f, "'{front}")?;
+        for letter in name.chars() {
+            match letter {
+                '\'' => f.write_str("'\\''")?,
+                _ => f.write_char(letter)?,
+            }
+        }
+        f.write_str("'")
+    }
+}
+
+/// Whether no shell takes a character for more than itself.
+fn is_plain(letter: char) -> bool {
+    letter.is_ascii_alphanumeric()
+        || matches!(
+            letter,
+            '.' | '_' | '/' | '-' | '+' | ',' | ':' | '@' | '%' | '='
+        )
+}
+
 /// A word, whole: its characters that a terminal obeys or doesn't show are escaped.
 #[derive(Clone, Copy)]
 pub(crate) struct EscapedWord<'a>(pub(crate) &'a str);

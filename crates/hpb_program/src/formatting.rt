@@ -5,9 +5,11 @@ ghost use Rattle.hpb_disk.specs.FileDisks.{file_left};
 ghost use Rattle.hpb_disk.specs.Images.{Within};
 ghost use Rattle.hpb_format.specs.Outcomes.{IsNew};
 ghost use Rattle.hpb_program.specs.Jobs.{Formats, GivesText, IsOfFile, ReadsPart, StopsPart, StopsReading, formatted_line, pages_of};
+ghost use Rattle.hpb_program.specs.Telling.{is_cut, IsCutBy};
 ghost use Rattle.hpb_server.specs.Streams.{streams};
 
 use crate::job_fault::JobFault;
+use crate::noted::Noted;
 use hpb_codec::JournalShape;
 use hpb_define::read_definition;
 use hpb_disk::FileDisk;
@@ -15,7 +17,7 @@ use hpb_format::format_layout;
 use hpb_image::PAGE_BYTES;
 use hpb_journal::{AnyFrames, Frames};
 use hpb_rules::MOST_DEFINITION_BYTES;
-use hpb_server::{read_some, send_bytes};
+use hpb_server::read_some;
 use hpb_tree::Definition;
 use std::alloc::{AllocError, Global};
 use std::fs::{File, Files};
@@ -29,15 +31,17 @@ const PART_BYTES: usize = 4_096;
 
 /// Makes the file of a path keep an auction, by the definition that is the whole of the input, and writes how many
 /// pages it has. A file that isn't there is made.
+#[tactic(auto, using(crate::proofs::Cutting::of_reading, crate::proofs::Cutting::of_definition, crate::proofs::Cutting::of_file))]
 pub(crate) fn run_format<H: Files<File = File>, R: Read, W: Write>(
     rt: &H,
     alloc: Global,
     file: &str,
     journal: JournalShape,
     input: &mut R,
-    output: &mut W,
+    output: &mut Noted<W>,
 ) -> Result<(), JobFault>
-    ensures { Formats journal (streams (R.remaining input.old) (W.contents output.old)) (streams (R.remaining input.new) (W.contents output.new)) result }
+    ensures formats { Formats journal (streams (R.remaining input.old) (W.contents output.old.stream)) (streams (R.remaining input.new) (W.contents output.new.stream)) result }
+    ensures cut { IsCutBy (is_cut output.new) result }
 {
     let text = match read_text(alloc, input) {
         Ok(text) => text,
@@ -55,11 +59,13 @@ pub(crate) fn run_format<H: Files<File = File>, R: Read, W: Write>(
         Ok(line) => line,
         Err(_) => return Err(JobFault::Memory),
     };
-    match format_file(rt, alloc, file, &definition, journal) {
-        Ok(_) => {}
+    let disk = match format_file(rt, alloc, file, &definition, journal) {
+        Ok(disk) => disk,
         Err(fault) => return Err(fault),
-    }
-    match send_bytes(output, line.as_bytes()) {
+    };
+    // Whoever reads the line may open the file.
+    drop(disk);
+    match output.send(line.as_bytes()) {
         Ok(()) => Ok(()),
         Err(_) => Err(JobFault::Writer),
     }
@@ -102,7 +108,7 @@ fn read_part<R: Read>(input: &mut R, text: &mut Vec<u8>) -> Result<bool, JobFaul
 }
 
 /// How many pages a device has whose journal has this shape.
-fn pages_of(journal: JournalShape) -> usize
+pub(crate) fn pages_of(journal: JournalShape) -> usize
     requires { IsShape journal }
     ensures { result ≡ pages_of journal }
 {

@@ -1,6 +1,7 @@
 //! The program: its words, what they ask for, and its status.
 #![tactic(auto)]
 
+mod advice;
 mod checking;
 mod descriptors;
 mod escaped;
@@ -8,17 +9,18 @@ mod formatting;
 mod hints;
 mod job_fault;
 mod keeping;
+mod known;
 mod laws;
 mod lookout;
 mod noted;
+mod notices;
+mod opening;
+mod refusal_lines;
 mod run_end;
 mod running;
-mod script_end;
-mod served_end;
 mod serving;
 mod stack;
 mod status;
-mod stream_words;
 mod streams;
 mod telling;
 mod values;
@@ -27,7 +29,7 @@ mod words;
 pub use checking::check_device;
 pub use job_fault::JobFault;
 pub use keeping::run_kept;
-pub use laws::words_ask_for;
+pub use laws::{limits_are, words_ask_for};
 pub use noted::Noted;
 pub use run_end::RunEnd;
 pub use running::{program, refuse_streams, refuse_words};

@@ -1,6 +1,8 @@
 //! What happens beside sessions that are served, told to people.
 
-use crate::escaped::Escaped;
+use crate::notices::{
+    Change, ChangeNotice, FailedNotice, MissedNotice, TakenNotice, ThreadNotice, notify,
+};
 use hpb_disk::{FileDisk, FileFault};
 use hpb_image::PAGE_BYTES;
 use hpb_serve::Watch;
@@ -8,7 +10,7 @@ use std::alloc::{AllocError, Global};
 use std::fs::{File, Files};
 use std::io;
 use std::os::fd::AsRawFd;
-use std::os::unix::fs::FileExt;
+use std::os::unix::fs::{FileExt, MetadataExt};
 
 /// Where the system tells the names of the files that this process has open, by their descriptors.
 const NAMES: &str = "/proc/self/fd";
@@ -16,10 +18,12 @@ const NAMES: &str = "/proc/self/fd";
 /// How many bytes a file begins with that nobody writes while it is served: its head, which are three pages.
 const HEAD_BYTES: usize = 3 * PAGE_BYTES;
 
-/// The name, the length and the first bytes of an open file.
+/// The name, how many names there are, the length and the first bytes of an open file.
 #[derive(Drop)]
 struct Seen {
     name: Vec<u8>,
+    /// How many names it has.
+    names: u64,
     len: u64,
     head: Vec<u8>,
 }
@@ -28,12 +32,13 @@ impl Seen {
     /// Those that it has now. The name is another one once the file was moved, removed or replaced; where the system tells none
     /// it is empty. A file that was cut and then written behind its end is as long as before, but has zeros between.
     fn of(alloc: Global, file: &File) -> Result<Seen, AllocError> {
-        let len = match file.metadata() {
-            Ok(found) => found.len(),
-            Err(_) => 0,
+        let (names, len) = match file.metadata() {
+            Ok(found) => (found.nlink(), found.len()),
+            Err(_) => (1, 0),
         };
         Ok(Seen {
             name: name_of(alloc, file)?,
+            names,
             len,
             head: head_of(alloc, file)?,
         })
@@ -95,49 +100,65 @@ impl<'a> Lookout<'a> {
     }
 }
 
+impl Lookout<'_> {
+    /// What became of the file since it was opened.
+    fn change(&self) -> Option<Change> {
+        let seen = Seen::of(self.alloc, &self.file).ok()?;
+        if seen.differs_from(&self.seen) {
+            return Some(Change::Spoiled);
+        }
+        if seen.names == 0 {
+            return Some(Change::Nameless {
+                process: libc::getpid(),
+                descriptor: self.file.as_raw_fd(),
+            });
+        }
+        if seen.name.as_slice() != self.seen.name.as_slice() {
+            return Some(Change::Moved);
+        }
+        None
+    }
+
+    /// Tells people what became of the file. `false` says that nothing did.
+    fn tell_change(&self, is_end: bool) -> bool {
+        let Some(change) = self.change() else {
+            return false;
+        };
+        let path = self.path;
+        notify(
+            self.alloc,
+            ChangeNotice {
+                path,
+                change,
+                is_end,
+            },
+        );
+        true
+    }
+}
+
 impl Watch for Lookout<'_> {
+    fn taken(&self, taken: usize, places: usize) {
+        notify(self.alloc, TakenNotice { taken, places });
+    }
+
     fn missed(&self, error: &io::Error) {
-        tell_errors(missed_line(self.alloc, error));
+        notify(self.alloc, MissedNotice(error));
+    }
+
+    fn refused_thread(&self) {
+        notify(self.alloc, ThreadNotice);
+    }
+
+    fn failed(&self) {
+        notify(self.alloc, FailedNotice(self.path));
     }
 
     fn look(&self) -> bool {
-        match Seen::of(self.alloc, &self.file) {
-            Ok(seen) if seen.differs_from(&self.seen) => {
-                tell_errors(cut_line(self.alloc, self.path));
-                false
-            }
-            Ok(seen) if seen.name.as_slice() != self.seen.name.as_slice() => {
-                tell_errors(moved_line(self.alloc, self.path));
-                false
-            }
-            _ => true,
-        }
+        self.tell_change(false)
     }
-}
 
-fn missed_line(alloc: Global, error: &io::Error) -> Result<String, AllocError> {
-    format!(in alloc;
-        "hpb: a connection could not be accepted, and its session has ended: {error}\n"
-    )
-}
-
-fn moved_line(alloc: Global, path: &str) -> Result<String, AllocError> {
-    let path = Escaped(path);
-    format!(in alloc;
-        "hpb: {path} was moved, removed or replaced while it is served: what is answered by OK goes on into the file that was opened: see that it gets its name again\n"
-    )
-}
-
-fn cut_line(alloc: Global, path: &str) -> Result<String, AllocError> {
-    let path = Escaped(path);
-    format!(in alloc;
-        "hpb: {path} was cut, made longer or overwritten while it is served: end the sessions, see it by hpb check, and take your newest copy if it is refused\n"
-    )
-}
-
-/// Writes a line to standard errors by one call. Where it fails there is nowhere left to say so.
-fn tell_errors(line: Result<String, AllocError>) {
-    if let Ok(line) = line {
-        let _ = libc::write(libc::STDERR_FILENO, line.as_bytes());
+    fn look_last(&self) {
+        self.tell_change(true);
     }
 }

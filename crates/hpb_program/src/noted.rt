@@ -1,5 +1,6 @@
-//! Streams whose failures are remembered, for what people are told.
+//! Streams whose failures are remembered, for what is told of them.
 
+use hpb_server::send_bytes;
 use std::io;
 use std::io::{Read, Write};
 
@@ -8,20 +9,49 @@ use std::io::{Read, Write};
 pub struct Noted<S> {
     pub stream: S,
     pub failure: Option<io::Error>,
+    /// Whether its last write or flush failed or took nothing. Nobody else sets it.
+    cut: bool,
 }
 
 impl<S> Noted<S> {
-    ghost use Rattle.std.specs.Prelude.{◌≡◌, None};
+    ghost use Rattle.std.specs.Prelude.{◌≡◌, false, None};
+    ghost use Rattle.hpb_program.specs.Telling.{is_cut};
 
     /// A stream of which no call has failed.
     pub fn new(stream: S) -> Self
         ensures stream { result.stream ≡ stream }
         ensures works { result.failure ≡ None }
+        ensures whole { is_cut result ≡ false }
     {
         Noted {
             stream,
             failure: None,
+            cut: false,
         }
+    }
+
+    /// Whether the last text that it was to take was cut: it failed, or took nothing, so that a front of the text may stand
+    /// there.
+    pub fn is_cut(&self) -> bool
+        ensures { result ≡ is_cut self.now }
+    {
+        self.cut
+    }
+}
+
+impl<W: Write> Noted<W> {
+    ghost use Rattle.std.specs.Prelude.{◌≡◌, true, false, MatchResult};
+    ghost use Rattle.hpb_program.specs.Telling.{is_cut};
+    ghost use Rattle.hpb_server.specs.Writing.{Puts};
+
+    /// Writes a text and has it handed on, and remembers whether all of it was taken.
+    pub(crate) fn send(&mut self, text: &[u8]) -> io::Result<()>
+        ensures bytes { Puts (W.contents self.old.stream) (W.contents self.new.stream) text.now result }
+        ensures cut { MatchResult result (λ _. is_cut self.new ≡ false) (λ _. is_cut self.new ≡ true) }
+    {
+        let sent = send_bytes(self, text);
+        self.cut = sent.is_err();
+        sent
     }
 }
 
@@ -65,10 +95,12 @@ impl<W: Write> Write for Noted<W> {
         match self.stream.write(bytes) {
             Ok(count) => {
                 self.failure = None;
+                self.cut = count == 0 && !bytes.is_empty();
                 Ok(count)
             }
             Err(error) => {
                 self.failure = Some(error);
+                self.cut = true;
                 Err(error)
             }
         }
@@ -79,9 +111,13 @@ impl<W: Write> Write for Noted<W> {
         ensures noted { IfErr result (λ error. self.new.failure ≡ Some error) }
     {
         match self.stream.flush() {
-            Ok(()) => Ok(()),
+            Ok(()) => {
+                self.cut = false;
+                Ok(())
+            }
             Err(error) => {
                 self.failure = Some(error);
+                self.cut = true;
                 Err(error)
             }
         }

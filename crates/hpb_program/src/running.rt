@@ -1,42 +1,44 @@
-ghost use Rattle.std.specs.Prelude.{◌≡◌, ◌≢◌, ◌≤◌, IfErr, IfOk, map};
+ghost use Rattle.std.specs.Prelude.{◌≡◌, ◌≢◌, ◌≤◌, true, IfErr, IfOk, map};
+ghost use Rattle.std.specs.Io.KnownBytes.{Keeps};
 ghost use Rattle.std.specs.IoError.{error_kind};
-ghost use Rattle.hpb_program.specs.Program.{AnswersFault, HasStatus, RunsAsked, RunsJob, RunsProgram, SaysFault, TellsEnd, TellsEnded, TellsRun, TellsScript, TellsServed, hint_text, status_of_fault, status_of_script};
+ghost use Rattle.hpb_program.specs.Program.{AnswersFault, HasStatus, RunsAsked, RunsJob, RunsProgram, SaysFault, TellsEnd, TellsEnded, TellsFault, TellsRun, TellsScript, TellsServed, hint_text, status_of_fault, status_of_script};
+ghost use Rattle.hpb_program.specs.Telling.{is_cut, IsCutBy, IsTaken};
 ghost use Rattle.hpb_server.specs.Streams.{streams};
 ghost use Rattle.hpb_rules.specs.declared.refusal.Refusal.TheVariants as refusals;
 ghost use Rattle.hpb_program.specs.Words.{HasRanges};
 ghost use Rattle.hpb_server.specs.Telling.{Says, TellsOf};
 
+use crate::advice::{EndAdvice, JobAdvice, ScriptAdvice, StreamsAdvice};
 use crate::checking::run_check;
 use crate::formatting::run_format;
 use crate::hints::hint;
-use crate::job_fault::{Advice, JobFault};
+use crate::job_fault::JobFault;
 use crate::keeping::run_file;
+use crate::known::{Known, SeenFile, trouble_of};
 use crate::noted::{Failures, Noted};
-use crate::run_end::{RunAdvice, RunEnd};
-use crate::script_end::ScriptAdvice;
-use crate::served_end::ServedAdvice;
+use crate::run_end::RunEnd;
 use crate::serving::{FileEnd, serve_file};
 use crate::status::{ILL, WELL, WRONG_WORDS};
-use crate::stream_words::StreamsAdvice;
 use crate::streams::{Led, refuse_led};
-use crate::telling::{advise, answer_memory, tell, tell_memory};
+use crate::telling::{advise, answer_memory, tell_job, tell_memory};
 use crate::words::{Job, WordsFault, read_words};
 use hpb_rules::Refusal;
 use hpb_server::{Fault, ScriptEnd, run_script, say};
 use std::alloc::Global;
 use std::convert::AsStr;
 use std::fs::{File, Files};
+use std::io;
 use std::io::{ErrorKind, Read, Write};
 use std::net::{Net, TcpListener, TcpStream};
 use std::sync::Wait;
 use std::thread::Threads;
-use std::{fmt, io};
 
 /// What is said where the words can't be read.
 const NO_TEXT: &str = "hpb: an argument is not UTF-8\n";
 
 /// The whole of the program, with its status: 0; 1 where a definition or a file is refused, memory is refused or
-/// a stream fails; 2 where the words are wrong. The first word is the program's name. Lines go to the output. The errors
+/// a stream fails; 2 where the words are wrong. The first word is the program's name. Lines go to the output; that of a refusal,
+/// and the last one of a file that was formatted or served, is there whole unless the output says that it was cut. The errors
 /// are told what is said of the words, help too, and why a definition or a file is refused or a stream failed; and where
 /// the input is a terminal what to type. Only jobs on files use the runtime, and of these only serving may wait.
 pub fn program<
@@ -56,7 +58,7 @@ pub fn program<
 ) -> u8
     ensures status { result ≤ WRONG_WORDS }
     ensures streams { RunsProgram is_terminal (map S.text words.now) (streams (R.remaining input.old.stream) (W.contents output.old.stream)) (streams (R.remaining input.new.stream) (W.contents output.new.stream))
-        (E.contents errors.old) (E.contents errors.new) result }
+        (is_cut output.new) (E.contents errors.old) (E.contents errors.new) result }
 {
     let asked = read_words(alloc, words);
     run_asked(rt, alloc, asked, input, output, errors, is_terminal)
@@ -104,7 +106,7 @@ fn run_asked<
     requires ranges { IfOk asked HasRanges }
     ensures status { result ≤ WRONG_WORDS }
     ensures streams { RunsAsked is_terminal asked.entry (streams (R.remaining input.old.stream) (W.contents output.old.stream)) (streams (R.remaining input.new.stream) (W.contents output.new.stream))
-        (E.contents errors.old) (E.contents errors.new) result }
+        (is_cut output.new) (E.contents errors.old) (E.contents errors.new) result }
 {
     match asked {
         Ok(job) => {
@@ -138,7 +140,7 @@ fn run_job<
     requires { HasRanges job }
     ensures status { result ≤ WRONG_WORDS }
     ensures streams { RunsJob is_terminal job.entry (streams (R.remaining input.old.stream) (W.contents output.old.stream)) (streams (R.remaining input.new.stream) (W.contents output.new.stream))
-        (E.contents errors.old) (E.contents errors.new) result }
+        (is_cut output.new) (E.contents errors.old) (E.contents errors.new) result }
 {
     match job {
         Job::Script => {
@@ -147,28 +149,53 @@ fn run_job<
         }
         Job::Format { file, journal } => {
             let end = run_format(rt, alloc, file, journal, input, output);
-            let failures = Failures::of(input, output);
-            tell_end(alloc, file, end, failures, output, errors)
+            let known = known_of(rt, alloc, job, &end, Failures::of(input, output));
+            tell_end(alloc, known, end, output, errors)
         }
         Job::Check { file } => {
-            let end = run_check(rt, alloc, file, output);
-            let failures = Failures::of(input, output);
-            tell_end(alloc, file, end, failures, output, errors)
+            let end = run_check(rt, alloc, file, output, errors);
+            let known = known_of(rt, alloc, job, &end, Failures::of(input, output));
+            tell_end(alloc, known, end, output, errors)
         }
         Job::Run { file, batch, every } => {
-            let end = run_file(rt, alloc, file, batch as usize, every, input, output);
-            let failures = Failures::of(input, output);
-            tell_run(alloc, file, end, failures, output, errors)
+            let end = run_file(rt, alloc, file, batch, every, input, output, errors);
+            let known = known_of(rt, alloc, job, &end, Failures::of(input, output));
+            tell_run(alloc, known, end, output, errors)
         }
         Job::Serve {
             file,
             port,
             sessions,
         } => {
-            let end = serve_file(rt, alloc, file, port, sessions, output);
-            let failures = Failures::of(input, output);
-            tell_served(alloc, file, end, failures, output, errors)
+            let end = serve_file(rt, alloc, file, port, sessions, output, errors);
+            let known = known_of(rt, alloc, job, &end, Failures::of(input, output));
+            tell_served(alloc, known, end, output, errors)
         }
+    }
+}
+
+/// What is known of a job beside how it ended. A file whose bytes or whose length were refused, or of which a call failed, is looked
+/// at once more.
+fn known_of<'a, H: Files<File = File>, T>(
+    rt: &H,
+    alloc: Global,
+    job: Job<'a>,
+    end: &Result<T, JobFault>,
+    failures: Failures,
+) -> Known<'a> {
+    let seen = match (end, job.file()) {
+        (Err(fault), Some(file)) if fault.is_of_bytes() => SeenFile::of(rt, alloc, file),
+        _ => None,
+    };
+    let trouble = match (end, job.file()) {
+        (Err(fault), Some(file)) if fault.is_of_calls() => trouble_of(rt, file),
+        _ => None,
+    };
+    Known {
+        job,
+        failures,
+        seen,
+        trouble,
     }
 }
 
@@ -201,94 +228,90 @@ fn tell_script<E: Write>(
 /// Tells how a job on a file ended, and gives the program's status.
 fn tell_end<W: Write, E: Write>(
     alloc: Global,
-    file: &str,
+    known: Known<'_>,
     end: Result<(), JobFault>,
-    failures: Failures,
-    output: &mut W,
+    output: &mut Noted<W>,
     errors: &mut E,
 ) -> u8
+    requires { IsCutBy (is_cut output.old) end }
     ensures status { result ≤ WRONG_WORDS }
-    ensures told { TellsEnd (W.contents output.old) (W.contents output.new) (E.contents errors.old) (E.contents errors.new) end result }
+    ensures told { TellsEnd (is_cut output.new) (W.contents output.old.stream) (W.contents output.new.stream) (E.contents errors.old) (E.contents errors.new) end result }
 {
     match end {
         Ok(()) => WELL,
-        Err(fault) => {
-            tell(alloc, &fault, output);
-            let advice = Advice {
-                file,
-                fault: &fault,
-                failures,
-            };
-            advise(alloc, fault.refusal(), advice, errors);
-            ILL
-        }
+        Err(fault) => tell_fault(alloc, known, fault, output, errors),
     }
+}
+
+/// Tells why a job on a file was not done, and gives the program's status.
+fn tell_fault<W: Write, E: Write>(
+    alloc: Global,
+    known: Known<'_>,
+    fault: JobFault,
+    output: &mut Noted<W>,
+    errors: &mut E,
+) -> u8
+    ensures status { result ≤ WRONG_WORDS }
+    ensures told { TellsFault (is_cut output.new) (W.contents output.old.stream) (W.contents output.new.stream) (E.contents errors.old) (E.contents errors.new) fault result }
+    ensures cut { is_cut output.old ≡ true → (is_cut output.new ≡ true) × Keeps (W.contents output.old.stream) (W.contents output.new.stream) }
+{
+    tell_job(&fault, output);
+    let advice = JobAdvice {
+        fault: &fault,
+        known,
+    };
+    advise(alloc, fault.refusal(), advice, errors);
+    ILL
 }
 
 /// Tells how a run of a file ended, and gives the program's status.
 fn tell_run<W: Write, E: Write>(
     alloc: Global,
-    file: &str,
+    known: Known<'_>,
     end: Result<RunEnd, JobFault>,
-    failures: Failures,
-    output: &mut W,
+    output: &mut Noted<W>,
     errors: &mut E,
 ) -> u8
     ensures status { result ≤ WRONG_WORDS }
-    ensures told { TellsRun (W.contents output.old) (W.contents output.new) (E.contents errors.old) (E.contents errors.new) end result }
+    ensures told { TellsRun (is_cut output.new) (W.contents output.old.stream) (W.contents output.new.stream) (E.contents errors.old) (E.contents errors.new) end result }
 {
     match end {
-        Ok(end) => {
-            let advice = RunAdvice {
-                file,
-                end,
-                failures,
-            };
-            tell_ended(alloc, end, advice, errors)
-        }
-        Err(fault) => tell_end(alloc, file, Err(fault), failures, output, errors),
+        Ok(end) => tell_ended(alloc, end, known, errors),
+        Err(fault) => tell_fault(alloc, known, fault, output, errors),
     }
 }
 
 /// Tells how serving a file ended, and gives the program's status.
 fn tell_served<W: Write, E: Write>(
     alloc: Global,
-    file: &str,
+    known: Known<'_>,
     end: Result<FileEnd, JobFault>,
-    failures: Failures,
-    output: &mut W,
+    output: &mut Noted<W>,
     errors: &mut E,
 ) -> u8
+    requires { IfOk end (λ served. IsTaken (is_cut output.old) served.said) }
     ensures status { result ≤ WRONG_WORDS }
-    ensures told { TellsServed (W.contents output.old) (W.contents output.new) (E.contents errors.old) (E.contents errors.new) end result }
+    ensures told { TellsServed (is_cut output.new) (W.contents output.old.stream) (W.contents output.new.stream) (E.contents errors.old) (E.contents errors.new) end result }
 {
     match end {
         Ok(end) => {
             let end = RunEnd {
                 end: end.said,
                 failed: end.has_failed,
+                code: end.code,
             };
-            let advice = ServedAdvice {
-                file,
-                end,
-                failures,
-            };
-            tell_ended(alloc, end, advice, errors)
+            tell_ended(alloc, end, known, errors)
         }
-        Err(fault) => tell_end(alloc, file, Err(fault), failures, output, errors),
+        Err(fault) => tell_fault(alloc, known, fault, output, errors),
     }
 }
 
 /// Tells the errors how a run or serving ended that had begun, where it ended ill, and gives the program's status.
-fn tell_ended<A: fmt::Display + Copy, E: Write>(
-    alloc: Global,
-    end: RunEnd,
-    advice: A,
-    errors: &mut E,
-) -> u8
+fn tell_ended<E: Write>(alloc: Global, end: RunEnd, known: Known<'_>, errors: &mut E) -> u8
     ensures status { result ≤ WRONG_WORDS }
     ensures told { TellsEnded (E.contents errors.old) (E.contents errors.new) end.end end.failed result }
 {
+    let advice = EndAdvice { end, known };
     match (end.end, end.failed) {
         (Ok(()), false) => return WELL,
         (Ok(()), true) => advise(alloc, Refusal::Device, advice, errors),
@@ -299,11 +322,11 @@ fn tell_ended<A: fmt::Display + Copy, E: Write>(
 
 /// Says what is wrong with words, or what help they ask for, and gives the program's status. The output has the line of 90
 /// where memory was refused.
-fn say_fault<W: Write, E: Write>(fault: WordsFault, output: &mut W, errors: &mut E) -> u8
+fn say_fault<W: Write, E: Write>(fault: WordsFault, output: &mut Noted<W>, errors: &mut E) -> u8
     requires { HasStatus fault }
     ensures status { result ≤ WRONG_WORDS }
     ensures value { result ≡ status_of_fault fault }
-    ensures answered { AnswersFault (W.contents output.old) (W.contents output.new) fault }
+    ensures answered { AnswersFault (is_cut output.new) (W.contents output.old.stream) (W.contents output.new.stream) fault }
     ensures said { SaysFault (E.contents errors.old) (E.contents errors.new) fault }
 {
     match fault {

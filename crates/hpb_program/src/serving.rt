@@ -1,20 +1,21 @@
 //! Serving sessions with the auction that a file keeps.
-ghost use Rattle.std.specs.Prelude.{◌≡◌, ◌≤◌, [], IfErr, IfOk, MatchResult, string_bytes};
-ghost use Rattle.hpb_image.specs.Readings.{last_value, Found, Reads};
-ghost use Rattle.hpb_program.specs.Keeping.{IsNotOpened};
+ghost use Rattle.std.specs.Prelude.{◌≡◌, ◌≤◌, [], IfOk, MatchResult, string_bytes};
+ghost use Rattle.hpb_program.specs.Doubts.{TellsKept, TellsServing};
 ghost use Rattle.hpb_program.specs.Serving.{ServesFile, ServesKept, ServesUnsaid, closed_line};
+ghost use Rattle.hpb_program.specs.Telling.{is_cut, IsTaken};
 ghost use Rattle.hpb_server.specs.Writing.{Sends};
 
 use crate::descriptors::look_for_descriptors;
 use crate::job_fault::JobFault;
 use crate::lookout::Lookout;
+use crate::noted::Noted;
+use crate::opening::open_kept;
 use hpb_auction::Auction;
 use hpb_disk::{Disk, FileDisk};
 use hpb_house::Closing;
-use hpb_recover::{Opened, open};
 use hpb_rings::Report;
 use hpb_serve::{Served, Unwatched, Watch, serve_watched};
-use hpb_server::{Fault, send_bytes};
+use hpb_server::Fault;
 use std::alloc::{AllocError, Global};
 use std::fs::{File, Files};
 use std::io;
@@ -47,6 +48,8 @@ pub struct FileEnd {
     pub auction: Auction,
     /// Whether a call of the disk has failed (91).
     pub has_failed: bool,
+    /// The system's number of the write or the sync that failed, where it told one.
+    pub code: Option<i32>,
     /// The report of each session's client, from seat 0 on.
     pub reports: Vec<Report>,
     /// Whether the last line was written.
@@ -67,16 +70,20 @@ struct Unsaid<D: Disk + Drop> {
 pub(crate) fn serve_file<
     H: Files<File = File> + Net<Listener = TcpListener, Stream = TcpStream> + Threads + Wait + Sync,
     W: Write,
+    E: Write,
 >(
     rt: &H,
     alloc: Global,
     file: &str,
     port: u16,
     sessions: u8,
-    output: &mut W,
+    output: &mut Noted<W>,
+    errors: &mut E,
 ) -> Result<FileEnd, JobFault>
     requires { (1 ≤ sessions) × (sessions ≤ 32) }
-    ensures { ServesFile sessions port (W.contents output.old) (W.contents output.new) result }
+    ensures told { TellsServing (E.contents errors.old) (E.contents errors.new) result }
+    ensures serves { ServesFile sessions port (W.contents output.old.stream) (W.contents output.new.stream) result }
+    ensures taken { IfOk result (λ end. IsTaken (is_cut output.new) end.said) }
 {
     let disk = match FileDisk::open(rt, alloc, file) {
         Ok(disk) => disk,
@@ -91,7 +98,7 @@ pub(crate) fn serve_file<
     }
     let opened = Snapshot::of(&disk);
     let Unsaid { served, room } = match serve_device(
-        rt, alloc, disk, port, sessions, output, &lookout,
+        rt, alloc, disk, port, sessions, output, errors, &lookout,
     ) {
         Ok(unsaid) => unsaid,
         Err(fault) => return Err(fault),
@@ -103,6 +110,7 @@ pub(crate) fn serve_file<
         has_failed,
     } = closing;
     let left = Snapshot::of(&disk);
+    let code = disk.code();
     // Whoever reads the last line may open the file.
     drop(disk);
     match say_closed(room, auction.count(), output) {
@@ -111,6 +119,7 @@ pub(crate) fn serve_file<
             left,
             auction,
             has_failed,
+            code,
             reports,
             said,
         }),
@@ -122,7 +131,8 @@ pub(crate) fn serve_file<
 /// `LISTENING` with the port is written once it can be connected to, and `CLOSED` with the number of commands that are
 /// accepted in all once all sessions have ended.
 ///
-/// The port is asked for only where the device was opened, and nothing is written where either was refused: 40, 42, 44, 45
+/// Before anything else people are told where the device has what no honest device has. The port is asked for only where it was
+/// opened, and nothing is written where either was refused: 40, 42, 44, 45
 /// and 91 of the device, 92 of the port. A house that wasn't started is 90 or 94, a session that took no answer 95, and
 /// what was answered and isn't what was kept 96. What was served is handed up: the device, which keeps the history that it
 /// stood for when it was opened and then the commands that the sessions were told of as newly accepted.
@@ -130,19 +140,23 @@ pub fn serve_kept<
     H: Net<Listener = TcpListener, Stream = TcpStream> + Threads + Wait + Sync,
     D: Disk + Drop + Send,
     W: Write,
+    E: Write,
 >(
     rt: &H,
     alloc: Global,
     disk: D,
     port: u16,
     sessions: u8,
-    output: &mut W,
+    output: &mut Noted<W>,
+    errors: &mut E,
 ) -> Result<ServeEnd<D>, JobFault>
     requires { (1 ≤ sessions) × (sessions ≤ 32) }
-    ensures { ServesKept D.seen D.may_leave D.failures disk sessions port (W.contents output.old) (W.contents output.new) result }
+    ensures told { TellsKept (D.seen disk) (E.contents errors.old) (E.contents errors.new) result }
+    ensures serves { ServesKept D.seen D.may_leave D.failures disk sessions port (W.contents output.old.stream) (W.contents output.new.stream) result }
+    ensures taken { IfOk result (λ end. IsTaken (is_cut output.new) end.said) }
 {
     let Unsaid { served, room } = match serve_device(
-        rt, alloc, disk, port, sessions, output, &Unwatched,
+        rt, alloc, disk, port, sessions, output, errors, &Unwatched,
     ) {
         Ok(unsaid) => unsaid,
         Err(fault) => return Err(fault),
@@ -154,11 +168,12 @@ pub fn serve_kept<
 }
 
 /// Serves so many sessions as `serve_kept` does, up to the last line, while a watch is told what happens beside them.
-#[tactic(auto, using(crate::proofs::Served::unopened))]
+#[tactic(auto, using(crate::proofs::Served::unopened, crate::proofs::Doubting::told_not))]
 fn serve_device<
     H: Net<Listener = TcpListener, Stream = TcpStream> + Threads + Wait + Sync,
     D: Disk + Drop + Send,
     W: Write,
+    E: Write,
     V: Watch + Sync,
 >(
     rt: &H,
@@ -167,12 +182,14 @@ fn serve_device<
     port: u16,
     sessions: u8,
     output: &mut W,
+    errors: &mut E,
     watch: &V,
 ) -> Result<Unsaid<D>, JobFault>
     requires { (1 ≤ sessions) × (sessions ≤ 32) }
-    ensures { ServesUnsaid D.seen D.may_leave D.failures disk sessions port (W.contents output.old) (W.contents output.new) result }
+    ensures told { TellsKept (D.seen disk) (E.contents errors.old) (E.contents errors.new) result }
+    ensures serves { ServesUnsaid D.seen D.may_leave D.failures disk sessions port (W.contents output.old) (W.contents output.new) result }
 {
-    let opened = match open_device(alloc, disk) {
+    let opened = match open_kept(alloc, disk, errors) {
         Ok(opened) => opened,
         Err(fault) => return Err(fault),
     };
@@ -188,20 +205,6 @@ fn serve_device<
     match serve_watched(rt, alloc, opened, listener, port, sessions, output, watch) {
         Ok(served) => Ok(Unsaid { served, room }),
         Err(fault) => Err(JobFault::from(fault)),
-    }
-}
-
-/// Opens a device.
-#[tactic(auto, using(crate::proofs::Kept::not_opened))]
-fn open_device<D: Disk + Drop>(alloc: Global, disk: D) -> Result<Opened<D>, JobFault>
-    ensures read { IfOk result (λ opened. (found : Found) × Reads found (D.seen disk) × (opened.plan.auction ≡ last_value found)) }
-    ensures same { IfOk result (λ opened. D.seen opened.disk ≡ D.seen disk) }
-    ensures works { IfOk result (λ opened. D.failures opened.disk ≡ D.failures disk) }
-    ensures fault { IfErr result (IsNotOpened (D.seen disk)) }
-{
-    match open(alloc, disk) {
-        Ok(opened) => Ok(opened),
-        Err(fault) => Err(JobFault::from(fault.cause)),
     }
 }
 
@@ -227,20 +230,22 @@ fn closing_line(room: String, count: u32) -> Result<String, AllocError>
 fn say_closed<W: Write>(
     room: String,
     count: u32,
-    output: &mut W,
+    output: &mut Noted<W>,
 ) -> Result<Result<(), Fault>, AllocError>
     requires { string_bytes room ≡ [] }
-    ensures { MatchResult result (λ said. Sends (W.contents output.old) (W.contents output.new) (closed_line count) said) (λ _. W.contents output.new ≡ W.contents output.old) }
+    ensures sent { MatchResult result (λ said. Sends (W.contents output.old.stream) (W.contents output.new.stream) (closed_line count) said) (λ _. W.contents output.new.stream ≡ W.contents output.old.stream) }
+    ensures taken { IfOk result (IsTaken (is_cut output.new)) }
 {
     let line = closing_line(room, count)?;
     Ok(send_line(line.as_str(), output))
 }
 
 /// Writes a line, and has it handed on.
-fn send_line<W: Write>(line: &str, output: &mut W) -> Result<(), Fault>
-    ensures { Sends (W.contents output.old) (W.contents output.new) line.now result }
+fn send_line<W: Write>(line: &str, output: &mut Noted<W>) -> Result<(), Fault>
+    ensures sent { Sends (W.contents output.old.stream) (W.contents output.new.stream) line.now result }
+    ensures taken { IsTaken (is_cut output.new) result }
 {
-    match send_bytes(output, line.as_bytes()) {
+    match output.send(line.as_bytes()) {
         Ok(()) => Ok(()),
         Err(_) => Err(Fault::Writer),
     }

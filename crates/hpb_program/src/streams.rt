@@ -2,20 +2,20 @@
 ghost use Rattle.std.specs.Prelude.{◌≡◌, ◌≤◌};
 ghost use Rattle.hpb_program.specs.declared.status.TheConstants.{ILL};
 ghost use Rattle.hpb_rules.specs.declared.refusal.Refusal.TheVariants as refusals;
-ghost use Rattle.hpb_rules.specs.Rendering.{refusal_text};
-ghost use Rattle.hpb_rules.specs.Text.{line_of};
-ghost use Rattle.hpb_server.specs.Telling.{Says, TellsOf};
+ghost use Rattle.hpb_program.specs.Telling.{is_cut, TellsUnled};
+ghost use Rattle.hpb_server.specs.Telling.{TellsOf};
 
-use crate::escaped::Escaped;
+use crate::advice::LedAdvice;
+use crate::noted::Noted;
 use crate::status::ILL;
-use crate::telling::{advise, tell_refusal};
+use crate::telling::{advise, tell};
 use hpb_rules::Refusal;
 use std::alloc::Global;
 use std::fs::{self, File, Files, Metadata};
+use std::io;
 use std::io::Write;
 use std::os::fd::IntoRawFd;
 use std::os::unix::fs::MetadataExt;
-use std::{fmt, io};
 
 /// What stands in for a stream that is closed: it reads as empty, and takes what is written.
 const NOTHING: &str = "/dev/null";
@@ -116,6 +116,25 @@ impl Led {
     pub(crate) fn is_any(self) -> bool {
         self.input || self.output || self.errors
     }
+
+    /// The one that people are told of.
+    fn stream(self) -> &'static str {
+        match (self.output, self.errors) {
+            (true, _) => "standard output",
+            (false, true) => "standard errors",
+            (false, false) => "standard input",
+        }
+    }
+}
+
+/// Writes the line of 91, unless the output leads to the job's file.
+fn tell_unled<W: Write>(led: Led, output: &mut Noted<W>)
+    ensures { TellsUnled led.output (is_cut output.new) (W.contents output.old.stream) (W.contents output.new.stream) refusals.Device }
+{
+    if led.output {
+        return;
+    }
+    tell(Refusal::Device, output);
 }
 
 /// The status of a job whose file standard streams lead to: 1. It is told by 91, but not on a stream that leads there: it would
@@ -124,41 +143,18 @@ pub(crate) fn refuse_led<W: Write, E: Write>(
     alloc: Global,
     file: Option<&str>,
     led: Led,
-    output: &mut W,
+    output: &mut Noted<W>,
     errors: &mut E,
 ) -> u8
     ensures status { result ≡ ILL }
-    ensures answered { Says (W.contents output.old) (W.contents output.new) (line_of (refusal_text refusals.Device)) }
+    ensures answered { TellsUnled led.output (is_cut output.new) (W.contents output.old.stream) (W.contents output.new.stream) refusals.Device }
     ensures told { TellsOf (E.contents errors.old) (E.contents errors.new) refusals.Device }
 {
-    if !led.output {
-        tell_refusal(alloc, Refusal::Device, output);
-    }
+    tell_unled(led, output);
     if !led.errors {
         let file = file.unwrap_or("");
-        advise(alloc, Refusal::Device, LedAdvice { file, led }, errors);
+        let stream = led.stream();
+        advise(alloc, Refusal::Device, LedAdvice { stream, file }, errors);
     }
     ILL
-}
-
-/// What is said of standard streams that lead to a job's file.
-#[derive(Clone, Copy)]
-struct LedAdvice<'a> {
-    file: &'a str,
-    led: Led,
-}
-
-impl fmt::Display for LedAdvice<'_> {
-    fn fmt<W: fmt::Write>(&self, f: &mut fmt::Formatter<W>) -> fmt::Result {
-        let (file, led) = (Escaped(self.file), self.led);
-        let stream = match (led.output, led.errors) {
-            (true, _) => "standard output",
-            (false, true) => "standard errors",
-            (false, false) => "standard input",
-        };
-        write!(
-            f,
-            "{stream} is {file}, the file of the auction itself: let it lead elsewhere"
-        )
-    }
 }

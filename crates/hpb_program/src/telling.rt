@@ -1,61 +1,56 @@
 //! What is told of a fault, on the output and on the errors.
-ghost use Rattle.std.specs.Prelude.{◌≡◌, IfOk, codes};
-ghost use Rattle.hpb_program.specs.Program.{told_text};
+ghost use Rattle.std.specs.Prelude.{◌≡◌, true, codes};
+ghost use Rattle.std.specs.Io.KnownBytes.{Keeps};
+ghost use Rattle.hpb_program.specs.Program.{AnswersJob};
+ghost use Rattle.hpb_program.specs.Telling.{is_cut, TellsLine};
 ghost use Rattle.hpb_rules.specs.declared.refusal.Refusal.TheVariants as refusals;
-ghost use Rattle.hpb_rules.specs.Rendering.{refusal_text};
-ghost use Rattle.hpb_rules.specs.Text.{line_of};
 ghost use Rattle.hpb_server.specs.Telling.{Says, TellsOf, told_line};
 
 use crate::job_fault::JobFault;
-use hpb_rules::{Refusal, Reply};
+use crate::noted::Noted;
+use crate::refusal_lines::refusal_line;
+use hpb_rules::Refusal;
 use hpb_server::{say, tell_people};
-use hpb_wire::{RESPONSE_BYTES, Response, ResponseText};
-use std::alloc::{AllocError, Global};
+use std::alloc::Global;
 use std::fmt;
 use std::io::Write;
 
-/// The line of 90.
-const MEMORY_LINE: &str = "ERR 90 memory\n";
+/// Writes the line of a refusal, unless the output was cut: a front of another line may stand there. It takes no memory.
+#[tactic(auto, using(crate::proofs::Lines::told_nothing))]
+pub(crate) fn tell<W: Write>(refusal: Refusal, output: &mut Noted<W>)
+    ensures line { TellsLine (is_cut output.new) (W.contents output.old.stream) (W.contents output.new.stream) refusal }
+    ensures cut { is_cut output.old ≡ true → (is_cut output.new ≡ true) × Keeps (W.contents output.old.stream) (W.contents output.new.stream) }
+{
+    if output.is_cut() {
+        return;
+    }
+    send_line(refusal, output);
+}
 
-/// Writes the line of a fault, as far as memory and the output allow. That of 90 takes no memory. Where the output has
-/// failed none is tried: a front of another line may stand there.
-pub(crate) fn tell<W: Write>(alloc: Global, fault: &JobFault, output: &mut W)
-    ensures { Says (W.contents output.old) (W.contents output.new) (told_text fault.now) }
+/// Writes the line of a refusal.
+#[tactic(auto, using(crate::proofs::Lines::told_sent))]
+fn send_line<W: Write>(refusal: Refusal, output: &mut Noted<W>)
+    ensures { TellsLine (is_cut output.new) (W.contents output.old.stream) (W.contents output.new.stream) refusal }
+{
+    let _ = output.send(refusal_line(refusal).as_bytes());
+}
+
+/// Writes the line of a job that was not done, unless the output failed: a front of another line may stand there.
+pub(crate) fn tell_job<W: Write>(fault: &JobFault, output: &mut Noted<W>)
+    ensures line { AnswersJob (is_cut output.new) (W.contents output.old.stream) (W.contents output.new.stream) fault.now }
+    ensures cut { is_cut output.old ≡ true → (is_cut output.new ≡ true) × Keeps (W.contents output.old.stream) (W.contents output.new.stream) }
 {
     match fault {
         JobFault::Writer => {}
-        JobFault::Memory => answer_memory(output),
-        other => tell_refusal(alloc, other.refusal(), output),
+        other => tell(other.refusal(), output),
     }
 }
 
-/// Writes the line of 90, without taking memory.
-pub fn answer_memory<W: Write>(output: &mut W)
-    ensures { Says (W.contents output.old) (W.contents output.new) (line_of (refusal_text refusals.Memory)) }
+/// Writes the line of 90, unless the output was cut. It takes no memory.
+pub fn answer_memory<W: Write>(output: &mut Noted<W>)
+    ensures { TellsLine (is_cut output.new) (W.contents output.old.stream) (W.contents output.new.stream) refusals.Memory }
 {
-    say(line_of_memory().as_bytes(), output);
-}
-
-fn line_of_memory() -> &'static str
-    ensures { result.now ≡ line_of (refusal_text refusals.Memory) }
-{
-    MEMORY_LINE
-}
-
-pub(crate) fn tell_refusal<W: Write>(alloc: Global, refusal: Refusal, output: &mut W)
-    ensures { Says (W.contents output.old) (W.contents output.new) (line_of (refusal_text refusal)) }
-{
-    if let Ok(line) = line_of_refusal(alloc, refusal) {
-        say(line.as_bytes(), output);
-    }
-}
-
-fn line_of_refusal(alloc: Global, refusal: Refusal) -> Result<ResponseText, AllocError>
-    ensures { IfOk result (λ line. line ≡ line_of (refusal_text refusal)) }
-{
-    let mut line = ResponseText::new(alloc, RESPONSE_BYTES)?;
-    line.render(&Response::Reply(Reply::Refused(refusal)))?;
-    Ok(line)
+    tell(Refusal::Memory, output);
 }
 
 /// What people are told of 90, without taking memory.

@@ -1,5 +1,7 @@
 mod definitions;
+mod doubts;
 mod files;
+mod interruptions;
 mod runs;
 mod serves;
 mod using;

@@ -40,6 +40,7 @@ then commands and questions, one a line. Each of them gets one line on standard 
   NODE name                       a package or a licence         NODE name HIGH h x PRICE p MIN m WIN yes
   WHO bidder                      a bidder                       WHO x ELIGIBILITY e ACTIVITY a TICKET t
 
+A CLOSE of a round in which nobody bid or waived ends the auction, for good.
 Where the definition gives waivers, what WHO is answered ends with WAIVERS and how many are left.
 Each bidder numbers its commands 1, 2, .. by tickets, and so does who closes rounds and moves stages.
 What is refused gets ERR with a number and a word.
@@ -104,9 +105,9 @@ const RUN_ABOUT: &str = "Runs the auction that a file keeps";
 
 const RUN_HELP: &str =
     r#"Standard input has commands and questions, one a line, as a script has behind its definition, and each line gets its
-answer on standard output (hpb --help). A command is answered by OK once it is on the disk, where no power cut takes
-it back. The auction goes on where the file's last run ended, with all that was answered by OK. While it runs, no
-other program may have the file.
+answer on standard output (hpb --help). A command is answered by OK once it is on the disk: no power cut takes it back,
+as long as the disk does what it is told. The auction goes on where the file's last run ended, with all that was
+answered by OK. While it runs, no other program may have the file.
 
 --batch N: as many commands as have come are put on the disk together, N at most, and then answered. Any line that is
 no command ends a batch, and no batch waits for more to come. What a batch costs, mostly two syncs of the disk, its
@@ -133,8 +134,9 @@ of its own; the system refuses any further one. A session sends commands and que
 behind its definition, and each line gets its answer (hpb --help). So nc 127.0.0.1 P is a client, and needs nothing
 else. All sessions are in one auction: each is shown by its questions what the others did.
 
-A command is answered by OK once it is on the disk, where no power cut takes it back. The auction goes on where the
-file's last run ended, with all that was answered by OK. While it is served, no other program may have the file.
+A command is answered by OK once it is on the disk: no power cut takes it back, as long as the disk does what it is
+told. The auction goes on where the file's last run ended, with all that was answered by OK. While it is served, no
+other program may have the file.
 
 A session ends where its client ends its lines or its connection. Once all N have ended CLOSED n is written: n commands
 are accepted in all. What can't be served gets ERR with a number and a word.
@@ -144,7 +146,7 @@ Only programs on this machine can connect. Any of them may send any command: nob
 Status: 0 all sessions have ended; 1 the file could not be opened, as many connections may not be open at a time (ulimit
 -n), the port could not be had, the file's disk failed (commands are answered ERR 93 failed from then on), memory was
 refused, writing failed, or what was answered isn't what was kept; 2 the words were wrong. With 1 standard error says
-what happened and what to do.
+what happened and what to do. Before, it says which places are taken, and when the disk fails.
 
 Example: two sessions, each from a terminal of its own
 
@@ -239,6 +241,14 @@ impl<'a> Job<'a> {
             | Job::Check { file }
             | Job::Run { file, .. }
             | Job::Serve { file, .. } => Some(file),
+        }
+    }
+
+    /// The journal that it asks for, which only `format` does.
+    pub(crate) fn journal(self) -> Option<JournalShape> {
+        match self {
+            Job::Format { journal, .. } => Some(journal),
+            _ => None,
         }
     }
 }

@@ -78,7 +78,10 @@ fn a_file_is_formatted_once(rt: HostRuntime) -> Result<(), Fail> {
         let before = new_file(&rt, path, first)?;
         let again = run_words(&rt, &format_words(path, second), SIX_NODES)?;
         assert!(rt;
-            again.is_refused("ERR 41 formatted\n", "hpb check --file hpb_program_twice"),
+            again.is_refused(
+                "ERR 41 formatted\n",
+                "hpb_program_twice keeps an auction already, and nothing was changed: see it by `hpb check --file hpb_program_twice`, or name another file"
+            ),
             "{again:?}"
         );
         assert_eq!(rt; fs::read(&rt, path)?, before);
@@ -90,18 +93,33 @@ fn a_file_is_formatted_once(rt: HostRuntime) -> Result<(), Fail> {
 #[test]
 fn zeros_are_formatted_and_other_lengths_are_not(rt: HostRuntime) -> Result<(), Fail> {
     let path = "hpb_program_zeros";
-    for (pages, other, fitting, line) in [
-        (18, in_pages("4"), in_pages("5"), "FORMATTED 18\n"),
-        (19, in_cells("24"), SIXTEEN_CELLS, "FORMATTED 19\n"),
-        (19, in_pages("16"), in_pages("6"), "FORMATTED 19\n"),
+    for (pages, other, fitting, line, said) in [
+        (
+            18,
+            in_pages("4"),
+            in_pages("5"),
+            "FORMATTED 18\n",
+            "hpb_program_zeros is there and has 18 pages, and --journal 4 wants 17: give --journal 5, or name a file that isn't there",
+        ),
+        (
+            19,
+            in_cells("24"),
+            SIXTEEN_CELLS,
+            "FORMATTED 19\n",
+            "hpb_program_zeros is there and has 19 pages, and --journal 24 --layout 2 wants 22: give --journal 16 --layout 2, or name a file that isn't there",
+        ),
+        (
+            19,
+            in_pages("16"),
+            in_pages("6"),
+            "FORMATTED 19\n",
+            "hpb_program_zeros is there and has 19 pages, and --journal 16 wants 29: give --journal 6, or name a file that isn't there",
+        ),
     ] {
         let zeros = vec![in rt.alloc(); 0; pages * PAGE]?;
         fs::write(&rt, path, zeros.as_slice())?;
         let refused = run_words(&rt, &format_words(path, other), SIX_NODES)?;
-        assert!(rt;
-            refused.is_refused("ERR 43 length\n", "another length"),
-            "{refused:?}"
-        );
+        assert!(rt; refused.is_refused("ERR 43 length\n", said), "{refused:?}");
         assert_eq!(rt; fs::read(&rt, path)?, zeros);
         let made = run_words(&rt, &format_words(path, fitting), SIX_NODES)?;
         assert_eq!(rt; made, Ran::well(rt.alloc(), line)?);
@@ -114,20 +132,51 @@ fn zeros_are_formatted_and_other_lengths_are_not(rt: HostRuntime) -> Result<(), 
 fn no_file_is_made_for_a_journal_out_of_range(rt: HostRuntime) -> Result<(), Fail> {
     let path = "hpb_program_none";
     let _ = fs::remove_file(&rt, path);
-    let said =
-        "a journal has 4 to 1024 pages, and by --layout 2 a multiple of 8 from 16 to 1024 frames: ";
-    for journal in [
-        in_pages("0"),
-        in_pages("3"),
-        in_pages("1025"),
-        in_pages("4294967295"),
-        in_cells("0"),
-        in_cells("8"),
-        in_cells("12"),
-        in_cells("20"),
-        in_cells("1025"),
-        in_cells("1032"),
-        in_cells("4294967288"),
+    for (journal, said) in [
+        (
+            in_pages("0"),
+            "--journal 0 can't be: such a journal has from 4 to 1,024 frames. --journal 4 can, and makes a file of 17 pages",
+        ),
+        (
+            in_pages("3"),
+            "--journal 3 can't be: such a journal has from 4 to 1,024 frames. --journal 4 can, and makes a file of 17 pages",
+        ),
+        (
+            in_pages("1025"),
+            "--journal 1025 can't be: such a journal has from 4 to 1,024 frames. --journal 1024 can, and makes a file of 1037 pages",
+        ),
+        (
+            in_pages("4294967295"),
+            "--journal 4294967295 can't be: such a journal has from 4 to 1,024 frames. --journal 1024 can, and makes a file of 1037 pages",
+        ),
+        (
+            in_cells("0"),
+            "--journal 0 --layout 2 can't be: such a journal has from 16 to 1,024 frames, in eights. --journal 16 --layout 2 can, and makes a file of 19 pages",
+        ),
+        (
+            in_cells("8"),
+            "--journal 8 --layout 2 can't be: such a journal has from 16 to 1,024 frames, in eights. --journal 16 --layout 2 can, and makes a file of 19 pages",
+        ),
+        (
+            in_cells("12"),
+            "--journal 12 --layout 2 can't be: such a journal has from 16 to 1,024 frames, in eights. --journal 16 --layout 2 can, and makes a file of 19 pages",
+        ),
+        (
+            in_cells("20"),
+            "--journal 20 --layout 2 can't be: such a journal has from 16 to 1,024 frames, in eights. --journal 24 --layout 2 can, and makes a file of 22 pages",
+        ),
+        (
+            in_cells("1025"),
+            "--journal 1025 --layout 2 can't be: such a journal has from 16 to 1,024 frames, in eights. --journal 1024 --layout 2 can, and makes a file of 397 pages",
+        ),
+        (
+            in_cells("1032"),
+            "--journal 1032 --layout 2 can't be: such a journal has from 16 to 1,024 frames, in eights. --journal 1024 --layout 2 can, and makes a file of 397 pages",
+        ),
+        (
+            in_cells("4294967288"),
+            "--journal 4294967288 --layout 2 can't be: such a journal has from 16 to 1,024 frames, in eights. --journal 1024 --layout 2 can, and makes a file of 397 pages",
+        ),
     ] {
         let end = run_words(&rt, &format_words(path, journal), SIX_NODES)?;
         assert!(rt; end.is_refused("ERR 43 length\n", said), "{end:?}");
@@ -153,14 +202,17 @@ fn faults_are_found_in_order(rt: HostRuntime) -> Result<(), Fail> {
     // A definition that is refused, a journal out of range, a file that can't be made.
     for (wrong, right) in [(in_pages("3"), FOUR_PAGES), (in_cells("20"), SIXTEEN_CELLS)] {
         let end = run_words(&rt, &format_words(path, wrong), b"{}")?;
-        assert!(rt; end.is_refused("ERR 61 field\n", "61 field"), "{end:?}");
+        assert!(rt;
+            end.is_refused("ERR 61 field\n", "step: missing"),
+            "{end:?}"
+        );
         let end = run_words(&rt, &format_words(path, wrong), SIX_NODES)?;
-        assert!(rt; end.is_refused("ERR 43 length\n", "--journal"), "{end:?}");
+        assert_eq!(rt; end.output.as_str(), "ERR 43 length\n");
         let end = run_words(&rt, &format_words(path, right), SIX_NODES)?;
         assert!(rt;
             end.is_refused(
                 "ERR 91 device\n",
-                "hpb_program_order/none could not be opened or made"
+                "hpb_program_order/none could not be opened or made: No such file or directory (os error 2): see that its folder is there"
             ),
             "{end:?}"
         );
@@ -189,7 +241,7 @@ fn a_definition_is_the_whole_of_the_input(rt: HostRuntime) -> Result<(), Fail> {
     }
     let empty = run_words(&rt, &format_words(path, FOUR_PAGES), b"")?;
     assert!(rt;
-        empty.is_refused("ERR 60 json\n", "hpb: 60 json: the first line is empty"),
+        empty.is_refused("ERR 60 json\n", "the definition is empty"),
         "{empty:?}"
     );
     assert!(rt; fs::metadata(&rt, path).is_err());
@@ -219,19 +271,43 @@ fn checked_with<
 #[test]
 fn damaged_files_are_refused(rt: HostRuntime) -> Result<(), Fail> {
     let path = "hpb_program_damaged";
-    for (journal, other_layout) in [(FOUR_PAGES, 2), (SIXTEEN_CELLS, 1)] {
+    // Sixteen frames are a journal of pages, too, and four are none of cells.
+    for (journal, other_layout, damaged, taken) in [
+        (
+            FOUR_PAGES,
+            2,
+            "the head of hpb_program_damaged is damaged, and the file has 17 pages: leave it as it is, and take your newest copy",
+            "the head of hpb_program_damaged is damaged, and the file has 17 pages: leave it as it is, and take your newest copy",
+        ),
+        (
+            SIXTEEN_CELLS,
+            1,
+            "the head of hpb_program_damaged is damaged, and the file has 19 pages: leave it as it is, and take your newest copy",
+            "hpb_program_damaged has 19 pages, and by its head 29 (--journal 16): it was cut. Leave it as it is, and take your newest copy",
+        ),
+    ] {
         // The head's gate, its layout, the slot's gate, and a frame that is open and holds nothing.
         for (at, byte, line, said) in [
             (
                 0,
                 0,
                 "ERR 40 unformatted\n",
-                "hpb format --file F --journal J",
+                "hpb_program_damaged keeps no auction: it doesn't begin as one that does. If it kept one, it was cut or overwritten: leave it as it is, and take your newest copy. If `hpb format` was stopped while it made the file, do the same again. To make a new auction, name a file that isn't there: `hpb format --file new.hpb --journal 64 < definition.json`",
             ),
-            (24, 9, "ERR 42 layout\n", "head"),
-            (24, other_layout, "ERR 42 layout\n", "head"),
-            (SLOT, 0, "ERR 44 checkpoint\n", "checkpoint"),
-            (FRAME, 0xa5, "ERR 45 frame\n", "batch"),
+            (24, 9, "ERR 42 layout\n", damaged),
+            (24, other_layout, "ERR 42 layout\n", taken),
+            (
+                SLOT,
+                0,
+                "ERR 44 checkpoint\n",
+                "hpb_program_damaged has no whole checkpoint, which no power cut does to it: leave it as it is, and take your newest copy",
+            ),
+            (
+                FRAME,
+                0xa5,
+                "ERR 45 frame\n",
+                "a batch in the journal of hpb_program_damaged is damaged, which no power cut does to it: leave it as it is, and take your newest copy",
+            ),
         ] {
             let (end, is_same) = checked_with(&rt, path, journal, at, byte)?;
             assert!(rt; end.is_refused(line, said), "{end:?}");
@@ -244,19 +320,85 @@ fn damaged_files_are_refused(rt: HostRuntime) -> Result<(), Fail> {
 #[test]
 fn files_of_other_lengths_are_refused(rt: HostRuntime) -> Result<(), Fail> {
     let path = "hpb_program_cut";
-    for (journal, one_page_less) in [(in_pages("8"), 20 * PAGE), (SIXTEEN_CELLS, 18 * PAGE)] {
-        let whole = new_file(&rt, path, journal)?;
-        for (length, line) in [
-            (one_page_less, "ERR 42 layout\n"),
-            (17 * PAGE - 1, "ERR 40 unformatted\n"),
-            (0, "ERR 40 unformatted\n"),
+    for (journal, less, more, cut, longer) in [
+        (
+            in_pages("8"),
+            20 * PAGE,
+            22 * PAGE,
+            "hpb_program_cut has 20 pages, and by its head 21 (--journal 8): it was cut. Leave it as it is, and take your newest copy",
+            "hpb_program_cut has 22 pages, and by its head 21 (--journal 8): it was made longer. Copy it, cut it by `truncate -s 86016 hpb_program_cut`, and see it by `hpb check --file hpb_program_cut`; if it is refused still, take your newest copy",
+        ),
+        (
+            SIXTEEN_CELLS,
+            18 * PAGE,
+            20 * PAGE,
+            "hpb_program_cut has 18 pages, and by its head 19 (--journal 16 --layout 2): it was cut. Leave it as it is, and take your newest copy",
+            "hpb_program_cut has 20 pages, and by its head 19 (--journal 16 --layout 2): it was made longer. Copy it, cut it by `truncate -s 77824 hpb_program_cut`, and see it by `hpb check --file hpb_program_cut`; if it is refused still, take your newest copy",
+        ),
+    ] {
+        let mut bytes = new_file(&rt, path, journal)?;
+        bytes.resize(more, 0)?;
+        for (length, line, said) in [
+            (more, "ERR 42 layout\n", longer),
+            (less, "ERR 42 layout\n", cut),
+            (17 * PAGE - 1, "ERR 40 unformatted\n", NO_WHOLE_PAGES),
+            (PAGE, "ERR 40 unformatted\n", ONE_PAGE),
+            (0, "ERR 40 unformatted\n", NOTHING_LEFT),
         ] {
-            fs::write(&rt, path, &whole[..whole.len().min(length)])?;
+            fs::write(&rt, path, &bytes[..bytes.len().min(length)])?;
             let end = run_words(&rt, &["hpb", "check", "--file", path], b"")?;
-            assert!(rt; end.is_refused(line, path), "{end:?}");
+            assert!(rt; end.is_refused(line, said), "{end:?}");
         }
         fs::remove_file(&rt, path)?;
     }
+    Ok(())
+}
+
+/// What is said of what is left of a file that was cut.
+const NO_WHOLE_PAGES: &str =
+    "hpb_program_cut keeps no auction: it has 69631 bytes, which are no whole pages, and one that does has 17 at least. If it kept one, it was cut or overwritten: leave it as it is, and take your newest copy. If `hpb format` was stopped while it made the file, do the same again. To make a new auction, name a file that isn't there: `hpb format --file new.hpb --journal 64 < definition.json`";
+
+const ONE_PAGE: &str =
+    "hpb_program_cut keeps no auction: it has 1 page, and one that does has 17 at least. If it kept one, it was cut or overwritten: leave it as it is, and take your newest copy. If `hpb format` was stopped while it made the file, do the same again. To make a new auction, name a file that isn't there: `hpb format --file new.hpb --journal 64 < definition.json`";
+
+const NOTHING_LEFT: &str =
+    "hpb_program_cut keeps no auction: it is empty. If it kept one, it was cut or overwritten: leave it as it is, and take your newest copy. If `hpb format` was stopped while it made the file, do the same again. To make a new auction, name a file that isn't there: `hpb format --file new.hpb --journal 64 < definition.json`";
+
+#[test]
+fn a_kept_auction_is_told_of_whatever_the_journal(rt: HostRuntime) -> Result<(), Fail> {
+    let path = "hpb_program_kept";
+    let before = new_file(&rt, path, in_pages("16"))?;
+    let end = run_words(&rt, &format_words(path, in_pages("64")), SIX_NODES)?;
+    assert!(rt;
+        end.is_refused(
+            "ERR 43 length\n",
+            "hpb_program_kept keeps an auction already, and nothing was changed: it has 29 pages, and --journal 64 wants 77. See it by `hpb check --file hpb_program_kept`, or name another file"
+        ),
+        "{end:?}"
+    );
+    assert_eq!(rt; fs::read(&rt, path)?, before);
+    fs::remove_file(&rt, path)?;
+    Ok(())
+}
+
+#[test]
+fn no_journal_fits_some_lengths(rt: HostRuntime) -> Result<(), Fail> {
+    let path = "hpb_program_short";
+    for (length, said) in [
+        (
+            16 * PAGE,
+            "hpb_program_short is there and has 16 pages, and --journal 4 wants 17: name a file that isn't there",
+        ),
+        (
+            17 * PAGE + 1,
+            "hpb_program_short is there and has 69633 bytes, which are no whole pages, and --journal 4 wants 17: name a file that isn't there",
+        ),
+    ] {
+        fs::write(&rt, path, vec![in rt.alloc(); 0; length]?.as_slice())?;
+        let end = run_words(&rt, &format_words(path, FOUR_PAGES), SIX_NODES)?;
+        assert!(rt; end.is_refused("ERR 43 length\n", said), "{end:?}");
+    }
+    fs::remove_file(&rt, path)?;
     Ok(())
 }
 
@@ -266,13 +408,16 @@ fn what_is_no_file_is_refused(rt: HostRuntime) -> Result<(), Fail> {
     let _ = fs::remove_file(&rt, path);
     let missing = run_words(&rt, &["hpb", "check", "--file", path], b"")?;
     assert!(rt;
-        missing.is_refused("ERR 91 device\n", "hpb_program_missing could not be opened"),
+        missing.is_refused(
+            "ERR 91 device\n",
+            "hpb_program_missing could not be opened: No such file or directory (os error 2): see that its path is right. Only `hpb format` makes a file"
+        ),
         "{missing:?}"
     );
     assert!(rt; fs::metadata(&rt, path).is_err());
     let folder = run_words(&rt, &["hpb", "check", "--file", "."], b"")?;
     assert!(rt;
-        folder.is_refused("ERR 91 device\n", "no regular file"),
+        folder.is_refused("ERR 91 device\n", ". is no regular file: name one"),
         "{folder:?}"
     );
     Ok(())
@@ -285,12 +430,18 @@ fn a_file_in_use_is_refused(rt: HostRuntime) -> Result<(), Fail> {
     let held = FileDisk::open(&rt, rt.alloc(), path)?;
     let end = run_words(&rt, &["hpb", "check", "--file", path], b"")?;
     assert!(rt;
-        end.is_refused("ERR 91 device\n", "in use by another process"),
+        end.is_refused(
+            "ERR 91 device\n",
+            "hpb_program_used is in use by another process: wait until that has ended"
+        ),
         "{end:?}"
     );
     let end = run_words(&rt, &format_words(path, FOUR_PAGES), SIX_NODES)?;
     assert!(rt;
-        end.is_refused("ERR 91 device\n", "in use by another process"),
+        end.is_refused(
+            "ERR 91 device\n",
+            "hpb_program_used is in use by another process: wait until that has ended"
+        ),
         "{end:?}"
     );
     drop(held);
@@ -352,16 +503,18 @@ fn each_call_of_a_device_fails_in_turn(rt: HostRuntime) -> Result<(), Fail> {
         let mut calls = 0;
         for call in 1..100 {
             let disk = MemoryDisk::of(alloc, bytes.clone()?)?;
-            let mut output = Vec::new(alloc);
-            match check_device(alloc, FuseDisk::new(disk, call), &mut output) {
+            let mut output = Noted::new(Vec::new(alloc));
+            let mut errors = Vec::new(alloc);
+            match check_device(alloc, FuseDisk::new(disk, call), &mut output, &mut errors) {
                 Ok(()) => {
-                    assert_eq!(rt; output.as_slice(), NEW.as_bytes());
+                    assert_eq!(rt; output.stream.as_slice(), NEW.as_bytes());
                     calls = call;
                     break;
                 }
                 Err(fault) => {
                     assert!(rt; matches!(fault, JobFault::Open(Cause::Device)), "{call}");
-                    assert!(rt; output.is_empty(), "{call}");
+                    assert!(rt; errors.is_empty(), "{call}");
+                    assert!(rt; output.stream.is_empty(), "{call}");
                 }
             }
         }

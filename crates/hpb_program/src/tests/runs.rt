@@ -4,9 +4,10 @@ use super::using::{
     BOTH, FOUR_PAGES, FailingReader, FailingWriter, Ran, SIX_NODES, SIXTEEN_CELLS, new_file,
     run_on, run_over, run_words,
 };
+use crate::advice::EndAdvice;
+use crate::known::Known;
 use crate::noted::Failures;
-use crate::run_end::{RunAdvice, RunEnd};
-use crate::{JobFault, run_kept};
+use crate::{Job, JobFault, RunEnd, run_kept};
 use hpb_disk::{FileDisk, FuseDisk, MemoryDisk};
 use hpb_recover::Cause;
 use hpb_server::Fault;
@@ -173,7 +174,10 @@ fn a_file_in_use_is_not_run(rt: HostRuntime) -> Result<(), Fail> {
         };
         let (end, left) = run_on(&rt, &["hpb", "run", "--file", path], b"SHOW\n")?;
         assert!(rt;
-            end.is_refused("ERR 91 device\n", "in use by another process"),
+            end.is_refused(
+                "ERR 91 device\n",
+                "hpb_program_running is in use by another process: wait until that has ended"
+            ),
             "{end:?}"
         );
         assert_eq!(rt; left, 5);
@@ -195,11 +199,21 @@ fn files_that_keep_no_auction_are_not_run(rt: HostRuntime) -> Result<(), Fail> {
                 0,
                 0,
                 "ERR 40 unformatted\n",
-                "hpb format --file F --journal J",
+                "keeps no auction: it doesn't ",
             ),
-            (24, 9, "ERR 42 layout\n", "head"),
-            (3 * PAGE, 0, "ERR 44 checkpoint\n", "checkpoint"),
-            (13 * PAGE, 0xa5, "ERR 45 frame\n", "batch"),
+            (24, 9, "ERR 42 layout\n", "the head of hpb_program_flawed "),
+            (
+                3 * PAGE,
+                0,
+                "ERR 44 checkpoint\n",
+                "has no whole checkpoint",
+            ),
+            (
+                13 * PAGE,
+                0xa5,
+                "ERR 45 frame\n",
+                "a batch in the journal of ",
+            ),
         ] {
             let mut bytes = new_file(&rt, path, journal)?;
             if let Some(place) = bytes.get_mut(at) {
@@ -207,7 +221,8 @@ fn files_that_keep_no_auction_are_not_run(rt: HostRuntime) -> Result<(), Fail> {
             }
             fs::write(&rt, path, bytes.as_slice())?;
             let (end, left) = run_on(&rt, &words, b"SHOW\n")?;
-            assert!(rt; end.is_refused(line, said), "{end:?}");
+            assert_eq!(rt; end.output.as_str(), line);
+            assert!(rt; end.errors.contains(said), "{end:?}");
             assert_eq!(rt; left, 5);
             assert_eq!(rt; fs::read(&rt, path)?, bytes);
         }
@@ -215,7 +230,10 @@ fn files_that_keep_no_auction_are_not_run(rt: HostRuntime) -> Result<(), Fail> {
     fs::remove_file(&rt, path)?;
     let end = run_words(&rt, &words, b"")?;
     assert!(rt;
-        end.is_refused("ERR 91 device\n", "could not be opened"),
+        end.is_refused(
+            "ERR 91 device\n",
+            "hpb_program_flawed could not be opened: No such file or directory (os error 2): see that its path is right. Only `hpb format` makes a file"
+        ),
         "{end:?}"
     );
     assert!(rt; fs::metadata(&rt, path).is_err());
@@ -232,8 +250,10 @@ fn streams_of_a_run_fail(rt: HostRuntime) -> Result<(), Fail> {
     let (status, said) = run_over(&rt, &words, FailingReader, &mut output)?;
     assert_eq!(rt; status, 1);
     assert!(rt; output.is_empty());
-    assert!(rt; said.starts_with("hpb: 92 stream: reading: "), "{said}");
-    assert!(rt; said.contains("Run hpb_program_cut_off again"), "{said}");
+    assert_eq!(rt;
+        said.as_str(),
+        "hpb: 92 stream: reading: connection reset. All that was answered by OK is kept. Then `hpb run --file hpb_program_cut_off --batch 1 --every 0`, and send again, in their order, the lines that have no answer\n"
+    );
     // What was accepted stands, though its answer could not be written.
     let (status, said) = run_over(&rt, &words, b"BID x 1 a 100\n".as_slice(), FailingWriter)?;
     assert_eq!(rt; status, 1);
@@ -282,10 +302,12 @@ fn run_failing(
 ) -> Result<Result<RunEnd, JobFault>, Fail> {
     let disk = FuseDisk::new(MemoryDisk::of(alloc, bytes.to_vec(alloc)?)?, call);
     let mut input = b"BID x 1 a 100\nBID y 1 b 150\nCLOSE 1\n".as_slice();
-    match run_kept(alloc, disk, 1, 0, &mut input, output) {
+    let mut errors = Vec::new(alloc);
+    match run_kept(alloc, disk, 1, 0, &mut input, output, &mut errors) {
         Ok(ran) => Ok(Ok(RunEnd {
             end: ran.end,
             failed: ran.engine.failed,
+            code: None,
         })),
         Err(fault) => Ok(Err(fault)),
     }
@@ -314,7 +336,8 @@ fn kept_with(
                 end,
                 RunEnd {
                     end: Ok(()),
-                    failed
+                    failed,
+                    code: None
                 },
                 "{call}"
             );
@@ -344,35 +367,63 @@ fn each_call_of_a_run_fails_in_turn(rt: HostRuntime) -> Result<(), Fail> {
     Ok(())
 }
 
+/// What is told of a run that ended so.
+fn told_of_run(alloc: Global, file: &str, end: RunEnd) -> Result<String, AllocError> {
+    let job = Job::Run {
+        file,
+        batch: 64,
+        every: 0,
+    };
+    let known = Known {
+        job,
+        failures: Failures {
+            reading: None,
+            writing: None,
+        },
+        seen: None,
+        trouble: None,
+    };
+    let advice = EndAdvice { end, known };
+    format!(in alloc; "{advice}")
+}
+
+/// What is to be done after a disk has failed in a run of a.hpb.
+const AFTER: &str =
+    " All that was answered by OK is kept. See to the disk first: a full one wants room, and then the same file goes on; from one that breaks copy a.hpb to another, and go on with the copy. Then `hpb run --file a.hpb --batch 64 --every 0`, and send again, in their order, the commands that were answered by 91 or 93, or not at all: one that was kept gets its old number, or 13 where its sender has a later one that was kept";
+
 #[test]
 fn ends_of_runs_are_told(rt: HostRuntime) -> Result<(), Fail> {
-    let disk = "hpb: 91 device: the disk of a.hpb failed. All that was answered by OK is kept.";
-    for (end, failed, begins, said) in [
-        (Ok(()), true, "the disk of a.hpb failed", "copy a.hpb"),
-        (
-            Err(Fault::Memory),
-            false,
-            "memory was refused.",
-            "Run a.hpb again",
-        ),
-        (
-            Err(Fault::Writer),
-            true,
-            "writing: nothing more was taken",
-            disk,
-        ),
+    let alloc = rt.alloc();
+    for (code, words) in [
+        (Some(28), ": No space left on device (os error 28)"),
+        (Some(5), ": Input/output error (os error 5)"),
+        (None, ""),
     ] {
-        let advice = RunAdvice {
-            file: "a.hpb",
-            end: RunEnd { end, failed },
-            failures: Failures {
-                reading: None,
-                writing: None,
-            },
+        let disk = format!(in alloc; "the disk of a.hpb failed{words}.{AFTER}")?;
+        let end = RunEnd {
+            end: Ok(()),
+            failed: true,
+            code,
         };
-        let text = format!(in rt.alloc(); "{advice}\n")?;
-        assert!(rt; text.starts_with(begins), "{text}");
-        assert!(rt; text.contains(said), "{text}");
+        assert_eq!(rt; told_of_run(alloc, "a.hpb", end)?, disk);
+        let both = format!(in alloc;
+            "writing: nothing more was taken. All that was answered by OK is kept. Then `hpb run --file a.hpb --batch 64 --every 0`, and send again, in their order, the lines that have no answer\nhpb: 91 device: {disk}"
+        )?;
+        let end = RunEnd {
+            end: Err(Fault::Writer),
+            failed: true,
+            code,
+        };
+        assert_eq!(rt; told_of_run(alloc, "a.hpb", end)?, both);
     }
+    let end = RunEnd {
+        end: Err(Fault::Memory),
+        failed: false,
+        code: None,
+    };
+    assert_eq!(rt;
+        told_of_run(alloc, "-it's mine", end)?.as_str(),
+        "memory was refused. All that was answered by OK is kept. Then `hpb run --file './-it'\\''s mine' --batch 64 --every 0`, and send again, in their order, the lines that have no answer"
+    );
     Ok(())
 }

@@ -1,14 +1,15 @@
 //! Files that are served, and what is told of how that ended.
 
 use super::using::{BOTH, FOUR_PAGES, FailingWriter, Ran, new_file, run_over, run_words};
-use crate::JobFault;
-use crate::job_fault::Advice;
+use crate::advice::{EndAdvice, JobAdvice};
+use crate::known::{Known, trouble_of};
 use crate::noted::Failures;
-use crate::run_end::RunEnd;
-use crate::served_end::ServedAdvice;
+use crate::notices::{Change, ChangeNotice, FailedNotice, MissedNotice, TakenNotice, ThreadNotice};
+use crate::{Job, JobFault, RunEnd};
 use hpb_disk::{FileDisk, FileFault};
+use hpb_recover::Cause;
 use hpb_server::Fault;
-use std::alloc::Global;
+use std::alloc::{AllocError, Global};
 use std::io::{Read, Write};
 use std::net::{Ipv4Addr, Net, Shutdown, TcpListener, TcpStream};
 use std::test::Fail;
@@ -114,6 +115,42 @@ fn a_file_is_served(rt: HostRuntime) -> Result<(), Fail> {
     Ok(())
 }
 
+/// The last byte of the second slot's body.
+const IN_THE_NEWEST: usize = 53_247;
+
+#[test]
+fn a_damaged_checkpoint_is_told_before_a_file_is_served(rt: HostRuntime) -> Result<(), Fail> {
+    let alloc = rt.alloc();
+    let path = "hpb_program_doubtful";
+    new_file(&rt, path, FOUR_PAGES)?;
+    let words = ["hpb", "run", "--file", path, "--every", "1"];
+    let ran = run_words(&rt, &words, b"BID x 1 a 100\n")?;
+    assert_eq!(rt; ran, Ran::well(alloc, "OK 1\n")?);
+    let mut bytes = fs::read(&rt, path)?;
+    if let Some(byte) = bytes.get_mut(IN_THE_NEWEST) {
+        *byte = 1;
+    }
+    fs::write(&rt, path, bytes.as_slice())?;
+    let (listener, port) = any_listener(&rt)?;
+    drop(listener);
+    let client = thread::spawn(&rt, move || answers(&rt, alloc, port, b"SHOW\n").ok())?;
+    let number = format!(in alloc; "{port}")?;
+    let served = run_words(&rt, &words_of_serve(path, number.as_str(), "1"), b"")?;
+    let wanted = format!(in alloc; "LISTENING {port}\nCLOSED 0\n")?;
+    assert_eq!(rt; served.status, 0);
+    assert_eq!(rt; served.output, wanted);
+    assert_eq!(rt;
+        served.errors.as_str(),
+        "hpb: a checkpoint is damaged, which no power cut does, and it may be the newest: COUNT is 0 by what was opened, and 1 by the damaged one. Copy the file before anything else, and hold COUNT against the number of the last OK: if that is greater, take your newest copy, and send again, in their order, the commands since then\n"
+    );
+    assert_eq!(rt;
+        client.join(&rt),
+        Some(String::from_str(alloc, "ROUND 1 STAGE 1 OPEN REVENUE 0 COUNT 0\n")?)
+    );
+    fs::remove_file(&rt, path)?;
+    Ok(())
+}
+
 #[test]
 fn a_port_in_use_is_refused(rt: HostRuntime) -> Result<(), Fail> {
     let alloc = rt.alloc();
@@ -122,11 +159,11 @@ fn a_port_in_use_is_refused(rt: HostRuntime) -> Result<(), Fail> {
     let (listener, port) = any_listener(&rt)?;
     let number = format!(in alloc; "{port}")?;
     let words = words_of_serve(path, number.as_str(), "2");
-    let said = format!(in alloc; "port {port} can't be had: Address already in use")?;
+    let said = format!(in alloc;
+        "port {port} can't be had: Address already in use (os error 98): choose another, by --port"
+    )?;
     let end = run_words(&rt, &words, b"")?;
     assert!(rt; end.is_refused("ERR 92 stream\n", said.as_str()), "{end:?}");
-    assert!(rt; end.errors.starts_with("hpb: 92 stream: port "), "{end:?}");
-    assert!(rt; end.errors.contains("--port"), "{end:?}");
     drop(listener);
     assert_eq!(rt; fs::read(&rt, path)?, before);
     fs::remove_file(&rt, path)?;
@@ -143,7 +180,10 @@ fn the_port_is_asked_for_last(rt: HostRuntime) -> Result<(), Fail> {
     let _ = fs::remove_file(&rt, path);
     let none = run_words(&rt, &words, b"")?;
     assert!(rt;
-        none.is_refused("ERR 91 device\n", "could not be opened"),
+        none.is_refused(
+            "ERR 91 device\n",
+            "hpb_program_unserved could not be opened: No such file or directory (os error 2): see that its path is right. Only `hpb format` makes a file"
+        ),
         "{none:?}"
     );
     assert!(rt; fs::metadata(&rt, path).is_err());
@@ -151,7 +191,10 @@ fn the_port_is_asked_for_last(rt: HostRuntime) -> Result<(), Fail> {
     let held = FileDisk::open(&rt, alloc, path)?;
     let used = run_words(&rt, &words, b"")?;
     assert!(rt;
-        used.is_refused("ERR 91 device\n", "in use by another process"),
+        used.is_refused(
+            "ERR 91 device\n",
+            "hpb_program_unserved is in use by another process: wait until that has ended"
+        ),
         "{used:?}"
     );
     drop(held);
@@ -161,7 +204,10 @@ fn the_port_is_asked_for_last(rt: HostRuntime) -> Result<(), Fail> {
     fs::write(&rt, path, bytes.as_slice())?;
     let flawed = run_words(&rt, &words, b"")?;
     assert!(rt;
-        flawed.is_refused("ERR 44 checkpoint\n", "checkpoint"),
+        flawed.is_refused(
+            "ERR 44 checkpoint\n",
+            "hpb_program_unserved has no whole checkpoint, which no power cut does to it: leave it as it is, and take your newest copy"
+        ),
         "{flawed:?}"
     );
     drop(listener);
@@ -186,35 +232,69 @@ fn the_listening_line_is_not_taken(rt: HostRuntime) -> Result<(), Fail> {
     Ok(())
 }
 
+/// What is known where a.hpb was served.
+fn known() -> Known<'static> {
+    Known {
+        job: Job::Serve {
+            file: "a.hpb",
+            port: 5_000,
+            sessions: 8,
+        },
+        failures: Failures {
+            reading: None,
+            writing: None,
+        },
+        seen: None,
+        trouble: None,
+    }
+}
+
 #[test]
-fn ends_of_serving_are_told(rt: HostRuntime) -> Result<(), Fail> {
-    let disk = "hpb: 91 device: the disk of a.hpb failed. All that was answered by OK is kept.";
-    for (end, failed, begins, said) in [
-        (Ok(()), true, "the disk of a.hpb failed", "`hpb serve`"),
+fn the_words_of_a_disk_that_is_not_read_are_told(rt: HostRuntime) -> Result<(), Fail> {
+    let fault = JobFault::Open(Cause::Device);
+    for (trouble, wanted) in [
         (
-            Err(Fault::Writer),
-            false,
-            "writing: nothing more was taken.",
-            "All sessions have ended",
+            Some(io::Error::from_raw_os_error(libc::EIO)),
+            "a.hpb could not be read or synced: Input/output error (os error 5): see to its disk, and try again",
         ),
         (
-            Err(Fault::Writer),
-            true,
-            "writing: nothing more was taken.",
-            disk,
+            None,
+            "a.hpb could not be read or synced: see to its disk, and try again",
         ),
     ] {
-        let advice = ServedAdvice {
-            file: "a.hpb",
-            end: RunEnd { end, failed },
-            failures: Failures {
-                reading: None,
-                writing: None,
-            },
+        let advice = JobAdvice {
+            fault: &fault,
+            known: Known { trouble, ..known() },
         };
-        let text = format!(in rt.alloc(); "{advice}\n")?;
-        assert!(rt; text.starts_with(begins), "{text}");
-        assert!(rt; text.contains(said), "{text}");
+        assert_eq!(rt; format!(in rt.alloc(); "{advice}")?.as_str(), wanted);
+    }
+    assert!(rt; trouble_of(&rt, "hpb_program_none/none").is_some());
+    Ok(())
+}
+
+fn told_of_serving(alloc: Global, end: RunEnd) -> Result<String, AllocError> {
+    let advice = EndAdvice {
+        end,
+        known: known(),
+    };
+    format!(in alloc; "{advice}")
+}
+
+#[test]
+fn ends_of_serving_are_told(rt: HostRuntime) -> Result<(), Fail> {
+    let alloc = rt.alloc();
+    let disk =
+        "the disk of a.hpb failed: No space left on device (os error 28). All that was answered by OK is kept. See to the disk first: a full one wants room, and then the same file goes on; from one that breaks copy a.hpb to another, and go on with the copy. Then `hpb serve --file a.hpb --port 5000 --sessions 8`, and send again, in their order, the commands that were answered by 93, or not at all: one that was kept gets its old number, or 13 where its sender has a later one that was kept";
+    let unsaid =
+        "writing: nothing more was taken. All sessions have ended, and all that was answered by OK is kept. See a.hpb by `hpb check --file a.hpb`";
+    let both = format!(in alloc; "{unsaid}\nhpb: 91 device: {disk}")?;
+    for (end, failed, code, wanted) in [
+        (Ok(()), true, Some(28), disk),
+        (Err(Fault::Writer), false, None, unsaid),
+        (Err(Fault::Writer), true, Some(28), both.as_str()),
+    ] {
+        let told = told_of_serving(alloc, RunEnd { end, failed, code })?;
+        assert_eq!(rt; told.as_str(), wanted);
     }
     Ok(())
 }
@@ -230,39 +310,133 @@ fn faults_of_serving_are_told(rt: HostRuntime) -> Result<(), Fail> {
         len: 69_632,
         limit: 4_096,
     };
-    for (fault, number, said) in [
-        (too_many, 92, "32 sessions want 38 files and connections"),
+    for (fault, number, wanted) in [
+        (
+            JobFault::Memory,
+            90,
+            "memory was refused, or a thread, which was told then: free some memory, let the process have more threads (ulimit -u), or give fewer to --sessions. All that was answered by OK is kept",
+        ),
+        (
+            too_many,
+            92,
+            "32 sessions want 38 files and connections at a time: Too many open files (os error 24): let the process have as many (ulimit -n), or give fewer to --sessions",
+        ),
         (
             JobFault::File(limit),
             91,
-            "a.hpb wants 69632 bytes, and this process may write no more than 4096",
+            "a.hpb wants 69632 bytes, and this process may write no more than 4096 to a file: let it write more (ulimit -f)",
         ),
         (
             JobFault::File(FileFault::Stream),
             91,
-            "a standard stream leads to a.hpb",
+            "a standard stream leads to a.hpb: let it lead elsewhere",
         ),
-        (JobFault::File(FileFault::Beside), 91, "a.hpb.new is there"),
+        (
+            JobFault::File(FileFault::Beside),
+            91,
+            "a.hpb.new is there, by which name a.hpb is made first: if no other hpb makes it now, give that one another name",
+        ),
         (
             JobFault::File(FileFault::Errors),
             91,
-            "a standard stream leads to a.hpb",
+            "a standard stream leads to a.hpb: let it lead elsewhere",
         ),
-        (JobFault::Place, 94, "--sessions"),
-        (JobFault::Order, 95, "hpb check --file a.hpb"),
-        (JobFault::Counts, 96, "hpb check --file a.hpb"),
+        (
+            JobFault::Place,
+            94,
+            "a session has no place in memory: free some, or give fewer to --sessions",
+        ),
+        (
+            JobFault::Order,
+            95,
+            "a session was given another answer than the one that it waited for, which is a fault of hpb: see what a.hpb keeps by `hpb check --file a.hpb`, and hold it against what was answered",
+        ),
+        (
+            JobFault::Counts,
+            96,
+            "what the sessions were answered isn't what a.hpb keeps, which is a fault of hpb: see what it keeps by `hpb check --file a.hpb`, and hold it against what was answered",
+        ),
     ] {
-        let advice = Advice {
-            file: "a.hpb",
+        let advice = JobAdvice {
             fault: &fault,
-            failures: Failures {
-                reading: None,
-                writing: None,
-            },
+            known: known(),
         };
         let text = format!(in rt.alloc(); "{advice}")?;
         assert_eq!(rt; fault.refusal().number(), number);
-        assert!(rt; text.contains(said), "{text}");
+        assert_eq!(rt; text.as_str(), wanted);
+    }
+    Ok(())
+}
+
+#[test]
+fn what_happens_beside_sessions_is_told(rt: HostRuntime) -> Result<(), Fail> {
+    let alloc = rt.alloc();
+    let path = "a b";
+    assert_eq!(rt;
+        format!(in alloc; "{}", FailedNotice(path))?.as_str(),
+        "91 device: a call of the disk of a b failed. From now on no command is accepted, and questions are answered still. All that was answered by OK is kept. End all sessions: then it is said here why, and what to do"
+    );
+    let error = io::Error::from_raw_os_error(libc::EMFILE);
+    assert_eq!(rt;
+        format!(in alloc; "{}", MissedNotice(&error))?.as_str(),
+        "a connection could not be accepted, and its session has ended: Too many open files (os error 24)"
+    );
+    let taken = TakenNotice {
+        taken: 3,
+        places: 8,
+    };
+    assert_eq!(rt;
+        format!(in alloc; "{taken}")?.as_str(),
+        "3 of 8 places taken"
+    );
+    assert_eq!(rt;
+        format!(in alloc; "{}", ThreadNotice)?.as_str(),
+        "a thread was refused (ulimit -u tells how many there may be): sessions that have one are served to their end, and nobody else is taken"
+    );
+    Ok(())
+}
+
+#[test]
+fn changes_of_a_served_file_are_told(rt: HostRuntime) -> Result<(), Fail> {
+    let alloc = rt.alloc();
+    let path = "a b";
+    let nameless = Change::Nameless {
+        process: 1_234,
+        descriptor: 5,
+    };
+    for (change, is_end, wanted) in [
+        (
+            Change::Spoiled,
+            false,
+            "a b was cut, made longer or overwritten while it was served: end the sessions, see it by `hpb check --file 'a b'`, and take your newest copy if it is refused",
+        ),
+        (
+            Change::Moved,
+            false,
+            "a b was moved while it was served: what is answered by OK goes on into the file that was opened: see that it gets its name again",
+        ),
+        (
+            Change::Moved,
+            true,
+            "a b was moved while it was served: what was answered by OK is in the file that was opened, by its other name: see that it gets its name again",
+        ),
+        (
+            nameless,
+            false,
+            "a b was removed or replaced while it was served, and what is answered by OK is lost with it when this process ends. Copy it before, while no command comes: `cp /proc/1234/fd/5 saved.hpb`",
+        ),
+        (
+            nameless,
+            true,
+            "a b was removed or replaced while it was served, and what was answered by OK is lost with it, unless it was copied: take your newest copy, and send again, in their order, the commands since then",
+        ),
+    ] {
+        let notice = ChangeNotice {
+            path,
+            change,
+            is_end,
+        };
+        assert_eq!(rt; format!(in alloc; "{notice}")?.as_str(), wanted);
     }
     Ok(())
 }

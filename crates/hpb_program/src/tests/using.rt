@@ -32,12 +32,17 @@ impl Ran {
         })
     }
 
-    /// Whether it ended with 1 after this one line, and said so what to do.
+    /// Whether it ended with 1 after this one line, and said this beside its number and word, and no more.
     pub(crate) fn is_refused(&self, line: &str, said: &str) -> bool {
-        self.status == 1
-            && self.output.as_str() == line
-            && self.errors.starts_with("hpb: ")
-            && self.errors.contains(said)
+        self.status == 1 && self.output.as_str() == line && self.said_of(line) == Some(said)
+    }
+
+    /// What it said beside the number and the word of a line.
+    fn said_of(&self, line: &str) -> Option<&str> {
+        let kind = line.strip_prefix("ERR ")?.strip_suffix("\n")?;
+        let told = self.errors.as_str().strip_prefix("hpb: ")?;
+        let said = told.strip_prefix(kind)?.strip_prefix(": ")?;
+        said.strip_suffix("\n")
     }
 }
 

@@ -1,20 +1,41 @@
 use denote.Param.Send.{sendable}
-use Rattle.std.proofs.Common.{rules, sym, subst}
+use Rattle.std.proofs.Common.{[], inr, rules, sym, subst}
 use Rattle.hpb_disk.specs.declared.file.FileDisk.{FileDisk}
 use Rattle.hpb_disk.specs.FileDisks.{file_failures, file_left, file_seen}
+use Rattle.hpb_program.specs.Doubts.{TellsImage}
 use Rattle.hpb_program.specs.Serving.{Ends}
 use Rattle.hpb_program.proofs.Crossing.{File-send}
+use Rattle.hpb_program.proofs.Doubting.{told_unheld, told_unopened_file}
 use Rattle.hpb_program.proofs.serving.serve_file.Goals as goal
 
 pub serve_device-requires-send-D : goal.serve_device-requires-send-D
 serve_device-requires-send-D g c κs within = search (sendable, File-send) depth 20
 
-pub returns-in-Ok-say_closed : goal.returns-in-Ok-say_closed
-returns-in-Ok-say_closed g c =
+pub returns-in-Ok-say_closed-clause-serves : goal.returns-in-Ok-say_closed-clause-serves
+returns-in-Ok-say_closed-clause-serves g c =
     let served = c.in-Ok-serve_device.unsaid.served in
-    let listening = g.W.Write.contents c.serve_device.new.output in
-    let EndsWith : FileDisk → FileDisk → Type 0 = λ opened left. Ends file_seen file_left file_failures opened c.args.sessions c.args.port (g.W.Write.contents c.args.output.now) listening
+    let listening = g.W.Write.contents c.serve_device.new.output.stream in
+    let EndsWith : FileDisk → FileDisk → Type 0 = λ opened left. Ends file_seen file_left file_failures opened c.args.sessions c.args.port (g.W.Write.contents c.args.output.now.stream) listening
     (record { closing = record { disk = left; auction = served.closing.auction; has_failed = served.closing.has_failed }; reports = served.reports }) in
     let opened = c.of-opened.result.value in
-    let ends = subst (λ (disk : FileDisk). EndsWith disk served.closing.disk) (sym c.of-opened.ensures) c.in-Ok-serve_device.ensures.0 in
+    let ends = subst (λ (disk : FileDisk). EndsWith disk served.closing.disk) (sym c.of-opened.ensures) c.in-Ok-serve_device.ensures.serves.0 in
     record { listening = listening; ends = subst (EndsWith opened) (sym c.of-left.ensures) ends; closes = search rules }
+
+pub returns-in-Err-clause-told : goal.returns-in-Err-clause-told
+returns-in-Err-clause-told g c = ([], told_unopened_file _ c.in-Err.fault c.from.result c.from.ensures)
+
+pub returns-in-Err-new-clause-told : goal.returns-in-Err-new-clause-told
+returns-in-Err-new-clause-told g c = ([], told_unopened_file _ c.in-Err-new.fault c.from-in-Err-new.result c.from-in-Err-new.ensures)
+
+pub returns-in-Err-look_for_descriptors-clause-told : goal.returns-in-Err-look_for_descriptors-clause-told
+returns-in-Err-look_for_descriptors-clause-told g c = ([], told_unheld _ c.in-Err-look_for_descriptors.fault c.in-Err-look_for_descriptors.ensures.fault)
+
+pub returns-in-Err-serve_device-clause-told : goal.returns-in-Err-serve_device-clause-told
+returns-in-Err-serve_device-clause-told g c = (file_seen c.in-Ok.disk, c.in-Err-serve_device.ensures.told)
+
+pub returns-in-Ok-say_closed-clause-told : goal.returns-in-Ok-say_closed-clause-told
+returns-in-Ok-say_closed-clause-told g c =
+    subst (λ (disk : FileDisk). TellsImage (file_seen disk) (g.E.Write.contents c.args.errors.now) (g.E.Write.contents c.serve_device.new.errors)) (sym c.of-opened.ensures) c.in-Ok-serve_device.ensures.told
+
+pub returns-clause-told : goal.returns-clause-told
+returns-clause-told g c = (file_seen c.in-Ok.disk, inr c.in-Ok-serve_device.ensures.told)

@@ -1,0 +1,5 @@
+use Rattle.std.proofs.Common.{inr}
+use Rattle.hpb_program.proofs.serving.serve_kept.Goals as goal
+
+pub returns-in-Err-say_closed-clause-told : goal.returns-in-Err-say_closed-clause-told
+returns-in-Err-say_closed-clause-told g c = inr c.in-Ok.ensures.told

@@ -1,0 +1,194 @@
+//! Opening the auction that a file keeps, and telling people what shows that its newest checkpoint was damaged.
+ghost use Rattle.std.specs.Prelude.{◌≡◌, List, None, IfErr, IfOk, OnErr, string_bytes};
+ghost use Rattle.std.specs.Io.KnownBytes.{Keeps};
+ghost use Rattle.hpb_rules.specs.declared.command.Command.{Command};
+ghost use Rattle.hpb_rules.specs.AuctionValue.{Shows};
+ghost use Rattle.hpb_disk.specs.Images.{Only};
+ghost use Rattle.hpb_image.specs.Readings.{Found, Reads};
+ghost use Rattle.hpb_image.specs.Standing.{Stands};
+ghost use Rattle.hpb_recover.specs.Doubts.{IsFrameTold, IsSlotTold};
+ghost use Rattle.hpb_recover.specs.Plans.{IsPlan, IsPlanOf};
+ghost use Rattle.hpb_program.specs.Doubts.{damaged_text, doubts_text, doubts_line, frame_text, later_text, slot_text, IsOfMachine, TellsDoubts};
+ghost use Rattle.hpb_program.specs.Keeping.{IsNotOpened};
+
+use crate::job_fault::JobFault;
+use hpb_disk::Disk;
+use hpb_journal::Frame;
+use hpb_recover::{Doubts, Later, Opened, Plan, find_doubts, open};
+use hpb_server::say;
+use std::alloc::{AllocError, Global};
+use std::fmt;
+use std::io::Write;
+
+/// Opens a device, as `open` does. Where it has what no honest device has, which shows that its newest checkpoint may be damaged,
+/// people are told so before anything else, with the counts that could stand; and where it has nothing of that kind they are told
+/// nothing.
+///
+/// 90 and 91 as of `open`, also where memory or a read is refused while that is looked for: then nothing was told.
+#[tactic(auto, using(crate::proofs::Kept::not_opened))]
+pub(crate) fn open_kept<D: Disk + Drop, E: Write>(
+    alloc: Global,
+    disk: D,
+    errors: &mut E,
+) -> Result<Opened<D>, JobFault>
+    ensures shows { (history : List Command) → Stands history (D.seen disk) → IfOk result (λ opened. Shows opened.plan.auction history) }
+    ensures read { IfOk result (λ opened. (found : Found) × Reads found (D.seen disk) × IsPlanOf opened.plan found) }
+    ensures plan { IfOk result (λ opened. IsPlan opened.plan (D.seen disk)) }
+    ensures same { IfOk result (λ opened. D.seen opened.disk ≡ D.seen disk) }
+    ensures works { IfOk result (λ opened. D.failures opened.disk ≡ D.failures disk) }
+    ensures fault { IfErr result (IsNotOpened (D.seen disk)) }
+    ensures told { IfOk result (λ opened. TellsDoubts opened.plan (D.seen disk) (E.contents errors.old) (E.contents errors.new)) }
+    ensures untold { OnErr result (Keeps (E.contents errors.old) (E.contents errors.new)) }
+{
+    let opened = match open(alloc, disk) {
+        Ok(opened) => opened,
+        Err(fault) => return Err(JobFault::from(fault.cause)),
+    };
+    let Looked { opened, doubts } = match look(alloc, opened) {
+        Ok(looked) => looked,
+        Err(fault) => return Err(fault),
+    };
+    let line = match line_of_doubts(alloc, opened.plan.auction.count(), &doubts) {
+        Ok(line) => line,
+        Err(_) => return Err(JobFault::Memory),
+    };
+    say(line.as_bytes(), errors);
+    Ok(opened)
+}
+
+/// An opened device, with what it has that no honest device has.
+#[derive(Drop)]
+struct Looked<D: Disk + Drop> {
+    opened: Opened<D>,
+    doubts: Doubts,
+}
+
+/// Looks whether an opened device has what no honest device has.
+#[tactic(auto, using(crate::proofs::Doubting::of_machine))]
+fn look<D: Disk + Drop>(alloc: Global, opened: Opened<D>) -> Result<Looked<D>, JobFault>
+    ensures plan { IfOk result (λ looked. looked.opened.plan ≡ opened.plan) }
+    ensures same { IfOk result (λ looked. D.seen looked.opened.disk ≡ D.seen opened.disk) }
+    ensures works { IfOk result (λ looked. D.failures looked.opened.disk ≡ D.failures opened.disk) }
+    ensures slot { IfOk result (λ looked. IsSlotTold opened.plan (D.seen opened.disk) looked.doubts.slot) }
+    ensures frame { IfOk result (λ looked. IsFrameTold opened.plan (D.seen opened.disk) looked.doubts.frame) }
+    ensures fault { IfErr result IsOfMachine }
+{
+    let Opened { mut disk, plan, .. } = opened;
+    match find_doubts(alloc, &mut disk, &plan) {
+        Ok(doubts) => Ok(Looked {
+            opened: opened_still(disk, plan),
+            doubts,
+        }),
+        Err(cause) => Err(JobFault::from(cause)),
+    }
+}
+
+/// An opened device that was only read since.
+fn opened_still<D: Disk + Drop>(disk: D, plan: Plan) -> Opened<D>
+    requires durable { Only (D.seen disk) (D.may_leave disk) }
+    requires read { IsPlan plan (D.seen disk) }
+    ensures disk { result.disk ≡ disk }
+    ensures plan { result.plan ≡ plan }
+{
+    Opened { disk, plan }
+}
+
+/// The line by which people are told of what an auction of so many commands has that none has on an honest device: empty where that
+/// is nothing.
+pub(crate) fn line_of_doubts(
+    alloc: Global,
+    count: u32,
+    doubts: &Doubts,
+) -> Result<String, AllocError>
+    ensures { IfOk result (λ line. string_bytes line ≡ doubts_text count doubts.now.slot doubts.now.frame) }
+{
+    match doubts.slot {
+        None => line_of_later(alloc, count, &doubts.frame),
+        Some(damaged) => {
+            let later = said_of_later(alloc, &doubts.frame)?;
+            let said = said_of_slot(alloc, damaged, later.as_str())?;
+            line_of(alloc, count, said.as_str())
+        }
+    }
+}
+
+/// The same where no slot is damaged.
+fn line_of_later(alloc: Global, count: u32, later: &Option<Later>) -> Result<String, AllocError>
+    ensures { IfOk result (λ line. string_bytes line ≡ doubts_text count None later.now) }
+{
+    match later {
+        None => Ok(String::new(alloc)),
+        Some(later) => {
+            let said = said_of_frame(alloc, &later.frame)?;
+            line_of(alloc, count, said.as_str())
+        }
+    }
+}
+
+/// The line that has what was found beside a count.
+#[derive(Clone, Copy)]
+struct DoubtsLine<'a> {
+    count: u32,
+    found: &'a str,
+}
+
+impl fmt::Display for DoubtsLine<'_> {
+    ghost use Rattle.std.specs.Prelude.{Some};
+
+    ghost output = { λ line. Some (doubts_line line.count line.found.now) };
+
+    fn fmt<W: fmt::Write>(&self, f: &mut fmt::Formatter<W>) -> fmt::Result {
+        let (count, found) = (self.count, self.found);
+        write!(
+            f,
+            "hpb: a checkpoint is damaged, which no power cut does, and it may be the newest: COUNT is {count} by what was opened{found}. Copy the file before anything else, and hold COUNT against the number of the last OK: if that is greater, take your newest copy, and send again, in their order, the commands since then\n"
+        )
+    }
+}
+
+fn line_of(alloc: Global, count: u32, found: &str) -> Result<String, AllocError>
+    ensures { IfOk result (λ line. string_bytes line ≡ doubts_line count found.now) }
+{
+    DoubtsLine { count, found }.to_string(alloc)
+}
+
+/// What is said of a damaged slot.
+fn said_of_damaged(alloc: Global, damaged: u32) -> Result<String, AllocError>
+    ensures { IfOk result (λ text. string_bytes text ≡ damaged_text damaged) }
+{
+    format!(in alloc; ", and {damaged} by the damaged one")
+}
+
+/// The same, and then what is said of a later batch.
+fn said_of_slot(alloc: Global, damaged: u32, later: &str) -> Result<String, AllocError>
+    ensures { IfOk result (λ text. string_bytes text ≡ slot_text damaged later.now) }
+{
+    let mut text = said_of_damaged(alloc, damaged)?;
+    text.push_str(later)?;
+    Ok(text)
+}
+
+/// What is said of the last of the batches that only a newer checkpoint makes room for, if there is one.
+fn said_of_later(alloc: Global, later: &Option<Later>) -> Result<String, AllocError>
+    ensures { IfOk result (λ text. string_bytes text ≡ later_text later.now) }
+{
+    match later {
+        None => Ok(String::new(alloc)),
+        Some(later) => said_of_frame(alloc, &later.frame),
+    }
+}
+
+/// What is said of such a batch: the number of its first command, where it is whole.
+fn said_of_frame(alloc: Global, frame: &Frame) -> Result<String, AllocError>
+    ensures { IfOk result (λ text. string_bytes text ≡ frame_text frame.now) }
+{
+    match frame {
+        Frame::Batch(batch) => {
+            let first = batch.first;
+            format!(in alloc; ", and a later batch begins with command {first}")
+        }
+        Frame::Closed | Frame::Other | Frame::Damaged => {
+            String::from_str(alloc, ", and a later batch is damaged")
+        }
+    }
+}
