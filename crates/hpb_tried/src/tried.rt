@@ -1,4 +1,6 @@
 //! A call that was tried.
+ghost use Rattle.std.specs.Prelude.{◌≡◌, true, IfOk, OnErr, OnOk};
+ghost use Rattle.hpb_tried.specs.Tries.{IsWell, LacksMemory};
 
 use crate::came::Came;
 use crate::sums::{sum_of_auction, sum_of_definition};
@@ -18,8 +20,14 @@ pub struct Tried {
 }
 
 impl Tried {
+    ghost use Rattle.std.specs.Prelude.{◌≡◌, true};
+
     /// A call that succeeded, and took what it was given.
-    pub fn well(came: Came) -> Self {
+    pub fn well(came: Came) -> Self
+        ensures first { result.first ≡ came }
+        ensures same { result.is_same ≡ true }
+        ensures again { result.again ≡ came }
+    {
         Tried {
             first: came,
             is_same: true,
@@ -43,7 +51,10 @@ pub fn tell<R: Print>(rt: &R, tried: &Tried) -> io::Result<()> {
 pub fn definition_came(
     alloc: Global,
     made: Result<Definition, AllocError>,
-) -> Result<Came, AllocError> {
+) -> Result<Came, AllocError>
+    ensures refused { OnErr made (IfOk result LacksMemory) }
+    ensures came { OnOk made (IfOk result IsWell) }
+{
     match made {
         Ok(definition) => Ok(Came::Well(sum_of_definition(alloc, &definition)?)),
         Err(_) => Ok(Came::Refused(Refusal::Memory)),
@@ -51,7 +62,10 @@ pub fn definition_came(
 }
 
 /// What came of a call that makes an auction.
-pub fn auction_came(alloc: Global, made: Result<Auction, AllocError>) -> Result<Came, AllocError> {
+pub fn auction_came(alloc: Global, made: Result<Auction, AllocError>) -> Result<Came, AllocError>
+    ensures refused { OnErr made (IfOk result LacksMemory) }
+    ensures came { OnOk made (IfOk result IsWell) }
+{
     match made {
         Ok(auction) => Ok(Came::Well(sum_of_auction(alloc, &auction)?)),
         Err(_) => Ok(Came::Refused(Refusal::Memory)),

@@ -1,7 +1,12 @@
 //! Files of each layout.
+ghost use Rattle.std.specs.Prelude.{◌≡◌, ℕ, List, length, replicate, IfOk};
+ghost use Rattle.hpb_disk.specs.FileDisks.{file_left, file_seen};
+ghost use Rattle.hpb_disk.specs.Images.{Within};
+ghost use Rattle.hpb_format.specs.Outcomes.{HasLength};
+ghost use Rattle.hpb_tried_files.specs.Files.{IsNewOf, least_shape, least_size};
 
 use anyhow::{Error, Result};
-use hpb_codec::{JournalLayout, JournalShape};
+use hpb_codec::{JournalLayout, JournalShape, LEAST_CELL_FRAMES, LEAST_FRAMES};
 use hpb_disk::FileDisk;
 use hpb_format::format_layout;
 use hpb_tried::{definition, sum_of};
@@ -11,21 +16,29 @@ use std::fs;
 pub const FILE: &str = "device";
 
 /// The journal with as few frames as it may have, in the layout that this number names, or else in the second.
-pub fn shape_of(layout: u8) -> JournalShape {
-    match JournalLayout::of_byte(layout) {
-        Some(JournalLayout::Pages) => JournalShape {
+pub fn shape_of(layout: u8) -> JournalShape
+    ensures { result ≡ least_shape layout }
+{
+    if layout == JournalLayout::Pages.byte() {
+        JournalShape {
             layout: JournalLayout::Pages,
-            frames: 4,
-        },
-        _ => JournalShape {
+            frames: LEAST_FRAMES,
+        }
+    } else {
+        JournalShape {
             layout: JournalLayout::Cells,
-            frames: 16,
-        },
+            frames: LEAST_CELL_FRAMES,
+        }
     }
 }
 
 /// The bytes of a device of this layout: 17 pages, or 19.
-pub fn size_of(layout: u8) -> usize {
+#[tactic(auto, using(crate::proofs::Sizes::fits))]
+pub fn size_of(layout: u8) -> usize
+    ensures value { result ≡ least_size layout }
+    // It is as long as such a journal wants it.
+    ensures fits { (image : List ℕ) → length image ≡ result → HasLength (least_shape layout) image }
+{
     match shape_of(layout).layout {
         JournalLayout::Pages => 69_632,
         JournalLayout::Cells => 77_824,
@@ -33,13 +46,17 @@ pub fn size_of(layout: u8) -> usize {
 }
 
 /// A new file of zeros, in place of what is there.
-pub fn new_file(rt: &HostRuntime, layout: u8) -> Result<FileDisk> {
+pub fn new_file(rt: &HostRuntime, layout: u8) -> Result<FileDisk>
+    ensures { IfOk result (λ disk. file_seen disk ≡ replicate (least_size layout) 0) }
+{
     let _ = fs::remove_file(rt, FILE);
     Ok(FileDisk::make(rt, rt.alloc(), FILE, size_of(layout))?)
 }
 
 /// A new file that keeps an auction of so many nodes.
-pub fn formatted(rt: &HostRuntime, nodes: u64, layout: u8) -> Result<FileDisk> {
+pub fn formatted(rt: &HostRuntime, nodes: u64, layout: u8) -> Result<FileDisk>
+    ensures { IfOk result (λ disk. Within (file_left disk) (IsNewOf nodes layout)) }
+{
     let alloc = rt.alloc();
     let shape = shape_of(layout);
     let disk = new_file(rt, layout)?;

@@ -1,0 +1,14 @@
+-- The first bid of each bidder.
+use Rattle.std.specs.Prelude.{ℕ, ◌+◌, ◌/◌, List, map}
+use Rattle.std.specs.List.{range_with_len}
+use Rattle.hpb_rules.specs.declared.command.Command.TheVariants.{Bid}
+use Rattle.hpb_rules.specs.declared.letter.Letter.{Letter}
+use Rattle.hpb_tried.specs.Tries.{licences_of, nodes_of}
+
+-- The first bid of a bidder: of 1,000, on the licence that stands at its place behind so many packages, from the first seat.
+abbrev pub first_bid : (packages bidder : ℕ) → Letter
+first_bid packages bidder = record { seat = 0; command = Bid bidder 1 (packages + bidder) 1000 }
+
+-- That of each bidder in an auction of so many nodes: as many as there are licences, each on a licence of its own.
+abbrev pub first_bids : ℕ → List Letter
+first_bids nodes = map (first_bid (nodes_of nodes / 2)) (range_with_len 0 (licences_of nodes))

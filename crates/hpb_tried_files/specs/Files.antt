@@ -1,0 +1,39 @@
+-- What devices keep that are made for calls.
+use Rattle.std.specs.Prelude.{◌==◌, ℕ, ◌*◌, List, [], if◌then◌else◌}
+use Rattle.hpb_rules.specs.AuctionValue.{AuctionValue, Shows}
+use Rattle.hpb_rules.specs.Tree.{Rules}
+use Rattle.hpb_codec.specs.declared.layout.JournalShape.{JournalShape}
+use Rattle.hpb_codec.specs.declared.layout.JournalLayout.{JournalLayout}
+use Rattle.hpb_codec.specs.declared.layout.JournalLayout.TheVariants.{Pages, Cells}
+use Rattle.hpb_codec.specs.Layouts.{least_frames}
+use Rattle.hpb_format.specs.Outcomes.{IsNew}
+use Rattle.hpb_tried.specs.Tries.{HasSize}
+
+-- The layout that a number names, or else the second.
+abbrev pub layout_named : ℕ → JournalLayout
+layout_named layout = if layout == 1 then Pages else Cells
+
+-- A journal of a layout with as few frames as it may have.
+abbrev pub least_in : JournalLayout → JournalShape
+least_in layout = record { layout = layout; frames = least_frames layout }
+
+-- The bytes of a device with such a journal: 13 pages of 4,096 bytes before the journal, and then 4 for as many frames, or 6 for 16 frames of cells.
+abbrev pub size_in : JournalLayout → ℕ
+size_in Pages = 4096 * 17
+size_in Cells = 4096 * 19
+
+-- The same by the number of a layout.
+abbrev pub least_shape : ℕ → JournalShape
+least_shape layout = least_in (layout_named layout)
+
+abbrev pub least_size : ℕ → ℕ
+least_size layout = size_in (layout_named layout)
+
+-- The image is that of a new device under a definition of so many nodes, with such a journal.
+abbrev pub IsNewOf : (nodes layout : ℕ) → List ℕ → Type 0
+IsNewOf nodes layout image = (rules : Rules) × HasSize nodes rules × IsNew rules (least_shape layout) image
+
+-- An auction of so many nodes that accepted nothing yet.
+pub record IsFirst (nodes : ℕ) (value : AuctionValue) : Type 0 where
+  pub size : HasSize nodes value.rules
+  pub shows : Shows value []
