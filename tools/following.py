@@ -1,8 +1,8 @@
 """Follows an auction that `hpb serve` serves, over one session, by questions alone: what tools/board and tools/watch show. The session
 may also be one that a front gives.
 
-A `Follower` asks SHOW at a pace, and NODE and WHO where the answer is another one than before. What it knows is a `View`, of which a
-new one is made whenever it changes. Nothing here writes a command.
+A `Follower` asks SHOW at a pace, and NODE and WHO where the answer is another one than before, or a bid came between the last answers.
+What it knows is a `View`, of which a new one is made whenever it changes. Nothing here writes a command.
 """
 import copy
 import socket
@@ -240,7 +240,7 @@ class Follower:
     def __init__(self, tree, bidders, open, publish, places=1, pace=PACE, patience=PATIENCE):
         self.tree, self.bidders, self.open, self.publish = tree, bidders, open, publish
         self.pace, self.patience, self.stopped = pace, patience, threading.Event()
-        self.node_lines = []
+        self.node_lines, self.is_settled = [], True
         self.view = View(None, None, None, Contact(WAITING, time.time(), places))
 
     def stop(self):
@@ -289,7 +289,7 @@ class Follower:
     def ask(self, session):
         shown = read_shown(session.ask(["SHOW"])[0])
         standing = self.view.standing
-        if standing is None or shown != standing.shown or not self.node_lines:
+        if standing is None or shown != standing.shown or not self.node_lines or not self.is_settled:
             standing = self.read(session, shown, standing) or standing
         if standing is not self.view.standing:
             self.take(standing)
@@ -306,6 +306,8 @@ class Follower:
             before, shown = read_shown(first), read_shown(last)
             if is_one_moment(before, shown) and (not is_same or period(shown) == period(old.shown)):
                 self.node_lines = self.node_lines if is_same else lines[len(whos) :]
+                # A bid between the two may be that of a bidder who was asked about before it.
+                self.is_settled = before == shown
                 return Standing(self.tree, [*self.node_lines, *lines[: len(whos)], last])
         return None
 
