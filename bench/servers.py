@@ -3,6 +3,7 @@ own; and the load that is put on them."""
 import os
 import pathlib
 import pwd
+import re
 import shutil
 import signal
 import socket
@@ -55,6 +56,11 @@ def await_port(process, port):
     raise Fails(f"{process.args[0]} can't be connected to at port {port}")
 
 
+def without_places(said):
+    """What a server says but for the places that are taken."""
+    return re.sub(r"hpb: \d+ of \d+ places taken\n", "", said)
+
+
 def seconds_used(process):
     """The processor's time that a process has used, by all its threads."""
     fields = pathlib.Path(f"/proc/{process.pid}/stat").read_text().rsplit(")", 1)[1].split()
@@ -86,6 +92,7 @@ class Hpb:
     def end(self):
         """How many commands are accepted in all, once all sessions have ended."""
         written, said = self.process.communicate(timeout=PATIENCE)
+        said = without_places(said)
         if self.process.returncode != 0 or not written.startswith("CLOSED ") or said:
             raise Fails(f"serve ended with {self.process.returncode}: {written}{said}")
         return int(written.split()[1])

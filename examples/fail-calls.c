@@ -1,5 +1,6 @@
-/* Makes calls of the system fail, wait or be left out: those by which a program has a file, memory, threads, connections and a
-   port, and those by which one thread wakes another. Loaded before the C library by examples/failing.py.
+/* Makes calls of the system fail, wait or be left out: those by which a program has a file, memory, threads, a port and
+   connections, and reads and writes them, and those by which one thread wakes another. Loaded before the C library by
+   examples/failing.py.
 
    What becomes of which calls stands in the file in FAULTS, as `struct faults`. It is shared memory: whoever has the program
    run may write there at any time, and reads there what was met. */
@@ -8,6 +9,7 @@
 #include <errno.h>
 #include <fcntl.h>
 #include <linux/futex.h>
+#include <netinet/in.h>
 #include <pthread.h>
 #include <stdarg.h>
 #include <stdint.h>
@@ -26,7 +28,7 @@
 enum { RULES = 2, LEAST_DESCRIPTOR = 200 };
 
 /* Kinds of calls, a bit each. */
-enum { WRITE = 1, SYNC = 2, READ = 4, OPEN = 8, LOCK = 16, ADVICE = 32, PORT = 64, THREAD = 128, ACCEPT = 256, WAKE = 512, REQUEST = 1024 };
+enum { WRITE = 1, SYNC = 2, READ = 4, OPEN = 8, LOCK = 16, ADVICE = 32, PORT = 64, THREAD = 128, ACCEPT = 256, WAKE = 512, REQUEST = 1024, RECEIVE = 2048, SEND = 4096 };
 
 /* By whom: the thread whose first call of the file is a write of a batch commits, and any other one that isn't the first
    thread of the program makes checkpoints. */
@@ -200,9 +202,16 @@ int socket(int family, int type, int protocol) {
     return fails(way_of(PORT)) ? -1 : next(family, type, protocol);
 }
 
+/* Where its address is left out, a port is had of every one of this machine. */
 int bind(int descriptor, const struct sockaddr *address, socklen_t size) {
     NEXT(bind);
-    return fails(way_of(PORT)) ? -1 : next(descriptor, address, size);
+    int way = way_of(PORT);
+    if (way == LEFT_OUT && address->sa_family == AF_INET) {
+        struct sockaddr_in anywhere = *(const struct sockaddr_in *) address;
+        anywhere.sin_addr.s_addr = htonl(INADDR_ANY);
+        return next(descriptor, (const struct sockaddr *) &anywhere, sizeof anywhere);
+    }
+    return fails(way) ? -1 : next(descriptor, address, size);
 }
 
 int listen(int descriptor, int backlog) {
@@ -213,6 +222,16 @@ int listen(int descriptor, int backlog) {
 int accept4(int descriptor, struct sockaddr *address, socklen_t *size, int flags) {
     NEXT(accept4);
     return fails(way_of(ACCEPT)) ? -1 : next(descriptor, address, size, flags);
+}
+
+ssize_t recv(int descriptor, void *bytes, size_t size, int flags) {
+    NEXT(recv);
+    return fails(way_of(RECEIVE)) ? -1 : next(descriptor, bytes, size, flags);
+}
+
+ssize_t send(int descriptor, const void *bytes, size_t size, int flags) {
+    NEXT(send);
+    return fails(way_of(SEND)) ? -1 : next(descriptor, bytes, size, flags);
 }
 
 /* It answers the number of an error. */

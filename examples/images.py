@@ -180,7 +180,10 @@ class Crashes:
         image, calls, came = traced.image(dice)
         self.images += 1
         self.picture.write_bytes(image)
-        shown, wanted = run("check", "--file", self.picture).output, traced.shown(calls, self.texts)
+        found, wanted = run("check", "--file", self.picture), traced.shown(calls, self.texts)
+        shown = found.output
+        if found.status == 0 and found.errors:
+            self.faults.append(f"{self.name(what)}: {found.errors!r} is said of what a stop left; {came}")
         if shown not in wanted:
             first, *may_be = (text.split("\n")[0] for text in (shown, *sorted(wanted)))
             self.faults.append(f"{self.name(what)}: {first!r} is shown, wanted: {' or '.join(map(repr, may_be))}; {came}")

@@ -5,6 +5,7 @@ import json
 import os
 import pathlib
 import random
+import re
 import shutil
 import socket
 import subprocess
@@ -226,13 +227,23 @@ def serve_words(file, port, sessions=1):
     return ["serve", "--file", file, "--port", port, "--sessions", sessions]
 
 
+PLACE = re.compile(r"hpb: (\d+) of (\d+) places taken\n")
+
+
+def without_places(said, sessions):
+    """What is said but for the places that are taken, which are told one after another."""
+    taken = PLACE.findall(said)
+    compare("which places are told", taken, [(str(place), str(sessions)) for place in range(1, len(taken) + 1)])
+    return PLACE.sub("", said)
+
+
 class Server:
     """The program, serving a file to so many sessions. It is killed where a check stops."""
 
     all = []
 
     def __init__(self, file, sessions, before=None, cwd=None, env=None):
-        self.port = free_port()
+        self.port, self.sessions = free_port(), sessions
         words = ["hpb", *map(str, serve_words(file, self.port, sessions))]
         self.process = subprocess.Popen(
             words, executable=PROGRAM, stdin=subprocess.DEVNULL, stdout=subprocess.PIPE, stderr=subprocess.PIPE, preexec_fn=before, cwd=cwd, env=env
@@ -243,15 +254,15 @@ class Server:
     def connect(self):
         return Session(self.port)
 
-    def end(self, seconds=SECONDS):
-        """What it still writes, its status, and what it says."""
+    def end(self, seconds=SECONDS, before=""):
+        """What it still writes, its status, and what it says, with what was read of that before."""
         try:
             written, said = self.process.communicate(timeout=seconds)
         except subprocess.TimeoutExpired:
             self.process.kill()
             written, said = self.process.communicate()
             return "it didn't end", written.decode(), shown(said)
-        return written.decode(), self.process.returncode, shown(said)
+        return written.decode(), self.process.returncode, without_places(before + shown(said), self.sessions)
 
     def waits(self):
         """Returns once its first thread sleeps: it then waits for the next connection."""

@@ -6,7 +6,7 @@ from calls import Shim, build, told
 from encoder import CHUNKS, OPEN, SLOTS
 from failing import NOTHING, Faults
 from outside import LEAST, PAGE, Server
-from outside import compare, count_kept, format_words, free_port, run, serve_words, text_of
+from outside import compare, count_kept, format_words, free_port, run, serve_words, text_of, without_places
 from wanted import Durable, broken_promises, last_number
 
 # How long an answer or an end may take.
@@ -14,6 +14,9 @@ BOUND = 10
 # What each sync takes, in microseconds: so that bids gather meanwhile.
 DELAY = 300
 DISK = "hpb: 91 device: the disk of "
+
+# What is said first, when the call fails.
+DISK_FAILS = "hpb: 91 device: a call of the disk of "
 # Before it is served a file keeps these, in a batch and a checkpoint each.
 FIRST = ["BID b63 1 l0 100", "BID b62 1 l0 100"]
 QUESTIONS = ["CLOSE 1", "SHOW", *(f"NODE l{place}" for place in range(LICENCES))]
@@ -85,7 +88,9 @@ class Trial:
         """How it went where it ends without a client, and by which port."""
         counts["programs"] += 1
         port = free_port()
-        return port, run(*serve_words(self.file, port, sessions), seconds=self.bound, **{"env": self.faults.environment(), **more})
+        found = run(*serve_words(self.file, port, sessions), seconds=self.bound, **{"env": self.faults.environment(), **more})
+        found.errors = without_places(found.errors, sessions)
+        return port, found
 
     def join(self, places, bids=LICENCES):
         self.bidders += [Bidder(place, self.server.port, bids) for place in places]
@@ -121,8 +126,9 @@ class Trial:
         counts["faults"] += self.is_met
         has_failed = self.is_met and not self.is_harmless
         self.compare("the end", (written, status), (f"CLOSED {self.count}\n", int(has_failed)))
-        told_of_disk = said.startswith(DISK), said.count("\n")
-        self.compare(f"whether it is told of the disk alone: {said}", told_of_disk, (has_failed, int(has_failed)))
+        fronts = [line[: len(front)] for line, front in zip(said.splitlines(), (DISK_FAILS, DISK))]
+        self.compare(f"whether it is told of the disk alone: {said}", fronts, [DISK_FAILS, DISK] if has_failed else [])
+        self.compare(f"how many lines are said: {said}", said.count("\n"), 2 * int(has_failed))
         shown = {count for bidder in self.bidders for count in bidder.counts}
         self.compare("what is shown after a fault", shown - {self.count}, set())
 

@@ -147,6 +147,13 @@ class Engine:
             clean += 1
         # The frames of the batches from this one to the last that is covered aren't clean.
         self.first_unclean = self.next + clean - self.journal
+        self.look_for_doubts()
+
+    def look_for_doubts(self):
+        """The other slot is looked at once more, and each frame for a batch of one round later."""
+        self.read_slot(SLOTS[1 - self.newest])
+        for index in range(self.covered + self.journal, self.covered + 2 * self.journal):
+            self.read(self.frame(index), FRAME[self.layout])
 
     def read_slot(self, slot):
         """How many batches it covers; less than none where it is closed."""
