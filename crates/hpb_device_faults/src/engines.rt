@@ -5,19 +5,7 @@ use hpb_disk::FileDisk;
 use hpb_engine::{Engine, Event, Run};
 use hpb_rules::Refusal;
 use hpb_tried::{Came, Tried, begin, end};
-use hpb_tried_files::{came_of, engine, engine_sum, is_sum, letters};
-use std::alloc::{AllocError, Global};
-
-/// A bid of each bidder, offered together and committed, and a step of a checkpoint.
-fn events(alloc: Global, nodes: u64) -> Result<Vec<Event>, AllocError> {
-    let mut events = Vec::new(alloc);
-    events.push(Event::Offer(letters(nodes)))?;
-    for _ in 0..4 {
-        events.push(Event::Commit)?;
-    }
-    events.push(Event::Checkpoint)?;
-    Ok(events)
-}
+use hpb_tried_files::{came_of, engine, engine_sum, events, is_sum};
 
 /// What came of events: the sum of the engine, and how many answers left.
 fn ran(rt: &HostRuntime, engine: &Engine<FileDisk>, answers: usize) -> Came {

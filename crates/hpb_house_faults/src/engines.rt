@@ -9,8 +9,7 @@ use hpb_promise::drive_opened;
 use hpb_recover::{Opened, open};
 use hpb_rules::Refusal;
 use hpb_tried::{Came, Tried, begin, end};
-use hpb_tried_files::{came_of, engine, engine_sum, file_sum, is_sum, letters, opened, opened_sum};
-use std::alloc::{AllocError, Global};
+use hpb_tried_files::{came_of, engine, engine_sum, events, file_sum, is_sum, opened, opened_sum};
 
 /// What came of a call that starts an engine.
 fn came(rt: &HostRuntime, made: Result<Engine<FileDisk>, Opened<FileDisk>>) -> Came
@@ -42,17 +41,6 @@ fn start_marked(rt: &HostRuntime, opened: Opened<FileDisk>) -> Tried {
             again: came(rt, Engine::start(rt.alloc(), back)),
         },
     }
-}
-
-/// A bid of each bidder, offered together and committed, and a step of a checkpoint.
-fn events(alloc: Global, nodes: u64) -> Result<Vec<Event>, AllocError> {
-    let mut events = Vec::new(alloc);
-    events.push(Event::Offer(letters(nodes)))?;
-    for _ in 0..4 {
-        events.push(Event::Commit)?;
-    }
-    events.push(Event::Checkpoint)?;
-    Ok(events)
 }
 
 /// What came of events: the sum of the engine, and how many answers left.

@@ -6,6 +6,7 @@ ghost use Rattle.hpb_tried.specs.declared.came.Came.TheVariants.{Refused};
 use anyhow::Result;
 use hpb_disk::FileDisk;
 use hpb_engine::Engine;
+use hpb_rules::MOST_LETTERS;
 use hpb_run::{Ran, run_device};
 use hpb_tried::{Came, Tried, begin, end, sum_of};
 use hpb_tried_files::{came_of, engine, engine_sum, is_sum};
@@ -14,10 +15,8 @@ use std::io::Read;
 /// More bytes than are answered.
 const ROOM: usize = 65_536;
 
-/// How many commands are committed together: all that are read, so that memory is refused before the first is kept.
-const BATCH: usize = 64;
-
-/// Answers the lines of a text by an engine into a room, with no checkpoint but where the journal is full.
+/// Answers the lines of a text by an engine into a room, with no checkpoint but where the journal is full. As many commands as may
+/// be are committed together, which is all that are read: so memory is refused before the first of them is kept.
 fn answered(
     rt: &HostRuntime,
     text: &[u8],
@@ -26,7 +25,7 @@ fn answered(
 ) -> Ran<FileDisk> {
     output.clear();
     let mut reader = text;
-    run_device(rt.alloc(), &mut reader, output, engine, BATCH, 0)
+    run_device(rt.alloc(), &mut reader, output, engine, MOST_LETTERS, 0)
 }
 
 /// What came of it: the sum of the engine and of the answers.

@@ -1,10 +1,12 @@
-//! Letters to an auction.
-ghost use Rattle.std.specs.Prelude.{◌≡◌, ◌+◌, ◌<◌, ◌++◌, ◌∷◌, [], length};
+//! Letters to an auction, and what an engine does with them.
+ghost use Rattle.std.specs.Prelude.{◌≡◌, ◌+◌, ◌<◌, ◌++◌, ◌∷◌, [], length, IfOk};
 ghost use Rattle.hpb_rules.specs.declared.limits.TheConstants.{MOST_BIDDERS, MOST_LETTERS, MOST_NODES};
-ghost use Rattle.hpb_tried_files.specs.Bids.{first_bid, first_bids};
+ghost use Rattle.hpb_tried_files.specs.Bids.{first_bid, first_bids, first_events};
 
+use hpb_engine::Event;
 use hpb_rules::{BidderId, Command, Letter, Letters, NodeId};
 use hpb_tried::MOST;
+use std::alloc::{AllocError, Global};
 
 /// The first bid of a bidder, on the licence that stands at its place behind so many packages.
 fn bid_of(packages: usize, bidder: usize) -> Letter
@@ -42,4 +44,19 @@ pub fn letters(nodes: u64) -> Letters
         put(&mut letters, bid_of(packages, bidder));
     }
     letters
+}
+
+/// A bid of each bidder, offered together and committed, and a step of a checkpoint.
+pub fn events(alloc: Global, nodes: u64) -> Result<Vec<Event>, AllocError>
+    ensures { IfOk result (λ events. events.items ≡ first_events nodes) }
+{
+    let events = vec![in alloc;
+        Event::Offer(letters(nodes)),
+        Event::Commit,
+        Event::Commit,
+        Event::Commit,
+        Event::Commit,
+        Event::Checkpoint,
+    ]?;
+    Ok(events)
 }

@@ -9,6 +9,7 @@ use anyhow::{Error, Result};
 use hpb_codec::{JournalLayout, JournalShape, LEAST_CELL_FRAMES, LEAST_FRAMES};
 use hpb_disk::FileDisk;
 use hpb_format::format_layout;
+use hpb_image::{LEAST_PAGES, PAGE_BYTES};
 use hpb_tried::{definition, sum_of};
 use std::fs;
 
@@ -32,6 +33,9 @@ pub fn shape_of(layout: u8) -> JournalShape
     }
 }
 
+/// The pages of a device with as few frames of cells as there may be: two more than frames of a page each want.
+const LEAST_PAGES_OF_CELLS: usize = LEAST_PAGES + 2;
+
 /// The bytes of a device of this layout: 17 pages, or 19.
 #[tactic(auto, using(crate::proofs::Sizes::fits))]
 pub fn size_of(layout: u8) -> usize
@@ -40,8 +44,8 @@ pub fn size_of(layout: u8) -> usize
     ensures fits { (image : List ℕ) → length image ≡ result → HasLength (least_shape layout) image }
 {
     match shape_of(layout).layout {
-        JournalLayout::Pages => 69_632,
-        JournalLayout::Cells => 77_824,
+        JournalLayout::Pages => LEAST_PAGES * PAGE_BYTES,
+        JournalLayout::Cells => LEAST_PAGES_OF_CELLS * PAGE_BYTES,
     }
 }
 

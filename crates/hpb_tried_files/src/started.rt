@@ -128,7 +128,7 @@ fn engine_text(alloc: Global, engine: &Engine<FileDisk>) -> Result<String, Alloc
     format!(in alloc; "{ring} {checkpoint} {busy} {turns} {working} {failed}")
 }
 
-/// The sum of all that an engine is at rest, and of the file.
+/// The sum of an engine at rest, and of the file.
 pub fn engine_sum(rt: &HostRuntime, engine: &Engine<FileDisk>) -> Option<u64> {
     sum_with(rt, engine.committed(), &engine_text(rt.alloc(), engine))
 }
