@@ -1,4 +1,5 @@
 pub mod Steps
+pub mod Asking
 pub mod Checkpoints
 pub mod Offers
 pub mod Runs

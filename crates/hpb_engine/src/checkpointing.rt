@@ -1,6 +1,11 @@
 //! A checkpoint, by steps of at most one device call each.
-ghost use Rattle.std.specs.Prelude.{◌≡◌, ◌+◌, ◌-◌, ◌<◌, ◌≤◌, ℕ, List, true, false, OnErr, OnOk, MatchResult, if◌then◌else◌};
+ghost use Rattle.std.specs.Prelude.{◌≡◌, ◌+◌, ◌-◌, ◌<◌, ◌≤◌, ℕ, List, [], ◌∷◌, true, false, OnErr, OnOk, MatchResult, if◌then◌else◌};
+ghost use Rattle.hpb_disk.specs.Asked.{Asks};
+ghost use Rattle.hpb_disk.specs.Asked.Asked.{syncs};
+ghost use Rattle.hpb_slots.specs.Slots.{other_of};
+ghost use Rattle.hpb_slots.specs.Writes.{writes_chunk, opens_slot};
 ghost use Rattle.hpb_progress.specs.Steps.{snapped, emptied, stepped, renewed};
+ghost use Rattle.hpb_engine.specs.Asking.{begin_asks};
 ghost use Rattle.hpb_engine.specs.Steps.{KeepsOn, LeavesBetween, TellsFault};
 
 use crate::engine::Engine;
@@ -22,6 +27,7 @@ impl<D: Disk + Drop> Engine<D> {
         ensures since { LeavesBetween D.seen D.may_leave D.moment D.left_since self.old.disk self.new.disk self.old.progress self.new.progress self.old.failed }
         ensures calls { D.moment self.new.disk ≡ D.moment self.old.disk + (if self.old.progress.checkpoint.other_open then 1 else 0) }
         ensures cause { TellsFault result (D.failures self.old.disk) (D.failures self.new.disk) self.new.failed }
+        ensures asked { Asks result (begin_asks self.old.progress.checkpoint) (D.asked self.old.disk) (D.asked self.new.disk) }
     {
         laws_below();
         take_snapshot(
@@ -54,6 +60,7 @@ impl<D: Disk + Drop> Engine<D> {
         ensures since { LeavesBetween D.seen D.may_leave D.moment D.left_since self.old.disk self.new.disk self.old.progress self.new.progress self.old.failed }
         ensures calls { D.moment self.new.disk ≡ D.moment self.old.disk + 1 }
         ensures cause { TellsFault result (D.failures self.old.disk) (D.failures self.new.disk) self.new.failed }
+        ensures asked { Asks result (syncs ∷ []) (D.asked self.old.disk) (D.asked self.new.disk) }
     {
         laws_below();
         match self.disk.sync() {
@@ -79,6 +86,7 @@ impl<D: Disk + Drop> Engine<D> {
         ensures since { LeavesBetween D.seen D.may_leave D.moment D.left_since self.old.disk self.new.disk self.old.progress self.new.progress self.old.failed }
         ensures calls { D.moment self.new.disk ≡ D.moment self.old.disk + 1 }
         ensures cause { TellsFault result (D.failures self.old.disk) (D.failures self.new.disk) self.new.failed }
+        ensures asked { Asks result (writes_chunk (other_of self.old.progress.checkpoint.newest) (self.old.progress.checkpoint.steps - 2) self.old.progress.checkpoint.body.items ∷ []) (D.asked self.old.disk) (D.asked self.new.disk) }
     {
         laws_below();
         let chunk = usize::from(self.progress.checkpoint.steps - 2);
@@ -104,6 +112,7 @@ impl<D: Disk + Drop> Engine<D> {
         ensures since { LeavesBetween D.seen D.may_leave D.moment D.left_since self.old.disk self.new.disk self.old.progress self.new.progress self.old.failed }
         ensures calls { D.moment self.new.disk ≡ D.moment self.old.disk + 1 }
         ensures cause { TellsFault result (D.failures self.old.disk) (D.failures self.new.disk) self.new.failed }
+        ensures asked { Asks result (syncs ∷ []) (D.asked self.old.disk) (D.asked self.new.disk) }
     {
         laws_below();
         match self.disk.sync() {
@@ -127,6 +136,7 @@ impl<D: Disk + Drop> Engine<D> {
         ensures since { LeavesBetween D.seen D.may_leave D.moment D.left_since self.old.disk self.new.disk self.old.progress self.new.progress self.old.failed }
         ensures calls { D.moment self.new.disk ≡ D.moment self.old.disk + 1 }
         ensures cause { TellsFault result (D.failures self.old.disk) (D.failures self.new.disk) self.new.failed }
+        ensures asked { Asks result (opens_slot (other_of self.old.progress.checkpoint.newest) ∷ []) (D.asked self.old.disk) (D.asked self.new.disk) }
     {
         laws_below();
         self.progress.checkpoint.steps = 8;
@@ -150,6 +160,7 @@ impl<D: Disk + Drop> Engine<D> {
         ensures since { LeavesBetween D.seen D.may_leave D.moment D.left_since self.old.disk self.new.disk self.old.progress self.new.progress self.old.failed }
         ensures calls { D.moment self.new.disk ≡ D.moment self.old.disk + 1 }
         ensures cause { TellsFault result (D.failures self.old.disk) (D.failures self.new.disk) self.new.failed }
+        ensures asked { Asks result (syncs ∷ []) (D.asked self.old.disk) (D.asked self.new.disk) }
     {
         laws_below();
         match self.disk.sync() {

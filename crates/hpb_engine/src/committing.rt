@@ -1,10 +1,15 @@
 //! A commit, by turns of one device call each.
-ghost use Rattle.std.specs.Prelude.{◌≡◌, ◌+◌, ◌<◌, ◌≤◌, ◌++◌, ℕ, List, [], Ok, Err, true, false, OnErr, OnOk, MatchResult};
+ghost use Rattle.std.specs.Prelude.{◌≡◌, ◌+◌, ◌<◌, ◌≤◌, ◌++◌, ◌∷◌, ℕ, List, [], Ok, Err, true, false, OnErr, OnOk, MatchResult};
 ghost use Rattle.hpb_rules.specs.declared.command.Command.{Command};
 ghost use Rattle.hpb_rules.specs.Machine.{Machine};
+ghost use Rattle.hpb_disk.specs.Asked.{Asks};
+ghost use Rattle.hpb_disk.specs.Asked.Asked.{syncs};
 ghost use Rattle.hpb_disk.specs.Images.{LeavesOnly};
+ghost use Rattle.hpb_journal.specs.Places.{writes_body, opens_frame};
+ghost use Rattle.hpb_journal.specs.Shapes.{shape_of};
 ghost use Rattle.hpb_progress.specs.Keeping.{Inside, Keeps, StandsBetween, StandsEither};
 ghost use Rattle.hpb_progress.specs.Steps.{turned, acknowledged};
+ghost use Rattle.hpb_engine.specs.Asking.{turn_asks};
 ghost use Rattle.hpb_engine.specs.Steps.{KeepsOn, LeavesBetween, TellsFault, TurnLeads, acknowledged_by, leaving_with, step_of, turn_by, turn_calls};
 
 use crate::engine::Engine;
@@ -27,6 +32,7 @@ impl<D: Disk + Drop> Engine<D> {
         ensures since { LeavesBetween D.seen D.may_leave D.moment D.left_since self.old.disk self.new.disk self.old.progress self.new.progress self.old.failed }
         ensures moment { D.moment self.new.disk ≡ D.moment self.old.disk + 1 }
         ensures cause { TellsFault result (D.failures self.old.disk) (D.failures self.new.disk) self.new.failed }
+        ensures asked { Asks result (writes_body (shape_of self.old.progress.ring.frames) self.old.progress.commit.batch ∷ []) (D.asked self.old.disk) (D.asked self.new.disk) }
     {
         laws_below();
         let progress = &self.progress;
@@ -57,6 +63,7 @@ impl<D: Disk + Drop> Engine<D> {
         ensures since { LeavesBetween D.seen D.may_leave D.moment D.left_since self.old.disk self.new.disk self.old.progress self.new.progress self.old.failed }
         ensures moment { D.moment self.new.disk ≡ D.moment self.old.disk + 1 }
         ensures cause { TellsFault result (D.failures self.old.disk) (D.failures self.new.disk) self.new.failed }
+        ensures asked { Asks result (syncs ∷ []) (D.asked self.old.disk) (D.asked self.new.disk) }
     {
         laws_below();
         match self.disk.sync() {
@@ -81,6 +88,7 @@ impl<D: Disk + Drop> Engine<D> {
         ensures since { LeavesBetween D.seen D.may_leave D.moment D.left_since self.old.disk self.new.disk self.old.progress self.new.progress self.old.failed }
         ensures moment { D.moment self.new.disk ≡ D.moment self.old.disk + 1 }
         ensures cause { TellsFault result (D.failures self.old.disk) (D.failures self.new.disk) self.new.failed }
+        ensures asked { Asks result (opens_frame (shape_of self.old.progress.ring.frames) self.old.progress.ring.next ∷ []) (D.asked self.old.disk) (D.asked self.new.disk) }
     {
         laws_below();
         self.progress.commit.turns = 3;
@@ -111,6 +119,7 @@ impl<D: Disk + Drop> Engine<D> {
         ensures since { LeavesBetween D.seen D.may_leave D.moment D.left_since self.old.disk self.new.disk self.old.progress self.new.progress self.old.failed }
         ensures moment { D.moment self.new.disk ≡ D.moment self.old.disk + 1 }
         ensures cause { TellsFault result (D.failures self.old.disk) (D.failures self.new.disk) self.new.failed }
+        ensures asked { Asks result (syncs ∷ []) (D.asked self.old.disk) (D.asked self.new.disk) }
     {
         laws_below();
         match self.disk.sync() {
@@ -143,6 +152,7 @@ impl<D: Disk + Drop> Engine<D> {
             → Inside D.seen D.may_leave self.new.disk self.new.progress self.new.failed (acknowledged_by (step_of result leaving.new) self.old.progress history) }
         ensures since { LeavesBetween D.seen D.may_leave D.moment D.left_since self.old.disk self.new.disk self.old.progress self.new.progress self.old.failed }
         ensures calls { D.moment self.new.disk ≡ D.moment self.old.disk + turn_calls self.old.failed self.old.progress }
+        ensures asked { self.old.failed ≡ false → Asks result (turn_asks self.old.progress) (D.asked self.old.disk) (D.asked self.new.disk) }
         ensures cause { result ≡ Err Fault.Device → D.failures self.old.disk < D.failures self.new.disk }
         ensures counted { OnOk result (D.failures self.new.disk ≡ D.failures self.old.disk) }
         // A turn with nothing in flight has no call, nor one after a fault.
@@ -194,6 +204,7 @@ impl<D: Disk + Drop> Engine<D> {
         ensures leads { TurnLeads self.old.failed (step_of result leaving.new) self.old.progress self.new.progress }
         ensures rules { self.new.progress.committed.rules ≡ self.old.progress.committed.rules }
         ensures calls { D.moment self.new.disk ≡ D.moment self.old.disk + turn_calls self.old.failed self.old.progress }
+        ensures asked { self.old.failed ≡ false → Asks result (turn_asks self.old.progress) (D.asked self.old.disk) (D.asked self.new.disk) }
         // 91 comes only where the device failed in this call, and 93 exactly after a 91.
         ensures cause { result ≡ Err Fault.Device → D.failures self.old.disk < D.failures self.new.disk }
         ensures counted { OnOk result (D.failures self.new.disk ≡ D.failures self.old.disk) }
@@ -228,6 +239,8 @@ impl<D: Disk + Drop> Engine<D> {
         ensures leads { TurnLeads self.old.failed result self.old.progress self.new.progress }
         ensures rules { self.new.progress.committed.rules ≡ self.old.progress.committed.rules }
         ensures calls { D.moment self.new.disk ≡ D.moment self.old.disk + turn_calls self.old.failed self.old.progress }
+        // It asks the device for the one call of this turn, whether that succeeds or not.
+        ensures asked { self.old.failed ≡ false → Asks result (turn_asks self.old.progress) (D.asked self.old.disk) (D.asked self.new.disk) }
         // 91 comes only where the device failed in this call, and 93 exactly after a 91.
         ensures cause { result ≡ Err Fault.Device → D.failures self.old.disk < D.failures self.new.disk }
         ensures counted { OnOk result (D.failures self.new.disk ≡ D.failures self.old.disk) }

@@ -1,7 +1,10 @@
 //! Frames that a checkpoint covers become clean again.
-ghost use Rattle.std.specs.Prelude.{◌≡◌, ◌+◌, ◌<◌, ◌≤◌, ℕ, List, true, false, OnErr, OnOk, MatchResult, if◌then◌else◌};
+ghost use Rattle.std.specs.Prelude.{◌≡◌, ◌+◌, ◌<◌, ◌≤◌, ℕ, List, [], ◌∷◌, true, false, OnErr, OnOk, MatchResult, if◌then◌else◌};
+ghost use Rattle.hpb_disk.specs.Asked.{Asks};
+ghost use Rattle.hpb_disk.specs.Asked.Asked.{syncs};
 ghost use Rattle.hpb_progress.specs.Numbers.{end_of, may_be_open};
 ghost use Rattle.hpb_progress.specs.Steps.{retired, cleaned};
+ghost use Rattle.hpb_engine.specs.Asking.{retire_asks};
 ghost use Rattle.hpb_engine.specs.Steps.{KeepsOn, LeavesBetween, TellsFault};
 
 use crate::engine::Engine;
@@ -22,6 +25,7 @@ impl<D: Disk + Drop> Engine<D> {
         ensures since { LeavesBetween D.seen D.may_leave D.moment D.left_since self.old.disk self.new.disk self.old.progress self.new.progress self.old.failed }
         ensures calls { D.moment self.new.disk ≡ D.moment self.old.disk + (if may_be_open self.old.progress.ring self.old.progress.retirement.upto then 1 else 0) }
         ensures cause { TellsFault result (D.failures self.old.disk) (D.failures self.new.disk) self.new.failed }
+        ensures asked { Asks result (retire_asks self.old.progress.ring self.old.progress.retirement.upto) (D.asked self.old.disk) (D.asked self.new.disk) }
     {
         laws_below();
         let count = self.progress.committed.count();
@@ -52,6 +56,7 @@ impl<D: Disk + Drop> Engine<D> {
         ensures since { LeavesBetween D.seen D.may_leave D.moment D.left_since self.old.disk self.new.disk self.old.progress self.new.progress self.old.failed }
         ensures calls { D.moment self.new.disk ≡ D.moment self.old.disk + 1 }
         ensures cause { TellsFault result (D.failures self.old.disk) (D.failures self.new.disk) self.new.failed }
+        ensures asked { Asks result (syncs ∷ []) (D.asked self.old.disk) (D.asked self.new.disk) }
     {
         laws_below();
         match self.disk.sync() {

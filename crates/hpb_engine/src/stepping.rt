@@ -1,8 +1,10 @@
 //! Steps of a checkpoint.
 ghost use Rattle.std.specs.Prelude.{◌≡◌, ◌+◌, ◌<◌, ◌≤◌, ℕ, List, Ok, Err, true, false, OnErr, OnOk, MatchResult};
 ghost use Rattle.hpb_rules.specs.Machine.{Machine};
+ghost use Rattle.hpb_disk.specs.Asked.{Asks};
 ghost use Rattle.hpb_disk.specs.Images.{LeavesOnly};
 ghost use Rattle.hpb_progress.specs.Keeping.{Keeps, StandsFor};
+ghost use Rattle.hpb_engine.specs.Asking.{step_asks};
 ghost use Rattle.hpb_engine.specs.Checkpoints.{SameCore, StepLeads, CheckpointLeads, checkpoint_calls, step_calls};
 ghost use Rattle.hpb_engine.specs.Steps.{KeepsOn, LeavesBetween, TellsFault};
 
@@ -20,6 +22,7 @@ impl<D: Disk + Drop> Engine<D> {
         ensures keeps { KeepsOn D.seen D.may_leave self.old.disk self.new.disk self.old.progress self.new.progress self.old.failed self.new.failed }
         ensures since { LeavesBetween D.seen D.may_leave D.moment D.left_since self.old.disk self.new.disk self.old.progress self.new.progress self.old.failed }
         ensures calls { D.moment self.new.disk ≡ D.moment self.old.disk + step_calls self.old.progress }
+        ensures asked { Asks result (step_asks self.old.progress) (D.asked self.old.disk) (D.asked self.new.disk) }
         ensures leads { StepLeads result self.old.progress self.new.progress }
         ensures same { SameCore self.old.progress self.new.progress }
         ensures cause { TellsFault result (D.failures self.old.disk) (D.failures self.new.disk) self.new.failed }
@@ -59,6 +62,7 @@ impl<D: Disk + Drop> Engine<D> {
         ensures keeps { KeepsOn D.seen D.may_leave self.old.disk self.new.disk self.old.progress self.new.progress self.old.failed self.new.failed }
         ensures since { LeavesBetween D.seen D.may_leave D.moment D.left_since self.old.disk self.new.disk self.old.progress self.new.progress self.old.failed }
         ensures calls { D.moment self.new.disk ≡ D.moment self.old.disk + 1 }
+        ensures asked { Asks result (step_asks self.old.progress) (D.asked self.old.disk) (D.asked self.new.disk) }
         ensures leads { StepLeads result self.old.progress self.new.progress }
         ensures same { SameCore self.old.progress self.new.progress }
         ensures cause { TellsFault result (D.failures self.old.disk) (D.failures self.new.disk) self.new.failed }
@@ -110,6 +114,8 @@ impl<D: Disk + Drop> Engine<D> {
         ensures leads { CheckpointLeads self.old.failed result self.old.progress self.new.progress }
         // Its calls of the device are known beforehand: at most one.
         ensures calls { D.moment self.new.disk ≡ D.moment self.old.disk + checkpoint_calls self.old.failed self.old.progress }
+        // It asks the device for the one call of this step, if it has one, whether that succeeds or not.
+        ensures asked { self.old.failed ≡ false → Asks result (step_asks self.old.progress) (D.asked self.old.disk) (D.asked self.new.disk) }
         // No frame that is clean is given up.
         ensures clean { self.old.progress.ring.clean_end ≤ self.new.progress.ring.clean_end }
         // 91 comes only where the device failed in this call, and 93 exactly after a 91.

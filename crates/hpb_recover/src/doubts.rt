@@ -1,7 +1,8 @@
 //! What no honest device has, though it opens: what shows that its newest checkpoint was damaged.
-ghost use Rattle.std.specs.Prelude.{◌≡◌, ℕ, List, MatchBool, ◌+◌, ◌≤◌, IfErr, IfOk, OnOk};
+ghost use Rattle.std.specs.Prelude.{◌≡◌, ℕ, List, [], MatchBool, ◌+◌, ◌≤◌, IfErr, IfOk, OnOk};
+ghost use Rattle.hpb_disk.specs.Asked.{Asks};
 ghost use Rattle.hpb_disk.specs.Images.{CountsFailure};
-ghost use Rattle.hpb_recover.specs.Causes.{HasCause};
+ghost use Rattle.hpb_recover.specs.Causes.{HasCause, OnlyReads};
 ghost use Rattle.hpb_journal.specs.Frames.{IsOwn, IsRead};
 ghost use Rattle.hpb_recover.specs.Doubts.{IsFrameTold, IsSlotTold};
 ghost use Rattle.hpb_recover.specs.Plans.{IsPlan, layout_in};
@@ -43,6 +44,8 @@ pub fn find_doubts<D: Disk>(alloc: Global, disk: &mut D, plan: &Plan) -> Result<
     ensures frame { IfOk result (λ doubts. IsFrameTold plan.now (D.seen disk.old) doubts.frame) }
     ensures quiet { IsQuiet D.seen D.may_leave D.moment D.left_since (2 + (layout_in plan.now).count) disk.old disk.new }
     ensures works { OnOk result (D.failures disk.new ≡ D.failures disk.old) }
+    // No write and no sync is asked for.
+    ensures asked { OnlyReads result (D.asked disk.old) (D.asked disk.new) }
     ensures cause { IfErr result (HasCause (D.failures disk.old) (D.failures disk.new)) }
 {
     let mut body = vec![in alloc; 0; STATE_SIZE]?;
@@ -77,6 +80,7 @@ fn find_later<D: Disk>(disk: &mut D, plan: &Plan) -> Result<Option<Later>, DiskF
     requires { IsPlan plan.now (D.seen disk.old) }
     ensures frame { IfOk result (IsFrameTold plan.now (D.seen disk.old)) }
     ensures quiet { IsQuiet D.seen D.may_leave D.moment D.left_since ((layout_in plan.now).count) disk.old disk.new }
+    ensures asked { Asks result [] (D.asked disk.old) (D.asked disk.new) }
     ensures cause { CountsFailure result (D.failures disk.old) (D.failures disk.new) }
 {
     let frames = &plan.frames;

@@ -90,6 +90,7 @@ pub fn read_broken<D: Disk>(
         (D.may_leave disk.new) (D.may_leave disk.old) }
     ensures calls { D.moment disk.new ≤ D.moment disk.old + 2 }
     ensures cause { CountsFailure result (D.failures disk.old) (D.failures disk.new) }
+    ensures asked { Asks result [] (D.asked disk.old) (D.asked disk.new) }
 {
     let is_open = slot_is_open(disk, slot)?;
     if !is_open {
