@@ -401,7 +401,7 @@ fn advise_of_disk<W: fmt::Write>(
     let unkept = unkept(known.job);
     write!(
         f,
-        ". All that was answered by OK is kept. See to the disk first: a full one wants room, and then the same file goes on; from one that breaks copy {file} to another, and go on with the copy. Then {command}, and send again, in their order, {unkept}, or not at all: one that was kept gets its old number, or 13 where its sender has a later one that was kept"
+        ". All that was answered by OK is kept. See to the disk first: a full one wants room, and then the same file goes on; from one that breaks copy {file} to another, and take the copy. Then go on by {command}, and send again, in their order, {unkept}, or not at all: one that was kept gets its old number, or 13 where its sender has a later one that was kept"
     )
 }
 
@@ -438,7 +438,7 @@ fn advise_of_fault<W: fmt::Write>(
         }
         _ => write!(
             f,
-            ". All that was answered by OK is kept. Then {command}, and send again, in their order, the lines that have no answer"
+            ". All that was answered by OK is kept. Then go on by {command}, and send again, in their order, the lines that have no answer"
         ),
     }
 }

@@ -252,7 +252,7 @@ fn streams_of_a_run_fail(rt: HostRuntime) -> Result<(), Fail> {
     assert!(rt; output.is_empty());
     assert_eq!(rt;
         said.as_str(),
-        "hpb: 92 stream: reading: connection reset. All that was answered by OK is kept. Then `hpb run --file hpb_program_cut_off --batch 1 --every 0`, and send again, in their order, the lines that have no answer\n"
+        "hpb: 92 stream: reading: connection reset. All that was answered by OK is kept. Then go on by `hpb run --file hpb_program_cut_off --batch 1 --every 0`, and send again, in their order, the lines that have no answer\n"
     );
     // What was accepted stands, though its answer could not be written.
     let (status, said) = run_over(&rt, &words, b"BID x 1 a 100\n".as_slice(), FailingWriter)?;
@@ -389,7 +389,7 @@ fn told_of_run(alloc: Global, file: &str, end: RunEnd) -> Result<String, AllocEr
 
 /// What is to be done after a disk has failed in a run of a.hpb.
 const AFTER: &str =
-    " All that was answered by OK is kept. See to the disk first: a full one wants room, and then the same file goes on; from one that breaks copy a.hpb to another, and go on with the copy. Then `hpb run --file a.hpb --batch 64 --every 0`, and send again, in their order, the commands that were answered by 91 or 93, or not at all: one that was kept gets its old number, or 13 where its sender has a later one that was kept";
+    " All that was answered by OK is kept. See to the disk first: a full one wants room, and then the same file goes on; from one that breaks copy a.hpb to another, and take the copy. Then go on by `hpb run --file a.hpb --batch 64 --every 0`, and send again, in their order, the commands that were answered by 91 or 93, or not at all: one that was kept gets its old number, or 13 where its sender has a later one that was kept";
 
 #[test]
 fn ends_of_runs_are_told(rt: HostRuntime) -> Result<(), Fail> {
@@ -407,7 +407,7 @@ fn ends_of_runs_are_told(rt: HostRuntime) -> Result<(), Fail> {
         };
         assert_eq!(rt; told_of_run(alloc, "a.hpb", end)?, disk);
         let both = format!(in alloc;
-            "writing: nothing more was taken. All that was answered by OK is kept. Then `hpb run --file a.hpb --batch 64 --every 0`, and send again, in their order, the lines that have no answer\nhpb: 91 device: {disk}"
+            "writing: nothing more was taken. All that was answered by OK is kept. Then go on by `hpb run --file a.hpb --batch 64 --every 0`, and send again, in their order, the lines that have no answer\nhpb: 91 device: {disk}"
         )?;
         let end = RunEnd {
             end: Err(Fault::Writer),
@@ -423,7 +423,7 @@ fn ends_of_runs_are_told(rt: HostRuntime) -> Result<(), Fail> {
     };
     assert_eq!(rt;
         told_of_run(alloc, "-it's mine", end)?.as_str(),
-        "memory was refused. All that was answered by OK is kept. Then `hpb run --file './-it'\\''s mine' --batch 64 --every 0`, and send again, in their order, the lines that have no answer"
+        "memory was refused. All that was answered by OK is kept. Then go on by `hpb run --file './-it'\\''s mine' --batch 64 --every 0`, and send again, in their order, the lines that have no answer"
     );
     Ok(())
 }

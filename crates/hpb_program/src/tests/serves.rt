@@ -284,7 +284,7 @@ fn told_of_serving(alloc: Global, end: RunEnd) -> Result<String, AllocError> {
 fn ends_of_serving_are_told(rt: HostRuntime) -> Result<(), Fail> {
     let alloc = rt.alloc();
     let disk =
-        "the disk of a.hpb failed: No space left on device (os error 28). All that was answered by OK is kept. See to the disk first: a full one wants room, and then the same file goes on; from one that breaks copy a.hpb to another, and go on with the copy. Then `hpb serve --file a.hpb --port 5000 --sessions 8`, and send again, in their order, the commands that were answered by 93, or not at all: one that was kept gets its old number, or 13 where its sender has a later one that was kept";
+        "the disk of a.hpb failed: No space left on device (os error 28). All that was answered by OK is kept. See to the disk first: a full one wants room, and then the same file goes on; from one that breaks copy a.hpb to another, and take the copy. Then go on by `hpb serve --file a.hpb --port 5000 --sessions 8`, and send again, in their order, the commands that were answered by 93, or not at all: one that was kept gets its old number, or 13 where its sender has a later one that was kept";
     let unsaid =
         "writing: nothing more was taken. All sessions have ended, and all that was answered by OK is kept. See a.hpb by `hpb check --file a.hpb`";
     let both = format!(in alloc; "{unsaid}\nhpb: 91 device: {disk}")?;
