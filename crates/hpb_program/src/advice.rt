@@ -107,22 +107,31 @@ impl fmt::Display for JobAdvice<'_> {
                 f,
                 "a session has no place in memory: free some, or give fewer to --sessions"
             ),
-            JobFault::Order => {
-                let (file, look) = (Escaped(known.file()), Look(known.file()));
-                write!(
-                    f,
-                    "a session was given another answer than the one that it waited for, which is a fault of hpb: see what {file} keeps by {look}, and hold it against what was answered"
-                )
-            }
-            JobFault::Counts => {
-                let (file, look) = (Escaped(known.file()), Look(known.file()));
-                write!(
-                    f,
-                    "what the sessions were answered isn't what {file} keeps, which is a fault of hpb: see what it keeps by {look}, and hold it against what was answered"
-                )
-            }
+            JobFault::Order => advise_of_differing(
+                f,
+                known,
+                "a session was given another answer than the one that it waited for",
+            ),
+            JobFault::Counts => advise_of_differing(
+                f,
+                known,
+                "what the sessions were answered isn't what the file keeps",
+            ),
         }
     }
+}
+
+/// Answers that aren't those that a file keeps.
+fn advise_of_differing<W: fmt::Write>(
+    f: &mut fmt::Formatter<W>,
+    known: Known<'_>,
+    what: &str,
+) -> fmt::Result {
+    let (file, look) = (Escaped(known.file()), Look(known.file()));
+    write!(
+        f,
+        "{what}, which is a fault of hpb: see what {file} keeps by {look}, and hold it against what was answered"
+    )
 }
 
 const MEMORY: &str = "memory was refused";

@@ -354,7 +354,7 @@ fn faults_of_serving_are_told(rt: HostRuntime) -> Result<(), Fail> {
         (
             JobFault::Counts,
             96,
-            "what the sessions were answered isn't what a.hpb keeps, which is a fault of hpb: see what it keeps by `hpb check --file a.hpb`, and hold it against what was answered",
+            "what the sessions were answered isn't what the file keeps, which is a fault of hpb: see what a.hpb keeps by `hpb check --file a.hpb`, and hold it against what was answered",
         ),
     ] {
         let advice = JobAdvice {
