@@ -8,7 +8,7 @@ returns-in-Ok-clause-replied g c state stands =
     let new = c.ask_client.new.client in
     let none : old.stop ≡ None = none_of old.stop c.in_default.not-Some in
     let made = c.in-Ok.ensures in
-    answered old.client.seat new.seat old.client.viewer new.viewer old.client.mark new.mark old.stop state stands made.seat made.viewer
+    answered old.client new old.stop state stands made.seat made.ring made.viewer
     c.args.command c.in-Ok.answer none made.own made.later made.told made.known
 
 pub returns-in-Err-clause-replied : goal.returns-in-Err-clause-replied
@@ -17,5 +17,5 @@ returns-in-Err-clause-replied g c state stands =
     let new = c.ask_client.new.client in
     let none : old.stop ≡ None = none_of old.stop c.in_default.not-Some in
     let made = c.in-Err.ensures in
-    stopped old.client.seat new.seat old.client.viewer new.viewer old.client.mark new.mark old.stop state stands made.seat made.viewer
+    stopped old.client new old.stop state stands made.seat made.ring made.viewer
     c.args.command c.in-Err.stop c.refusal-in-Err.result made.mark (inl none) c.refusal-in-Err.ensures
