@@ -1,5 +1,5 @@
 //! A house with its two workers, and a session with its only client.
-ghost use Rattle.std.specs.Prelude.{◌≡◌, [], ◌∷◌, IfOk, IfSome, vec_len};
+ghost use Rattle.std.specs.Prelude.{◌≡◌, [], ◌∷◌, IfOk, IfSome, length};
 ghost use Rattle.std.specs.Thread.{IsSend, IsSync};
 ghost use Rattle.hpb_house.specs.Clients.{AreReportsOf, IsReportOf};
 ghost use Rattle.hpb_house.specs.Namings.{IsOf};
@@ -77,7 +77,7 @@ fn run_threads<
 
 /// The only client of a house.
 fn only_client(clients: Vec<Client<Halt>>) -> Option<Client<Halt>>
-    requires { vec_len clients ≡ 1 }
+    requires { length clients.items ≡ 1 }
     ensures { IfSome result (λ client. clients.items ≡ client ∷ []) }
 {
     let mut clients = clients;

@@ -80,7 +80,7 @@ goes_self state = record {
 pub goes_trans : (first second third : State) → GoesFrom first second → GoesFrom second third → GoesFrom first third
 goes_trans first second third one two = record {
   seat = two.seat ∙ one.seat;
-  letters = same_ring _ _ _ one.letters two.letters;
+  letters = same_ring first.letters second.letters third.letters one.letters two.letters;
   viewer = (
     two.viewer.0 ∙ one.viewer.0,
     two.viewer.1 ∙ one.viewer.1,
@@ -100,7 +100,7 @@ module _ {M : Type 0} (old new : Client M) (stop : Option Stop) (state : State) 
   at = subst (λ (v : Viewing). Follows v new.viewer) (sym stands.1) follows
 
   on_ring : SameProducer state.letters new.letters
-  on_ring = from_ring _ _ _ stands.4 ring
+  on_ring = from_ring state.letters old.letters new.letters stands.4 ring
 
   seated : new.seat ≡ state.seat
   seated = same ∙ sym stands.0

@@ -1,7 +1,7 @@
 use Rattle.std.proofs.Common.{◌∙◌, sym, subst}
 use Rattle.hpb_board.specs.Publication.{Viewing}
 use Rattle.hpb_sessions.specs.Sessions.{Follows, at_start}
-use Rattle.hpb_sessions.specs.Ends.{EndsBy}
+use Rattle.hpb_sessions.specs.Ends.{EndsBy, posts_of}
 use Rattle.hpb_sessions.proofs.Lasting.{house_session, starts, tells_on}
 use Rattle.hpb_sessions.proofs.Steps.{from_ring, same_ring}
 use Rattle.hpb_sessions.proofs.session.run_session.Goals as goal
@@ -14,7 +14,8 @@ returns-clause-own g c =
     let goes = house_session client _ _ _ _ _ _ served.0 c.serve-fault.result served.1 in (
       c.finish.ensures.seat ∙ sym served.2.0 ∙ goes.seat,
       subst (λ (viewer : Viewing). Follows client.viewer viewer) (served.2.1 ∙ sym c.finish.ensures.viewer) goes.viewer,
-      same_ring _ _ _ goes.letters (from_ring _ _ _ served.2.4 c.finish.ensures.ring),
+      same_ring client.letters served.0.letters (posts_of c.finish.result) goes.letters
+          (from_ring served.0.letters c.serve-fault.new.desk.client.letters (posts_of c.finish.result) served.2.4 c.finish.ensures.ring),
     )
 
 pub returns-clause-served : goal.returns-clause-served

@@ -1,4 +1,4 @@
-use Rattle.std.proofs.Common.{◌≡◌, ◌∙◌, List, subst}
+use Rattle.std.proofs.Common.{◌≡◌, ◌∙◌, List, arith, subst, sym}
 use Rattle.hpb_house.specs.Clients.{AreReportsOf, IsReportOf}
 use Rattle.hpb_house.specs.declared.keeper.Halt.{Halt}
 use Rattle.hpb_rings.specs.declared.client.Client.{Client}
@@ -8,6 +8,9 @@ use Rattle.hpb_house_rows.proofs.harness.fn.run_threads.scope.Goals as goal
 -- each thread was started with its client, and keeps what it promised
 pub returns : goal.returns
 returns g c =
-    subst (λ (clients : List (Client Halt)). AreReportsOf clients c.in_ok-reports.reports.items) c.in_ok-threads.ensures
-    (all_kept IsReportOf (λ thread. thread.promise.client.value) c.in_ok-threads.threads.items c.in_ok-reports.reports.items
-    (λ i d lt. let kept = (c.in_ok-reports.ensures.each i d lt).1 in (kept.handle, kept.handle_is, kept.kept)) c.in_ok-reports.ensures.len)
+    let threads = c.in_ok-threads.threads in
+    let reports = c.in_ok-reports.reports in
+    let joined = c.in_ok-reports.ensures in
+    subst (λ (clients : List (Client Halt)). AreReportsOf clients reports.items) c.in_ok-threads.ensures
+    (all_kept IsReportOf (λ thread. thread.promise.client.value) threads.items reports.items
+    (λ i d lt. let kept = (joined.each i d (omega (arith, lt, threads.ok.0))).1 in (kept.handle, kept.handle_is, kept.kept)) (sym reports.ok.0 ∙ joined.len ∙ threads.ok.0))
