@@ -1,4 +1,4 @@
-use Rattle.std.proofs.Common.{[], refl, sym, subst}
+use Rattle.std.proofs.Common.{sym, subst}
 use Rattle.hpb_board.specs.Publication.{Viewing}
 use Rattle.hpb_sessions.specs.Sessions.{Follows}
 use Rattle.hpb_serve.proofs.Seats.{left_by, stays}
@@ -6,10 +6,12 @@ use Rattle.hpb_serve.proofs.connection.serve_connection.Goals as goal
 
 -- a client without a connection is finished
 pub returns-in_default : goal.returns-in_default
-returns-in_default g c = record {
-  own = (c.finish_client.ensures.seat, subst (Follows _) (sym c.finish_client.ensures.viewer) (stays _), c.finish_client.ensures.ring);
-  left = λ client is. absurd (cc is);
-}
+returns-in_default g c =
+    let viewer = c.args.idle.client.viewer in
+    record {
+      own = (c.finish_client.ensures.seat, subst (λ (v : Viewing). Follows viewer v) (sym c.finish_client.ensures.viewer) (stays viewer), c.finish_client.ensures.ring);
+      left = λ client is. absurd (cc is);
+    }
 
 pub returns : goal.returns
 returns g c =

@@ -14,7 +14,7 @@ returns-then-refresh g c =
         refl,
         λ x. tt,
         (
-          λ state stands. looked old.client new old.stop state stands c.refresh.ensures.same.0 (ring_kept _ _ c.refresh.ensures.same.1)
+          λ state stands. looked old.client new old.stop state stands c.refresh.ensures.same.0 (ring_kept old.client.letters new.letters c.refresh.ensures.same.1)
               (viewer.0, viewer.1, viewer.2, c.refresh.ensures.later) c.auction.result.now c.auction.ensures c.refresh.ensures.mark,
           ap (λ value. value.rules) viewer.1,
         ),
@@ -31,7 +31,7 @@ returns-else-refresh g c =
         refl,
         λ x. tt,
         (
-          λ state stands. looked_away old.client new old.stop state stands c.refresh.ensures.same.0 (ring_kept _ _ c.refresh.ensures.same.1)
+          λ state stands. looked_away old.client new old.stop state stands c.refresh.ensures.same.0 (ring_kept old.client.letters new.letters c.refresh.ensures.same.1)
               (viewer.0, viewer.1, viewer.2, c.refresh.ensures.later) c.refresh.ensures.mark,
           ap (λ value. value.rules) viewer.1,
         ),
