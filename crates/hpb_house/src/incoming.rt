@@ -2,7 +2,6 @@
 ghost use Rattle.std.specs.Prelude.{◌≡◌, [], vec_len};
 ghost use Rattle.hpb_rings.specs.Gathering.{gathered};
 ghost use Rattle.hpb_house.specs.Owing.{IsOwed};
-ghost use Rattle.hpb_house.specs.Starts.{HaveRings};
 
 use crate::keeper::Halt;
 use crate::naming::Naming;
@@ -11,7 +10,7 @@ use hpb_rings::Intake;
 use std::marker::PhantomData;
 use std::thread::Promise;
 
-/// What the committer of the house of this name takes to its work: the rings of its clients, and a front of the house's list. All
+/// What the committer of the house of this name takes to its work: the rings of all seats, and a front of the house's list. All
 /// letters that came through these rings are on that list, each once.
 #[derive(Drop)]
 pub struct Incoming<J: Naming> {
@@ -21,7 +20,6 @@ pub struct Incoming<J: Naming> {
     pub front: Front,
     of: PhantomData<J>,
     pub ghost seats: { vec_len intake.rings ≡ J.eye.seats },
-    pub ghost rings: { HaveRings J.clients intake.rings.items },
     pub ghost book: { front.trail.book ≡ J.eye.book },
     pub ghost none: { IsOwed (gathered intake.rings.items) front.trail.log [] },
 }
@@ -30,7 +28,6 @@ impl<J: Naming> Incoming<J> {
     /// The rings and the front of the house.
     pub(crate) fn new(intake: Intake<Halt>, front: Front) -> Incoming<J>
         requires seats { vec_len intake.rings ≡ J.eye.seats }
-        requires rings { HaveRings J.clients intake.rings.items }
         requires book { front.trail.book ≡ J.eye.book }
         requires none { IsOwed (gathered intake.rings.items) front.trail.log [] }
         ensures { (result.intake ≡ intake) × (result.front ≡ front) }

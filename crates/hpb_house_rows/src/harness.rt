@@ -3,7 +3,7 @@ ghost use Rattle.std.specs.Prelude.{◌≡◌, ◌≤◌, ◌⊎◌, [], true, I
 ghost use Rattle.std.specs.Thread.{IsSend, IsSync};
 ghost use Rattle.hpb_house.specs.Clients.{AreReportsOf, IsReportOf, SameClient};
 ghost use Rattle.hpb_house.specs.Namings.{IsOf};
-ghost use Rattle.hpb_house.specs.Starts.{AreBegun, HaveRings};
+ghost use Rattle.hpb_house.specs.Starts.{AreBegun};
 
 use hpb_disk::{Disk, MemoryDisk, OnceDisk};
 use hpb_house::{
@@ -218,7 +218,6 @@ fn run_started<
     requires own { IsOf J.eye J.image J.failures started.keeper }
     requires clients { started.clients.items ≡ J.clients }
     requires begun { AreBegun started.eye started.clients.items started.eye.seats }
-    requires rings { HaveRings started.clients.items started.intake.rings.items }
 {
     let Ready {
         house,

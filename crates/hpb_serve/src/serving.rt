@@ -1,7 +1,7 @@
 //! Serving an auction that was opened.
 ghost use Rattle.std.specs.Prelude.{◌≡◌, ◌≤◌, [], IfErr, IfOk};
 ghost use Rattle.hpb_house.specs.Namings.{IsOf};
-ghost use Rattle.hpb_house.specs.Starts.{AreBegun, HaveRings};
+ghost use Rattle.hpb_house.specs.Starts.{AreBegun};
 ghost use Rattle.hpb_serve.specs.Announcing.{Announces, IsBehind, listening_line};
 ghost use Rattle.hpb_serve.specs.Ended.{EndsAll, EndsIll};
 
@@ -119,7 +119,6 @@ fn serve_started<
     requires own { IsOf J.eye J.image J.failures started.keeper }
     requires clients { started.clients.items ≡ J.clients }
     requires begun { AreBegun started.eye started.clients.items started.eye.seats }
-    requires rings { HaveRings started.clients.items started.intake.rings.items }
     ensures ended { IfOk result (λ served. EndsAll D.seen D.may_leave D.failures J.image J.failures started.eye.opened started.eye.seats served) }
     ensures ill { IfErr result (EndsIll D.seen D.may_leave D.failures J.image J.failures started.eye.opened started.eye.seats) }
     ensures behind { IfErr result IsBehind }

@@ -3,7 +3,7 @@ ghost use Rattle.std.specs.Prelude.{◌≡◌, [], ◌∷◌, IfOk, IfSome, leng
 ghost use Rattle.std.specs.Thread.{IsSend, IsSync};
 ghost use Rattle.hpb_house.specs.Clients.{AreReportsOf, IsReportOf};
 ghost use Rattle.hpb_house.specs.Namings.{IsOf};
-ghost use Rattle.hpb_house.specs.Starts.{AreBegun, HaveRings};
+ghost use Rattle.hpb_house.specs.Starts.{AreBegun};
 ghost use Rattle.hpb_rings.specs.declared.report.Report.{Report};
 ghost use Rattle.hpb_sessions.specs.declared.end.SessionEnd.TheVariants.{Finished};
 
@@ -121,7 +121,6 @@ fn run_started<
     requires clients { started.clients.items ≡ J.clients }
     requires seats { started.eye.seats ≡ 1 }
     requires begun { AreBegun started.eye started.clients.items started.eye.seats }
-    requires rings { HaveRings started.clients.items started.intake.rings.items }
 {
     let Ready {
         house,
