@@ -1,6 +1,14 @@
-use Rattle.std.proofs.Common.{◌≡◌, None, inl}
-use Rattle.hpb_sessions.proofs.Steps.{answered, none_of, stopped}
+use Rattle.std.proofs.Common.{◌≡◌, ◌∙◌, None, ap, inl, inr}
+use Rattle.hpb_rules.specs.declared.reply.Reply.TheVariants as replies
+use Rattle.hpb_sessions.proofs.Steps.{answered, goes_self, none_of, stopped}
 use Rattle.hpb_sessions.proofs.desk.HouseDesk.reply.Goals as goal
+
+-- a session that was stopped stays where it is
+pub returns-in-Some-clause-replied : goal.returns-in-Some-clause-replied
+returns-in-Some-clause-replied g c state stands =
+    let why = c.in-Some.stop in
+    let stops = stands.3 ∙ c.in-Some.is in
+    (state, (goes_self state, inr (record { why = why; before = inr stops; after = stops; replied = ap replies.Refused c.refusal.ensures })), stands)
 
 pub returns-in-Ok-clause-replied : goal.returns-in-Ok-clause-replied
 returns-in-Ok-clause-replied g c state stands =
