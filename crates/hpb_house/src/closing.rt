@@ -7,6 +7,7 @@ ghost use Rattle.hpb_rules.specs.Letters.{new_commands};
 ghost use Rattle.hpb_board.specs.Publication.{answers_of, auction_of};
 ghost use Rattle.hpb_closing.specs.Histories.{history_in, history_of};
 ghost use Rattle.hpb_closing.specs.Reports.{AreApart, OnlyGrew, accepted_by, book_of, opened_of, said, total};
+ghost use Rattle.hpb_house.specs.Clients.{AreReportsOf};
 ghost use Rattle.hpb_house.specs.Closings.{LeavesShown, LeavesUnsettled};
 ghost use Rattle.hpb_house.specs.Keepers.{IsTold};
 
@@ -63,14 +64,13 @@ impl<D: Disk + Drop> CloseFault<D> {
 
 impl<D: Disk + Drop, W: Wait + Drop, J: Naming> House<D, W, J> {
     /// Closes the house: each report is viewed once more, and compared with the committed auction. The reports are those
-    /// of the clients that were started with the house, each once.
+    /// of the clients that the house was started with: of each its own, and no others.
     ///
     /// 96 `counts` exactly where the number of newly accepted answers that were taken isn't that of the commands committed
     /// since the opening, or a report shows another auction than the committed one, or a batch is still in flight. A report
     /// that can't be viewed any more shows what it showed.
     pub fn close(self, reports: &mut [Report]) -> Result<Closing<D>, CloseFault<D>>
-        requires book { All (λ r. r.viewer.book ≡ self.book) reports.old }
-        requires opened { All (λ r. r.viewer.opened ≡ self.opened) reports.old }
+        requires clients { AreReportsOf J.clients reports.old }
         // What was sent and taken stays as it was told, and each list that was seen begins the one that is seen now.
         ensures said { map said reports.new ≡ map said reports.old }
         ensures book { map book_of reports.new ≡ map book_of reports.old }
@@ -81,10 +81,10 @@ impl<D: Disk + Drop, W: Wait + Drop, J: Naming> House<D, W, J> {
         // All have one history, which goes on from what was opened.
         ensures history { OnOk result (All (λ r. All (λ s. history_of r.viewer ≡ history_of s.viewer) reports.new) reports.new) }
         ensures continued { IfOk result (λ closing. (front : List Command) → Shows self.opened front → All (λ r. Shows closing.auction (front ++ history_of r.viewer)) reports.new) }
-        // The answers newly accepted are as many as its commands; of clients of different seats they are its commands, each once.
+        // The answers newly accepted are its commands, each once.
         ensures counted { OnOk result (All (λ r. total reports.new ≡ length (history_of r.viewer)) reports.new) }
-        ensures taken { OnOk result (AreApart reports.old → All (λ r. accepted_by r ≡ new_commands (answers_of r.seat r.viewer)) reports.new) }
-        ensures once { OnOk result (AreApart reports.old → All (λ r. IsPermutation (flat_map accepted_by reports.new) (history_of r.viewer)) reports.new) }
+        ensures taken { OnOk result (All (λ r. accepted_by r ≡ new_commands (answers_of r.seat r.viewer)) reports.new) }
+        ensures once { OnOk result (All (λ r. IsPermutation (flat_map accepted_by reports.new) (history_of r.viewer)) reports.new) }
         ensures numbers { IfOk result (λ closing. total reports.new ≡ closing.auction.count - self.opened.count) }
         // The device keeps each history that it stood for when it was opened, and then the reports' one history, and nothing is in flight.
         ensures kept { IfOk result (λ closing. LeavesShown D.seen D.may_leave J.image closing reports.new) }

@@ -46,11 +46,14 @@ pub struct Ready<D: Disk + Drop, W: Wait + Drop, J: Naming> {
 
 impl<D: Disk + Drop, W: Wait + Drop> Started<D, W> {
     ghost use Rattle.hpb_house.specs.Namings.{IsOf};
+    ghost use Rattle.hpb_house.specs.Starts.{AreBegun};
 
     /// The house under a name, which is its own.
     pub fn named<J: Naming>(self) -> Ready<D, W, J>
         requires eye { (self.eye ≡ J.eye) × (self.eye.list ≡ []) }
         requires own { IsOf J.eye J.image J.failures self.keeper }
+        requires clients { self.clients.items ≡ J.clients }
+        requires begun { AreBegun self.eye self.clients.items self.eye.seats }
         ensures house { result.house ≡ self.eye }
         ensures incoming { (result.incoming.intake ≡ self.intake) × (result.incoming.front ≡ self.front) }
         ensures clients { result.clients ≡ self.clients }

@@ -1,9 +1,9 @@
 //! A house with all its threads: the two workers, and one for each client.
-ghost use Rattle.std.specs.Prelude.{◌≡◌, ◌≤◌, ◌⊎◌, [], true, All, IfOk};
+ghost use Rattle.std.specs.Prelude.{◌≡◌, ◌≤◌, ◌⊎◌, [], true, IfOk, map};
 ghost use Rattle.std.specs.Thread.{IsSend, IsSync};
+ghost use Rattle.hpb_house.specs.Clients.{AreReportsOf, IsReportOf, SameClient};
 ghost use Rattle.hpb_house.specs.Namings.{IsOf};
 ghost use Rattle.hpb_house.specs.Starts.{AreBegun};
-ghost use Rattle.hpb_house.specs.Boards.{SameBoard};
 
 use hpb_disk::{Disk, MemoryDisk, OnceDisk};
 use hpb_house::{
@@ -17,16 +17,14 @@ use std::snapshot::Snapshot;
 use std::sync::Wait;
 use std::test::Fail;
 use std::thread;
-use std::thread::{Promise, Threads};
+use std::thread::{Promise, PromisedHandle, Scope, Threads};
 
 /// What the clients of a house do while it is open. Each is called in a thread of its own.
 pub(crate) trait Session {
-    ghost use Rattle.std.specs.Prelude.{◌≡◌};
-    ghost use Rattle.hpb_house.specs.Boards.{SameBoard};
+    ghost use Rattle.hpb_house.specs.Clients.{SameClient};
 
     fn run<R: Wait>(&self, rt: &R, client: Client<Halt>) -> Client<Halt>
-        ensures board { SameBoard client.viewer result.viewer }
-        ensures seat { result.seat ≡ client.seat };
+        ensures same { SameClient client result };
 }
 
 /// What came of a house that was closed.
@@ -49,19 +47,21 @@ pub(crate) struct Run<D: Disk + Drop> {
     pub(crate) disk: D,
 }
 
-/// The report is of the board of a house.
+/// The report is this client's.
 #[derive(Drop)]
-struct OfHouse<D: Disk + Drop, W: Wait + Drop, J: Naming>(Snapshot<House<D, W, J>>);
+struct OfClient {
+    client: Snapshot<Client<Halt>>,
+}
 
-impl<D: Disk + Drop, W: Wait + Drop, J: Naming> Promise<Report> for OfHouse<D, W, J> {
-    ghost use Rattle.hpb_house.specs.Boards.{SameBoard};
+impl Promise<Report> for OfClient {
+    ghost use Rattle.hpb_house.specs.Clients.{IsReportOf};
 
-    ghost kept_by = { λ p r. SameBoard p.0.value r.viewer };
+    ghost kept_by = { λ promise report. IsReportOf promise.client.value report };
 }
 
 /// Takes answers until no letter waits, or the client is halted.
 fn settle<R: Wait>(rt: &R, client: &mut Client<Halt>)
-    ensures board { SameBoard client.old.viewer client.new.viewer }
+    ensures same { SameClient client.old client.new }
     ensures settled { (client.new.waiting.items ≡ []) ⊎ (client.new.is_halted ≡ true) }
 {
     for _ in rt.forever() {
@@ -79,7 +79,7 @@ fn settle<R: Wait>(rt: &R, client: &mut Client<Halt>)
 
 /// Takes the answers that are left, and finishes the client.
 fn finish<R: Wait>(rt: &R, client: Client<Halt>) -> Report
-    ensures board { SameBoard client.viewer result.viewer }
+    ensures { IsReportOf client result }
 {
     let mut client = client;
     settle(rt, &mut client);
@@ -95,9 +95,30 @@ fn finish<R: Wait>(rt: &R, client: Client<Halt>) -> Report
 
 /// A client's thread.
 fn serve<S: Session, R: Wait>(rt: &R, session: &S, client: Client<Halt>) -> Report
-    ensures board { SameBoard client.viewer result.viewer }
+    ensures { IsReportOf client result }
 {
     finish(rt, session.run(rt, client))
+}
+
+/// Starts a thread for each client. They are put into a list that is empty, and whose room was made before.
+fn start_clients<'s, E, S: Session + Sync, R: Threads + Wait + Sync>(
+    scope: &Scope<'s, E>,
+    rt: &'s R,
+    session: &'s S,
+    clients: Vec<Client<Halt>>,
+    threads: Vec<PromisedHandle<Report, OfClient>>,
+) -> Result<Vec<PromisedHandle<Report, OfClient>>, AllocError>
+    requires { threads.items ≡ [] }
+    ensures { IfOk result (λ started. map (λ thread. thread.promise.client.value) started.items ≡ clients.items) }
+{
+    let mut threads = threads;
+    for client in clients {
+        let promise = OfClient {
+            client: Snapshot::of(&client),
+        };
+        threads.push(scope.spawn_with(promise, move || serve(rt, session, client))?)?;
+    }
+    Ok(threads)
 }
 
 /// Runs the threads of a house to their ends. The gate is told where the checkpointer stands.
@@ -117,23 +138,18 @@ fn run_threads<
     gate: &G,
     session: &S,
 ) -> Result<Vec<Report>, AllocError>
-    requires same { All (λ c. SameBoard house.now c.viewer) clients.items }
-    ensures { IfOk result (λ rs. All (λ r. SameBoard house.now r.viewer) rs.items) }
+    ensures { IfOk result (λ reports. AreReportsOf clients.items reports.items) }
 {
     thread::scope(
         thread::scope_env(),
         rt,
         move |scope| -> Result<Vec<Report>, AllocError>
             requires cross { IsSend D.row × IsSend W.row × IsSend J.row × IsSync J.row × IsSync G.row × IsSync S.row × IsSync R.row }
-            requires same { All (λ c. SameBoard house.now c.viewer) clients.items }
-            ensures { IfOk result (λ rs. All (λ r. SameBoard house.entry.now r.viewer) rs.items) }
+            ensures { IfOk result (λ reports. AreReportsOf clients.items reports.items) }
         {
-            let mut threads = Vec::with_capacity(alloc, clients.len())?;
+            let threads = Vec::with_capacity(alloc, clients.len())?;
             let workers = Workers::start(scope, rt, house, incoming, gate, gate)?;
-            for client in clients {
-                let promise = OfHouse(Snapshot::of(house));
-                threads.push(scope.spawn_with(promise, move || serve(rt, session, client))?)?;
-            }
+            let threads = start_clients(scope, rt, session, clients, threads)?;
             let reports = thread::join_promised(rt, threads)?;
             let _ = workers.join(rt);
             Ok(reports)
@@ -200,6 +216,7 @@ fn run_started<
 ) -> Result<Run<D>, Fail>
     requires eye { (started.eye ≡ J.eye) × (started.eye.list ≡ []) }
     requires own { IsOf J.eye J.image J.failures started.keeper }
+    requires clients { started.clients.items ≡ J.clients }
     requires begun { AreBegun started.eye started.clients.items started.eye.seats }
 {
     let Ready {

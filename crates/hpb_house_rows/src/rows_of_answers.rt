@@ -1,6 +1,5 @@
 //! What a client is answered, and what it sees.
-ghost use Rattle.std.specs.Prelude.{◌≡◌};
-ghost use Rattle.hpb_house.specs.Boards.{SameBoard};
+ghost use Rattle.hpb_house.specs.Clients.{SameClient};
 
 use crate::devices::six_nodes_opened;
 use crate::harness::{Outcome, Session, run_in_memory};
@@ -50,7 +49,7 @@ fn wanted_at(place: u32) -> Row {
 
 /// Whether a command is answered as its row has it.
 fn is_answered<R: Wait>(rt: &R, client: &mut Client<Halt>, row: &Row) -> bool
-    ensures same { SameBoard client.old.viewer client.new.viewer × (client.new.seat ≡ client.old.seat) }
+    ensures same { SameClient client.old client.new }
 {
     match ask(rt, client, row.command) {
         Some(answer) => {
@@ -102,7 +101,7 @@ fn tickets_through_a_client(rt: HostRuntime) -> Result<(), Fail> {
 
 /// How many commands are accepted in the client's next view.
 fn count_seen(client: &mut Client<Halt>) -> Option<u32>
-    ensures same { SameBoard client.old.viewer client.new.viewer × (client.new.seat ≡ client.old.seat) }
+    ensures same { SameClient client.old client.new }
 {
     match client.view() {
         Some(auction) => Some(auction.count()),
@@ -144,7 +143,7 @@ fn own_bid_in_next_view(rt: HostRuntime) -> Result<(), Fail> {
 
 /// Posts without a poll, at most twenty times, until a letter is handed back. Tells how many went.
 fn posts_without_poll(client: &mut Client<Halt>) -> u32
-    ensures same { SameBoard client.old.viewer client.new.viewer × (client.new.seat ≡ client.old.seat) }
+    ensures same { SameClient client.old client.new }
 {
     for posted in 0..20 {
         if !post(client, wanted_at(0).command) {
@@ -156,7 +155,7 @@ fn posts_without_poll(client: &mut Client<Halt>) -> u32
 
 /// Whether a post succeeds within the most turns.
 fn is_posted<R: Wait>(rt: &R, client: &mut Client<Halt>) -> bool
-    ensures same { SameBoard client.old.viewer client.new.viewer × (client.new.seat ≡ client.old.seat) }
+    ensures same { SameClient client.old client.new }
 {
     for _ in 0..TURNS {
         if post(client, wanted_at(0).command) {

@@ -1,6 +1,5 @@
 //! Commits beside a checkpoint that is held.
-ghost use Rattle.std.specs.Prelude.{◌≡◌};
-ghost use Rattle.hpb_house.specs.Boards.{SameBoard};
+ghost use Rattle.hpb_house.specs.Clients.{SameClient};
 
 use crate::devices::six_nodes_opened;
 use crate::harness::{Outcome, Session, run_in_memory};
@@ -21,7 +20,7 @@ const LOOKS: u32 = 10_000;
 
 /// Whether a letter that was posted is accepted with this number within so many turns.
 fn is_accepted<R: Wait>(rt: &R, client: &mut Client<Halt>, number: u32, turns: u32) -> bool
-    ensures same { SameBoard client.old.viewer client.new.viewer × (client.new.seat ≡ client.old.seat) }
+    ensures same { SameClient client.old client.new }
 {
     match take_within(rt, client, turns) {
         Some(answer) => answer.reply == Reply::Ok(number),
@@ -174,7 +173,7 @@ impl InTurns {
 
     /// Asks the commands of these places.
     fn commits<R: Wait>(&self, rt: &R, client: &mut Client<Halt>, from: u32, to: u32)
-        ensures same { SameBoard client.old.viewer client.new.viewer × (client.new.seat ≡ client.old.seat) }
+        ensures same { SameClient client.old client.new }
     {
         let accepted = ask_places(rt, client, from, to);
         self.accepted.fetch_add(accepted, Ordering::SeqCst);

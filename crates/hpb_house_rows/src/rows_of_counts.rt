@@ -1,6 +1,5 @@
 //! Many clients: what they took is what was committed.
-ghost use Rattle.std.specs.Prelude.{◌≡◌};
-ghost use Rattle.hpb_house.specs.Boards.{SameBoard};
+ghost use Rattle.hpb_house.specs.Clients.{SameClient};
 
 use crate::devices::{WIDE, six_nodes_opened, wide_opened};
 use crate::harness::{Outcome, Session, run_in_memory};
@@ -73,7 +72,7 @@ fn wide_bid(seat: u8, place: u32) -> Command {
 
 /// Takes all answers that have come: `None` where one is refused.
 fn take_all(client: &mut Client<Halt>) -> Option<u32>
-    ensures same { SameBoard client.old.viewer client.new.viewer × (client.new.seat ≡ client.old.seat) }
+    ensures same { SameClient client.old client.new }
 {
     let mut taken = 0u32;
     for _ in 0..16 {
@@ -89,7 +88,7 @@ fn take_all(client: &mut Client<Halt>) -> Option<u32>
 
 /// Posts letters from one on, until one is handed back. Tells which is the next.
 fn post_from(client: &mut Client<Halt>, from: u32) -> u32
-    ensures same { SameBoard client.old.viewer client.new.viewer × (client.new.seat ≡ client.old.seat) }
+    ensures same { SameClient client.old client.new }
 {
     let seat = client.seat;
     for place in from..LETTERS {
@@ -102,7 +101,7 @@ fn post_from(client: &mut Client<Halt>, from: u32) -> u32
 
 /// Sends all letters, with as many outstanding as go, and takes their answers. Tells how many were taken.
 fn send_all<R: Wait>(rt: &R, client: &mut Client<Halt>) -> u64
-    ensures same { SameBoard client.old.viewer client.new.viewer × (client.new.seat ≡ client.old.seat) }
+    ensures same { SameClient client.old client.new }
 {
     let mut next = 0;
     let mut taken = 0u64;

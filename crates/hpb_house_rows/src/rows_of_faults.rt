@@ -1,6 +1,5 @@
 //! Clients of a house whose device fails.
-ghost use Rattle.std.specs.Prelude.{◌≡◌};
-ghost use Rattle.hpb_house.specs.Boards.{SameBoard};
+ghost use Rattle.hpb_house.specs.Clients.{SameClient};
 
 use crate::devices::faulty_opened;
 use crate::harness::{Outcome, Session, run_with_fault};
@@ -15,7 +14,7 @@ use std::test::*;
 
 /// Whether the client is halted within the most turns.
 fn is_halted<R: Wait>(rt: &R, client: &mut Client<Halt>) -> bool
-    ensures same { SameBoard client.old.viewer client.new.viewer × (client.new.seat ≡ client.old.seat) }
+    ensures same { SameClient client.old client.new }
 {
     for _ in 0..TURNS {
         if client.halted() {
@@ -31,7 +30,7 @@ const LETTERS: u32 = 16;
 
 /// Fills the ring of a client.
 fn fill(client: &mut Client<Halt>)
-    ensures same { SameBoard client.old.viewer client.new.viewer × (client.new.seat ≡ client.old.seat) }
+    ensures same { SameClient client.old client.new }
 {
     for place in 0..LETTERS {
         let _ = post(client, accepted_command(place));

@@ -1,7 +1,6 @@
 //! Commands that are accepted one after the other, in the auction of six nodes and four bidders.
 
-ghost use Rattle.std.specs.Prelude.{◌≡◌};
-ghost use Rattle.hpb_house.specs.Boards.{SameBoard};
+ghost use Rattle.hpb_house.specs.Clients.{SameClient};
 
 use crate::turns::ask;
 use hpb_engine_rows::letters::Bidder::{W, X, Y, Z};
@@ -43,7 +42,7 @@ pub(crate) fn accepted_command(place: u32) -> Command {
 
 /// Whether the command of a place is newly accepted, as the next after so many.
 fn is_accepted<R: Wait>(rt: &R, client: &mut Client<Halt>, place: u32) -> bool
-    ensures same { SameBoard client.old.viewer client.new.viewer × (client.new.seat ≡ client.old.seat) }
+    ensures same { SameClient client.old client.new }
 {
     match ask(rt, client, accepted_command(place)) {
         Some(answer) => { answer.at == place && answer.reply == Reply::Ok(place.saturating_add(1)) }
@@ -53,7 +52,7 @@ fn is_accepted<R: Wait>(rt: &R, client: &mut Client<Halt>, place: u32) -> bool
 
 /// Asks the commands of these places, each once the one before is answered. Tells how many were newly accepted.
 pub(crate) fn ask_places<R: Wait>(rt: &R, client: &mut Client<Halt>, from: u32, to: u32) -> u64
-    ensures same { SameBoard client.old.viewer client.new.viewer × (client.new.seat ≡ client.old.seat) }
+    ensures same { SameClient client.old client.new }
 {
     let mut accepted = 0u64;
     for place in from..to {

@@ -1,6 +1,5 @@
 //! Turns of a client: it polls and takes, and else waits for a short time.
-ghost use Rattle.std.specs.Prelude.{◌≡◌};
-ghost use Rattle.hpb_house.specs.Boards.{SameBoard};
+ghost use Rattle.hpb_house.specs.Clients.{SameClient};
 
 use hpb_house::Halt;
 use hpb_rings::Client;
@@ -23,7 +22,7 @@ pub(crate) fn pause<R: Wait>(rt: &R) {
 
 /// Posts a command from the client's seat: `false` where it is handed back.
 pub(crate) fn post(client: &mut Client<Halt>, command: Command) -> bool
-    ensures same { SameBoard client.old.viewer client.new.viewer × (client.new.seat ≡ client.old.seat) }
+    ensures same { SameClient client.old client.new }
 {
     let seat = client.seat;
     client.post(Letter { seat, command }).is_ok()
@@ -31,7 +30,7 @@ pub(crate) fn post(client: &mut Client<Halt>, command: Command) -> bool
 
 /// Takes the next answer. `None` where there is none after so many turns, or it is refused.
 pub(crate) fn take_within<R: Wait>(rt: &R, client: &mut Client<Halt>, turns: u32) -> Option<Answer>
-    ensures same { SameBoard client.old.viewer client.new.viewer × (client.new.seat ≡ client.old.seat) }
+    ensures same { SameClient client.old client.new }
 {
     for _ in 0..turns {
         let _ = client.poll();
@@ -46,7 +45,7 @@ pub(crate) fn take_within<R: Wait>(rt: &R, client: &mut Client<Halt>, turns: u32
 
 /// Posts a command and takes its answer. `None` where there is none within the most turns.
 pub(crate) fn ask<R: Wait>(rt: &R, client: &mut Client<Halt>, command: Command) -> Option<Answer>
-    ensures same { SameBoard client.old.viewer client.new.viewer × (client.new.seat ≡ client.old.seat) }
+    ensures same { SameClient client.old client.new }
 {
     if post(client, command) {
         take_within(rt, client, TURNS)

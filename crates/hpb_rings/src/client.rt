@@ -1,7 +1,7 @@
 //! The client of a seat: it posts letters and takes their answers.
 ghost use Rattle.std.specs.Prelude.{◌≡◌, ℕ, ◌+◌, ◌<◌, ◌≤◌, ◌^◌, ◌⊎◌, [], ◌∷◌, ◌++◌, List, length, take, drop, max, Some, true, false, IfOk, IfErr, OnErr, IsTrue, IsOk, IsErr, MatchOption, MatchResult};
 ghost use mathlib.Core.List.{IsPrefix};
-ghost use Rattle.rtrb.specs.Ring.{sent, received, known_free};
+ghost use Rattle.rtrb.specs.Ring.{SameProducer, sent, received, known_free};
 ghost use Rattle.hpb_board.specs.Publication.{recent, answers_of, auction_of};
 ghost use Rattle.hpb_rings.specs.Marks.{greatest};
 ghost use Rattle.hpb_rings.specs.Taking.{letters_of, posted, slips, newly, IsForOldest};
@@ -98,6 +98,7 @@ impl<M: Copy> Client<M> {
         requires { letter.seat ≡ self.old.seat }
         ensures waiting { MatchResult result (λ _. self.new.waiting.items ≡ self.old.waiting.items ++ record { letter = letter; mark = self.old.mark } ∷ []) (λ back. (back ≡ letter) × (self.new.waiting.items ≡ self.old.waiting.items)) }
         ensures same { (self.new.seat ≡ self.old.seat) × (self.new.marks ≡ self.old.marks) × (self.new.viewer ≡ self.old.viewer) × (self.new.taken ≡ self.old.taken) × (self.new.accepted ≡ self.old.accepted) × (self.new.mark ≡ self.old.mark) × (self.new.is_halted ≡ self.old.is_halted) }
+        ensures ring { SameProducer self.old.letters self.new.letters }
         ensures sixteen { length self.old.waiting.items ≡ 16 → IsErr result }
         ensures succeeds { length self.old.waiting.items < 16 → 0 < known_free self.old.letters → IsOk result }
         ensures free { IsOk result → known_free self.old.letters ≤ known_free self.new.letters + 1 }
@@ -214,6 +215,7 @@ impl<M: Copy> Client<M> {
         requires { (self.waiting.items ≡ []) ⊎ (self.is_halted ≡ true) }
         ensures report { IfOk result (λ r. (r.seat ≡ self.seat) × (r.viewer ≡ self.viewer) × (r.taken ≡ self.taken) × (r.accepted ≡ self.accepted) × (r.is_halted ≡ self.is_halted) × (sent r.letters ≡ sent self.letters ++ End ∷ [])) }
         ensures back { IfErr result (λ c. (c.seat ≡ self.seat) × (c.viewer ≡ self.viewer) × (c.marks ≡ self.marks) × (c.waiting ≡ self.waiting) × (c.taken ≡ self.taken) × (c.accepted ≡ self.accepted) × (c.mark ≡ self.mark) × (c.is_halted ≡ self.is_halted)) }
+        ensures ring { MatchResult result (λ r. SameProducer self.letters r.letters) (λ c. SameProducer self.letters c.letters) }
         ensures succeeds { 0 < known_free self.letters → IsOk result }
         ensures full { IfErr result (λ c. known_free c.letters ≡ 0) }
     {

@@ -5,6 +5,7 @@ use Rattle.std.specs.Vec.Iter.{into_iter_items, into_iter_steps}
 use Rattle.std.proofs.lemmas.List.{append-nil, append_assoc, map-append}
 use Rattle.std.specs.Option.{is_some}
 use Rattle.std.proofs.lemmas.List.Elements.{All-append, Contains-append_right}
+use Rattle.hpb_house.specs.Starts.{AreOneByOne}
 
 one_of : {A : Type 0} (P : A → Type 0) (x : A) → P x → All P (x ∷ [])
 one_of P x h zero d lt = h
@@ -40,10 +41,43 @@ among f g whole made s t x is steps =
     subst (λ l. Contains l (g x)) is (Contains-append_right (map f made) (map g (into_iter_items s)) (g x)
     (subst (λ items. Contains (map g items) (g x)) (sym steps.0) (zero, omega arith, refl)))
 
+-- one list where what was made tells of the elements themselves
+pub next_made : {A B Z : Type 0} (f : A → B) (whole : List B) (made : List A) (more : A) (s t : IntoIter B Z) (x : B)
+    → map f made ++ into_iter_items s ≡ whole → into_iter_steps s (Some x) t → f more ≡ x → map f (made ++ more ∷ []) ++ into_iter_items t ≡ whole
+next_made f whole made more s t x is steps same =
+    ap (λ front. front ++ into_iter_items t) (map-append f made (more ∷ []))
+    ∙ append_assoc (map f made) (f more ∷ []) (into_iter_items t)
+    ∙ ap (λ one. map f made ++ one ∷ into_iter_items t) same
+    ∙ ap (λ items. map f made ++ items) (sym steps.0)
+    ∙ is
+
 -- after the last turn it is what was made
-pub no_more : {A B C : Type 0} (f : A → C) (g : B → C) (whole : List C) (made : List A) (rest : List B) → map f made ++ map g rest ≡ whole → length rest ≡ 0 → map f made ≡ whole
-no_more f g whole made [] is none = sym (append-nil (map f made)) ∙ is
-no_more f g whole made (x ∷ rest) is none = absurd (omega arith)
+pub no_more : {A B : Type 0} (f : A → B) (whole : List B) (made : List A) (rest : List B) → map f made ++ rest ≡ whole → length rest ≡ 0 → map f made ≡ whole
+no_more f whole made [] is none = sym (append-nil (map f made)) ∙ is
+no_more f whole made (x ∷ rest) is none = absurd (omega arith)
+
+-- pairs so far: with those of what is to come they are all
+pub one_joined : {A B C Z : Type 0} (has : A → B → Type 0) (f : C → A) (whole : List A) (made : List B) (one : B) (s t : IntoIter C Z) (x : C)
+    → ((more : List B) → AreOneByOne has (map f (into_iter_items s)) more → AreOneByOne has whole (made ++ more)) → into_iter_steps s (Some x) t → has (f x) one
+    → (more : List B) → AreOneByOne has (map f (into_iter_items t)) more → AreOneByOne has whole ((made ++ one ∷ []) ++ more)
+one_joined has f whole made one s t x so_far steps its more each =
+    subst (AreOneByOne has whole) (sym (append_assoc made (one ∷ []) more))
+    (so_far (one ∷ more) (subst (λ items. AreOneByOne has (map f items) (one ∷ more)) (sym steps.0) (its, each)))
+
+pub all_joined : {A B C : Type 0} (has : A → B → Type 0) (f : C → A) (whole : List A) (made : List B) (rest : List C)
+    → ((more : List B) → AreOneByOne has (map f rest) more → AreOneByOne has whole (made ++ more)) → length rest ≡ 0 → AreOneByOne has whole made
+all_joined has f whole made [] so_far none = subst (AreOneByOne has whole) (append-nil made) (so_far [] tt)
+all_joined has f whole made (x ∷ rest) so_far none = absurd (omega arith)
+
+-- what is told of what is told of each
+pub told_twice : {A B C : Type 0} (f : A → B) (g : B → C) (xs : List A) → map (λ x. g (f x)) xs ≡ map g (map f xs)
+told_twice f g [] = refl
+told_twice f g (x ∷ xs) = ap (λ rest. g (f x) ∷ rest) (told_twice f g xs)
+
+pub all_told : {A B : Type 0} (P : B → Type 0) (f : A → B) (xs : List A) → All P (map f xs) → All (λ x. P (f x)) xs
+all_told P f [] all k d lt = absurd (omega arith)
+all_told P f (x ∷ xs) all zero d lt = all zero (f x) (omega arith)
+all_told P f (x ∷ xs) all (suc k) d lt = all_told P f xs (λ j e l. all (suc j) e (omega (arith, l))) k d (omega (arith, lt))
 
 -- what is so while something is there
 pub while_some : {A : Type 0} (o : Option A) (P Q : Type 0) → (P → Q) → IfSome o (λ x. P) → IfSome o (λ x. Q)

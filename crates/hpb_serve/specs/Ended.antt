@@ -4,10 +4,9 @@ use Rattle.std.specs.Prelude.{◌≡◌, ◌≢◌, ℕ, ◌-◌, ◌^◌, false
 use Rattle.std.specs.List.{range_with_len}
 use Rattle.hpb_rules.specs.declared.command.Command.{Command}
 use Rattle.hpb_rules.specs.AuctionValue.{AuctionValue, Shows}
-use Rattle.hpb_board.specs.Publication.{Viewing, auction_of}
+use Rattle.hpb_board.specs.Publication.{auction_of}
 use Rattle.hpb_closing.specs.Histories.{history_of}
 use Rattle.hpb_closing.specs.Reports.{accepted_by, total}
-use Rattle.hpb_house.specs.Boards.{SameBoard}
 use Rattle.hpb_house.specs.Closings.{LeavesShown, LeavesUnsettled}
 use Rattle.hpb_house.specs.Keepers.{IsTold}
 use Rattle.hpb_house.specs.declared.keeper.Halt.{Halt}
@@ -21,10 +20,10 @@ use Rattle.hpb_serve.specs.declared.fault.SessionsFault.TheVariants as threads
 use Rattle.hpb_serve.specs.declared.serving.Served.{Served}
 use Rattle.hpb_sessions.specs.declared.end.SessionEnd.{SessionEnd}
 use Rattle.hpb_sessions.specs.declared.end.SessionEnd.TheVariants.{Left}
-use Rattle.hpb_sessions.specs.Ends.{seat_of, viewer_of}
+use Rattle.hpb_sessions.specs.Ends.{IsEndOf}
 use Rattle.hpb_sessions.specs.Stops.{IsInOrder}
 
--- **How a session ends.** With the client of its seat, on the board of its house: the client has finished, or is left since the next answer to its
+-- **How a session ends.** With its own client, of whose ring nothing else has that end: the client has finished, or is left since the next answer to its
 -- seat isn't the one that it waits for. The second is what a 95 tells of, which hands that client back: it is the client of one of the seats, and its
 -- viewer began with the auction that was opened.
 --
@@ -32,10 +31,9 @@ use Rattle.hpb_sessions.specs.Stops.{IsInOrder}
 abbrev pub IsOutOfOrder : Client Halt → Type 0
 IsOutOfOrder client = IsInOrder client.seat client.viewer client.taken client.waiting.items → ⊥
 
--- A session ended with the client of this seat, on the board that this viewer follows. It left the client only where that is out of order.
-pub record EndsAtSeat (eye : Viewing) (place : ℕ) (end : SessionEnd Halt) : Type 0 where
-  pub seat : seat_of end ≡ place
-  pub board : SameBoard eye (viewer_of end)
+-- A session ended with the client that it began with. It left the client only where that is out of order.
+pub record EndsWith (began : Client Halt) (end : SessionEnd Halt) : Type 0 where
+  pub own : IsEndOf began end
   pub left : (client : Client Halt) → end ≡ Left client → IsOutOfOrder client
 
 -- A session left its client, which is that of one of these seats and began with this auction: the next answer to its seat isn't the one that it waits for.
@@ -60,7 +58,7 @@ pub record EndsAll {D : Type 0} (seen : D → List ℕ) (may_leave : D → List 
   pub continued : (front : List Command) → Shows before front → All (λ report. Shows served.closing.auction (front ++ history_of report.viewer)) served.reports.items
   pub once : All (λ report. IsPermutation (flat_map accepted_by served.reports.items) (history_of report.viewer)) served.reports.items
   pub numbers : total served.reports.items ≡ served.closing.auction.count - before.count
-  -- The device keeps what it stood for when it was opened, and then these commands, and nothing is in flight.
+  -- The device keeps what it stood for when it was opened, and then these commands; where no call of it has failed nothing more was in flight.
   pub kept : LeavesShown seen may_leave image served.closing served.reports.items
   -- What is told of failed calls is so of the device.
   pub told : IsTold served.closing.has_failed failures (fails served.closing.disk)

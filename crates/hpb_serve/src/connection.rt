@@ -1,6 +1,6 @@
 //! A session over a connection.
 ghost use Rattle.std.specs.Prelude.{◌≡◌, []};
-ghost use Rattle.hpb_serve.specs.Ended.{EndsAtSeat};
+ghost use Rattle.hpb_serve.specs.Ended.{EndsWith};
 
 use crate::looking::Looking;
 use hpb_house::Halt;
@@ -52,7 +52,7 @@ pub(crate) fn serve_connection<R: Wait>(
     connection: Option<TcpStream>,
     idle: Idle,
 ) -> SessionEnd<Halt>
-    ensures { EndsAtSeat idle.client.viewer idle.client.seat result }
+    ensures { EndsWith idle.client result }
 {
     let Idle {
         client,

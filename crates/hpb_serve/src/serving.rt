@@ -117,6 +117,7 @@ fn serve_started<
 ) -> Result<Served<D>, ServeFault<D>>
     requires eye { (started.eye ≡ J.eye) × (started.eye.list ≡ []) }
     requires own { IsOf J.eye J.image J.failures started.keeper }
+    requires clients { started.clients.items ≡ J.clients }
     requires begun { AreBegun started.eye started.clients.items started.eye.seats }
     ensures ended { IfOk result (λ served. EndsAll D.seen D.may_leave D.failures J.image J.failures started.eye.opened started.eye.seats served) }
     ensures ill { IfErr result (EndsIll D.seen D.may_leave D.failures J.image J.failures started.eye.opened started.eye.seats) }

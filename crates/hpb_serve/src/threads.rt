@@ -2,11 +2,12 @@
 ghost use Rattle.std.specs.Prelude.{◌≡◌, [], All, IfErr, IfOk, map};
 ghost use Rattle.std.specs.Thread.{IsSend, IsSync};
 ghost use Rattle.hpb_house.specs.Boards.{SameBoard};
+ghost use Rattle.hpb_house.specs.Clients.{AreReportsOf};
 ghost use Rattle.hpb_serve.specs.Ended.{LeavesOne};
 ghost use Rattle.hpb_serve.specs.declared.fault.SessionsFault.TheVariants.{Memory};
 
 use crate::connection::{Idle, serve_connection};
-use crate::ends::{OfSeat, join_sessions};
+use crate::ends::{OfClient, join_sessions};
 use crate::fault::SessionsFault;
 use crate::watching::{Rounds, Watch};
 use hpb_disk::Disk;
@@ -53,28 +54,18 @@ fn next_connection<V: Watch, R: Wait>(
 /// listener is closed.
 ///
 /// 90 where a thread is refused. That session is then run by this thread, and is the last: the clients after it are finished.
-fn start_sessions<
-    's,
-    E,
-    D: Disk + Drop + Send,
-    W: Wait + Drop + Send,
-    J: Naming + Send + Sync,
-    R: Threads + Wait + Sync,
-    V: Watch,
->(
+fn start_sessions<'s, E, R: Threads + Wait + Sync, V: Watch>(
     scope: &Scope<'s, E>,
     rt: &'s R,
     alloc: Global,
-    house: &'s House<D, W, J>,
     clients: Vec<Client<Halt>>,
     listener: TcpListener,
     watch: &V,
-    threads: Vec<PromisedHandle<SessionEnd<Halt>, OfSeat<D, W, J>>>,
-) -> Result<Vec<PromisedHandle<SessionEnd<Halt>, OfSeat<D, W, J>>>, SessionsFault>
-    requires ready { All (λ client. SameBoard house.now client.viewer × (client.waiting.items ≡ [])) clients.items }
+    threads: Vec<PromisedHandle<SessionEnd<Halt>, OfClient>>,
+) -> Result<Vec<PromisedHandle<SessionEnd<Halt>, OfClient>>, SessionsFault>
+    requires idle { All (λ client. client.waiting.items ≡ []) clients.items }
     requires none { threads.items ≡ [] }
-    ensures house { IfOk result (λ started. All (λ thread. thread.promise.house.value ≡ house.now) started.items) }
-    ensures seats { IfOk result (λ started. map (λ thread. thread.promise.seat) started.items ≡ map (λ client. client.seat) clients.items) }
+    ensures clients { IfOk result (λ started. map (λ thread. thread.promise.client.value) started.items ≡ clients.items) }
     ensures fault { IfErr result (λ fault. fault ≡ Memory) }
 {
     let sessions = clients.len();
@@ -89,9 +80,8 @@ fn start_sessions<
         let connection = next_connection(rt, listener, watch);
         taken = taken.saturating_add(1);
         watch.taken(taken, sessions);
-        let promise = OfSeat {
-            house: Snapshot::of(house),
-            seat: client.seat,
+        let promise = OfClient {
+            client: Snapshot::of(&client),
         };
         let idle = Idle::new(client, sessions);
         let session = move || serve_connection(rt, alloc, connection, idle);
@@ -116,7 +106,7 @@ fn start_sessions<
     }
 }
 
-/// Runs the workers of a house and a session for each client, and waits for all of them: the clients' reports.
+/// Runs the workers of a house and a session for each client, and waits for all of them: of each client its report.
 ///
 /// 90 where memory or a thread is refused, 95 where a session left its client: that is handed back. Each client that has no
 /// session is finished, so that the committer ends. A watch is told of places that are taken, of connections that were not
@@ -137,8 +127,7 @@ pub(crate) fn run_threads<
     watch: &V,
 ) -> Result<Vec<Report>, SessionsFault>
     requires ready { All (λ client. SameBoard house.now client.viewer × (client.waiting.items ≡ [])) clients.items }
-    ensures board { IfOk result (λ reports. All (λ report. SameBoard house.now report.viewer) reports.items) }
-    ensures seats { IfOk result (λ reports. map (λ report. report.seat) reports.items ≡ map (λ client. client.seat) clients.items) }
+    ensures reports { IfOk result (λ reports. AreReportsOf clients.items reports.items) }
     ensures left { IfErr result (LeavesOne house.now.opened (map (λ client. client.seat) clients.items)) }
 {
     thread::scope(
@@ -147,8 +136,7 @@ pub(crate) fn run_threads<
         move |scope| -> Result<Vec<Report>, SessionsFault>
             requires cross { IsSend D.row × IsSend W.row × IsSend J.row × IsSync J.row × IsSync R.row × IsSync V.row }
             requires ready { All (λ client. SameBoard house.now client.viewer × (client.waiting.items ≡ [])) clients.items }
-            ensures board { IfOk result (λ reports. All (λ report. SameBoard house.entry.now report.viewer) reports.items) }
-            ensures seats { IfOk result (λ reports. map (λ report. report.seat) reports.items ≡ map (λ client. client.seat) clients.items) }
+            ensures reports { IfOk result (λ reports. AreReportsOf clients.items reports.items) }
             ensures left { IfErr result (LeavesOne house.entry.now.opened (map (λ client. client.seat) clients.items)) }
         {
             let reports = Vec::with_capacity(alloc, clients.len())?;
@@ -159,9 +147,7 @@ pub(crate) fn run_threads<
                 finish_clients(rt, clients);
                 return Err(SessionsFault::Memory);
             };
-            let threads = start_sessions(
-                scope, rt, alloc, house, clients, listener, watch, threads,
-            )?;
+            let threads = start_sessions(scope, rt, alloc, clients, listener, watch, threads)?;
             let joined = join_sessions(rt, house, threads, reports);
             let _ = workers.join(rt);
             watch.look_last();

@@ -1,11 +1,11 @@
 //! A house with its two workers, and a session with its only client.
-ghost use Rattle.std.specs.Prelude.{◌≡◌, [], IfOk, IfSome};
+ghost use Rattle.std.specs.Prelude.{◌≡◌, [], ◌∷◌, IfOk, IfSome, length};
 ghost use Rattle.std.specs.Thread.{IsSend, IsSync};
-ghost use Rattle.hpb_board.specs.Publication.{Viewing};
-ghost use Rattle.hpb_house.specs.Boards.{SameBoard};
+ghost use Rattle.hpb_house.specs.Clients.{AreReportsOf, IsReportOf};
 ghost use Rattle.hpb_house.specs.Namings.{IsOf};
 ghost use Rattle.hpb_house.specs.Starts.{AreBegun};
-ghost use Rattle.hpb_sessions.specs.Ends.{viewer_of};
+ghost use Rattle.hpb_rings.specs.declared.report.Report.{Report};
+ghost use Rattle.hpb_sessions.specs.declared.end.SessionEnd.TheVariants.{Finished};
 
 use crate::devices::{faulty_opened, new_opened};
 use anyhow::{Result, bail};
@@ -56,8 +56,7 @@ fn run_threads<
     output: &mut O,
 ) -> Result<Session<Halt>, AllocError>
     requires idle { client.waiting.items ≡ [] }
-    requires same { SameBoard house.now client.viewer }
-    ensures { IfOk result (λ session. SameBoard house.now (viewer_of session.end)) }
+    ensures { IfOk result (λ session. (report : Report) → session.end ≡ Finished report → IsReportOf client report) }
 {
     thread::scope(
         thread::scope_env(),
@@ -65,8 +64,7 @@ fn run_threads<
         move |scope| -> Result<Session<Halt>, AllocError>
             requires cross { IsSend D.row × IsSend W.row × IsSend J.row × IsSync J.row × IsSync R.row }
             requires idle { client.waiting.items ≡ [] }
-            requires same { SameBoard house.now client.viewer }
-            ensures { IfOk result (λ session. SameBoard house.entry.now (viewer_of session.end)) }
+            ensures { IfOk result (λ session. (report : Report) → session.end ≡ Finished report → IsReportOf client report) }
         {
             let workers = Workers::start(scope, rt, house, incoming, OpenGate, OpenGate)?;
             let mut input = lines;
@@ -77,10 +75,10 @@ fn run_threads<
     )
 }
 
-/// The last of the clients that a house was started with.
-fn last_client(clients: Vec<Client<Halt>>) -> Option<Client<Halt>>
-    ensures idle { (eye : Viewing) → AreBegun eye clients.items 1 → IfSome result (λ client. client.waiting.items ≡ []) }
-    ensures same { (eye : Viewing) → AreBegun eye clients.items 1 → IfSome result (λ client. SameBoard eye client.viewer) }
+/// The only client of a house.
+fn only_client(clients: Vec<Client<Halt>>) -> Option<Client<Halt>>
+    requires { length clients.items ≡ 1 }
+    ensures { IfSome result (λ client. clients.items ≡ client ∷ []) }
 {
     let mut clients = clients;
     clients.pop()
@@ -91,7 +89,7 @@ fn close_house<D: Disk + Drop, W: Wait + Drop, J: Naming>(
     house: House<D, W, J>,
     session: Session<Halt>,
 ) -> Result<Outcome>
-    requires { SameBoard house (viewer_of session.end) }
+    requires { (report : Report) → session.end ≡ Finished report → AreReportsOf J.clients (report ∷ []) }
 {
     let Session { end, fault } = session;
     let SessionEnd::Finished(report) = end else {
@@ -120,14 +118,16 @@ fn run_started<
 >(rt: &R, alloc: Global, started: Started<D, W>, lines: &[u8], output: &mut O) -> Result<Outcome>
     requires eye { (started.eye ≡ J.eye) × (started.eye.list ≡ []) }
     requires own { IsOf J.eye J.image J.failures started.keeper }
-    requires begun { AreBegun started.eye started.clients.items 1 }
+    requires clients { started.clients.items ≡ J.clients }
+    requires seats { started.eye.seats ≡ 1 }
+    requires begun { AreBegun started.eye started.clients.items started.eye.seats }
 {
     let Ready {
         house,
         incoming,
         clients,
     } = started.named::<J>();
-    let Some(client) = last_client(clients) else {
+    let Some(client) = only_client(clients) else {
         bail!("the house has no client");
     };
     let session = run_threads(rt, alloc, &house, incoming, client, lines, output)?;

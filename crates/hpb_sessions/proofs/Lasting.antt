@@ -53,26 +53,27 @@ module _ {S : Type 0} (rules : S → Rules) (over : S → Bool) (asks : S → Co
   session_keeps most takes_memory unread budget before after old new (Err fault) (inr s) is = lines_keep (slice_split is_line_feed s.done) old new s.text s.answers is
 
 -- what a session on a house comes to
-module _ (seat : ℕ) (viewing : Viewing) (next : State) (goes : GoesFrom (at_start seat viewing) next) where
-  start_told : (opened : List Command) → Shows viewing.opened opened → told_by opened (at_start seat viewing) ≡ seen_by opened viewing
-  start_told opened shows = take_whole (auction_of viewing).count (seen_by opened viewing) (omega (arith, seen_counted opened viewing shows))
+module _ {M : Type 0} (client : Client M) (next : State) (goes : GoesFrom (at_start client) next) where
+  start_told : (opened : List Command) → Shows client.viewer.opened opened → told_by opened (at_start client) ≡ seen_by opened client.viewer
+  start_told opened shows = take_whole (auction_of client.viewer).count (seen_by opened client.viewer) (omega (arith, seen_counted opened client.viewer shows))
 
   -- what it is told of at last goes on from what its viewer showed at the start
-  pub tells_on : (opened : List Command) → Shows viewing.opened opened → GoesOn (seen_by opened viewing) (TellsAt next)
+  pub tells_on : (opened : List Command) → Shows client.viewer.opened opened → GoesOn (seen_by opened client.viewer) (TellsAt next)
   tells_on opened shows = (
     told_by opened next,
     subst (λ (history : List Command). IsFront history (told_by opened next)) (start_told opened shows) (goes.told opened),
     (opened, subst (λ (value : AuctionValue). Shows value opened) (sym goes.viewer.1) shows, refl),
   )
 
-pub house_session : (seat : ℕ) (viewing : Viewing) (most : ℕ) (takes_memory : Bool) (unread : List ℕ) (budget : ℕ) (before after : Streams) (next : State) (result : Result ⊤ Fault)
-    → Serves rules_at over_at RepliesAt ShowsAt most takes_memory unread budget before after (at_start seat viewing) next result → GoesFrom (at_start seat viewing) next
-house_session seat viewing most takes_memory unread budget before after next result serves =
-    session_keeps rules_at over_at RepliesAt ShowsAt (GoesFrom (at_start seat viewing))
-    (λ old new command reply it is. goes_trans (at_start seat viewing) old new is it.0)
-    (λ old new shown it is. goes_trans (at_start seat viewing) old new is it.0)
-    most takes_memory unread budget before after (at_start seat viewing) next result serves (goes_self (at_start seat viewing))
+pub house_session : {M : Type 0} (client : Client M) (most : ℕ) (takes_memory : Bool) (unread : List ℕ) (budget : ℕ) (before after : Streams) (next : State) (result : Result ⊤ Fault)
+    → Serves rules_at over_at RepliesAt ShowsAt most takes_memory unread budget before after (at_start client) next result → GoesFrom (at_start client) next
+house_session client most takes_memory unread budget before after next result serves =
+    session_keeps rules_at over_at RepliesAt ShowsAt (GoesFrom (at_start client))
+    (λ old new command reply it is. goes_trans (at_start client) old new is it.0)
+    (λ old new shown it is. goes_trans (at_start client) old new is it.0)
+    most takes_memory unread budget before after (at_start client) next result serves (goes_self (at_start client))
 
 -- a desk with a client stands at the start
-pub starts : {M : Type 0} (client own : Client M) (stop : Option Stop) → own ≡ client → stop ≡ None → DeskStands own.seat own.viewer own.mark stop (at_start client.seat client.viewer)
-starts client own stop same none = (ap (λ c. c.seat) (sym same), ap (λ c. c.viewer) (sym same), subst (λ c. (auction_of client.viewer).count ≤ c.mark) (sym same) client.marked, sym none)
+pub starts : {M : Type 0} (client own : Client M) (stop : Option Stop) → own ≡ client → stop ≡ None → DeskStands own stop (at_start client)
+starts client own stop same none =
+    (ap (λ c. c.seat) (sym same), ap (λ c. c.viewer) (sym same), subst (λ c. (auction_of client.viewer).count ≤ c.mark) (sym same) client.marked, sym none, ap (λ c. c.letters) (sym same))

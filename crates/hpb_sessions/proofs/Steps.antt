@@ -1,5 +1,6 @@
 -- Single steps of a desk: an answer taken, a command that gets none, and a look.
 use Rattle.std.proofs.Common.{◌≡◌, ◌⊎◌, inl, inr, ℕ, suc, ◌≤◌, Bool, true, false, max, List, [], ◌∷◌, ◌++◌, get_or, length, take, Option, Some, None, refl, sym, ap, subst, ◌∙◌, arith, append_assoc}
+use Rattle.std.specs.declared.alloc.Global.{Global}
 use Rattle.std.specs.Prelude.{◌<◌, if◌then◌else◌, Result, Ok, Err, IsOk, OnOk, ⊤}
 use Rattle.std.proofs.lemmas.Bool.{eqb-true, false≢true}
 use Rattle.hpb_rules.specs.declared.command.Command.{Command}
@@ -14,6 +15,11 @@ use Rattle.hpb_rules.specs.Letters.{Fits, is_answer_new}
 use Rattle.hpb_rules.proofs.Lists.{append_nil, front_self, front_trans}
 use Rattle.hpb_board.specs.Publication.{Viewing, answers_of, auction_of}
 use Rattle.hpb_rings.specs.Marks.{greatest, with_reply}
+use Rattle.hpb_rings.specs.declared.client.Client.{Client}
+use Rattle.hpb_rings.specs.declared.slip.Slip.{Slip}
+use Rattle.rtrb.specs.Ring.{SameProducer}
+use Rattle.rtrb.specs.declared.AnyItems.{AnyItems}
+use Rattle.rtrb.specs.declared.producer.Producer.{Producer}
 use Rattle.hpb_server.specs.Desk.{AsksAll}
 use Rattle.hpb_sessions.specs.declared.stop.Stop.{Stop}
 use Rattle.hpb_sessions.specs.Sessions.{DeskStands, Follows, GoesFrom, IsToldBy, RepliesAt, ShowsAt, State, count_after, over_at, seen_by, told_by}
@@ -41,17 +47,32 @@ count_later given = by (is_answer_new given)
     by false = omega arith
 
 -- a session that is told of no fewer commands goes on
-pub goes : (old new : State) → new.seat ≡ old.seat → Follows old.viewing new.viewing → old.told ≤ new.told → GoesFrom old new
-goes old new seat follows more = record {
+pub goes : (old new : State) → new.seat ≡ old.seat → SameProducer old.letters new.letters → Follows old.viewing new.viewing → old.told ≤ new.told → GoesFrom old new
+goes old new seat letters follows more = record {
   seat = seat;
+  letters = letters;
   viewer = follows;
   told = λ opened. fronts_of old.told new.told (seen_by opened old.viewing) (seen_by opened new.viewing) more (seen_front opened old.viewing new.viewing follows);
 }
+
+-- one ring where nothing of it has changed
+pub ring_kept : (first second : Producer Slip Global AnyItems) → second ≡ first → SameProducer first second
+ring_kept first second same = subst (SameProducer first) (sym same) ((refl, refl, refl, refl), refl)
+
+-- from the same end on
+pub from_ring : (first same second : Producer Slip Global AnyItems) → first ≡ same → SameProducer same second → SameProducer first second
+from_ring first same second is = subst (λ (letters : Producer Slip Global AnyItems). SameProducer letters second) (sym is)
+
+-- and at each step
+pub same_ring : (first second third : Producer Slip Global AnyItems) → SameProducer first second → SameProducer second third → SameProducer first third
+same_ring first second third one two =
+    ((two.0.0 ∙ one.0.0, two.0.1 ∙ one.0.1, two.0.2 ∙ one.0.2, two.0.3 ∙ one.0.3), two.1 ∙ one.1)
 
 -- it goes on to itself, and so does what goes on from what goes on
 pub goes_self : (state : State) → GoesFrom state state
 goes_self state = record {
   seat = refl;
+  letters = ((refl, refl, refl, refl), refl);
   viewer = (refl, refl, refl, ([], sym (append_nil state.viewing.list)));
   told = λ opened. front_self (told_by opened state);
 }
@@ -59,6 +80,7 @@ goes_self state = record {
 pub goes_trans : (first second third : State) → GoesFrom first second → GoesFrom second third → GoesFrom first third
 goes_trans first second third one two = record {
   seat = two.seat ∙ one.seat;
+  letters = same_ring first.letters second.letters third.letters one.letters two.letters;
   viewer = (
     two.viewer.0 ∙ one.viewer.0,
     two.viewer.1 ∙ one.viewer.1,
@@ -71,54 +93,57 @@ goes_trans first second third one two = record {
   told = λ opened. front_trans (told_by opened first) (told_by opened second) (told_by opened third) (one.told opened) (two.told opened);
 }
 
-module _ (seat later_seat : ℕ) (before after : Viewing) (mark later : ℕ) (stop : Option Stop) (state : State) (stands : DeskStands seat before mark stop state)
-    (same : later_seat ≡ seat) (follows : Follows before after) where
+module _ {M : Type 0} (old new : Client M) (stop : Option Stop) (state : State) (stands : DeskStands old stop state)
+    (same : new.seat ≡ old.seat) (ring : SameProducer old.letters new.letters) (follows : Follows old.viewer new.viewer) where
   -- the viewer of the state is followed
-  at : Follows state.viewing after
-  at = subst (λ (v : Viewing). Follows v after) (sym stands.1) follows
+  at : Follows state.viewing new.viewer
+  at = subst (λ (v : Viewing). Follows v new.viewer) (sym stands.1) follows
 
-  seated : later_seat ≡ state.seat
+  on_ring : SameProducer state.letters new.letters
+  on_ring = from_ring state.letters old.letters new.letters stands.4 ring
+
+  seated : new.seat ≡ state.seat
   seated = same ∙ sym stands.0
 
   -- an answer is taken
-  pub answered : (command : Command) (given : Answer) → stop ≡ None → given.letter ≡ record { seat = seat; command = command } → mark ≤ given.at
-      → IsToldBy (answers_of later_seat after) given → greatest mark given ≤ later
-      → (next : State) × RepliesAt state command given.reply next × DeskStands later_seat after later stop next
+  pub answered : (command : Command) (given : Answer) → stop ≡ None → given.letter ≡ record { seat = old.seat; command = command } → old.mark ≤ given.at
+      → IsToldBy (answers_of new.seat new.viewer) given → greatest old.mark given ≤ new.mark
+      → (next : State) × RepliesAt state command given.reply next × DeskStands new stop next
   answered command given serves own late told known =
-      let next : State = record { seat = later_seat; viewing = after; told = count_after given; stop = stop } in
+      let next : State = record { seat = new.seat; letters = new.letters; viewing = new.viewer; told = count_after given; stop = stop } in
       let more : state.told ≤ given.at = omega (arith, stands.2, late) in (
         next,
         (
-          goes state next seated at (omega (arith, more, count_later given)),
+          goes state next seated on_ring at (omega (arith, more, count_later given)),
           inl (record {
             given = given;
             own = own ∙ ap (λ n. record { seat = n; command = command }) (sym stands.0);
             replied = refl;
-            among = subst (λ n. IsToldBy (answers_of n after) given) seated told;
+            among = subst (λ n. IsToldBy (answers_of n new.viewer) given) seated told;
             fits = λ opened shows.
-                let still : Shows after.opened opened = subst (λ (value : AuctionValue). Shows value opened) (sym at.1) shows in
-                let fit = told_fits opened after later_seat given still told in
+                let still : Shows new.viewer.opened opened = subst (λ (value : AuctionValue). Shows value opened) (sym at.1) shows in
+                let fit = told_fits opened new.viewer new.seat given still told in
                 record {
-                  fits = subst (λ (value : AuctionValue). Fits value.rules (seen_by opened after) given) at.1 fit;
-                  later = fronts_of state.told given.at (seen_by opened state.viewing) (seen_by opened after) more (seen_front opened state.viewing after at);
-                  told = sym (fits_after after.opened.rules (seen_by opened after) given fit)
-                      ∙ ap (λ (value : AuctionValue). history_after value.rules (take given.at (seen_by opened after)) given.letter.command) at.1;
+                  fits = subst (λ (value : AuctionValue). Fits value.rules (seen_by opened new.viewer) given) at.1 fit;
+                  later = fronts_of state.told given.at (seen_by opened state.viewing) (seen_by opened new.viewer) more (seen_front opened state.viewing new.viewer at);
+                  told = sym (fits_after new.viewer.opened.rules (seen_by opened new.viewer) given fit)
+                      ∙ ap (λ (value : AuctionValue). history_after value.rules (take given.at (seen_by opened new.viewer)) given.letter.command) at.1;
                 };
             before = stands.3 ∙ serves;
             after = serves;
           }),
         ),
-        (refl, refl, omega (arith, count_known mark given, known), refl),
+        (refl, refl, omega (arith, count_known old.mark given, known), refl, refl),
       )
 
   -- a command gets no answer
-  pub stopped : (command : Command) (why : Stop) (refusal : Refusal) → mark ≤ later → (stop ≡ None) ⊎ (stop ≡ Some why) → refusal ≡ refusal_of why
-      → (next : State) × RepliesAt state command (replies.Refused refusal) next × DeskStands later_seat after later (Some why) next
+  pub stopped : (command : Command) (why : Stop) (refusal : Refusal) → old.mark ≤ new.mark → (stop ≡ None) ⊎ (stop ≡ Some why) → refusal ≡ refusal_of why
+      → (next : State) × RepliesAt state command (replies.Refused refusal) next × DeskStands new (Some why) next
   stopped command why refusal more was is =
-      let next : State = record { seat = later_seat; viewing = after; told = state.told; stop = Some why } in (
+      let next : State = record { seat = new.seat; letters = new.letters; viewing = new.viewer; told = state.told; stop = Some why } in (
         next,
         (
-          goes state next seated at (omega arith),
+          goes state next seated on_ring at (omega arith),
           inr (record {
             why = why;
             before = subst (λ (s : Option Stop). (s ≡ None) ⊎ (s ≡ Some why)) (sym stands.3) was;
@@ -126,36 +151,36 @@ module _ (seat later_seat : ℕ) (before after : Viewing) (mark later : ℕ) (st
             replied = ap replies.Refused is;
           }),
         ),
-        (refl, refl, omega (arith, stands.2, more), refl),
+        (refl, refl, omega (arith, stands.2, more), refl, refl),
       )
 
   -- a look at what is published
-  pub looked : (value : AuctionValue) → value ≡ auction_of after → later ≡ max mark (auction_of after).count
-      → (next : State) × ShowsAt state (Some value) next × DeskStands later_seat after later stop next
+  pub looked : (value : AuctionValue) → value ≡ auction_of new.viewer → new.mark ≡ max old.mark (auction_of new.viewer).count
+      → (next : State) × ShowsAt state (Some value) next × DeskStands new stop next
   looked value is most =
-      let count : ℕ = (auction_of after).count in
-      let next : State = record { seat = later_seat; viewing = after; told = max state.told count; stop = stop } in (
+      let count : ℕ = (auction_of new.viewer).count in
+      let next : State = record { seat = new.seat; letters = new.letters; viewing = new.viewer; told = max state.told count; stop = stop } in (
         next,
         (
-          goes state next seated at (omega arith),
+          goes state next seated on_ring at (omega arith),
           sym stands.3,
           (
             is,
             λ opened shows.
-                let all : told_by opened next ≡ seen_by opened after = take_whole next.told (seen_by opened after) (omega (arith, seen_counted opened after shows)) in (
+                let all : told_by opened next ≡ seen_by opened new.viewer = take_whole next.told (seen_by opened new.viewer) (omega (arith, seen_counted opened new.viewer shows)) in (
                   all,
-                  subst (λ (v : AuctionValue). Shows v (told_by opened next)) (sym is) (subst (Shows (auction_of after)) (sym all) (seen_shown opened after shows)),
+                  subst (λ (v : AuctionValue). Shows v (told_by opened next)) (sym is) (subst (Shows (auction_of new.viewer)) (sym all) (seen_shown opened new.viewer shows)),
                 ),
           ),
         ),
-        (refl, refl, omega (arith, stands.2, most), refl),
+        (refl, refl, omega (arith, stands.2, most), refl, refl),
       )
 
   -- a look where nothing is published any more
-  pub looked_away : later ≡ max mark (auction_of after).count → (next : State) × ShowsAt state None next × DeskStands later_seat after later stop next
+  pub looked_away : new.mark ≡ max old.mark (auction_of new.viewer).count → (next : State) × ShowsAt state None next × DeskStands new stop next
   looked_away most =
-      let next : State = record { seat = later_seat; viewing = after; told = state.told; stop = stop } in
-      (next, (goes state next seated at (omega arith), sym stands.3, tt), (refl, refl, omega (arith, stands.2, most), refl))
+      let next : State = record { seat = new.seat; letters = new.letters; viewing = new.viewer; told = state.told; stop = stop } in
+      (next, (goes state next seated on_ring at (omega arith), sym stands.3, tt), (refl, refl, omega (arith, stands.2, most), refl, refl))
 
 -- ---- commands that are asked together
 -- none once the session is over

@@ -1,10 +1,16 @@
 -- How a session on a house ends.
 -- Source: this project's own.
 use Rattle.std.specs.Prelude.{◌≡◌, ℕ, true, false, Option, Some}
+use Rattle.std.specs.declared.alloc.Global.{Global}
+use Rattle.rtrb.specs.Ring.{SameProducer}
+use Rattle.rtrb.specs.declared.AnyItems.{AnyItems}
+use Rattle.rtrb.specs.declared.producer.Producer.{Producer}
 use Rattle.hpb_board.specs.Publication.{Viewing}
+use Rattle.hpb_rings.specs.declared.client.Client.{Client}
+use Rattle.hpb_rings.specs.declared.slip.Slip.{Slip}
 use Rattle.hpb_sessions.specs.declared.end.SessionEnd.{SessionEnd}
 use Rattle.hpb_sessions.specs.declared.end.SessionEnd.TheVariants.{Finished, Left}
-use Rattle.hpb_sessions.specs.Sessions.{State}
+use Rattle.hpb_sessions.specs.Sessions.{Follows, State}
 use Rattle.hpb_sessions.specs.Stops.{IsInOrder, is_over}
 use Rattle.hpb_sessions.specs.declared.stop.Stop.{Stop}
 use Rattle.hpb_sessions.specs.declared.stop.Stop.TheVariants.{Halted}
@@ -18,6 +24,15 @@ seat_of (Left client) = client.seat
 abbrev pub viewer_of : {M : Type 0} → SessionEnd M → Viewing
 viewer_of (Finished report) = report.viewer
 viewer_of (Left client) = client.viewer
+
+-- Its end of its letter ring.
+abbrev pub posts_of : {M : Type 0} → SessionEnd M → Producer Slip Global AnyItems
+posts_of (Finished report) = report.letters
+posts_of (Left client) = client.letters
+
+-- A session ended with the client that it began with: of its seat, after all that it had entered, and into its ring.
+abbrev pub IsEndOf : {M : Type 0} → Client M → SessionEnd M → Type 0
+IsEndOf client end = (seat_of end ≡ client.seat) × Follows client.viewer (viewer_of end) × SameProducer client.letters (posts_of end)
 
 -- How a session ends by what stopped its commands, if something did. The client has finished, and got the mark of a halt where the session told of one; or it is handed back as it stands, since the next answer to its seat isn't the one that it waits for.
 abbrev pub EndsBy : {M : Type 0} → Option Stop → SessionEnd M → Type 0

@@ -1,7 +1,11 @@
 -- Where a session with a client of a house stands, what a command is replied there, and what is shown: a desk whose answers fit.
 -- Source: this project's own.
 use Rattle.std.specs.Prelude.{◌≡◌, ◌⊎◌, ℕ, suc, ◌≤◌, Bool, List, ◌++◌, take, Option, Some, None, if◌then◌else◌, ⊤}
+use Rattle.std.specs.declared.alloc.Global.{Global}
 use mathlib.Core.List.{IsPrefix}
+use Rattle.rtrb.specs.Ring.{SameProducer}
+use Rattle.rtrb.specs.declared.AnyItems.{AnyItems}
+use Rattle.rtrb.specs.declared.producer.Producer.{Producer}
 use Rattle.hpb_rules.specs.declared.command.Command.{Command}
 use Rattle.hpb_rules.specs.declared.letter.Answer.{Answer}
 use Rattle.hpb_rules.specs.declared.reply.Reply.{Reply}
@@ -13,6 +17,8 @@ use Rattle.hpb_rules.specs.Letters.{Fits, is_answer_new, new_commands}
 use Rattle.hpb_rules.specs.Tree.{Rules}
 use Rattle.hpb_letters.specs.Judging.{judged_in}
 use Rattle.hpb_board.specs.Publication.{Viewing, answers_of, auction_of, joined, recent}
+use Rattle.hpb_rings.specs.declared.client.Client.{Client}
+use Rattle.hpb_rings.specs.declared.slip.Slip.{Slip}
 use Rattle.hpb_sessions.specs.declared.stop.Stop.{Stop}
 use Rattle.hpb_sessions.specs.Stops.{is_over, refusal_of}
 
@@ -32,9 +38,10 @@ IsToldBy answers given = (number : ℕ) × (recent answers number ≡ Some given
 abbrev pub count_after : Answer → ℕ
 count_after given = if is_answer_new given then suc given.at else given.at
 
--- Where a session stands: its seat, what its client's viewer shows, how many accepted commands it was told of, and why its commands get no more answers of the rules, if they don't.
+-- Where a session stands: its seat, its client's end of its letter ring, what its client's viewer shows, how many accepted commands it was told of, and why its commands get no more answers of the rules, if they don't.
 pub record State : Type 0 where
   pub seat : ℕ
+  pub letters : Producer Slip Global AnyItems
   pub viewing : Viewing
   pub told : ℕ
   pub stop : Option Stop
@@ -62,6 +69,7 @@ TellsAt state told = (opened : List Command) × Shows state.viewing.opened opene
 -- A session goes on: it has the same client, and what it is told of goes on from what it was told of.
 pub record GoesFrom (old new : State) : Type 0 where
   pub seat : new.seat ≡ old.seat
+  pub letters : SameProducer old.letters new.letters
   pub viewer : Follows old.viewing new.viewing
   pub told : (opened : List Command) → IsFront (told_by opened old) (told_by opened new)
 
@@ -105,12 +113,12 @@ ShowsSeen (Some value) new = (value ≡ auction_of new.viewing) × ((opened : Li
 abbrev pub ShowsAt : State → Option AuctionValue → State → Type 0
 ShowsAt old shown new = GoesFrom old new × (new.stop ≡ old.stop) × ShowsSeen shown new
 
--- A desk stands at a state: its client has this seat and this viewer, and knows of as many accepted commands as the session was told of.
-abbrev pub DeskStands : (seat : ℕ) → Viewing → (mark : ℕ) → Option Stop → State → Type 0
-DeskStands seat viewing mark stop state = (state.seat ≡ seat) × (state.viewing ≡ viewing) × (state.told ≤ mark) × (state.stop ≡ stop)
+-- A desk stands at a state: its client has this seat, this end of its ring and this viewer, and knows of as many accepted commands as the session was told of.
+abbrev pub DeskStands : {M : Type 0} → Client M → Option Stop → State → Type 0
+DeskStands client stop state = (state.seat ≡ client.seat) × (state.viewing ≡ client.viewer) × (state.told ≤ client.mark) × (state.stop ≡ stop) × (state.letters ≡ client.letters)
 
 -- **Start and end.** At the end the client has finished; after a 95 it is handed back as it stands.
 --
--- The state at the start of a session: it counts as told of all that its client's viewer shows.
-abbrev pub at_start : (seat : ℕ) → Viewing → State
-at_start seat viewing = record { seat = seat; viewing = viewing; told = (auction_of viewing).count; stop = None }
+-- The state at the start of a session with a client: it counts as told of all that the client's viewer shows.
+abbrev pub at_start : {M : Type 0} → Client M → State
+at_start client = record { seat = client.seat; letters = client.letters; viewing = client.viewer; told = (auction_of client.viewer).count; stop = None }

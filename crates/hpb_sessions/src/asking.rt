@@ -1,6 +1,6 @@
 //! One command of a session: it is posted, and its answer is waited for.
 ghost use Rattle.std.specs.Prelude.{◌≡◌, ◌≤◌, [], ◌∷◌, drop, true, IfOk, IsOk, IsErr, Err};
-ghost use Rattle.rtrb.specs.Ring.{sent};
+ghost use Rattle.rtrb.specs.Ring.{SameProducer, sent};
 ghost use Rattle.hpb_board.specs.Publication.{answers_of};
 ghost use Rattle.hpb_rings.specs.Marks.{greatest};
 ghost use Rattle.hpb_rings.specs.Taking.{IsForOldest};
@@ -25,6 +25,7 @@ pub(crate) fn ask_client<M: Copy, R: Wait>(
     requires idle { client.old.waiting.items ≡ [] }
     ensures seat { client.new.seat ≡ client.old.seat }
     ensures viewer { Follows client.old.viewer client.new.viewer }
+    ensures ring { SameProducer client.old.letters client.new.letters }
     ensures own { IfOk result (λ answer. answer.letter ≡ record { seat = client.old.seat; command = command.now }) }
     ensures later { IfOk result (λ answer. client.old.mark ≤ answer.at) }
     ensures told { IfOk result (λ answer. IsToldBy (answers_of client.new.seat client.new.viewer) answer) }
@@ -48,6 +49,7 @@ fn post_letter<M: Copy, R: Wait>(
 ) -> Result<(), Stop>
     requires idle { client.old.waiting.items ≡ [] }
     ensures same { (client.new.seat ≡ client.old.seat) × (client.new.viewer ≡ client.old.viewer) × (client.new.mark ≡ client.old.mark) }
+    ensures ring { SameProducer client.old.letters client.new.letters }
     ensures posted { IsOk result → client.new.waiting.items ≡ record { letter = record { seat = client.old.seat; command = command.now }; mark = client.old.mark } ∷ [] }
     ensures halted { IsErr result → (result ≡ Err Halted) × (client.new.is_halted ≡ true) × (sent client.new.letters ≡ sent client.old.letters) }
     ensures silent { client.old.is_halted ≡ true → IsErr result }

@@ -36,9 +36,9 @@ pub struct HouseDesk<M: Copy, R: Wait + Drop> {
 
 impl<M: Copy, R: Wait + Drop> HouseDesk<M, R> {
     ghost use Rattle.std.specs.Prelude.{◌≡◌, ◌≢◌, [], None, Some, true};
-    ghost use Rattle.rtrb.specs.Ring.{sent};
+    ghost use Rattle.rtrb.specs.Ring.{SameProducer, sent};
     ghost use Rattle.hpb_sessions.specs.declared.stop.Stop.TheVariants.{Order};
-    ghost use Rattle.hpb_sessions.specs.Ends.{EndsBy, seat_of, viewer_of};
+    ghost use Rattle.hpb_sessions.specs.Ends.{EndsBy, posts_of, seat_of, viewer_of};
     ghost use Rattle.hpb_sessions.specs.Sessions.{DeskStands, RepliesAt, State};
     ghost use Rattle.hpb_sessions.specs.Stops.{is_over};
 
@@ -77,6 +77,7 @@ impl<M: Copy, R: Wait + Drop> HouseDesk<M, R> {
     pub(crate) fn finish(self) -> SessionEnd<M>
         ensures seat { seat_of result ≡ self.client.seat }
         ensures viewer { viewer_of result ≡ self.client.viewer }
+        ensures ring { SameProducer self.client.letters (posts_of result) }
         ensures ended { EndsBy self.stop result }
     {
         let HouseDesk {
@@ -94,9 +95,8 @@ impl<M: Copy, R: Wait + Drop> HouseDesk<M, R> {
     /// What a command is replied while the session isn't over.
     fn reply(&mut self, command: Command) -> Reply
         requires goes_on { self.old.stop ≢ Some Order }
-        ensures replied { (state : State) → DeskStands self.old.client.seat self.old.client.viewer self.old.client.mark self.old.stop state
-            → (next : State) × RepliesAt state command result next
-            × DeskStands self.new.client.seat self.new.client.viewer self.new.client.mark self.new.stop next }
+        ensures replied { (state : State) → DeskStands self.old.client self.old.stop state
+            → (next : State) × RepliesAt state command result next × DeskStands self.new.client self.new.stop next }
         ensures rules { self.new.client.viewer.opened ≡ self.old.client.viewer.opened }
         // Nothing is posted once the client is halted.
         ensures silent { self.old.client.is_halted ≡ true → sent self.new.client.letters ≡ sent self.old.client.letters }
@@ -128,7 +128,7 @@ impl<M: Copy, R: Wait + Drop> Desk for HouseDesk<M, R> {
 
     ghost over = { λ desk. is_over desk.stop };
 
-    ghost is_at = { λ desk state. DeskStands desk.client.seat desk.client.viewer desk.client.mark desk.stop state };
+    ghost is_at = { λ desk state. DeskStands desk.client desk.stop state };
 
     ghost rules_at = { rules_at };
 

@@ -1,5 +1,6 @@
 //! A session from its first line to the end of its client.
 ghost use Rattle.std.specs.Prelude.{◌≡◌, ◌⊎◌, List, [], true};
+ghost use Rattle.rtrb.specs.Ring.{SameProducer};
 ghost use Rattle.hpb_rules.specs.declared.command.Command.{Command};
 ghost use Rattle.hpb_rules.specs.declared.limits.TheConstants.{MOST_READ_BYTES};
 ghost use Rattle.hpb_rules.specs.AuctionValue.{Shows};
@@ -7,8 +8,8 @@ ghost use Rattle.hpb_server.specs.DeskLaws.{GoesOn};
 ghost use Rattle.hpb_server.specs.Desk.{no_memory};
 ghost use Rattle.hpb_server.specs.Serving.{Serves};
 ghost use Rattle.hpb_server.specs.Streams.{streams};
-ghost use Rattle.hpb_sessions.specs.Ends.{EndsAt, seat_of, viewer_of};
-ghost use Rattle.hpb_sessions.specs.Sessions.{Follows, RepliesAt, ShowsAt, State, TellsAt, at_start, one_asked, over_at, rules_at, seen_by};
+ghost use Rattle.hpb_sessions.specs.Ends.{EndsAt, IsEndOf};
+ghost use Rattle.hpb_sessions.specs.Sessions.{RepliesAt, ShowsAt, State, TellsAt, at_start, one_asked, over_at, rules_at, seen_by};
 
 use crate::desk::HouseDesk;
 use crate::end::{Session, SessionEnd};
@@ -37,13 +38,12 @@ pub fn run_session<M: Copy, R: Wait + Drop, I: Read, O: Write>(
     looks: u32,
 ) -> Session<M>
     requires idle { client.waiting.items ≡ [] }
-    ensures seat { seat_of result.end ≡ client.seat }
-    ensures board { Follows client.viewer (viewer_of result.end) }
+    ensures own { IsEndOf client result.end }
     // Each line has the answer of a desk whose answers fit, and the session ends at the state where these lead. Where what was
     // opened shows a history, what was told of last goes on from what the client's viewer showed at the start.
     ensures served { (state : State) × Serves rules_at over_at RepliesAt ShowsAt one_asked no_memory [] MOST_READ_BYTES
         (streams (I.remaining reader.old) (O.contents writer.old)) (streams (I.remaining reader.new) (O.contents writer.new))
-        (at_start client.seat client.viewer) state result.fault
+        (at_start client) state result.fault
         × EndsAt result.end state
         × ((opened : List Command) → Shows client.viewer.opened opened → GoesOn (seen_by opened client.viewer) (TellsAt state)) }
 {
@@ -60,6 +60,7 @@ pub fn finish_client<M: Copy, R: Wait + Drop>(rt: R, client: Client<M>) -> Repor
     requires ended { (client.waiting.items ≡ []) ⊎ (client.is_halted ≡ true) }
     ensures seat { result.seat ≡ client.seat }
     ensures viewer { result.viewer ≡ client.viewer }
+    ensures ring { SameProducer client.letters result.letters }
     ensures taken { (result.taken ≡ client.taken) × (result.accepted ≡ client.accepted) }
     ensures halted { result.is_halted ≡ client.is_halted }
 {

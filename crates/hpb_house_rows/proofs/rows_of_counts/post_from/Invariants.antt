@@ -1,6 +1,5 @@
-use Rattle.std.proofs.Common.{◌≡◌}
-use Rattle.hpb_house.specs.Boards.{SameBoard}
+use Rattle.hpb_house.specs.Clients.{SameClient}
 use Rattle.hpb_house_rows.proofs.rows_of_counts.post_from.Given as goal
 
 abbrev pub invariant-loop-place : goal.invariant-loop-place
-invariant-loop-place l = SameBoard l.fn.client.viewer l.client.viewer × (l.client.seat ≡ l.fn.client.seat)
+invariant-loop-place l = SameClient l.fn.client l.client

@@ -1,17 +1,19 @@
-use Rattle.std.proofs.Common.{rules, ap}
+use Rattle.std.proofs.Common.{sym, subst}
 use Rattle.hpb_board.specs.Publication.{Viewing}
-use Rattle.hpb_serve.proofs.Seats.{left_by}
+use Rattle.hpb_sessions.specs.Sessions.{Follows}
+use Rattle.hpb_serve.proofs.Seats.{left_by, stays}
 use Rattle.hpb_serve.proofs.connection.serve_connection.Goals as goal
 
 -- a client without a connection is finished
 pub returns-in_default : goal.returns-in_default
-returns-in_default g c = record {
-  seat = c.finish_client.ensures.seat;
-  board = (ap (λ (v : Viewing). v.book) c.finish_client.ensures.viewer, ap (λ (v : Viewing). v.opened) c.finish_client.ensures.viewer);
-  left = λ client is. absurd (cc is);
-}
+returns-in_default g c =
+    let viewer = c.args.idle.client.viewer in
+    record {
+      own = (c.finish_client.ensures.seat, subst (λ (v : Viewing). Follows viewer v) (sym c.finish_client.ensures.viewer) (stays viewer), c.finish_client.ensures.ring);
+      left = λ client is. absurd (cc is);
+    }
 
 pub returns : goal.returns
 returns g c =
-    let served = c.run_session-session.ensures.served in
-    record { seat = search rules; board = search rules; left = left_by served.0.stop c.run_session-session.result.end served.2.2 }
+    let ended = c.run_session-session.ensures in
+    record { own = ended.own; left = left_by ended.served.0.stop c.run_session-session.result.end ended.served.2.2 }

@@ -12,7 +12,11 @@ use Rattle.hpb_house.specs.Closings.{LeavesShown, LeavesUnsettled}
 use Rattle.hpb_rings.specs.declared.report.Report.{Report}
 use Rattle.hpb_house.specs.Boards.{SameBoard}
 use Rattle.hpb_serve.specs.Ended.{IsLeft}
-use Rattle.hpb_serve.proofs.Reports.{apart, of_book, of_opened, same_seats}
+use Rattle.hpb_house.specs.Clients.{AreReportsOf}
+use Rattle.hpb_house.specs.declared.keeper.Halt.{Halt}
+use Rattle.hpb_house.proofs.Whose.{seated}
+use Rattle.hpb_rings.specs.declared.client.Client.{Client}
+use Rattle.hpb_serve.proofs.Reports.{same_seats}
 use Rattle.hpb_serve.proofs.serving.serve_started.Goals as goal
 
 -- each client begins on the house's board
@@ -22,11 +26,11 @@ run_threads-requires-clause-ready g c = λ lives outlive.
     λ k d within. (let begun = c.requires.begun.begun k d within in ((begun.viewer.0, begun.viewer.1), begun.waiting)) in
     rw (c.named-house.ensures.house, c.named-house.ensures.clients) base
 
-pub close-requires-clause-book : goal.close-requires-clause-book
-close-requires-clause-book g c = of_book c.named-house.result.house c.in-Ok.reports.items c.deref_mut.result.now c.deref_mut.ensures.value c.in-Ok.ensures.board
-
-pub close-requires-clause-opened : goal.close-requires-clause-opened
-close-requires-clause-opened g c = of_opened c.named-house.result.house c.in-Ok.reports.items c.deref_mut.result.now c.deref_mut.ensures.value c.in-Ok.ensures.board
+-- the reports are those of the clients that were started
+pub close-requires : goal.close-requires
+close-requires g c =
+    let own = subst (λ (clients : List (Client Halt)). AreReportsOf clients c.in-Ok.reports.items) (ap (λ clients. clients.items) c.named-house.ensures.clients ∙ c.requires.clients) c.in-Ok.ensures.reports in
+    record { clients = subst (AreReportsOf g.J.Naming.clients) (sym c.deref_mut.ensures.value) own }
 
 -- a client that was left is that of one of the seats
 pub returns-in-Err-Order-clause-ill : goal.returns-in-Err-Order-clause-ill
@@ -43,7 +47,8 @@ returns-in-Err-clause-ill g c =
     let closed = c.in-Err.ensures in
     let new = c.close.new.reports in
     let lent = c.deref_mut.result.now in
-    let numbered = ap (map (λ report. report.seat)) c.deref_mut.ensures.value ∙ c.in-Ok.ensures.seats ∙ ap (λ clients. map (λ client. client.seat) clients.items) c.named-house.ensures.clients ∙ c.requires.begun.numbered in
+    let numbered = seated c.args.started.eye c.args.started.clients.items c.args.started.eye.seats c.requires.begun lent
+    (subst (AreReportsOf c.args.started.clients.items) (sym c.deref_mut.ensures.value) (subst (λ (clients : List (Client Halt)). AreReportsOf clients c.in-Ok.reports.items) (ap (λ clients. clients.items) c.named-house.ensures.clients) c.in-Ok.ensures.reports)) in
     let seats = same_seats new lent closed.said in
     let long : length new ≡ length lent = sym (length-map new (λ (report : Report). report.seat)) ∙ ap length seats ∙ length-map lent (λ (report : Report). report.seat) in
     let items : (with_items c.in-Ok.reports new).items ≡ new = with_items_is c.in-Ok.reports new (omega (arith, long, ap length c.deref_mut.ensures.value)) in
@@ -64,7 +69,8 @@ returns-in-Ok-close-clause-ended g c =
     let same = c.named-house.ensures.house in
     let new = c.close.new.reports in
     let lent = c.deref_mut.result.now in
-    let numbered = ap (map (λ report. report.seat)) c.deref_mut.ensures.value ∙ c.in-Ok.ensures.seats ∙ ap (λ clients. map (λ client. client.seat) clients.items) c.named-house.ensures.clients ∙ c.requires.begun.numbered in
+    let numbered = seated c.args.started.eye c.args.started.clients.items c.args.started.eye.seats c.requires.begun lent
+    (subst (AreReportsOf c.args.started.clients.items) (sym c.deref_mut.ensures.value) (subst (λ (clients : List (Client Halt)). AreReportsOf clients c.in-Ok.reports.items) (ap (λ clients. clients.items) c.named-house.ensures.clients) c.in-Ok.ensures.reports)) in
     let seats = same_seats new lent closed.said in
     let long : length new ≡ length lent = sym (length-map new (λ (report : Report). report.seat)) ∙ ap length seats ∙ length-map lent (λ (report : Report). report.seat) in
     let items : (with_items c.in-Ok.reports new).items ≡ new = with_items_is c.in-Ok.reports new (omega (arith, long, ap length c.deref_mut.ensures.value)) in
@@ -74,7 +80,7 @@ returns-in-Ok-close-clause-ended g c =
       shown = subst (All (λ report. auction_of report.viewer ≡ c.in-Ok-close.closing.auction)) (sym items) closed.shown;
       continued = λ front shows.
           subst (All (λ report. Shows c.in-Ok-close.closing.auction (front ++ history_of report.viewer))) (sym items) (closed.continued front (subst (λ (a : AuctionValue). Shows a front) (sym opened) shows));
-      once = subst (λ (rs : List Report). All (λ report. IsPermutation (flat_map accepted_by rs) (history_of report.viewer)) rs) (sym items) (closed.once (apart lent c.args.started.eye.seats numbered));
+      once = subst (λ (rs : List Report). All (λ report. IsPermutation (flat_map accepted_by rs) (history_of report.viewer)) rs) (sym items) closed.once;
       numbers = ap total items ∙ closed.numbers ∙ ap (λ (a : AuctionValue). c.in-Ok-close.closing.auction.count - a.count) opened;
       kept = subst (LeavesShown g.D.Disk.seen g.D.Disk.may_leave g.J.Naming.image c.in-Ok-close.closing) (sym items) closed.kept;
       told = closed.told;

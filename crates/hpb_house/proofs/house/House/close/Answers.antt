@@ -8,14 +8,18 @@ use Rattle.hpb_rings.specs.declared.report.Report.{Report}
 use Rattle.hpb_closing.specs.Histories.{history_in, history_of}
 use Rattle.hpb_closing.specs.Reports.{book_of}
 use Rattle.hpb_closing.proofs.Lists.{map-all}
+use Rattle.hpb_house.specs.Boards.{SameBoard}
 use Rattle.hpb_house.proofs.Leaving.{leaves_shown, leaves_unsettled, not_busy}
+use Rattle.hpb_house.proofs.Whose.{apart, on_board}
 use Rattle.hpb_house.proofs.house.House.close.Goals as goal
 
 pub settle-settled-requires-clause-book : goal.settle-settled-requires-clause-book
-settle-settled-requires-clause-book g c = subst (λ (v : Viewing). All (λ r. r.viewer.book ≡ v.book) c.args.reports.now) (sym c.self.view_is) c.requires.book
+settle-settled-requires-clause-book g c = λ i d lt.
+    (on_board g.J.Naming.eye g.J.Naming.clients g.J.Naming.eye.seats c.self.invariant.2 c.args.reports.now c.requires.clients i d lt).0 ∙ ap (λ (v : Viewing). v.book) (sym c.self.invariant.0)
 
 pub settle-settled-requires-clause-opened : goal.settle-settled-requires-clause-opened
-settle-settled-requires-clause-opened g c = subst (λ (v : Viewing). All (λ r. r.viewer.opened ≡ v.opened) c.args.reports.now) (sym c.self.view_is) c.requires.opened
+settle-settled-requires-clause-opened g c = λ i d lt.
+    (on_board g.J.Naming.eye g.J.Naming.clients g.J.Naming.eye.seats c.self.invariant.2 c.args.reports.now c.requires.clients i d lt).1 ∙ ap (λ (v : Viewing). v.opened) (sym c.self.invariant.0)
 
 -- the reports follow the keeper's board after the last view too
 of_board : (reports old : List Report) (book board : Book) → map book_of reports ≡ map book_of old → All (λ r. r.viewer.book ≡ book) old → book ≡ board → All (λ r. r.viewer.book ≡ board) reports
@@ -24,8 +28,8 @@ of_board reports old book board same all is = subst (λ (b : Book). All (λ (r :
 pub whole_trail-whole-requires : goal.whole_trail-whole-requires
 whole_trail-whole-requires g c =
     let own = c.keeper-keeper.ensures.own in
-    let book = ap (λ (v : Viewing). v.book) (sym c.self.view_is ∙ c.self.invariant.0) ∙ (sym own.book ∙ sym c.front.ensures.0) in
-    of_board c.settle-settled.new.reports c.args.reports.now _ _ c.settle-settled.ensures.book c.requires.book book
+    let begun = on_board g.J.Naming.eye g.J.Naming.clients g.J.Naming.eye.seats c.self.invariant.2 c.args.reports.now c.requires.clients in
+    of_board c.settle-settled.new.reports c.args.reports.now _ _ c.settle-settled.ensures.book (λ i d lt. (begun i d lt).0) (sym own.book ∙ sym c.front.ensures.0)
 
 pub returns-in-Ok-clause-shown : goal.returns-in-Ok-clause-shown
 returns-in-Ok-clause-shown g c =
@@ -35,6 +39,13 @@ pub returns-in-Ok-clause-continued : goal.returns-in-Ok-clause-continued
 returns-in-Ok-clause-continued g c = λ front shows.
     subst (λ (auction : AuctionValue). All (λ r. Shows auction (front ++ history_of r.viewer)) c.settle-settled.new.reports) (sym c.finish-disk.ensures.committed)
     (c.in-Ok.ensures.continued front (subst (λ (v : Viewing). Shows v.opened front) (sym c.self.view_is) shows))
+
+-- no two of the reports are of one seat
+pub returns-in-Ok-clause-taken : goal.returns-in-Ok-clause-taken
+returns-in-Ok-clause-taken g c = c.in-Ok.ensures.taken (apart g.J.Naming.eye g.J.Naming.clients g.J.Naming.eye.seats c.self.invariant.2 c.args.reports.now c.requires.clients)
+
+pub returns-in-Ok-clause-once : goal.returns-in-Ok-clause-once
+returns-in-Ok-clause-once g c = c.in-Ok.ensures.once (apart g.J.Naming.eye g.J.Naming.clients g.J.Naming.eye.seats c.self.invariant.2 c.args.reports.now c.requires.clients)
 
 -- what is handed back is the keeper's, and the reports' history is its list's
 pub returns-in-Ok-clause-kept : goal.returns-in-Ok-clause-kept
@@ -60,12 +71,13 @@ returns-clause-left g c =
     let front = c.front.ensures in
     let opened : c.self.inside.eye.opened ≡ k.board.opened = ap (λ (v : Viewing). v.opened) c.self.invariant.0 ∙ sym own.opened in
     let same = ap (λ (v : AuctionValue). history_in v k.board.list) opened in
-    let book = ap (λ (v : Viewing). v.book) (sym c.self.view_is ∙ c.self.invariant.0) ∙ (sym own.book ∙ (sym front.0 ∙ sym c.whole_trail-whole.ensures.book)) in
+    let book = sym own.book ∙ (sym front.0 ∙ sym c.whole_trail-whole.ensures.book) in
+    let begun = on_board g.J.Naming.eye g.J.Naming.clients g.J.Naming.eye.seats c.self.invariant.2 c.args.reports.now c.requires.clients in
     leaves_unsettled g.D.Disk.seen g.D.Disk.may_leave g.met.D.Disk.seen_may_stay c.judged_is_shown.ensures k g.J.Naming.image own.image facts.begins facts.keeps _ _ c.settle-settled.new.reports
     c.finish-disk.ensures.disk c.finish-disk.ensures.committed (ap (λ (v : Viewing). v.opened) (sym c.self.view_is) ∙ opened) c.trail-published.ensures.1 c.finish-disk.ensures.in_flight facts.shown facts.prepared
     (c.in-Err.ensures.since ∙ ap length same) (c.trail-published.ensures.0 ∙ (sym front.0 ∙ sym c.whole_trail-whole.ensures.book))
     (subst (λ (l : List (List Letter)). IsPrefix l c.whole_trail-whole.result.log) front.1 c.whole_trail-whole.ensures.this)
-    (of_board c.settle-settled.new.reports c.args.reports.now _ _ c.settle-settled.ensures.book c.requires.book book) c.whole_trail-whole.ensures.each
+    (of_board c.settle-settled.new.reports c.args.reports.now _ _ c.settle-settled.ensures.book (λ i d lt. (begun i d lt).0) book) c.whole_trail-whole.ensures.each
 
 pub returns-clause-told : goal.returns-clause-told
 returns-clause-told g c =

@@ -1,7 +1,7 @@
 use Rattle.std.proofs.Common.{◌≡◌, ◌∙◌, length, refl, ap}
 use Rattle.hpb_sessions.proofs.Posts.{moved}
 use Rattle.hpb_sessions.proofs.Seen.{rules_shown}
-use Rattle.hpb_sessions.proofs.Steps.{looked, looked_away}
+use Rattle.hpb_sessions.proofs.Steps.{looked, looked_away, ring_kept}
 use Rattle.hpb_sessions.proofs.desk.HouseDeskDesk.look.Goals as goal
 
 pub returns-then-refresh : goal.returns-then-refresh
@@ -14,7 +14,7 @@ returns-then-refresh g c =
         refl,
         λ x. tt,
         (
-          λ state stands. looked old.client.seat new.seat old.client.viewer new.viewer old.client.mark new.mark old.stop state stands c.refresh.ensures.same.0
+          λ state stands. looked old.client new old.stop state stands c.refresh.ensures.same.0 (ring_kept old.client.letters new.letters c.refresh.ensures.same.1)
               (viewer.0, viewer.1, viewer.2, c.refresh.ensures.later) c.auction.result.now c.auction.ensures c.refresh.ensures.mark,
           ap (λ value. value.rules) viewer.1,
         ),
@@ -31,7 +31,7 @@ returns-else-refresh g c =
         refl,
         λ x. tt,
         (
-          λ state stands. looked_away old.client.seat new.seat old.client.viewer new.viewer old.client.mark new.mark old.stop state stands c.refresh.ensures.same.0
+          λ state stands. looked_away old.client new old.stop state stands c.refresh.ensures.same.0 (ring_kept old.client.letters new.letters c.refresh.ensures.same.1)
               (viewer.0, viewer.1, viewer.2, c.refresh.ensures.later) c.refresh.ensures.mark,
           ap (λ value. value.rules) viewer.1,
         ),
