@@ -1,5 +1,5 @@
 -- What is told of a session that ended.
-use Rattle.std.proofs.Common.{◌≡◌, ℕ, List, [], Contains, Option, refl, sym, subst}
+use Rattle.std.proofs.Common.{◌≡◌, ◌∙◌, ℕ, List, [], Contains, Option, refl, sym, subst}
 use Rattle.std.proofs.lemmas.List.{append-nil}
 use Rattle.hpb_board.specs.Publication.{Viewing}
 use Rattle.hpb_house.specs.Boards.{SameBoard}

@@ -140,14 +140,14 @@ pub(crate) fn run_threads<
             ensures left { IfErr result (LeavesOne house.entry.now.opened (map (λ client. client.seat) clients.items)) }
         {
             let reports = Vec::with_capacity(alloc, clients.len())?;
-            let threads = Vec::with_capacity(alloc, clients.len())?;
+            let room = Vec::with_capacity(alloc, clients.len())?;
             let rounds = Rounds::new(watch);
             let Ok(workers) = Workers::start(scope, rt, house, incoming, OpenGate, rounds) else {
                 watch.refused_thread();
                 finish_clients(rt, clients);
                 return Err(SessionsFault::Memory);
             };
-            let threads = start_sessions(scope, rt, alloc, clients, listener, watch, threads)?;
+            let threads = start_sessions(scope, rt, alloc, clients, listener, watch, room)?;
             let joined = join_sessions(rt, house, threads, reports);
             let _ = workers.join(rt);
             watch.look_last();

@@ -8,9 +8,9 @@ only_client-requires g c =
     ap (λ clients. length clients.items) c.named-house.ensures.clients ∙ one_begun c.args.started.eye c.args.started.clients.items c.args.started.eye.seats c.requires.begun ∙ c.requires.seats
 
 -- it begins with nothing outstanding
-pub run_threads-requires : goal.run_threads-requires
-run_threads-requires g c = λ lives outlive.
-    record { idle = idle_only c.args.started.eye c.args.started.clients.items c.args.started.eye.seats c.requires.begun c.in-Some.client (ap (λ clients. clients.items) (sym c.named-house.ensures.clients) ∙ c.in-Some.ensures) }
+pub run_threads-requires-clause-idle : goal.run_threads-requires-clause-idle
+run_threads-requires-clause-idle g c = λ lives outlive.
+    idle_only c.args.started.eye c.args.started.clients.items c.args.started.eye.seats c.requires.begun c.in-Some.client (ap (λ clients. clients.items) (sym c.named-house.ensures.clients) ∙ c.in-Some.ensures)
 
 -- its report is the only one
 pub close_house-requires : goal.close_house-requires
