@@ -10,6 +10,8 @@ LICENCES = 64
 FAILED = "ERR 93 failed"
 NO_MORE = 2
 LOOK = 0.05
+# After a 93 the last session that goes on stays so long: people are told of a failed disk while there is one.
+STAYS = 0.05
 
 
 def bids_of(place):
@@ -27,13 +29,16 @@ class Bidder:
         # The number of each bid that was accepted, in their order, and what was answered by 93.
         self.numbers, self.failed = {}, []
         self.counts, self.wrong = [], []
-        self.line, self.since, self.has_ended = None, time.monotonic(), False
+        self.line, self.since, self.is_ending, self.has_ended = None, time.monotonic(), False, False
 
     def fileno(self):
         return self.session.socket.fileno()
 
-    def send_next(self):
+    def send_next(self, is_last=False):
         line = self.next_line()
+        self.is_ending = line is None
+        if self.is_ending and self.failed and is_last:
+            time.sleep(STAYS)
         self.line, self.since = line, time.monotonic()
         try:
             if line is None:
@@ -49,7 +54,7 @@ class Bidder:
             return "SHOW"
         return self.left.pop(0) if self.left and len(self.failed) < NO_MORE else None
 
-    def read(self):
+    def read(self, is_last=False):
         """Takes the answer that has come, and sends what is next."""
         try:
             answer = self.session.line()
@@ -58,7 +63,7 @@ class Bidder:
             self.wrong.append(repr(error))
         if answer:
             self.take(answer)
-            self.send_next()
+            self.send_next(is_last)
         else:
             if self.line is not None:
                 self.wrong.append(f"the connection ended before {self.line!r} was answered")
@@ -85,7 +90,7 @@ def attend(bidders, seconds, after=0, action=None):
     while going:
         ready, _, _ = select.select(going, [], [], LOOK)
         for bidder in ready:
-            bidder.read()
+            bidder.read(all(other.is_ending for other in going if other is not bidder))
         if answers < after <= answers + len(ready):
             action()
         answers += len(ready)
