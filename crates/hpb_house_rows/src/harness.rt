@@ -147,9 +147,9 @@ fn run_threads<
             requires cross { IsSend D.row × IsSend W.row × IsSend J.row × IsSync J.row × IsSync G.row × IsSync S.row × IsSync R.row }
             ensures { IfOk result (λ reports. AreReportsOf clients.items reports.items) }
         {
-            let threads = Vec::with_capacity(alloc, clients.len())?;
+            let room = Vec::with_capacity(alloc, clients.len())?;
             let workers = Workers::start(scope, rt, house, incoming, gate, gate)?;
-            let threads = start_clients(scope, rt, session, clients, threads)?;
+            let threads = start_clients(scope, rt, session, clients, room)?;
             let reports = thread::join_promised(rt, threads)?;
             let _ = workers.join(rt);
             Ok(reports)
