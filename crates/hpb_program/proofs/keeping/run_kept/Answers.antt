@@ -9,4 +9,4 @@ returns-in-Ok-clause-run g c =
     c.in-Ok.ensures.read c.in-Ok.ensures.keeps c.in-Ok.ensures.works c.in-Ok.ensures.counted c.run_engine.ensures.ran
 
 pub returns-in-Ok-clause-told : goal.returns-in-Ok-clause-told
-returns-in-Ok-clause-told g c = (_, c.in-Ok.ensures.told, c.run_engine.ensures.explained)
+returns-in-Ok-clause-told g c = (g.E.Write.contents c.start_engine.new.errors, c.in-Ok.ensures.told, c.run_engine.ensures.explained)
