@@ -109,7 +109,7 @@ RunsJob is_terminal (Check file) before after cut errors_old errors_new status =
     (shown errors_told : Option (List ℕ)) × (end : Result ⊤ JobFault) × Checks before.contents shown errors_old errors_told end
     × Keeps before.remaining after.remaining × TellsEnd cut shown after.contents errors_told errors_new end status
 RunsJob is_terminal (Run file batch every) before after cut errors_old errors_new status =
-    (done : Streams) × (errors_told : Option (List ℕ)) × (end : Result RunEnd JobFault) × RunsFile is_terminal before done errors_old errors_told end
+    (done : Streams) × (errors_told : Option (List ℕ)) × (end : Result RunEnd JobFault) × RunsFile before done errors_old errors_told end
     × Keeps done.remaining after.remaining × TellsRun cut done.contents after.contents errors_told errors_new end status
 RunsJob is_terminal (Serve file port sessions) before after cut errors_old errors_new status =
     (served errors_told : Option (List ℕ)) × (end : Result FileEnd JobFault) × ServesFile sessions port before.contents served end × TellsServing errors_old errors_told end

@@ -13,6 +13,5 @@ mod Chunks
 mod Going
 mod Scripts
 mod ScriptTexts
-mod Explained
 mod Refusals
 mod ScriptRuns

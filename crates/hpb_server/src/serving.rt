@@ -86,11 +86,7 @@ pub(crate) fn answer_lines<R: Read, W: Write, D: Desk>(
 }
 
 /// Answers a last line without its end, where it has a byte.
-pub(crate) fn end_lines<W: Write>(
-    writer: &mut W,
-    line: &Line,
-    output: &mut Output,
-) -> Result<(), Fault>
+fn end_lines<W: Write>(writer: &mut W, line: &Line, output: &mut Output) -> Result<(), Fault>
     requires { output.old ≡ [] }
     ensures { Ends (W.contents writer.old) (W.contents writer.new) line.now result }
 {
@@ -134,7 +130,7 @@ fn answer_unread<W: Write, D: Desk>(
 /// What the next line asks for, where its end was read. What is kept of its start stands in `line`. A desk is the
 /// `Caller` of `parse_front`.
 #[inline(always)]
-pub(crate) fn next_request<Caller>(
+fn next_request<Caller>(
     input: &Input,
     line: &mut Line,
     definition: &Definition,
@@ -271,7 +267,7 @@ fn ask_alone_now<W: Write, D: Desk>(
 
 /// Asks for all that waits, and answers what is no command, unless the session is over.
 #[inline(always)]
-pub(crate) fn pass_question<W: Write, D: Desk>(
+fn pass_question<W: Write, D: Desk>(
     alloc: Global,
     writer: &mut W,
     desk: &mut D,
@@ -372,11 +368,7 @@ fn ask_waiting_now<W: Write, D: Desk>(
 /// Writes all that is answered, where the desk waits.
 #[inline(always)]
 #[tactic(auto, using(crate::proofs::Passing::all_sent))]
-pub(crate) fn send_first<W: Write, D: Desk>(
-    writer: &mut W,
-    desk: &D,
-    output: &mut Output,
-) -> Result<(), Fault>
+fn send_first<W: Write, D: Desk>(writer: &mut W, desk: &D, output: &mut Output) -> Result<(), Fault>
     ensures passed { Passes 0 false (W.contents writer.old) (W.contents writer.new) output.old output.new result }
     ensures sent { D.waits ≡ true → output.new ≡ [] }
 {
