@@ -6,7 +6,7 @@ use hpb_engine::Engine;
 use hpb_engine_rows::calls::count;
 use hpb_engine_rows::devices::{count_on, engine_over, faulty_engine, new_device_with, new_engine};
 use hpb_engine_rows::over_layouts;
-use hpb_run::{Ran, run_device};
+use hpb_run::{Ran, run_device, run_device_at_terminal};
 use std::alloc::Global;
 use std::process::Abort;
 use std::test::Fail;
@@ -90,6 +90,46 @@ fn count_calls(rt: &impl Abort, alloc: Global, shape: JournalShape) -> Result<()
 #[test]
 fn a_session_makes_so_many_calls(rt: HostRuntime) -> Result<(), Fail> {
     over_layouts!(shape => count_calls(&rt, rt.alloc(), shape)?);
+    Ok(())
+}
+
+/// Runs the lines over a new device at a terminal, and gives how many calls that took.
+fn calls_at_a_terminal(
+    rt: &impl Abort,
+    alloc: Global,
+    shape: JournalShape,
+    every: u32,
+) -> Result<usize, Fail> {
+    let engine = new_engine(alloc, shape)?;
+    let before = engine.disk.calls();
+    let mut reader = LINES;
+    let mut written = Vec::new(alloc);
+    let mut errors = Vec::new(alloc);
+    let ran = run_device_at_terminal(alloc, &mut reader, &mut written, &mut errors, engine, every);
+    assert_eq!(rt; written.as_slice(), ANSWERS, "{every}");
+    assert_eq!(rt; ran.end, Ok(()), "{every}");
+    Ok(ran.engine.disk.calls().saturating_sub(before))
+}
+
+/// Seven batches of a command each, of four calls, and with a checkpoint after each: ten calls of the first one, whose slot is
+/// closed already, and eleven of each of the six others.
+fn count_calls_at_a_terminal(
+    rt: &impl Abort,
+    alloc: Global,
+    shape: JournalShape,
+) -> Result<(), Fail> {
+    let seven = match shape.layout {
+        JournalLayout::Pages => 41,
+        JournalLayout::Cells => 28,
+    };
+    assert_eq!(rt; calls_at_a_terminal(rt, alloc, shape, 0)?, seven);
+    assert_eq!(rt; calls_at_a_terminal(rt, alloc, shape, 1)?, 104);
+    Ok(())
+}
+
+#[test]
+fn a_terminal_has_its_checkpoints(rt: HostRuntime) -> Result<(), Fail> {
+    over_layouts!(shape => count_calls_at_a_terminal(&rt, rt.alloc(), shape)?);
     Ok(())
 }
 

@@ -3,20 +3,20 @@ ghost use Rattle.std.specs.Prelude.{◌≡◌, ◌+◌, ◌<◌, ◌^◌, ◌↔
 ghost use Rattle.hpb_board.specs.Publication.{tally};
 ghost use Rattle.hpb_board.specs.Rows.{noted, note_at, told, HaveRoom};
 
-use hpb_rules::{Answer, Letter};
+use hpb_rules::{Answer, Letter, MOST_WAITING};
 
-/// The answers of one seat: how many there were, and the last 16 of them.
+/// The answers of one seat: how many there were, and the last 16 of them, as many as may be waited for.
 #[derive(Clone, Copy)]
 pub struct Row {
     pub(crate) count: u64,
     // The answer of a number, from 1, has the place of its number less 1, modulo 16.
-    pub(crate) last: [Option<Answer>; 16],
+    pub(crate) last: [Option<Answer>; MOST_WAITING],
 }
 
 /// A row without an answer.
 pub(crate) const BLANK: Row = Row {
     count: 0,
-    last: [None; 16],
+    last: [None; MOST_WAITING],
 };
 
 impl Row {
@@ -24,7 +24,7 @@ impl Row {
     fn note(&mut self, answer: Answer)
         ensures { self.new ≡ noted self.old answer }
     {
-        self.last[(self.count % 16) as usize] = Some(answer);
+        self.last[(self.count % MOST_WAITING as u64) as usize] = Some(answer);
         self.count = self.count.saturating_add(1);
     }
 
@@ -32,10 +32,10 @@ impl Row {
     pub(crate) fn recent(&self, number: u64) -> Option<Answer>
         ensures { result ≡ told self.now number }
     {
-        if number == 0 || number > self.count || self.count - number >= 16 {
+        if number == 0 || number > self.count || self.count - number >= MOST_WAITING as u64 {
             return None;
         }
-        self.last[((number - 1) % 16) as usize]
+        self.last[((number - 1) % MOST_WAITING as u64) as usize]
     }
 }
 

@@ -99,6 +99,27 @@ fn events_are_driven(rt: HostRuntime) -> Result<(), Fail> {
     Ok(())
 }
 
+/// Without an event nothing is taken, and the device is found as it was.
+fn drive_nothing(rt: &impl Abort, alloc: Global, shape: JournalShape) -> Result<(), Fail> {
+    let survived = survived(alloc, shape, &[])?;
+    assert!(rt; survived.driven.answers.is_empty());
+    assert!(rt; survived.driven.fault.is_none());
+    let wanted = Found {
+        count: 0,
+        clean: u64::from(shape.frames),
+        covered: 0,
+        slot: Slot::First,
+    };
+    assert_eq!(rt; found_of(&survived), Some(wanted));
+    Ok(())
+}
+
+#[test]
+fn no_event_is_a_run_too(rt: HostRuntime) -> Result<(), Fail> {
+    over_layouts!(shape => drive_nothing(&rt, rt.alloc(), shape)?);
+    Ok(())
+}
+
 /// An engine over a device that fails from this call of the run on.
 fn failing(
     alloc: Global,

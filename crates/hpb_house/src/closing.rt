@@ -32,6 +32,13 @@ pub struct Closing<D: Disk + Drop> {
     pub auction: Auction,
     /// Whether a call of the device has failed (91).
     pub has_failed: bool,
+    /// The answers of the batch in flight, if one was, as it may be after such a call: none of them has left. The device may
+    /// keep its new commands.
+    pub in_flight: Option<Answers>,
+    /// The list of batches that was published: what it leads to is committed.
+    pub published: Trail,
+    /// The same list, on to the batch in flight, and to all that a report has entered.
+    pub whole: Trail,
 }
 
 /// 96 `counts`: what the clients took isn't what was committed, or a batch is still in flight.
@@ -86,11 +93,12 @@ impl<D: Disk + Drop, W: Wait + Drop, J: Naming> House<D, W, J> {
         ensures taken { OnOk result (All (λ r. accepted_by r ≡ new_commands (answers_of r.seat r.viewer)) reports.new) }
         ensures once { OnOk result (All (λ r. IsPermutation (flat_map accepted_by reports.new) (history_of r.viewer)) reports.new) }
         ensures numbers { IfOk result (λ closing. total reports.new ≡ closing.auction.count - self.opened.count) }
-        // The device keeps each history that it stood for when it was opened, and then the reports' one history, and nothing is in flight.
-        ensures kept { IfOk result (λ closing. LeavesShown D.seen D.may_leave J.image closing reports.new) }
+        // The device keeps each history that it stood for when it was opened, and then the reports' one history; where a call
+        // of it failed it may keep the batch in flight, too, and nothing else.
+        ensures kept { IfOk result (λ closing. LeavesShown D.seen D.may_leave J.image self.opened closing reports.new) }
         // At 96 too it keeps these, and then the commands committed since, which are those of the house's list.
         ensures left { IfErr result (λ fault. LeavesUnsettled D.seen D.may_leave J.image self.opened fault reports.new) }
-        ensures list { IfErr result (λ fault. fault.whole.book ≡ self.book) }
+        ensures list { MatchResult result (λ closing. closing.whole.book ≡ self.book) (λ fault. fault.whole.book ≡ self.book) }
         // What is told of failed calls is so of the device.
         ensures told { MatchResult result (λ closing. IsTold closing.has_failed J.failures (D.failures closing.disk)) (λ fault. IsTold fault.has_failed J.failures (D.failures fault.disk)) }
         // The numbers that are told.
@@ -117,6 +125,9 @@ impl<D: Disk + Drop, W: Wait + Drop, J: Naming> House<D, W, J> {
                 disk,
                 auction,
                 has_failed,
+                in_flight,
+                published,
+                whole,
             }),
             Err(counts) => Err(CloseFault {
                 disk,

@@ -9,8 +9,9 @@ use hpb_rings::Intake;
 use std::marker::PhantomData;
 use std::snapshot::Snapshot;
 
-/// Tells that every seat of the house of this name has sent its end mark: no letter comes any more. The house's committer
-/// makes it in its last lines, and nothing else can.
+/// Tells that an end mark came out of each of as many rings as the house of this name has seats: no letter comes
+/// through these any more. Outside this crate nothing can make it. In it the committer alone does, in its last lines,
+/// of the rings that it was given.
 #[derive(Drop)]
 pub struct Over<J: Naming> {
     intake: Snapshot<Intake<Halt>>,
@@ -20,7 +21,7 @@ pub struct Over<J: Naming> {
 }
 
 impl<J: Naming> Over<J> {
-    /// Tells it by the rings of the house.
+    /// Tells it by the committer's side of the rings.
     pub(crate) fn of(intake: &Intake<Halt>) -> Over<J>
         requires seats { vec_len intake.now.rings ≡ J.eye.seats }
         requires ended { All (λ r. ends (received r.letters) ≡ true) intake.now.rings.items }

@@ -16,6 +16,10 @@ use std::sync::{Arc, Mutex, Wait};
 use std::thread::Parker;
 
 /// A house that has no name yet, with what its threads need. Nothing has come through its rings that isn't on its list.
+///
+/// Its parts are public, so that a keeper can be driven without threads. The front is of the board of `eye` (`book`),
+/// and it gets a name only where keeper and clients are so too (`own` and `begun` of `named`). That the intake has the
+/// rings of these clients is not asked there: `House::start` tells it (`joined`).
 #[derive(Drop)]
 pub struct Started<D: Disk + Drop, W: Wait + Drop> {
     /// What is to lie under the lock.

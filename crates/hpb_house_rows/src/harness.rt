@@ -78,7 +78,7 @@ fn settle<R: Wait>(rt: &R, client: &mut Client<Halt>)
 }
 
 /// Takes the answers that are left, and finishes the client.
-fn finish<R: Wait>(rt: &R, client: Client<Halt>) -> Report
+pub(crate) fn finish<R: Wait>(rt: &R, client: Client<Halt>) -> Report
     ensures { IsReportOf client result }
 {
     let mut client = client;

@@ -8,6 +8,8 @@ mod harness;
 #[cfg(test)]
 mod hold;
 #[cfg(test)]
+mod late;
+#[cfg(test)]
 mod rows_of_answers;
 #[cfg(test)]
 mod rows_of_checkpoints;

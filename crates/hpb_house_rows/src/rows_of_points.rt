@@ -2,6 +2,7 @@
 
 use crate::devices::{faulty_opened, six_nodes_opened};
 use crate::harness::{Session, run_in_memory, run_with_fault};
+use crate::late::run_late;
 use crate::script::accepted_command;
 use crate::turns::{TURNS, pause, post};
 use hpb_engine_rows::over_layouts;
@@ -125,6 +126,42 @@ fn every_point_is_told(rt: HostRuntime) -> Result<(), Fail> {
         assert_eq!(rt; session.tally.told(), wanted);
         assert!(rt; session.tally.gathered.load(Ordering::SeqCst) > 1);
         assert!(rt; run.outcome.is_closed);
+    });
+    Ok(())
+}
+
+/// Bids.
+#[derive(Drop)]
+struct Bidding;
+
+impl Session for Bidding {
+    fn run<R: Wait>(&self, _rt: &R, client: Client<Halt>) -> Client<Halt> {
+        let mut client = client;
+        let _ = post(&mut client, accepted_command(0));
+        client
+    }
+}
+
+#[test]
+fn fault_of_a_commit_is_told_once_all_has_ended(rt: HostRuntime) -> Result<(), Fail> {
+    let alloc = rt.alloc();
+    over_layouts!(shape => {
+        // Each of the four calls of the only commit, and none of them.
+        for call in 1..6 {
+            let fails = call < 5;
+            let tally = Tally::new();
+            let opened = faulty_opened(alloc, shape, call)?;
+            let is_halted = run_late(&rt, alloc, opened, &tally, &Bidding)?;
+            let wanted = Told {
+                turned: 0,
+                committed: 0,
+                pages: 0,
+                retired: 0,
+                failed: u32::from(fails),
+            };
+            assert_eq!(rt; tally.told(), wanted, "{call}");
+            assert_eq!(rt; is_halted, fails, "{call}");
+        }
     });
     Ok(())
 }

@@ -14,10 +14,11 @@ use Rattle.hpb_run.specs.Device.{at_start, never_over, rules_at, IsAt, RepliesAt
 use Rattle.hpb_server.specs.declared.fault.Fault.{Fault}
 use Rattle.hpb_server.specs.Serving.{Serves}
 use Rattle.hpb_server.specs.Streams.{AreKept, Streams}
+use Rattle.hpb_server.specs.Telling.{ExplainsAt}
 use Rattle.hpb_program.specs.declared.job_fault.JobFault.{JobFault}
 use Rattle.hpb_program.specs.declared.job_fault.JobFault.TheVariants as faults
 use Rattle.hpb_program.specs.declared.run_end.RunEnd.{RunEnd}
-use Rattle.hpb_program.specs.Doubts.{TellsIll, TellsImage}
+use Rattle.hpb_program.specs.Doubts.{TellsIll, TellsImage, TellsStopped}
 use Rattle.hpb_program.specs.Jobs.{IsKept}
 
 -- Lines were answered from an auction on, and what the device and the progress then keep is where that led. No call of the device had failed when it began.
@@ -46,9 +47,14 @@ IsOfOpening (faults.File fault) = Unit {0}
 IsOfOpening (faults.Open cause) = Unit {0}
 IsOfOpening fault = ⊥
 
+-- Of a run people are told first what a device has that no honest device has, and at a terminal then of refused commands; of one that did not begin as of any job.
+abbrev pub TellsRunning : {T : Type 0} → (is_terminal : Bool) → List ℕ → (errors_old errors_new : Option (List ℕ)) → Result T JobFault → Type 0
+TellsRunning is_terminal image errors_old errors_new (Ok done) = (errors_told : Option (List ℕ)) × TellsImage image errors_old errors_told × ExplainsAt is_terminal errors_told errors_new
+TellsRunning is_terminal image errors_old errors_new (Err fault) = TellsStopped image errors_old errors_new fault
+
 -- An auction was run by what a file held, of which nothing else is known but that people were told of it before; or the file was not opened, and nothing was read or written.
-abbrev pub RunsFile : (before after : Streams) (errors_old errors_new : Option (List ℕ)) → Result RunEnd JobFault → Type 0
-RunsFile before after errors_old errors_new (Ok end) =
+abbrev pub RunsFile : (is_terminal : Bool) (before after : Streams) (errors_old errors_new : Option (List ℕ)) → Result RunEnd JobFault → Type 0
+RunsFile is_terminal before after errors_old errors_new (Ok end) =
     (opened : FileDisk) × (disk : FileDisk) × (progress : Progress) × IsRun file_seen file_left file_failures opened before after disk progress end.failed end.end
-    × TellsImage (file_seen opened) errors_old errors_new
-RunsFile before after errors_old errors_new (Err fault) = IsOfOpening fault × AreKept before after × TellsIll errors_old errors_new fault
+    × TellsRunning is_terminal (file_seen opened) errors_old errors_new (Ok end)
+RunsFile is_terminal before after errors_old errors_new (Err fault) = IsOfOpening fault × AreKept before after × TellsIll errors_old errors_new fault

@@ -17,7 +17,7 @@ use Rattle.hpb_program.specs.Doubts.{TellsServing}
 use Rattle.hpb_program.specs.Keeping.{RunsFile}
 use Rattle.hpb_program.specs.Serving.{ServesFile}
 use Rattle.hpb_program.specs.Telling.{IsTaken, TellsLine, TellsUnled}
-use Rattle.hpb_program.specs.Words.{AsksFor}
+use Rattle.hpb_program.specs.Words.{AsksFor, HasFile}
 use Rattle.hpb_program.specs.Jobs.{refusal_of, Checks, Formats}
 use Rattle.hpb_server.specs.Fault as sessions
 use Rattle.hpb_server.specs.Script.{RunsScript}
@@ -109,21 +109,21 @@ RunsJob is_terminal (Check file) before after cut errors_old errors_new status =
     (shown errors_told : Option (List ℕ)) × (end : Result ⊤ JobFault) × Checks before.contents shown errors_old errors_told end
     × Keeps before.remaining after.remaining × TellsEnd cut shown after.contents errors_told errors_new end status
 RunsJob is_terminal (Run file batch every) before after cut errors_old errors_new status =
-    (done : Streams) × (errors_told : Option (List ℕ)) × (end : Result RunEnd JobFault) × RunsFile before done errors_old errors_told end
+    (done : Streams) × (errors_told : Option (List ℕ)) × (end : Result RunEnd JobFault) × RunsFile is_terminal before done errors_old errors_told end
     × Keeps done.remaining after.remaining × TellsRun cut done.contents after.contents errors_told errors_new end status
 RunsJob is_terminal (Serve file port sessions) before after cut errors_old errors_new status =
     (served errors_told : Option (List ℕ)) × (end : Result FileEnd JobFault) × ServesFile sessions port before.contents served end × TellsServing errors_old errors_told end
     × Keeps before.remaining after.remaining × TellsServed cut served after.contents errors_told errors_new end status
 
--- A standard stream leads to the file of a job: nothing is read, and 91 is told on the errors, and on the output by its whole line or not at all: whether that leads there no clause can tell.
-abbrev pub RefusesStreams : (before after : Streams) (cut : Bool) (errors_old errors_new : Option (List ℕ)) → ℕ → Type 0
-RefusesStreams before after cut errors_old errors_new status =
-    Keeps before.remaining after.remaining × (leads : Bool) × TellsUnled leads cut before.contents after.contents refusals.Device × TellsOf errors_old errors_new refusals.Device × (status ≡ ILL)
+-- A standard stream leads to the file of a job, which has one: nothing is read, and 91 is told on the errors, and on the output by its whole line or not at all: whether that leads there no clause can tell.
+abbrev pub RefusesStreams : Job → (before after : Streams) (cut : Bool) (errors_old errors_new : Option (List ℕ)) → ℕ → Type 0
+RefusesStreams job before after cut errors_old errors_new status =
+    HasFile job × Keeps before.remaining after.remaining × (leads : Bool) × TellsUnled leads cut before.contents after.contents refusals.Device × TellsOf errors_old errors_new refusals.Device × (status ≡ ILL)
 
 -- What is done by what words ask for: a terminal is told what to type, and their job is done, unless a standard stream leads to its file; or nothing is read, and the errors are told why.
 abbrev pub RunsAsked : (is_terminal : Bool) → Result Job WordsFault → (before after : Streams) (cut : Bool) (errors_old errors_new : Option (List ℕ)) → ℕ → Type 0
 RunsAsked is_terminal (Ok job) before after cut errors_old errors_new status =
-    RefusesStreams before after cut errors_old errors_new status
+    RefusesStreams job before after cut errors_old errors_new status
     ⊎ ((errors_hinted : Option (List ℕ)) × Says errors_old errors_hinted (hint_text is_terminal job) × RunsJob is_terminal job before after cut errors_hinted errors_new status)
 RunsAsked is_terminal (Err fault) before after cut errors_old errors_new status = Keeps before.remaining after.remaining × AnswersFault cut before.contents after.contents fault × SaysFault errors_old errors_new fault × HasStatus fault × (status ≡ status_of_fault fault)
 

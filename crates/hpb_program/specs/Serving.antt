@@ -1,11 +1,13 @@
 -- What serving the auction that a file keeps writes.
-use Rattle.std.specs.Prelude.{◌≡◌, ◌⊎◌, ℕ, List, [], ◌++◌, Option, Result, Ok, Err, codes, decimal, string_bytes}
+use Rattle.std.specs.Prelude.{◌≡◌, ◌⊎◌, ℕ, Bool, List, [], ◌++◌, Option, Result, Ok, Err, codes, decimal, string_bytes}
 use Rattle.hpb_disk.specs.declared.file.FileDisk.{FileDisk}
 use Rattle.hpb_disk.specs.FileDisks.{file_failures, file_left, file_seen}
 use Rattle.std.specs.Io.KnownBytes.{Appends, Keeps}
 use Rattle.hpb_image.specs.Flaws.{HasFlaw}
 use Rattle.hpb_image.specs.Readings.{last_value, Found, Reads}
 use Rattle.hpb_recover.specs.declared.cause.Cause.TheVariants as opening
+use Rattle.hpb_rules.specs.AuctionValue.{AuctionValue}
+use Rattle.hpb_house.specs.declared.closing.Closing.{Closing}
 use Rattle.hpb_serve.specs.declared.serving.Served.{Served}
 use Rattle.hpb_serve.specs.Ended.{EndsAll}
 use Rattle.hpb_serve.specs.Announcing.{listening_line}
@@ -70,9 +72,13 @@ IsOfDescriptors faults.Memory = Unit {0}
 IsOfDescriptors (faults.Descriptors sessions wanted error) = Unit {0}
 IsOfDescriptors fault = ⊥
 
+-- What a house left, with the auction and the fault that are told.
+abbrev pub with_told : Closing FileDisk → AuctionValue → Bool → Closing FileDisk
+with_told left auction failed = record { disk = left.disk; auction = auction; has_failed = failed; in_flight = left.in_flight; published = left.published; whole = left.whole }
+
 -- What was served of a file, with its disk as the house left it.
 abbrev pub end_of : FileEnd → ServeEnd FileDisk
-end_of end = record { served = record { closing = record { disk = end.left.value; auction = end.auction; has_failed = end.has_failed }; reports = end.reports }; said = end.said }
+end_of end = record { served = record { closing = with_told end.left.value end.auction end.has_failed; reports = end.reports }; said = end.said }
 
 -- The same of a file: what its disk held when it was opened was served, and the disk that was closed keeps what the sessions were told; or the file was not opened, or too few files and connections may be had at a time, and nothing was written.
 abbrev pub ServesFile : (sessions port : ℕ) (old new : Option (List ℕ)) → Result FileEnd JobFault → Type 0

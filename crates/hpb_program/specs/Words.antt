@@ -150,6 +150,11 @@ HasRanges (Run file batch every) = (1 ≤ batch) × (batch ≤ MOST_LETTERS)
 HasRanges (Serve file port sessions) = (LEAST_PORT ≤ port) × (port ≤ MOST_PORT) × (1 ≤ sessions) × (sessions ≤ MOST_SESSIONS)
 HasRanges job = Unit {0}
 
+-- A job is one on a file: each but a script.
+abbrev pub HasFile : Job → Type 0
+HasFile Script = ⊥
+HasFile job = Unit {0}
+
 -- The name is that of a command.
 abbrev pub IsKnownName : List ℕ → Type 0
 IsKnownName name = (name ≡ codes "format") ⊎ (name ≡ codes "check") ⊎ (name ≡ codes "run") ⊎ (name ≡ codes "serve")

@@ -205,7 +205,11 @@ fn advise_of_system<W: fmt::Write>(
 ) -> fmt::Result {
     let file = Escaped(known.file());
     let is_made = matches!(known.job, Job::Format { .. });
-    let tried = if is_made { "opened or made" } else { "opened" };
+    let tried = if is_made {
+        "opened, made or written"
+    } else {
+        "opened"
+    };
     let remedy = match error.kind() {
         ErrorKind::NotFound if is_made => "see that its folder is there",
         ErrorKind::NotFound => "see that its path is right. Only `hpb format` makes a file",

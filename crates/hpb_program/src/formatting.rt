@@ -12,8 +12,8 @@ use crate::job_fault::JobFault;
 use crate::noted::Noted;
 use hpb_codec::JournalShape;
 use hpb_define::read_definition;
-use hpb_disk::FileDisk;
-use hpb_format::format_layout;
+use hpb_disk::{FileDisk, FileFault};
+use hpb_format::{FormatCause, format_layout};
 use hpb_image::PAGE_BYTES;
 use hpb_journal::{AnyFrames, Frames};
 use hpb_rules::MOST_DEFINITION_BYTES;
@@ -21,6 +21,7 @@ use hpb_server::read_some;
 use hpb_tree::Definition;
 use std::alloc::{AllocError, Global};
 use std::fs::{File, Files};
+use std::io;
 use std::io::{Read, Write};
 
 /// One byte more than a definition may have, which shows that it is too long.
@@ -122,7 +123,7 @@ fn line_of_pages(alloc: Global, pages: usize) -> Result<String, AllocError>
 }
 
 /// Formats the file of a path. One that isn't there is made.
-#[tactic(auto, using(crate::proofs::Ends::of_file, crate::proofs::Ends::of_formatting))]
+#[tactic(auto, using(crate::proofs::Ends::of_file))]
 fn format_file<H: Files<File = File>>(
     rt: &H,
     alloc: Global,
@@ -142,6 +143,19 @@ fn format_file<H: Files<File = File>>(
     let layout = journal.layout.byte();
     match format_layout(alloc, disk, definition, journal.frames, layout) {
         Ok(disk) => Ok(disk),
-        Err(fault) => Err(JobFault::from(fault.cause)),
+        Err(fault) => Err(fault_of_format(fault.cause, fault.disk.code())),
+    }
+}
+
+/// Why a file was not formatted: in the system's own words where a call of its disk failed with a code.
+#[tactic(auto, using(crate::proofs::Ends::of_formatting))]
+fn fault_of_format(cause: FormatCause, code: Option<i32>) -> JobFault
+    ensures { IsOfFile result }
+{
+    match (cause, code) {
+        (FormatCause::Device, Some(code)) => {
+            JobFault::File(FileFault::System(io::Error::from_raw_os_error(code)))
+        }
+        (cause, _) => JobFault::from(cause),
     }
 }

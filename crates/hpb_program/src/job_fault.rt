@@ -25,7 +25,7 @@ pub enum JobFault {
     Definition(DefineFault),
     /// 43: a journal of this layout can't have so many frames.
     Journal,
-    /// 91: the file was not opened or made.
+    /// 91: the file was not opened or made, or the system refused a call while it was formatted.
     File(FileFault),
     /// 41, 43 or 91: the file was not formatted.
     Format(FormatCause),

@@ -1,20 +1,24 @@
 //! Running the auction that a file keeps.
-ghost use Rattle.std.specs.Prelude.{◌≡◌, List, false, IfErr, IfOk, OnErr};
+ghost use Rattle.std.specs.Prelude.{◌≡◌, List, [], true, false, IfErr, IfOk, OnErr};
 ghost use Rattle.hpb_rules.specs.declared.command.Command.{Command};
+ghost use Rattle.hpb_rules.specs.declared.limits.TheConstants.{MOST_LETTERS, MOST_READ_BYTES};
 ghost use Rattle.hpb_rules.specs.Machine.{at_rest};
 ghost use Rattle.hpb_image.specs.Readings.{last_value, Found, Reads};
 ghost use Rattle.hpb_image.specs.Standing.{Stands};
 ghost use Rattle.hpb_progress.specs.Keeping.{Keeps};
 ghost use Rattle.hpb_program.specs.Doubts.{TellsKept};
-ghost use Rattle.hpb_program.specs.Keeping.{IsNotOpened, IsRun, RunsFile};
+ghost use Rattle.hpb_program.specs.Keeping.{IsNotOpened, IsRun, RunsFile, TellsRunning};
+ghost use Rattle.hpb_run.specs.Device.{IsAt, RepliesAt, ShowsAt, State, at_start, never_over, rules_at};
+ghost use Rattle.hpb_server.specs.Serving.{Serves};
 ghost use Rattle.hpb_server.specs.Streams.{streams, AreKept};
+ghost use Rattle.hpb_server.specs.Telling.{ExplainsAt};
 
 use crate::job_fault::JobFault;
 use crate::opening::open_kept;
 use crate::run_end::RunEnd;
 use hpb_disk::{Disk, FileDisk};
 use hpb_engine::Engine;
-use hpb_run::{Ran, run_device};
+use hpb_run::{Ran, run_device, run_device_at_terminal};
 use std::alloc::Global;
 use std::fs::{File, Files};
 use std::io::{Read, Write};
@@ -29,14 +33,24 @@ pub(crate) fn run_file<H: Files<File = File>, R: Read, W: Write, E: Write>(
     input: &mut R,
     output: &mut W,
     errors: &mut E,
+    is_terminal: bool,
 ) -> Result<RunEnd, JobFault>
-    ensures runs { RunsFile (streams (R.remaining input.old) (W.contents output.old)) (streams (R.remaining input.new) (W.contents output.new)) (E.contents errors.old) (E.contents errors.new) result }
+    ensures runs { RunsFile is_terminal (streams (R.remaining input.old) (W.contents output.old)) (streams (R.remaining input.new) (W.contents output.new)) (E.contents errors.old) (E.contents errors.new) result }
 {
     let disk = match FileDisk::open(rt, alloc, file) {
         Ok(disk) => disk,
         Err(fault) => return Err(JobFault::from(fault)),
     };
-    match run_kept(alloc, disk, batch as usize, every, input, output, errors) {
+    match run_kept(
+        alloc,
+        disk,
+        batch as usize,
+        every,
+        input,
+        output,
+        errors,
+        is_terminal,
+    ) {
         Ok(ran) => {
             let Ran { engine, end } = ran;
             Ok(RunEnd {
@@ -51,7 +65,8 @@ pub(crate) fn run_file<H: Files<File = File>, R: Read, W: Write, E: Write>(
 
 /// Answers the lines of the input by the auction that a device keeps, and keeps it there: as many commands as have come,
 /// `batch` at most, are made durable together and then answered, and after `every` batches there is a checkpoint. Nothing
-/// is read or written where the device isn't opened. Where it has what no honest device has, people are told so before.
+/// is read or written where the device isn't opened. Where it has what no honest device has, people are told so before. At a terminal
+/// commands are answered one at a time, and people are told which number would do in place of one that is refused.
 pub fn run_kept<D: Disk + Drop, R: Read, W: Write, E: Write>(
     alloc: Global,
     disk: D,
@@ -60,17 +75,51 @@ pub fn run_kept<D: Disk + Drop, R: Read, W: Write, E: Write>(
     input: &mut R,
     output: &mut W,
     errors: &mut E,
+    is_terminal: bool,
 ) -> Result<Ran<D>, JobFault>
     ensures run { IfOk result (λ ran. IsRun D.seen D.may_leave D.failures disk (streams (R.remaining input.old) (W.contents output.old)) (streams (R.remaining input.new) (W.contents output.new))
         ran.engine.disk ran.engine.progress ran.engine.failed ran.end) }
     ensures fault { IfErr result (IsNotOpened (D.seen disk)) }
     ensures nothing { OnErr result (AreKept (streams (R.remaining input.old) (W.contents output.old)) (streams (R.remaining input.new) (W.contents output.new))) }
-    ensures told { TellsKept (D.seen disk) (E.contents errors.old) (E.contents errors.new) result }
+    ensures told { TellsRunning is_terminal (D.seen disk) (E.contents errors.old) (E.contents errors.new) result }
 {
     match start_engine(alloc, disk, errors) {
-        Ok(engine) => Ok(run_device(alloc, input, output, engine, batch, every)),
+        Ok(engine) => Ok(run_engine(
+            alloc,
+            engine,
+            batch,
+            every,
+            input,
+            output,
+            errors,
+            is_terminal,
+        )),
         Err(fault) => Err(fault),
     }
+}
+
+/// Answers the lines of the input by the auction that an engine keeps.
+fn run_engine<D: Disk + Drop, R: Read, W: Write, E: Write>(
+    alloc: Global,
+    engine: Engine<D>,
+    batch: usize,
+    every: u32,
+    input: &mut R,
+    output: &mut W,
+    errors: &mut E,
+    is_terminal: bool,
+) -> Ran<D>
+    ensures ran { (history : List Command) → Keeps D.seen D.may_leave engine.disk engine.progress engine.failed (at_rest history)
+        → (state : State) × Serves rules_at never_over RepliesAt ShowsAt MOST_LETTERS true [] MOST_READ_BYTES
+        (streams (R.remaining input.old) (W.contents output.old)) (streams (R.remaining input.new) (W.contents output.new))
+        (at_start engine.progress.committed.rules history (D.failures engine.disk) engine.failed) state result.end
+        × IsAt D.seen D.may_leave D.failures result.engine.disk result.engine.progress result.engine.failed state }
+    ensures explained { ExplainsAt is_terminal (E.contents errors.old) (E.contents errors.new) }
+{
+    if is_terminal {
+        return run_device_at_terminal(alloc, input, output, errors, engine, every);
+    }
+    run_device(alloc, input, output, engine, batch, every)
 }
 
 /// An engine over the auction that a device keeps.

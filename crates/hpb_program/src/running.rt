@@ -40,7 +40,7 @@ const NO_TEXT: &str = "hpb: an argument is not UTF-8\n";
 /// a stream fails; 2 where the words are wrong. The first word is the program's name. Lines go to the output; that of a refusal,
 /// and the last one of a file that was formatted or served, is there whole unless the output says that it was cut. The errors
 /// are told what is said of the words, help too, and why a definition or a file is refused or a stream failed; and where
-/// the input is a terminal what to type. Only jobs on files use the runtime, and of these only serving may wait.
+/// the input is a terminal what to type, and which number would do in place of a command that is refused. Only jobs on files use the runtime, and of these only serving may wait.
 pub fn program<
     H: Files<File = File> + Net<Listener = TcpListener, Stream = TcpStream> + Threads + Wait + Sync,
     S: AsStr,
@@ -110,10 +110,11 @@ fn run_asked<
 {
     match asked {
         Ok(job) => {
-            let file = job.file();
-            let led = Led::to(rt, file);
-            if led.is_any() {
-                return refuse_led(alloc, file, led, output, errors);
+            if let Some(file) = job.file() {
+                let led = Led::to(rt, file);
+                if led.is_any() {
+                    return refuse_led(alloc, file, led, output, errors);
+                }
             }
             hint(job, is_terminal, errors);
             run_job(rt, alloc, job, input, output, errors, is_terminal)
@@ -158,7 +159,17 @@ fn run_job<
             tell_end(alloc, known, end, output, errors)
         }
         Job::Run { file, batch, every } => {
-            let end = run_file(rt, alloc, file, batch, every, input, output, errors);
+            let end = run_file(
+                rt,
+                alloc,
+                file,
+                batch,
+                every,
+                input,
+                output,
+                errors,
+                is_terminal,
+            );
             let known = known_of(rt, alloc, job, &end, Failures::of(input, output));
             tell_run(alloc, known, end, output, errors)
         }

@@ -42,8 +42,8 @@ pub struct ServeEnd<D: Disk + Drop> {
 pub struct FileEnd {
     /// The disk in the file when it was opened, which only clauses read.
     pub opened: Snapshot<FileDisk>,
-    /// The same as the house left it, before it was closed.
-    pub left: Snapshot<FileDisk>,
+    /// What the house left, with the disk before it was closed, which only clauses read.
+    pub left: Snapshot<Closing<FileDisk>>,
     /// The committed auction.
     pub auction: Auction,
     /// Whether a call of the disk has failed (91).
@@ -104,12 +104,13 @@ pub(crate) fn serve_file<
         Err(fault) => return Err(fault),
     };
     let Served { closing, reports } = served;
+    let left = Snapshot::of(&closing);
     let Closing {
         disk,
         auction,
         has_failed,
+        ..
     } = closing;
-    let left = Snapshot::of(&disk);
     let code = disk.code();
     // Whoever reads the last line may open the file.
     drop(disk);

@@ -96,15 +96,15 @@ pub(crate) struct Led {
 }
 
 impl Led {
-    /// Those that lead to the file of a path. None leads to a file that isn't there, nor to none.
-    pub(crate) fn to<H: Files>(rt: &H, file: Option<&str>) -> Led {
-        match file.map(|path| fs::metadata(rt, path)) {
-            Some(Ok(found)) => Led {
+    /// Those that lead to the file of a path. None leads to a file that isn't there.
+    pub(crate) fn to<H: Files>(rt: &H, file: &str) -> Led {
+        match fs::metadata(rt, file) {
+            Ok(found) => Led {
                 input: INPUT.leads_to(rt, &found),
                 output: OUTPUT.leads_to(rt, &found),
                 errors: ERRORS.leads_to(rt, &found),
             },
-            _ => Led {
+            Err(_) => Led {
                 input: false,
                 output: false,
                 errors: false,
@@ -141,7 +141,7 @@ fn tell_unled<W: Write>(led: Led, output: &mut Noted<W>)
 /// stand in the auction.
 pub(crate) fn refuse_led<W: Write, E: Write>(
     alloc: Global,
-    file: Option<&str>,
+    file: &str,
     led: Led,
     output: &mut Noted<W>,
     errors: &mut E,
@@ -152,7 +152,6 @@ pub(crate) fn refuse_led<W: Write, E: Write>(
 {
     tell_unled(led, output);
     if !led.errors {
-        let file = file.unwrap_or("");
         let stream = led.stream();
         advise(alloc, Refusal::Device, LedAdvice { stream, file }, errors);
     }

@@ -7,6 +7,7 @@ mod serves;
 mod using;
 
 use super::*;
+use crate::escaped::Pasted;
 use hpb_codec::{JournalLayout, JournalShape};
 use hpb_rules::Refusal;
 use std::fs::{File, Files};
@@ -494,6 +495,68 @@ fn long_names_of_files_are_cut(rt: HostRuntime) -> Result<(), Fail> {
     )?;
     let said = format!(in alloc; "{name}.. could not be opened")?;
     assert!(rt; ran.errors.contains(said.as_str()), "{}", ran.errors);
+    Ok(())
+}
+
+#[test]
+fn a_name_of_400_bytes_is_pasted_whole(rt: HostRuntime) -> Result<(), Fail> {
+    let alloc = rt.alloc();
+    let name = "n".repeat(alloc, 400)?;
+    let pasted = format!(in alloc; "{}", Pasted(name.as_str()))?;
+    assert_eq!(rt; pasted.as_str(), name.as_str());
+    let longer = format!(in alloc; "{name}n")?;
+    let pasted = format!(in alloc; "{}", Pasted(longer.as_str()))?;
+    assert_eq!(rt; pasted.as_str(), "F");
+    Ok(())
+}
+
+/// What help says of the options, and of the numbers that they take.
+const OPTIONS: [(&str, &str); 12] = [
+    ("format", "--file <F>     The path of the file\n"),
+    (
+        "format",
+        "--journal <J>  The number of frames of the journal: 4 to 1024, and of cells a multiple of 8 from 16\n",
+    ),
+    (
+        "format",
+        "--layout <L>   The layout of the journal: 1, a page for each frame, or 2, cells [default: 1]\n",
+    ),
+    (
+        "format",
+        "J is from 4 to 1,024, and the file has 13 + J pages.\n",
+    ),
+    (
+        "format",
+        "J is a multiple of 8 from 16 to 1,024, and the file has 13 + 3J/8 pages.\n",
+    ),
+    ("check", "--file <F>  The path of the file\n"),
+    ("run", "--file <F>   The path of the file\n"),
+    (
+        "run",
+        "--batch <N>  The most commands that are put on the disk together, from 1 to 64 [default: 1]\n",
+    ),
+    (
+        "run",
+        "--every <K>  The number of batches after which a checkpoint is written, or 0 [default: 0]\n",
+    ),
+    ("serve", "--file <F>      The path of the file\n"),
+    (
+        "serve",
+        "--port <P>      The port of 127.0.0.1, from 1024 to 65535\n",
+    ),
+    (
+        "serve",
+        "--sessions <N>  The number of sessions, from 1 to 32\n",
+    ),
+];
+
+#[test]
+fn help_tells_what_options_take(rt: HostRuntime) -> Result<(), Fail> {
+    for (command, said) in OPTIONS {
+        let (ran, _) = run_on(&rt, &["hpb", command, "--help"], b"")?;
+        assert_eq!(rt; ran.status, 0, "{command}");
+        assert!(rt; ran.errors.contains(said), "{command} gives {}", ran.errors);
+    }
     Ok(())
 }
 

@@ -1,8 +1,8 @@
-ghost use Rattle.std.specs.Prelude.{◌≡◌, false, Some, IfErr, IfOk, map};
+ghost use Rattle.std.specs.Prelude.{◌≡◌, false, Some, IfErr, IfOk, MatchOption, map};
 ghost use Rattle.clap.specs.Values.{kind_of};
 ghost use Rattle.clap.specs.Words.{app_of, found_of, rows_of, rule_of, shape_of, subcommand_rows_of};
 ghost use Rattle.clap.specs.declared.builder.command.Command.TheViews.{out-Command};
-ghost use Rattle.hpb_program.specs.Words.{batch_rule, check_shape, every_rule, file_rule, format_shape, hpb, journal_rule, layout_rule, port_rule, run_shape, serve_shape, sessions_rule, AsksFor, HasKnownCommand, HasRanges, IsJobOf, IsKnownName, IsTold, IsWrong};
+ghost use Rattle.hpb_program.specs.Words.{batch_rule, check_shape, every_rule, file_rule, format_shape, hpb, journal_rule, layout_rule, port_rule, run_shape, serve_shape, sessions_rule, AsksFor, HasFile, HasKnownCommand, HasRanges, IsJobOf, IsKnownName, IsTold, IsWrong};
 ghost use Rattle.hpb_program.specs.declared.words.WordsFault.TheVariants.{Memory};
 ghost use Rattle.hpb_program.specs.Program.{HasStatus};
 
@@ -12,7 +12,7 @@ use crate::values::{ValueFault, check_values};
 use clap::error::ErrorKind;
 use clap::{Arg, ArgMatches, Command, value_parser};
 use hpb_codec::{JournalLayout, JournalShape};
-use hpb_rules::MOST_LETTERS;
+use hpb_rules::{MOST_LETTERS, MOST_SEATS};
 use std::alloc::{AllocError, Global};
 use std::convert::AsStr;
 use thiserror::Error;
@@ -199,7 +199,7 @@ const LEAST_PORT: u16 = 1_024;
 const MOST_PORT: u16 = u16::MAX;
 
 /// As many sessions as there may be.
-const MOST_SESSIONS: u8 = 32;
+const MOST_SESSIONS: u8 = MOST_SEATS as u8;
 
 /// What a command line asks for.
 #[derive(Clone, Copy, Debug, PartialEq, Eq)]
@@ -234,7 +234,9 @@ pub enum Job<'a> {
 
 impl<'a> Job<'a> {
     /// The path of its file; a script has none.
-    pub(crate) fn file(self) -> Option<&'a str> {
+    pub(crate) fn file(self) -> Option<&'a str>
+        ensures { MatchOption result (HasFile self.entry → ⊥) (λ _. HasFile self.entry) }
+    {
         match self {
             Job::Script => None,
             Job::Format { file, .. }

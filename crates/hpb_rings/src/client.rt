@@ -15,7 +15,7 @@ use crate::waiting::{Waiting, raised};
 use arrayvec::ArrayVec;
 use hpb_auction::Auction;
 use hpb_board::Viewer;
-use hpb_rules::{Answer, Letter, Reply};
+use hpb_rules::{Answer, Letter, MOST_WAITING, Reply};
 use rtrb::{Consumer, Producer};
 use std::alloc::Global;
 use std::sync::{Arc, Wait};
@@ -31,7 +31,7 @@ pub struct Client<M: Copy> {
     pub marks: Consumer<M>,
     pub viewer: Viewer,
     /// The letters that have no answer yet, oldest first.
-    pub waiting: ArrayVec<Waiting, 16>,
+    pub waiting: ArrayVec<Waiting, MOST_WAITING>,
     /// How many answers were taken.
     pub taken: u64,
     /// How many of these newly accepted a command.

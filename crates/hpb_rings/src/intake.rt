@@ -5,7 +5,7 @@ ghost use Rattle.hpb_rings.specs.Slips.{commands, ends};
 ghost use Rattle.hpb_rings.specs.Gathering.{of_seat, Drained, gathered, at_seat, marks, told_of};
 
 use crate::ring::Ring;
-use hpb_rules::{Letter, Letters, MOST_LETTERS};
+use hpb_rules::{Letter, Letters, MOST_LETTERS, MOST_WAITING};
 
 /// The committer's side of the rings of all seats.
 #[derive(Drop)]
@@ -86,7 +86,7 @@ fn drain<M: Copy>(ring: &mut Ring<M>, seat: u8, letters: &mut Letters)
     ensures drained { Drained seat (commands (received ring.old.letters)) (commands (received ring.new.letters)) letters.old letters.new }
     ensures same { (ring.new.marks ≡ ring.old.marks) × (ring.new.is_told ≡ ring.old.is_told) }
 {
-    for _ in 0..16 {
+    for _ in 0..MOST_WAITING {
         if letters.len() == MOST_LETTERS {
             return;
         }

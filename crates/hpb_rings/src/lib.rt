@@ -20,3 +20,6 @@ pub use report::Report;
 pub use ring::{Ends, Ring, seat_rings};
 pub use slip::Slip;
 pub use waiting::Waiting;
+
+#[cfg(test)]
+mod tests;

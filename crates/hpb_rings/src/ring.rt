@@ -4,7 +4,7 @@ ghost use Rattle.rtrb.specs.Ring.{sent, received, known_free, known_items, IsPai
 ghost use Rattle.hpb_rings.specs.Slips.{commands, ends};
 
 use crate::slip::Slip;
-use hpb_rules::Command;
+use hpb_rules::{Command, MOST_WAITING};
 use rtrb::{Consumer, Producer, RingBuffer};
 use std::alloc::{AllocError, Global};
 use std::sync::Arc;
@@ -43,7 +43,7 @@ pub fn seat_rings<M: Copy>(alloc: Global) -> Result<(Ends<M>, Ring<M>), AllocErr
     ensures marks { IfOk result (λ r. IsPair r.1.marks r.0.marks × (sent r.1.marks ≡ []) × (received r.0.marks ≡ [])) }
     ensures start { IfOk result (λ r. (r.1.has_ended ≡ false) × (r.1.is_told ≡ false)) }
 {
-    let (posts, letters) = RingBuffer::new(alloc, 16)?;
+    let (posts, letters) = RingBuffer::new(alloc, MOST_WAITING)?;
     let (marks, tellings) = RingBuffer::new(alloc, 1)?;
     let Ok(answered) = Arc::new(alloc, Parker::new()) else {
         return Err(AllocError);

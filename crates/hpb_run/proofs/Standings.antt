@@ -18,7 +18,7 @@ use Rattle.hpb_engine.specs.declared.step.Fault.TheVariants as faults
 use Rattle.hpb_engine.specs.Runs.{HasFailed}
 use Rattle.hpb_engine.specs.Steps.{refusal_of}
 use Rattle.hpb_batches.specs.Batches.{IsStill, KeepsEnded, StaysRefused}
-use Rattle.hpb_server.specs.Desk.{AsksAll}
+use Rattle.hpb_server.specs.Desk.{AsksAll, LooksStay}
 use Rattle.hpb_run.specs.Device.{Phase, RepliesAt, ShowsAt, State, at_start, failed, failing, never_over, works}
 use Rattle.hpb_batches.specs.Takes.{CheckpointTakes}
 use Rattle.hpb_run.specs.Standing.{AreAlike, HasAsked, IsCovered, StandsAt, commits_after, letter_of, most_counted, refused, reply_of}
@@ -252,3 +252,7 @@ module _ {D : Type 0} (seen : D → List ℕ) (may_leave : D → List ℕ → Ty
       subst (λ (b : Bool). StandsAt seen may_leave failures new t b state) (sym still.2)
       (subst (λ (p : Progress). StandsAt seen may_leave failures new p off state) (sym still.1)
       (subst (λ (d : D). StandsAt seen may_leave failures d s off state) (sym still.0) stands))
+
+-- a look leaves the state as it is
+pub looks_stay : LooksStay ShowsAt
+looks_stay old new shown it = it.4

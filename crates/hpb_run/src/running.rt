@@ -7,15 +7,19 @@ ghost use Rattle.hpb_progress.specs.Keeping.{Keeps};
 ghost use Rattle.hpb_server.specs.ScriptLaws.{WritesText};
 ghost use Rattle.hpb_server.specs.Serving.{Serves};
 ghost use Rattle.hpb_server.specs.Streams.{streams};
+ghost use Rattle.hpb_server.specs.Telling.{Explains};
 ghost use Rattle.hpb_run.specs.Device.{IsAt, RepliesAt, ShowsAt, State, at_start, never_over, rules_at};
 ghost use Rattle.hpb_run.specs.Running.{RanDevice};
 
 use crate::desk::DeviceDesk;
 use hpb_disk::Disk;
 use hpb_engine::Engine;
-use hpb_server::{Fault, serve};
+use hpb_server::{Fault, serve, serve_at_terminal};
 use std::alloc::Global;
 use std::io::{Read, Write};
+
+/// How many commands are asked together at a terminal.
+const ONE_AT_A_TIME: usize = 1;
 
 /// What a session on a device came to.
 #[derive(Drop)]
@@ -90,6 +94,39 @@ fn run_session<R: Read, W: Write, D: Disk + Drop>(
         Ok(desk) => {
             let mut desk = desk;
             let end = serve(alloc, reader, writer, &mut desk);
+            Ran {
+                engine: desk.into_engine(),
+                end,
+            }
+        }
+        Err(engine) => Ran {
+            engine,
+            end: Err(Fault::Memory),
+        },
+    }
+}
+
+/// The same at a terminal: commands are asked one at a time, and behind the answer of one that is refused the errors are told which
+/// number would do, as `serve_at_terminal` says.
+pub fn run_device_at_terminal<R: Read, W: Write, E: Write, D: Disk + Drop>(
+    alloc: Global,
+    reader: &mut R,
+    writer: &mut W,
+    errors: &mut E,
+    engine: Engine<D>,
+    every: u32,
+) -> Ran<D>
+    ensures ran { (history : List Command) → Keeps D.seen D.may_leave engine.disk engine.progress engine.failed (at_rest history)
+        → (state : State) × Serves rules_at never_over RepliesAt ShowsAt MOST_LETTERS true [] MOST_READ_BYTES
+        (streams (R.remaining reader.old) (W.contents writer.old)) (streams (R.remaining reader.new) (W.contents writer.new))
+        (at_start engine.progress.committed.rules history (D.failures engine.disk) engine.failed) state result.end
+        × IsAt D.seen D.may_leave D.failures result.engine.disk result.engine.progress result.engine.failed state }
+    ensures explained { Explains (E.contents errors.old) (E.contents errors.new) }
+{
+    match DeviceDesk::new(alloc, engine, ONE_AT_A_TIME, every) {
+        Ok(desk) => {
+            let mut desk = desk;
+            let end = serve_at_terminal(alloc, reader, writer, errors, &mut desk);
             Ran {
                 engine: desk.into_engine(),
                 end,

@@ -23,9 +23,9 @@ use Rattle.hpb_sessions.specs.declared.end.SessionEnd.TheVariants.{Left}
 use Rattle.hpb_sessions.specs.Ends.{IsEndOf}
 use Rattle.hpb_sessions.specs.Stops.{IsInOrder}
 
--- **How a session ends.** With its own client, of whose ring nothing else has that end: the client has finished, or is left since the next answer to its
--- seat isn't the one that it waits for. The second is what a 95 tells of, which hands that client back: it is the client of one of the seats, and its
--- viewer began with the auction that was opened.
+-- **How a session ends.** It ends with the client that it began with, which goes on posting into the same ring: nothing else posts into that one. The
+-- client has finished; or the session left it, since the next answer to its seat isn't the one that it waits for. Of such a client a 95 tells, and hands
+-- it back: it has one of the seats, and its viewer began with the auction that was opened.
 --
 -- The next answer to the seat of a client isn't the one that it waits for.
 abbrev pub IsOutOfOrder : Client Halt → Type 0
@@ -49,7 +49,7 @@ LeavesOne auction seats (threads.Order client) = IsLeft auction seats client
 
 -- **What sessions that have ended come to.**
 --
--- So many sessions have ended, which began with this auction, on a device that was opened with these bytes after so many failed calls; and this is told of them.
+-- What is so once so many sessions have ended, where the device was opened with these bytes and this auction, and so many calls of it had failed before.
 pub record EndsAll {D : Type 0} (seen : D → List ℕ) (may_leave : D → List ℕ → Type 0) (fails : D → ℕ) (image : List ℕ) (failures : ℕ) (before : AuctionValue) (sessions : ℕ) (served : Served D) : Type 0 where
   -- There is a report of each seat, and they show the committed auction.
   pub seats : map (λ (report : Report). report.seat) served.reports.items ≡ range_with_len 0 sessions
@@ -58,15 +58,15 @@ pub record EndsAll {D : Type 0} (seen : D → List ℕ) (may_leave : D → List 
   pub continued : (front : List Command) → Shows before front → All (λ report. Shows served.closing.auction (front ++ history_of report.viewer)) served.reports.items
   pub once : All (λ report. IsPermutation (flat_map accepted_by served.reports.items) (history_of report.viewer)) served.reports.items
   pub numbers : total served.reports.items ≡ served.closing.auction.count - before.count
-  -- The device keeps what it stood for when it was opened, and then these commands; where no call of it has failed nothing more was in flight.
-  pub kept : LeavesShown seen may_leave image served.closing served.reports.items
+  -- The device keeps what it stood for when it was opened, and then these commands; where a call of it has failed it may keep the batch in flight too. The reports are on the list that the house leaves.
+  pub kept : LeavesShown seen may_leave image before served.closing served.reports.items
   -- What is told of failed calls is so of the device.
   pub told : IsTold served.closing.has_failed failures (fails served.closing.disk)
 
 -- **What they come to where serving ends ill.** A 96 hands back the reports, with what the house leaves. Of a 90, a 92 and a 94 nothing is told but
 -- what was written.
 --
--- The same many sessions have ended, and were answered something else than what was committed.
+-- What is so once so many sessions have ended, and what they were answered isn't what was committed, or a batch is still in flight.
 pub record EndsDiffering {D : Type 0} (seen : D → List ℕ) (may_leave : D → List ℕ → Type 0) (fails : D → ℕ) (image : List ℕ) (failures : ℕ) (before : AuctionValue) (sessions : ℕ) (differing : Differing D) : Type 0 where
   -- There is a report of each seat.
   pub seats : map (λ (report : Report). report.seat) differing.reports.items ≡ range_with_len 0 sessions

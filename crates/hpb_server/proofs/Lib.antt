@@ -13,5 +13,6 @@ mod Chunks
 mod Going
 mod Scripts
 mod ScriptTexts
+mod Explained
 mod Refusals
 mod ScriptRuns

@@ -15,7 +15,7 @@ use Rattle.hpb_server.specs.declared.fault.Fault.TheVariants as faults
 use Rattle.hpb_server.specs.declared.script.ScriptEnd.{ScriptEnd}
 use Rattle.hpb_server.specs.declared.script.ScriptEnd.TheVariants.{Answered, Refused}
 use Rattle.hpb_server.specs.Script.{IsTold, WritesRefusal, Refuses}
-use Rattle.hpb_server.specs.Telling.{Says, SaysOfScript, TellsOf, accepted_text}
+use Rattle.hpb_server.specs.Telling.{SaysAccepted, SaysOfScript, TellsOf}
 use Rattle.hpb_server.specs.Writing.{Sends}
 use Rattle.hpb_server.proofs.Errors.{err_case}
 
@@ -56,5 +56,5 @@ said_of_refused is_terminal old new errors_old errors_new cause (Err fault) w to
 
 -- where a fault comes later, what was said stands
 pub said_before : (is_terminal : Bool) (errors_old errors_new : Option (List ℕ)) (fault : Fault) (r : Result ScriptEnd Fault) → IsErrAnd r (λ e. e ≡ fault)
-    → Says errors_old errors_new (accepted_text is_terminal) → SaysOfScript is_terminal errors_old errors_new r
+    → SaysAccepted is_terminal errors_old errors_new → SaysOfScript is_terminal errors_old errors_new r
 said_before is_terminal errors_old errors_new fault r bad says = err_case (SaysOfScript is_terminal errors_old errors_new) r bad (λ other is. inl says)

@@ -27,6 +27,10 @@ HasPlaces definition shown = (length shown.nodes ≡ length definition.nodes) ×
 abbrev pub Moves : {Desk State : Type 0} (is_at : Desk → State → Type 0) (old new : Desk) (way : State → State → Type 0) → Type 0
 Moves {Desk} {State} is_at old new way = (state : State) → is_at old state → (next : State) × way state next × is_at new next
 
+-- A look leaves the state as it is.
+abbrev pub LooksStay : {State : Type 0} (looks : State → Option AuctionValue → State → Type 0) → Type 0
+LooksStay {State} looks = (old new : State) (shown : Option AuctionValue) → looks old shown new → new ≡ old
+
 -- The state of an auction in memory is its value.
 abbrev pub IsItself : AuctionValue → AuctionValue → Type 0
 IsItself desk state = state ≡ desk

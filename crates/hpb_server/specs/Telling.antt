@@ -1,9 +1,15 @@
 -- What is said to people, beside the answers.
-use Rattle.std.specs.Prelude.{ℕ, Bool, true, false, List, [], ◌++◌, ◌⊎◌, Option, Result, Ok, Err, codes, decimal}
-use Rattle.std.specs.Io.KnownBytes.{Appends}
+use Rattle.std.specs.Prelude.{ℕ, Bool, true, false, List, [], ◌++◌, ◌⊎◌, Option, None, Some, Result, Ok, Err, codes, decimal}
+use Rattle.std.specs.Io.KnownBytes.{Appends, Keeps}
+use Rattle.std.specs.List.{concat, All}
+use Rattle.hpb_rules.specs.declared.command.Command.{Command}
 use Rattle.hpb_rules.specs.declared.refusal.Refusal.{Refusal}
+use Rattle.hpb_rules.specs.declared.reply.Reply.{Reply}
+use Rattle.hpb_rules.specs.declared.reply.Reply.TheVariants as replies
+use Rattle.hpb_rules.specs.AuctionValue.{AuctionValue}
 use Rattle.hpb_rules.specs.Fronts.{IsFront}
 use Rattle.hpb_rules.specs.Refusals.{number_of, word_of}
+use Rattle.hpb_terminal.specs.Reasons.{reason_in}
 use Rattle.hpb_server.specs.declared.fault.Fault.{Fault}
 use Rattle.hpb_server.specs.declared.script.ScriptEnd.{ScriptEnd}
 use Rattle.hpb_server.specs.declared.script.ScriptEnd.TheVariants.{Answered, Refused}
@@ -26,8 +32,48 @@ abbrev pub accepted_text : (is_terminal : Bool) → List ℕ
 accepted_text true = ACCEPTED.now
 accepted_text false = []
 
--- What is said of a script: that its definition was accepted, or why it was refused. Where a fault ended it, either may have been said, and nothing else.
+-- **At a terminal.** The line that tells which number would do in place of a refused command, by an auction as it stands; nothing where none would.
+abbrev pub told_by : Refusal → (reason : Option (List ℕ)) → List ℕ
+told_by refusal None = []
+told_by refusal (Some reason) = told_line refusal reason
+
+abbrev pub sentence : AuctionValue → Command → Refusal → List ℕ
+sentence value command refusal = told_by refusal (reason_in value command refusal)
+
+-- The same by what a desk shows; nothing where it shows none.
+abbrev pub sentence_of : Option AuctionValue → Command → Refusal → List ℕ
+sentence_of None command refusal = []
+sentence_of (Some value) command refusal = sentence value command refusal
+
+-- People are told of a refused command by what a desk shows at its state.
+abbrev pub TellsShown : {State : Type 0} (looks : State → Option AuctionValue → State → Type 0) → State → Command → Refusal → (errors_old errors_new : Option (List ℕ)) → Type 0
+TellsShown looks state command refusal errors_old errors_new = (shown : Option AuctionValue) × looks state shown state × Says errors_old errors_new (sentence_of shown command refusal)
+
+-- They are told that of a command whose reply is a refusal, and nothing of another.
+abbrev pub TellsReply : {State : Type 0} (looks : State → Option AuctionValue → State → Type 0) → State → Command → Reply → (errors_old errors_new : Option (List ℕ)) → Type 0
+TellsReply looks state command (replies.Ok number) errors_old errors_new = Keeps errors_old errors_new
+TellsReply looks state command (replies.Refused refusal) errors_old errors_new = TellsShown looks state command refusal errors_old errors_new
+
+-- The line of some refused command, or a front of it.
+abbrev pub IsOfSentence : List ℕ → Type 0
+IsOfSentence sent = (value : AuctionValue) × (command : Command) × (refusal : Refusal) × IsFront sent (sentence value command refusal)
+
+-- Nothing but such lines was written, one behind another.
+abbrev pub Explains : (errors_old errors_new : Option (List ℕ)) → Type 0
+Explains errors_old errors_new = (parts : List (List ℕ)) × All IsOfSentence parts × Appends errors_old errors_new (concat parts)
+
+-- So it is at a terminal, and elsewhere nothing was written.
+abbrev pub ExplainsAt : (is_terminal : Bool) (errors_old errors_new : Option (List ℕ)) → Type 0
+ExplainsAt true errors_old errors_new = Explains errors_old errors_new
+ExplainsAt false errors_old errors_new = Keeps errors_old errors_new
+
+-- What is said of a script whose definition is accepted: on a terminal that it is, and then of refused commands.
+abbrev pub SaysAccepted : (is_terminal : Bool) (errors_old errors_new : Option (List ℕ)) → Type 0
+SaysAccepted is_terminal errors_old errors_new =
+    (greeted : Option (List ℕ)) × Says errors_old greeted (accepted_text is_terminal) × ExplainsAt is_terminal greeted errors_new
+
+-- What is said of a script: that its definition was accepted, with what follows from that, or why it was refused. Where a fault ended it, either may have been said, and nothing else.
 abbrev pub SaysOfScript : (is_terminal : Bool) (errors_old errors_new : Option (List ℕ)) → Result ScriptEnd Fault → Type 0
-SaysOfScript is_terminal errors_old errors_new (Ok Answered) = Says errors_old errors_new (accepted_text is_terminal)
+SaysOfScript is_terminal errors_old errors_new (Ok Answered) = SaysAccepted is_terminal errors_old errors_new
 SaysOfScript is_terminal errors_old errors_new (Ok (Refused refusal)) = TellsOf errors_old errors_new refusal
-SaysOfScript is_terminal errors_old errors_new (Err fault) = Says errors_old errors_new (accepted_text is_terminal) ⊎ ((refusal : Refusal) × TellsOf errors_old errors_new refusal)
+SaysOfScript is_terminal errors_old errors_new (Err fault) = SaysAccepted is_terminal errors_old errors_new ⊎ ((refusal : Refusal) × TellsOf errors_old errors_new refusal)

@@ -11,6 +11,7 @@ mod script;
 mod serving;
 mod signal;
 mod telling;
+mod terminal;
 
 pub use desk::{Desk, ScriptDesk};
 pub use fault::Fault;
@@ -20,8 +21,11 @@ pub use output::send_bytes;
 pub use script::{ScriptEnd, run_script, serve_auction};
 pub use serving::serve;
 pub use telling::{say, tell_people};
+pub use terminal::serve_at_terminal;
 
 #[cfg(test)]
 mod tests;
 #[cfg(test)]
 mod tests_of_batches;
+#[cfg(test)]
+mod tests_of_terminals;

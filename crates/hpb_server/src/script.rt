@@ -5,7 +5,7 @@ ghost use Rattle.hpb_rules.specs.Values.{first_value};
 ghost use Rattle.hpb_server.specs.Script.{Refuses, RunsScript, ServesScript, WritesRefusal};
 ghost use Rattle.hpb_server.specs.ScriptLaws.{ServesText};
 ghost use Rattle.hpb_server.specs.Streams.{streams};
-ghost use Rattle.hpb_server.specs.Telling.{SaysOfScript};
+ghost use Rattle.hpb_server.specs.Telling.{ExplainsAt, SaysOfScript};
 
 use crate::desk::ScriptDesk;
 use crate::fault::Fault;
@@ -13,6 +13,7 @@ use crate::input::Input;
 use crate::output::Output;
 use crate::serving::{answer_lines, serve};
 use crate::telling::{greet, tell_reason};
+use crate::terminal::answer_at_terminal;
 use hpb_auction::Auction;
 use hpb_define::{DefineCause, read_definition};
 use hpb_rules::{MOST_READ_BYTES, Refusal};
@@ -33,7 +34,8 @@ pub enum ScriptEnd {
 /// gets its answer, as `serve` says, of whose faults these are. Both together are within the bytes that
 /// may be read.
 ///
-/// The errors are told why a definition is refused, and on a terminal that it is accepted.
+/// The errors are told why a definition is refused, and on a terminal that it is accepted, and behind the answer of a refused command which
+/// number would do.
 pub fn run_script<R: Read, W: Write, E: Write>(
     alloc: Global,
     reader: &mut R,
@@ -53,7 +55,16 @@ pub fn run_script<R: Read, W: Write, E: Write>(
             if !text.has_end {
                 return Ok(ScriptEnd::Answered);
             }
-            answer_script(alloc, reader, writer, &definition, &mut input, &mut output)?;
+            answer_script(
+                alloc,
+                reader,
+                writer,
+                errors,
+                is_terminal,
+                &definition,
+                &mut input,
+                &mut output,
+            )?;
             Ok(ScriptEnd::Answered)
         }
         Err(fault) => {
@@ -80,19 +91,25 @@ pub fn serve_auction<R: Read, W: Write>(
 }
 
 /// Answers the lines that come after a definition.
-fn answer_script<R: Read, W: Write>(
+fn answer_script<R: Read, W: Write, E: Write>(
     alloc: Global,
     reader: &mut R,
     writer: &mut W,
+    errors: &mut E,
+    is_terminal: bool,
     definition: &Definition,
     input: &mut Input,
     output: &mut Output,
 ) -> Result<(), Fault>
     requires { output.old ≡ [] }
-    ensures { ServesScript (streams (R.remaining reader.old) (W.contents writer.old)) (streams (R.remaining reader.new) (W.contents writer.new))
+    ensures served { ServesScript (streams (R.remaining reader.old) (W.contents writer.old)) (streams (R.remaining reader.new) (W.contents writer.new))
         input.old (first_value definition.now) result }
+    ensures explained { ExplainsAt is_terminal (E.contents errors.old) (E.contents errors.new) }
 {
     let mut desk = ScriptDesk::new(Auction::new(alloc, definition)?);
+    if is_terminal {
+        return answer_at_terminal(alloc, reader, writer, errors, &mut desk, input, output);
+    }
     answer_lines(alloc, reader, writer, &mut desk, input, output)
 }
 

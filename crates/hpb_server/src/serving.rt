@@ -86,7 +86,11 @@ pub(crate) fn answer_lines<R: Read, W: Write, D: Desk>(
 }
 
 /// Answers a last line without its end, where it has a byte.
-fn end_lines<W: Write>(writer: &mut W, line: &Line, output: &mut Output) -> Result<(), Fault>
+pub(crate) fn end_lines<W: Write>(
+    writer: &mut W,
+    line: &Line,
+    output: &mut Output,
+) -> Result<(), Fault>
     requires { output.old ≡ [] }
     ensures { Ends (W.contents writer.old) (W.contents writer.new) line.now result }
 {
@@ -130,7 +134,7 @@ fn answer_unread<W: Write, D: Desk>(
 /// What the next line asks for, where its end was read. What is kept of its start stands in `line`. A desk is the
 /// `Caller` of `parse_front`.
 #[inline(always)]
-fn next_request<Caller>(
+pub(crate) fn next_request<Caller>(
     input: &Input,
     line: &mut Line,
     definition: &Definition,
@@ -267,7 +271,7 @@ fn ask_alone_now<W: Write, D: Desk>(
 
 /// Asks for all that waits, and answers what is no command, unless the session is over.
 #[inline(always)]
-fn pass_question<W: Write, D: Desk>(
+pub(crate) fn pass_question<W: Write, D: Desk>(
     alloc: Global,
     writer: &mut W,
     desk: &mut D,
@@ -368,7 +372,11 @@ fn ask_waiting_now<W: Write, D: Desk>(
 /// Writes all that is answered, where the desk waits.
 #[inline(always)]
 #[tactic(auto, using(crate::proofs::Passing::all_sent))]
-fn send_first<W: Write, D: Desk>(writer: &mut W, desk: &D, output: &mut Output) -> Result<(), Fault>
+pub(crate) fn send_first<W: Write, D: Desk>(
+    writer: &mut W,
+    desk: &D,
+    output: &mut Output,
+) -> Result<(), Fault>
     ensures passed { Passes 0 false (W.contents writer.old) (W.contents writer.new) output.old output.new result }
     ensures sent { D.waits ≡ true → output.new ≡ [] }
 {

@@ -1,10 +1,13 @@
 //! What is said to people, beside the answers.
 ghost use Rattle.hpb_define.specs.Fault.{refusal_of};
-ghost use Rattle.hpb_server.specs.Telling.{Says, TellsOf, accepted_text, told_line};
+ghost use Rattle.hpb_server.specs.Telling.{Says, TellsOf, accepted_text, sentence, told_line};
+ghost use Rattle.hpb_terminal.specs.Reasons.{text_of};
 
 use crate::output::send_bytes;
+use hpb_auction::Auction;
 use hpb_define::{DefineCause, DefineFault};
-use hpb_rules::Refusal;
+use hpb_rules::{Command, Refusal};
+use hpb_terminal::{Reason, reason_of};
 use std::alloc::Global;
 use std::fmt;
 use std::io::Write;
@@ -82,5 +85,34 @@ pub(crate) fn tell_reason<E: Write>(
     match format!(in alloc; "{}{more}", fault.said()) {
         Ok(reason) => tell_people(alloc, fault.refusal(), reason.as_str(), errors),
         Err(_) => tell_people(alloc, fault.refusal(), fault.said(), errors),
+    }
+}
+
+/// Tells people which number would do in place of a command that is refused, by an auction as it stands, as far as memory and the errors
+/// allow. Where none would, nothing is told.
+#[tactic(auto, using(crate::proofs::Explained::said_none))]
+pub(crate) fn tell_refused<E: Write>(
+    alloc: Global,
+    auction: &Auction,
+    command: &Command,
+    refusal: Refusal,
+    errors: &mut E,
+)
+    ensures { Says (E.contents errors.old) (E.contents errors.new) (sentence auction.now command.now refusal) }
+{
+    match reason_of(auction, command, refusal) {
+        Some(reason) => tell_number(alloc, refusal, reason, errors),
+        None => {}
+    }
+}
+
+/// Tells people of a refusal by the number that would do.
+#[tactic(auto, using(crate::proofs::Explained::said_none))]
+fn tell_number<E: Write>(alloc: Global, refusal: Refusal, reason: Reason<'_>, errors: &mut E)
+    ensures { Says (E.contents errors.old) (E.contents errors.new) (told_line refusal (text_of reason.entry)) }
+{
+    match reason.to_string(alloc) {
+        Ok(text) => tell_people(alloc, refusal, text.as_str(), errors),
+        Err(_) => {}
     }
 }

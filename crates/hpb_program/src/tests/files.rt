@@ -4,8 +4,9 @@ use super::using::{
     Asked, BOTH, FOUR_PAGES, FailingReader, FailingWriter, Ran, SIX_NODES, SIXTEEN_CELLS,
     format_words, in_cells, in_pages, new_file, run_on, run_over, run_words,
 };
+use crate::lookout::Lookout;
 use crate::{JobFault, Noted, check_device, program};
-use hpb_disk::{FileDisk, FuseDisk, MemoryDisk};
+use hpb_disk::{FileDisk, FileFault, FuseDisk, MemoryDisk};
 use hpb_recover::Cause;
 use std::fs::{self, File, Files, Permissions};
 use std::net::{Net, TcpListener, TcpStream};
@@ -212,7 +213,7 @@ fn faults_are_found_in_order(rt: HostRuntime) -> Result<(), Fail> {
         assert!(rt;
             end.is_refused(
                 "ERR 91 device\n",
-                "hpb_program_order/none could not be opened or made: No such file or directory (os error 2): see that its folder is there"
+                "hpb_program_order/none could not be opened, made or written: No such file or directory (os error 2): see that its folder is there"
             ),
             "{end:?}"
         );
@@ -451,6 +452,22 @@ fn a_file_in_use_is_refused(rt: HostRuntime) -> Result<(), Fail> {
     assert_eq!(rt; shown, Ran::well(rt.alloc(), NEW)?);
     drop(held);
     fs::remove_file(&rt, path)?;
+    Ok(())
+}
+
+/// Whoever replaces a file while it is opened is not taken for it: what is watched would be another one than what is served.
+#[test]
+fn a_watch_is_of_the_file_that_was_opened(rt: HostRuntime) -> Result<(), Fail> {
+    let (path, other) = ("hpb_program_watched", "hpb_program_unwatched");
+    new_file(&rt, path, FOUR_PAGES)?;
+    new_file(&rt, other, FOUR_PAGES)?;
+    let held = FileDisk::open(&rt, rt.alloc(), path)?;
+    assert!(rt; Lookout::new(&rt, rt.alloc(), path, &held).is_ok());
+    let watched = Lookout::new(&rt, rt.alloc(), other, &held);
+    assert!(rt; matches!(watched, Err(FileFault::Busy)));
+    drop(held);
+    fs::remove_file(&rt, path)?;
+    fs::remove_file(&rt, other)?;
     Ok(())
 }
 

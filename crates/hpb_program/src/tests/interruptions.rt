@@ -13,8 +13,8 @@ use std::test::Fail;
 use std::thread::Threads;
 use std::{fs, io};
 
-/// How often in a row each call of a stream is interrupted before it is made.
-const INTERRUPTIONS: u32 = 2;
+/// How often in a row each call of a stream is interrupted before it is made: more often than whoever gives up would wait for.
+const INTERRUPTIONS: u32 = 300;
 
 /// Whether the next call is interrupted, by how often that was so since the last one was made.
 #[derive(Clone, Copy)]
@@ -37,7 +37,7 @@ impl Signals {
     }
 }
 
-/// A text of which each read is interrupted twice, and then gives some bytes.
+/// A text of which each read is interrupted so often, and then gives some bytes.
 #[derive(Drop)]
 struct InterruptedReader<'a> {
     text: &'a [u8],
@@ -56,7 +56,7 @@ impl Read for InterruptedReader<'_> {
     }
 }
 
-/// A writer of which each write and each flush is interrupted twice, and then takes some bytes.
+/// A writer of which each write and each flush is interrupted so often, and then takes some bytes.
 #[derive(Drop)]
 struct InterruptedWriter {
     bytes: Vec<u8>,
@@ -82,7 +82,7 @@ const LINES: &[u8] = b"BID x 1 a 100\nBID y 1 b 150\nCLOSE 1\nSHOW\n";
 
 const ANSWERS: &str = "OK 1\nOK 2\nOK 3\nROUND 2 STAGE 1 OPEN REVENUE 250 COUNT 3\n";
 
-/// Runs the program over an input and an output of which each call is interrupted twice, and tells how it ended, and whether
+/// Runs the program over an input and an output of which each call is interrupted so often, and tells how it ended, and whether
 /// its output was cut.
 fn run_interrupted<
     H: Files<File = File>
@@ -123,7 +123,7 @@ fn run_interrupted<
 }
 
 #[test]
-fn two_interruptions_in_a_row_change_nothing(rt: HostRuntime) -> Result<(), Fail> {
+fn many_interruptions_in_a_row_change_nothing(rt: HostRuntime) -> Result<(), Fail> {
     let alloc = rt.alloc();
     let path = "hpb_program_interrupted";
     let mut script = SIX_NODES.to_vec(alloc)?;

@@ -2,7 +2,7 @@
 
 use super::using::{
     BOTH, FOUR_PAGES, FailingReader, FailingWriter, Ran, SIX_NODES, SIXTEEN_CELLS, new_file,
-    run_on, run_over, run_words,
+    run_at, run_on, run_over, run_words,
 };
 use crate::advice::EndAdvice;
 use crate::known::Known;
@@ -101,6 +101,42 @@ fn a_file_is_run_as_a_script(rt: HostRuntime) -> Result<(), Fail> {
             assert!(rt; shown.ends_with(checked.output.as_str()), "{checked:?}");
             fs::remove_file(&rt, path)?;
         }
+    }
+    Ok(())
+}
+
+/// Commands of which one is accepted.
+const REFUSED_LINES: &[u8] =
+    b"BID x 1 a 90\nBID x 1 a 100\nBID x 3 b 100\nBID x 2 b 100\nCLOSE 2\nSHOW\n";
+
+const REFUSED_ANSWERS: &str = "ERR 22 low
+OK 1
+ERR 15 gap
+ERR 25 eligibility
+ERR 15 gap
+ROUND 1 STAGE 1 OPEN REVENUE 0 COUNT 1
+";
+
+const REFUSED_TOLD: &str =
+    "hpb: standard input is a terminal: type commands and questions, one a line; Ctrl-D ends the run
+hpb: 22 low: the least that may be bid on a is 100 dollars
+hpb: 15 gap: the next ticket of x is 2
+hpb: 25 eligibility: x is eligible for 10 bidding units, and active on 10 without this bid
+hpb: 15 gap: the next ticket of the auctioneer is 1
+";
+
+#[test]
+fn a_terminal_is_told_what_a_run_would_take(rt: HostRuntime) -> Result<(), Fail> {
+    let path = "hpb_program_told";
+    for (is_terminal, told) in [(true, REFUSED_TOLD), (false, "")] {
+        new_file(&rt, path, FOUR_PAGES)?;
+        let words = words_of_run(path, "64", "1");
+        let (ran, left) = run_at(&rt, &words, REFUSED_LINES, is_terminal)?;
+        assert_eq!(rt; ran.status, 0);
+        assert_eq!(rt; left, 0);
+        assert_eq!(rt; ran.output.as_str(), REFUSED_ANSWERS);
+        assert_eq!(rt; ran.errors.as_str(), told);
+        fs::remove_file(&rt, path)?;
     }
     Ok(())
 }
@@ -303,7 +339,7 @@ fn run_failing(
     let disk = FuseDisk::new(MemoryDisk::of(alloc, bytes.to_vec(alloc)?)?, call);
     let mut input = b"BID x 1 a 100\nBID y 1 b 150\nCLOSE 1\n".as_slice();
     let mut errors = Vec::new(alloc);
-    match run_kept(alloc, disk, 1, 0, &mut input, output, &mut errors) {
+    match run_kept(alloc, disk, 1, 0, &mut input, output, &mut errors, false) {
         Ok(ran) => Ok(Ok(RunEnd {
             end: ran.end,
             failed: ran.engine.failed,

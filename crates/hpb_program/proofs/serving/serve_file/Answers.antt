@@ -3,7 +3,8 @@ use Rattle.std.proofs.Common.{[], inr, rules, sym, subst}
 use Rattle.hpb_disk.specs.declared.file.FileDisk.{FileDisk}
 use Rattle.hpb_disk.specs.FileDisks.{file_failures, file_left, file_seen}
 use Rattle.hpb_program.specs.Doubts.{TellsImage}
-use Rattle.hpb_program.specs.Serving.{Ends}
+use Rattle.hpb_house.specs.declared.closing.Closing.{Closing}
+use Rattle.hpb_program.specs.Serving.{Ends, with_told}
 use Rattle.hpb_program.proofs.Crossing.{File-send}
 use Rattle.hpb_program.proofs.Doubting.{told_unheld, told_unopened_file}
 use Rattle.hpb_program.proofs.serving.serve_file.Goals as goal
@@ -15,10 +16,10 @@ pub returns-in-Ok-say_closed-clause-serves : goal.returns-in-Ok-say_closed-claus
 returns-in-Ok-say_closed-clause-serves g c =
     let served = c.in-Ok-serve_device.unsaid.served in
     let listening = g.W.Write.contents c.serve_device.new.output.stream in
-    let EndsWith : FileDisk → FileDisk → Type 0 = λ opened left. Ends file_seen file_left file_failures opened c.args.sessions c.args.port (g.W.Write.contents c.args.output.now.stream) listening
-    (record { closing = record { disk = left; auction = served.closing.auction; has_failed = served.closing.has_failed }; reports = served.reports }) in
+    let EndsWith : FileDisk → Closing FileDisk → Type 0 = λ opened left. Ends file_seen file_left file_failures opened c.args.sessions c.args.port (g.W.Write.contents c.args.output.now.stream) listening
+    (record { closing = with_told left served.closing.auction served.closing.has_failed; reports = served.reports }) in
     let opened = c.of-opened.result.value in
-    let ends = subst (λ (disk : FileDisk). EndsWith disk served.closing.disk) (sym c.of-opened.ensures) c.in-Ok-serve_device.ensures.serves.0 in
+    let ends = subst (λ (disk : FileDisk). EndsWith disk served.closing) (sym c.of-opened.ensures) c.in-Ok-serve_device.ensures.serves.0 in
     record { listening = listening; ends = subst (EndsWith opened) (sym c.of-left.ensures) ends; closes = search rules }
 
 pub returns-in-Err-clause-told : goal.returns-in-Err-clause-told

@@ -82,6 +82,7 @@ returns-in-Ok-close-clause-ended g c =
           subst (All (λ report. Shows c.in-Ok-close.closing.auction (front ++ history_of report.viewer))) (sym items) (closed.continued front (subst (λ (a : AuctionValue). Shows a front) (sym opened) shows));
       once = subst (λ (rs : List Report). All (λ report. IsPermutation (flat_map accepted_by rs) (history_of report.viewer)) rs) (sym items) closed.once;
       numbers = ap total items ∙ closed.numbers ∙ ap (λ (a : AuctionValue). c.in-Ok-close.closing.auction.count - a.count) opened;
-      kept = subst (LeavesShown g.D.Disk.seen g.D.Disk.may_leave g.J.Naming.image c.in-Ok-close.closing) (sym items) closed.kept;
+      kept = subst (λ (value : AuctionValue). LeavesShown g.D.Disk.seen g.D.Disk.may_leave g.J.Naming.image value c.in-Ok-close.closing (with_items c.in-Ok.reports new).items) opened
+          (subst (LeavesShown g.D.Disk.seen g.D.Disk.may_leave g.J.Naming.image c.named-house.result.house.opened c.in-Ok-close.closing) (sym items) closed.kept);
       told = closed.told;
     }

@@ -1,6 +1,8 @@
 use Rattle.std.specs.Prelude.{Ok, Err}
 use Rattle.std.proofs.KnownBytes.{Appends-nil}
+use Rattle.hpb_server.specs.declared.fault.Fault.TheVariants.{Memory}
 use Rattle.hpb_server.proofs.ScriptRuns.{given_script, vain_script, given_answers, nothing_run, never_run, refused_run, ended_run, answered_run, broken_run}
+use Rattle.hpb_server.proofs.Explained.{accepted_none, accepted_only}
 use Rattle.hpb_server.proofs.Refusals.{said_before, said_of_refused}
 use Rattle.hpb_server.proofs.script.run_script.Goals as goal
 
@@ -24,17 +26,36 @@ returns-in_err-answer_script-in-Ok-clause-runs g c =
     let given = given_script c.in_ok-input.ensures c.in_ok-text.ensures.ok in
     let accepted = given_answers given (Ok c.in-Ok.definition) c.as_slice.ensures.value c.in-Ok.ensures in
     broken_run given c.in-Ok.definition accepted (g.R.Read.remaining c.answer_script.new.reader) (g.W.Write.contents c.args.writer.now) (g.W.Write.contents c.answer_script.new.writer) c.if-not-text.false
-    c.in_err-answer_script-in-Ok.field-0.0 c.from_residual-in_err-answer_script-in-Ok.result c.from_residual-in_err-answer_script-in-Ok.ensures.1 c.in_err-answer_script-in-Ok.ensures
+    c.in_err-answer_script-in-Ok.field-0.0 c.from_residual-in_err-answer_script-in-Ok.result c.from_residual-in_err-answer_script-in-Ok.ensures.1 c.in_err-answer_script-in-Ok.ensures.served
 
 pub returns-in-Ok-clause-runs : goal.returns-in-Ok-clause-runs
 returns-in-Ok-clause-runs g c =
     let given = given_script c.in_ok-input.ensures c.in_ok-text.ensures.ok in
     let accepted = given_answers given (Ok c.in-Ok.definition) c.as_slice.ensures.value c.in-Ok.ensures in
-    answered_run given c.in-Ok.definition accepted (g.R.Read.remaining c.answer_script.new.reader) (g.W.Write.contents c.args.writer.now) (g.W.Write.contents c.answer_script.new.writer) c.if-not-text.false c.in_ok-answer_script-in-Ok.ensures
+    answered_run given c.in-Ok.definition accepted (g.R.Read.remaining c.answer_script.new.reader) (g.W.Write.contents c.args.writer.now) (g.W.Write.contents c.answer_script.new.writer) c.if-not-text.false c.in_ok-answer_script-in-Ok.ensures.served
+
+pub returns-in_err-input-clause-said : goal.returns-in_err-input-clause-said
+returns-in_err-input-clause-said g c =
+    said_before c.args.is_terminal _ _ Memory c.from_residual.result c.from_residual.ensures.1 (accepted_none c.args.is_terminal _)
+
+pub returns-in_err-output-clause-said : goal.returns-in_err-output-clause-said
+returns-in_err-output-clause-said g c =
+    said_before c.args.is_terminal _ _ Memory c.from_residual-in_err-output.result c.from_residual-in_err-output.ensures.1 (accepted_none c.args.is_terminal _)
+
+pub returns-in_err-text-clause-said : goal.returns-in_err-text-clause-said
+returns-in_err-text-clause-said g c =
+    said_before c.args.is_terminal _ _ c.in_err-text.field-0.0 c.from_residual-in_err-text.result c.from_residual-in_err-text.ensures.1 (accepted_none c.args.is_terminal _)
+
+pub returns-then-not-text-clause-said : goal.returns-then-not-text-clause-said
+returns-then-not-text-clause-said g c = accepted_only c.args.is_terminal _ _ c.greet.ensures
+
+pub returns-in-Ok-clause-said : goal.returns-in-Ok-clause-said
+returns-in-Ok-clause-said g c = (_, c.greet.ensures, c.answer_script.ensures.explained)
 
 pub returns-in_err-answer_script-in-Ok-clause-said : goal.returns-in_err-answer_script-in-Ok-clause-said
 returns-in_err-answer_script-in-Ok-clause-said g c =
-    said_before c.args.is_terminal _ _ c.in_err-answer_script-in-Ok.field-0.0 c.from_residual-in_err-answer_script-in-Ok.result c.from_residual-in_err-answer_script-in-Ok.ensures.1 c.greet.ensures
+    said_before c.args.is_terminal _ _ c.in_err-answer_script-in-Ok.field-0.0 c.from_residual-in_err-answer_script-in-Ok.result c.from_residual-in_err-answer_script-in-Ok.ensures.1
+    (_, c.greet.ensures, c.answer_script.ensures.explained)
 
 pub returns-clause-said : goal.returns-clause-said
 returns-clause-said g c =

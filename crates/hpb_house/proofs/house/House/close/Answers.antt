@@ -1,4 +1,4 @@
-use Rattle.std.proofs.Common.{◌≡◌, ◌∙◌, ◌++◌, All, List, ap, length, map, refl, sym, subst}
+use Rattle.std.proofs.Common.{◌≡◌, ◌∙◌, ◌++◌, All, List, ap, length, map, sym, subst}
 use mathlib.Core.List.{IsPrefix}
 use Rattle.logbook.specs.Pages.{Book}
 use Rattle.hpb_rules.specs.declared.letter.Letter.{Letter}
@@ -8,8 +8,7 @@ use Rattle.hpb_rings.specs.declared.report.Report.{Report}
 use Rattle.hpb_closing.specs.Histories.{history_in, history_of}
 use Rattle.hpb_closing.specs.Reports.{book_of}
 use Rattle.hpb_closing.proofs.Lists.{map-all}
-use Rattle.hpb_house.specs.Boards.{SameBoard}
-use Rattle.hpb_house.proofs.Leaving.{leaves_shown, leaves_unsettled, not_busy}
+use Rattle.hpb_house.proofs.Leaving.{leaves_shown, leaves_unsettled, listed, not_busy}
 use Rattle.hpb_house.proofs.Whose.{apart, on_board}
 use Rattle.hpb_house.proofs.house.House.close.Goals as goal
 
@@ -53,10 +52,26 @@ returns-in-Ok-clause-kept g c =
     let k = c.keeper-keeper.result in
     let own = c.keeper-keeper.ensures.own in
     let facts = c.facts.ensures in
-    let opened : c.self.inside.eye.opened ≡ k.board.opened = ap (λ (v : Viewing). v.opened) c.self.invariant.0 ∙ sym own.opened in
-    let same = ap (λ (v : AuctionValue). history_in v k.board.list) opened in
-    leaves_shown g.D.Disk.seen g.D.Disk.may_leave g.met.D.Disk.seen_may_stay c.judged_is_shown.ensures k g.J.Naming.image own.image facts.begins facts.keeps _ c.settle-settled.new.reports (history_in k.board.opened k.board.list)
-    c.finish-disk.ensures.disk c.finish-disk.ensures.committed c.has_failed-has_failed.ensures refl c.in-Ok.ensures.rest (λ i d lt. c.in-Ok.ensures.whole i d lt ∙ same) (c.in-Ok.ensures.summed ∙ ap length same)
+    let front = c.front.ensures in
+    let trail = c.trail-published.ensures in
+    let finish = c.finish-disk.ensures in
+    let seen : c.self.inside.eye.opened ≡ k.board.opened = ap (λ (v : Viewing). v.opened) c.self.invariant.0 ∙ sym own.opened in
+    let opened = ap (λ (v : Viewing). v.opened) (sym c.self.view_is) ∙ seen in
+    let same = ap (λ (v : AuctionValue). history_in v k.board.list) seen in
+    let whole = c.whole_trail-whole.ensures in
+    let book = sym front.0 ∙ sym whole.book in
+    let begun = on_board g.J.Naming.eye g.J.Naming.clients g.J.Naming.eye.seats c.self.invariant.2 c.args.reports.now c.requires.clients in
+    let list = listed g.D.Disk.seen g.D.Disk.may_leave g.met.D.Disk.seen_may_stay c.judged_is_shown.ensures k g.J.Naming.image own.image facts.begins facts.keeps _ _ _ _ _ c.settle-settled.new.reports
+    opened finish.committed finish.in_flight trail.1 facts.shown facts.prepared facts.judged (trail.0 ∙ book)
+    (subst (λ (l : List (List Letter)). IsPrefix l c.whole_trail-whole.result.log) front.1 whole.this)
+    (of_board c.settle-settled.new.reports c.args.reports.now _ _ c.settle-settled.ensures.book (λ i d lt. (begun i d lt).0) (sym own.book ∙ book)) whole.each in
+    leaves_shown g.D.Disk.seen g.D.Disk.may_leave g.met.D.Disk.seen_may_stay c.judged_is_shown.ensures k g.J.Naming.image own.image facts.begins facts.keeps _ _ c.settle-settled.new.reports
+    finish.disk finish.committed c.has_failed-has_failed.ensures opened trail.1 finish.in_flight c.in-Ok.ensures.rest (λ i d lt. c.in-Ok.ensures.whole i d lt ∙ same) (c.in-Ok.ensures.summed ∙ ap length same) list
+
+-- the list that is handed back is the house's
+pub returns-in-Ok-clause-list : goal.returns-in-Ok-clause-list
+returns-in-Ok-clause-list g c =
+    c.whole_trail-whole.ensures.book ∙ (c.front.ensures.0 ∙ (c.keeper-keeper.ensures.own.book ∙ (ap (λ (v : Viewing). v.book) (sym c.self.invariant.0) ∙ ap (λ (v : Viewing). v.book) c.self.view_is)))
 
 pub returns-in-Ok-clause-told : goal.returns-in-Ok-clause-told
 returns-in-Ok-clause-told g c =
@@ -69,15 +84,20 @@ returns-clause-left g c =
     let own = c.keeper-keeper.ensures.own in
     let facts = c.facts.ensures in
     let front = c.front.ensures in
-    let opened : c.self.inside.eye.opened ≡ k.board.opened = ap (λ (v : Viewing). v.opened) c.self.invariant.0 ∙ sym own.opened in
-    let same = ap (λ (v : AuctionValue). history_in v k.board.list) opened in
-    let book = sym own.book ∙ (sym front.0 ∙ sym c.whole_trail-whole.ensures.book) in
+    let trail = c.trail-published.ensures in
+    let finish = c.finish-disk.ensures in
+    let seen : c.self.inside.eye.opened ≡ k.board.opened = ap (λ (v : Viewing). v.opened) c.self.invariant.0 ∙ sym own.opened in
+    let opened = ap (λ (v : Viewing). v.opened) (sym c.self.view_is) ∙ seen in
+    let same = ap (λ (v : AuctionValue). history_in v k.board.list) seen in
+    let whole = c.whole_trail-whole.ensures in
+    let book = sym front.0 ∙ sym whole.book in
     let begun = on_board g.J.Naming.eye g.J.Naming.clients g.J.Naming.eye.seats c.self.invariant.2 c.args.reports.now c.requires.clients in
+    let list = listed g.D.Disk.seen g.D.Disk.may_leave g.met.D.Disk.seen_may_stay c.judged_is_shown.ensures k g.J.Naming.image own.image facts.begins facts.keeps _ _ _ _ _ c.settle-settled.new.reports
+    opened finish.committed finish.in_flight trail.1 facts.shown facts.prepared facts.judged (trail.0 ∙ book)
+    (subst (λ (l : List (List Letter)). IsPrefix l c.whole_trail-whole.result.log) front.1 whole.this)
+    (of_board c.settle-settled.new.reports c.args.reports.now _ _ c.settle-settled.ensures.book (λ i d lt. (begun i d lt).0) (sym own.book ∙ book)) whole.each in
     leaves_unsettled g.D.Disk.seen g.D.Disk.may_leave g.met.D.Disk.seen_may_stay c.judged_is_shown.ensures k g.J.Naming.image own.image facts.begins facts.keeps _ _ c.settle-settled.new.reports
-    c.finish-disk.ensures.disk c.finish-disk.ensures.committed (ap (λ (v : Viewing). v.opened) (sym c.self.view_is) ∙ opened) c.trail-published.ensures.1 c.finish-disk.ensures.in_flight facts.shown facts.prepared
-    (c.in-Err.ensures.since ∙ ap length same) (c.trail-published.ensures.0 ∙ (sym front.0 ∙ sym c.whole_trail-whole.ensures.book))
-    (subst (λ (l : List (List Letter)). IsPrefix l c.whole_trail-whole.result.log) front.1 c.whole_trail-whole.ensures.this)
-    (of_board c.settle-settled.new.reports c.args.reports.now _ _ c.settle-settled.ensures.book (λ i d lt. (begun i d lt).0) book) c.whole_trail-whole.ensures.each
+    finish.disk finish.committed opened trail.1 finish.in_flight (c.in-Err.ensures.since ∙ ap length same) list
 
 pub returns-clause-told : goal.returns-clause-told
 returns-clause-told g c =
