@@ -8,11 +8,12 @@ use std::alloc::Global;
 use std::process::Abort;
 use std::test::Fail;
 
-/// How many commands are kept after each batch of a session of batches of two: the fifth stands alone before a question.
+/// How many commands are kept after each batch of a session of batches of two: the fifth stands alone before a
+/// question.
 const KEPT: [u32; 5] = [0, 2, 4, 5, 7];
 
-/// How many calls the session has: four batches of four, and two checkpoints of two batches, the first of which has eleven
-/// and the second twelve.
+/// How many calls the session has: four batches of four, and two checkpoints of two batches, the first of which has
+/// eleven and the second twelve.
 const CALLS: u64 = 39;
 
 /// A batch may land where the write of its gate fails, or the sync after it: at two calls of each of the four batches.
@@ -39,8 +40,9 @@ fn told(written: &[u8]) -> u32 {
     told
 }
 
-/// A session of batches of two with a checkpoint after each two of them, of which this call fails: each command that was
-/// answered `OK` is found after each stop, alone or with the batch that was in flight. Whether that was found after one.
+/// A session of batches of two with a checkpoint after each two of them, of which this call fails: each command that
+/// was answered `OK` is found after each stop, alone or with the batch that was in flight. Whether that was found after
+/// one.
 fn cut_at(rt: &impl Abort, alloc: Global, shape: JournalShape, call: u64) -> Result<bool, Fail> {
     let Session { ran, written } = run_faulty(alloc, (shape, call), LINES, 2, 2)?;
     let told = told(&written);

@@ -71,8 +71,8 @@ fn batches(commands: u32, batch: u32) -> u32 {
     commands.saturating_add(batch).saturating_sub(1) / batch
 }
 
-/// How many of so many batches find the journal full, where no other checkpoint comes between: the one after each J, and not
-/// the last of these.
+/// How many of so many batches find the journal full, where no other checkpoint comes between: the one after each J,
+/// and not the last of these.
 fn find_it_full(batches: u32, frames: u32) -> u32 {
     if frames == 0 {
         return 0;
@@ -80,11 +80,12 @@ fn find_it_full(batches: u32, frames: u32) -> u32 {
     batches.saturating_sub(1) / frames
 }
 
-/// How many calls of the device so many batches take, by the order of the calls. A batch has four. A checkpoint of m batches has
-/// ten and m, and the first one of a new device one fewer, as the gate of its other slot is closed already.
+/// How many calls of the device so many batches take, by the order of the calls. A batch has four. A checkpoint of m
+/// batches has ten and m, and the first one of a new device one fewer, as the gate of its other slot is closed already.
 ///
-/// With K of 0 a checkpoint comes where the journal is full. Else the batches fall into periods of K, behind each of which a
-/// checkpoint is due; within a period one comes where the journal is full. Those of a whole period cover its K batches together.
+/// With K of 0 a checkpoint comes where the journal is full. Else the batches fall into periods of K, behind each of
+/// which a checkpoint is due; within a period one comes where the journal is full. Those of a whole period cover its K
+/// batches together.
 fn calls_of(batches: u32, every: u32, frames: u32) -> u32 {
     let (periods, rest) = if every == 0 {
         (0, batches)
@@ -104,7 +105,8 @@ fn calls_of(batches: u32, every: u32, frames: u32) -> u32 {
         .saturating_sub(checkpoints.min(1))
 }
 
-/// How a session goes: how many commands are asked, how many together, and after how many batches a checkpoint is wanted.
+/// How a session goes: how many commands are asked, how many together, and after how many batches a checkpoint is
+/// wanted.
 #[derive(Clone, Copy, Debug)]
 struct Pace {
     commands: u32,
@@ -280,9 +282,10 @@ fn pace_of_a_thousand_full_frames_of_cells(rt: HostRuntime) -> Result<(), Fail> 
     fill_a_thousand(&rt, rt.alloc(), cells(1_024))
 }
 
-/// Some of these numbers, worked out by hand: 620 batches and 154 checkpoints of 4; 78 batches and 26 checkpoints of 3; 89
-/// batches and 11 checkpoints of 8; 620 batches and 10 checkpoints, twice four of 64 and one of 44; 10 batches and 10
-/// checkpoints of one. The same lines once more are all repeats, and have no call, though the journal is full or nearly so.
+/// Some of these numbers, worked out by hand: 620 batches and 154 checkpoints of 4; 78 batches and 26 checkpoints of 3;
+/// 89 batches and 11 checkpoints of 8; 620 batches and 10 checkpoints, twice four of 64 and one of 44; 10 batches and
+/// 10 checkpoints of one. The same lines once more are all repeats, and have no call, though the journal is full or
+/// nearly so.
 fn keep_known_paces(rt: &impl Abort, alloc: Global) -> Result<(), Fail> {
     let commands = COMMANDS;
     let lines = lines(alloc, commands)?;

@@ -74,8 +74,8 @@ fn same_text_on_a_device(rt: HostRuntime) -> Result<(), Fail> {
     Ok(())
 }
 
-/// Two batches, the same with a checkpoint after each, and seven batches: with a checkpoint before the fifth where there are
-/// four frames, and without one where there are more.
+/// Two batches, the same with a checkpoint after each, and seven batches: with a checkpoint before the fifth where
+/// there are four frames, and without one where there are more.
 fn count_calls(rt: &impl Abort, alloc: Global, shape: JournalShape) -> Result<(), Fail> {
     let seven = match shape.layout {
         JournalLayout::Pages => 41,
@@ -111,8 +111,8 @@ fn calls_at_a_terminal(
     Ok(ran.engine.disk.calls().saturating_sub(before))
 }
 
-/// Seven batches of a command each, of four calls, and with a checkpoint after each: ten calls of the first one, whose slot is
-/// closed already, and eleven of each of the six others.
+/// Seven batches of a command each, of four calls, and with a checkpoint after each: ten calls of the first one, whose
+/// slot is closed already, and eleven of each of the six others.
 fn count_calls_at_a_terminal(
     rt: &impl Abort,
     alloc: Global,

@@ -79,7 +79,8 @@ pub(crate) fn show<R: Wait>(rt: &R, writer: BoardWriter, trail: &Trail) -> Board
     }
 }
 
-/// The publisher learns whose trail it publishes. Nothing is prepared yet that changes anything, and it waits for nobody.
+/// The publisher learns whose trail it publishes. Nothing is prepared yet that changes anything, and it waits for
+/// nobody.
 pub(crate) fn learn_whose<R: Wait>(rt: &R, writer: BoardWriter) -> BoardWriter
     requires pending { AreBlank writer.desk.shown.value (drop writer.behind writer.log.items) }
     requires empty { writer.desk.shown.value.trail.log ≡ [] }

@@ -4,8 +4,8 @@ ghost use Rattle.std.specs.Prelude.{◌≡◌, ◌↔◌, IsTrue};
 use hpb_auction::Auction;
 use hpb_rules::{Accepted, Saved, SavedBidder, SavedNode};
 
-/// Whether two auctions of one definition are the same: the bids, where the bidders and the auctioneer stand, the round, the
-/// stage, whether it is over, and how many commands were accepted. Takes no memory.
+/// Whether two auctions of one definition are the same: the bids, where the bidders and the auctioneer stand, the
+/// round, the stage, whether it is over, and how many commands were accepted. Takes no memory.
 pub fn same_auction(ours: &Auction, theirs: &Auction) -> bool
     requires { ours.now.rules ≡ theirs.now.rules }
     ensures { IsTrue result ↔ (ours.now ≡ theirs.now) }

@@ -1,5 +1,5 @@
-//! Bodies of the greatest size: a batch of 64 bids, and a state with two bids on each of 127 nodes and a last bid of each
-//! of 64 bidders.
+//! Bodies of the greatest size: a batch of 64 bids, and a state with two bids on each of 127 nodes and a last bid of
+//! each of 64 bidders.
 
 use anyhow::Result;
 use hpb_codec::Batch;

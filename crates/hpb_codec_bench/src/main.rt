@@ -1,5 +1,5 @@
-//! Does a call that takes no memory so many times: writes or reads a body, saves, restores or copies an auction, fills lists.
-//! `bench/codec` times it, and `examples/take-no-memory` sees that it takes none.
+//! Does a call that takes no memory so many times: writes or reads a body, saves, restores or copies an auction, fills
+//! lists. `bench/codec` times it, and `examples/take-no-memory` sees that it takes none.
 #![tactic(auto)]
 
 mod bodies;

@@ -37,7 +37,8 @@ fn put_at(bytes: &mut [u8], place: usize, offset: usize, part: &[u8]) {
     put(bytes, place.saturating_add(offset), part);
 }
 
-/// Where in a frame its record of this place begins, from 0. In cells 29 stand in the first cell, and 31 in each other one.
+/// Where in a frame its record of this place begins, from 0. In cells 29 stand in the first cell, and 31 in each other
+/// one.
 fn record_at(layout: JournalLayout, place: u8) -> usize {
     let records = usize::from(place) * 16;
     match layout {

@@ -13,8 +13,8 @@ use std::test::Fail;
 /// The last byte of the second slot's body.
 const IN_THE_NEWEST: usize = 53_247;
 
-/// What is told of a device: the count in the bytes of its other slot, and the index of its last later batch with the number of
-/// that batch's first command.
+/// What is told of a device: the count in the bytes of its other slot, and the index of its last later batch with the
+/// number of that batch's first command.
 type Told = (Option<u32>, Option<(u64, u64)>);
 
 /// What is told of a device that was opened, and how many commands it has. `None` where it isn't opened.
@@ -38,8 +38,8 @@ fn told_of(alloc: Global, bytes: &[u8]) -> Result<Option<(u32, Told)>, Fail> {
     Ok(Some((plan.auction.count(), (slot, later))))
 }
 
-/// A checkpoint of one command stands in the second slot; then a byte of it is another one. The device opens by the older
-/// checkpoint, and it is told that a newer one said 1.
+/// A checkpoint of one command stands in the second slot; then a byte of it is another one. The device opens by the
+/// older checkpoint, and it is told that a newer one said 1.
 fn spoil_newest(rt: &impl Abort, alloc: Global, shape: JournalShape) -> Result<(), Fail> {
     let mut bytes = new_device(alloc, shape)?;
     assert_eq!(rt; told_of(alloc, &bytes)?, Some((0, (None, None))));

@@ -53,8 +53,8 @@ const LAYOUT_AT: usize = 24;
 
 const FRAMES_AT: usize = 43;
 
-/// The bytes of a new device with 16 frames of cells, which had this byte everywhere. Before the journal it has those of
-/// one of pages, but for layout and number of frames. The journal stays, but for gates that would be open.
+/// The bytes of a new device with 16 frames of cells, which had this byte everywhere. Before the journal it has those
+/// of one of pages, but for layout and number of frames. The journal stays, but for gates that would be open.
 fn wanted_of_cells(alloc: Global, byte: u8) -> Result<Vec<u8>, Fail> {
     let pages = new_device_over(alloc, FOUR_PAGES, byte)?;
     let mut wanted = vec![in alloc; byte; 77_824]?;

@@ -320,7 +320,8 @@ fn frames_out_of_their_order(rt: HostRuntime) -> Result<(), Fail> {
     Ok(())
 }
 
-/// What is opened after a stop of a device whose first frame was to be opened, where the write of its gate had this fate.
+/// What is opened after a stop of a device whose first frame was to be opened, where the write of its gate had this
+/// fate.
 fn opened_after_stop(alloc: Global, bytes: &[u8], fate: Fate) -> Result<Found, Fail> {
     let mut disk = MemoryDisk::of(alloc, bytes.to_vec(alloc)?)?;
     if disk.len() <= JOURNAL {

@@ -38,8 +38,8 @@ fn put_journal(
     Ok(())
 }
 
-/// Whether a device with such a journal is opened with all commands before the next batch, and the frames are clean from
-/// that of the next batch up to that of the oldest one.
+/// Whether a device with such a journal is opened with all commands before the next batch, and the frames are clean
+/// from that of the next batch up to that of the oldest one.
 fn is_opened(
     alloc: Global,
     new: &[u8],
@@ -53,8 +53,8 @@ fn is_opened(
     opens_as(alloc, &bytes, front(commands, journal.next), clean)
 }
 
-/// Journals whose state covers each of these numbers of batches: with each number of batches behind the state, and from each
-/// batch on that the frames may hold.
+/// Journals whose state covers each of these numbers of batches: with each number of batches behind the state, and from
+/// each batch on that the frames may hold.
 fn wrap(rt: &impl Abort, alloc: Global, shape: JournalShape, covering: &[u16]) -> Result<(), Fail> {
     let new = new_device(alloc, shape)?;
     let commands = many_rounds(alloc)?;

@@ -118,8 +118,8 @@ fn gates_that_are_neither(rt: HostRuntime) -> Result<(), Fail> {
     Ok(())
 }
 
-/// Bytes of the first slot's body, each of which makes no state of it: the eligibility of the first bidder is 11, the batch
-/// index 1, the last byte 1.
+/// Bytes of the first slot's body, each of which makes no state of it: the eligibility of the first bidder is 11, the
+/// batch index 1, the last byte 1.
 const IN_THE_SLOT: [(usize, u8); 3] = [(19_483, 11), (16_407, 1), (32_767, 1)];
 
 /// Each of these bytes makes the only state none.

@@ -67,8 +67,8 @@ const CHANGES: [(usize, u8); 8] = [
     (32_768, 1),
     (32_768, 0xa4),
     (32_768, 0xff),
-    // A state format that there isn't, one unit more than the bidder began with, more batches than commands, a last byte
-    // that isn't zero.
+    // A state format that there isn't, one unit more than the bidder began with, more batches than commands, a last
+    // byte that isn't zero.
     (36_864, 3),
     (39_963, 11),
     (36_887, 3),

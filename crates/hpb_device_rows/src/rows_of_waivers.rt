@@ -18,8 +18,8 @@ fn sound(shape: JournalShape) -> Found {
     Ok((0, u64::from(shape.frames)))
 }
 
-/// A new device with one waiver, with this format and this number of waivers in its head. Its state has a waiver left for
-/// each bidder.
+/// A new device with one waiver, with this format and this number of waivers in its head. Its state has a waiver left
+/// for each bidder.
 fn refuse_heads(rt: &impl Abort, alloc: Global, shape: JournalShape) -> Result<(), Fail> {
     let whole = new_device_with(alloc, shape, 1)?;
     assert_eq!(rt; whole.get(FORMAT).copied(), Some(2));

@@ -42,12 +42,14 @@ fn found_after(
     }
 }
 
-/// The fate of what no sync covers at the call of this place: they come in turn, and each four calls begin with the next one.
+/// The fate of what no sync covers at the call of this place: they come in turn, and each four calls begin with the
+/// next one.
 fn fate_at(place: usize) -> Fate {
     FATES[place.saturating_add(place / FATES.len()) % FATES.len()]
 }
 
-/// The run is cut at each of its calls. What was acknowledged is found, alone or with the batch that was in flight and may have landed.
+/// The run is cut at each of its calls. What was acknowledged is found, alone or with the batch that was in flight and
+/// may have landed.
 fn cut_at_every_call(rt: &impl Abort, alloc: Global, shape: JournalShape) -> Result<(), Fail> {
     let events = events(alloc)?;
     let moments = moments_of_run(alloc, shape, &events)?;

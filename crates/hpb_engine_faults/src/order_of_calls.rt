@@ -314,8 +314,8 @@ fn half_retired(
     Ok(opened_after(alloc, engine, &fates)?)
 }
 
-/// Frames that are closed already are passed over. Then batches are put into one frame after another, up to the first of those
-/// that were closed now.
+/// Frames that are closed already are passed over. Then batches are put into one frame after another, up to the first
+/// of those that were closed now.
 fn retire_half(
     rt: &impl Abort,
     alloc: Global,

@@ -147,7 +147,8 @@ pub(crate) fn moments_of_run(
     moments(alloc, &mut new_engine(alloc, shape)?, events)
 }
 
-/// Whether the batch in flight has landed after a stop, where all calls of this device fail from the one at this moment on.
+/// Whether the batch in flight has landed after a stop, where all calls of this device fail from the one at this moment
+/// on.
 fn lands_after_fuse(
     alloc: Global,
     disk: FuseDisk<MemoryDisk>,
@@ -185,8 +186,8 @@ fn fuse_at_every_call_over_cells(rt: HostRuntime) -> Result<(), Fail> {
     try_every_fuse(&rt, rt.alloc(), CELLS)
 }
 
-/// How many commands are opened without a stop where the call of this device at this moment alone fails, after stops were
-/// tried.
+/// How many commands are opened without a stop where the call of this device at this moment alone fails, after stops
+/// were tried.
 fn count_after_fault(
     alloc: Global,
     disk: OnceDisk<MemoryDisk>,

@@ -78,8 +78,8 @@ fn ends_well(driven: &Driven<MemoryDisk>) -> bool {
         && count(&driven.engine) == 1
 }
 
-/// A batch and a whole checkpoint are driven, and all is found after a stop. A first checkpoint of one batch takes eleven
-/// steps; the twelfth is idle.
+/// A batch and a whole checkpoint are driven, and all is found after a stop. A first checkpoint of one batch takes
+/// eleven steps; the twelfth is idle.
 fn drive_all(rt: &impl Abort, alloc: Global, shape: JournalShape) -> Result<(), Fail> {
     let survived = survived(alloc, shape, &events(alloc, 12)?)?;
     assert!(rt; ends_well(&survived.driven));

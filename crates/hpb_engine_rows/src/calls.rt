@@ -82,14 +82,14 @@ pub fn commit<D: Disk + Drop>(engine: &mut Engine<D>, letters: Letters) -> Answe
     answers
 }
 
-/// How many steps a whole checkpoint has that retires so many frames: nine that write the state, one for each frame, and a
-/// last one.
+/// How many steps a whole checkpoint has that retires so many frames: nine that write the state, one for each frame,
+/// and a last one.
 pub fn steps_retiring(frames: u32) -> usize {
     (frames as usize).saturating_add(10)
 }
 
-/// How many steps of a checkpoint are made until one answers `Whole`, this one with them. At most `most` are made; 0 where
-/// none of them answers so.
+/// How many steps of a checkpoint are made until one answers `Whole`, this one with them. At most `most` are made; 0
+/// where none of them answers so.
 pub fn steps_to_whole<D: Disk + Drop>(engine: &mut Engine<D>, most: usize) -> usize {
     for step in 1..=most {
         if take_step(engine) == Ok(Rest::Whole) {

@@ -21,7 +21,8 @@ pub const CELLS: JournalShape = JournalShape {
     frames: 16,
 };
 
-/// Does a row with the journal of each layout, by the name that it has in the row: `over_layouts!(shape => row(shape)?)`.
+/// Does a row with the journal of each layout, by the name that it has in the row: `over_layouts!(shape =>
+/// row(shape)?)`.
 #[macro_export]
 macro_rules! over_layouts {
     ($shape:ident => $row:expr) => {{

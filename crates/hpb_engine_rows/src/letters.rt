@@ -107,8 +107,8 @@ pub fn stage(ticket: u32) -> Letter
     }
 }
 
-/// Bids of x on the licence a, one in each of 32 rounds and twice the one before, with the close of each round: the one of
-/// this place.
+/// Bids of x on the licence a, one in each of 32 rounds and twice the one before, with the close of each round: the one
+/// of this place.
 pub fn in_round(place: u32) -> Letter {
     let before = (place / 2).min(31);
     if place % 2 == 0 {

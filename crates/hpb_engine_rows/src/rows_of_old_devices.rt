@@ -101,7 +101,8 @@ fn is_after_round(auction: &Auction) -> bool {
     auction.count() == 5
 }
 
-/// A checkpoint of a device with these bytes, of which all calls fail from this one on: whether it is whole, and the device.
+/// A checkpoint of a device with these bytes, of which all calls fail from this one on: whether it is whole, and the
+/// device.
 fn cut(alloc: Global, old: &[u8], call: u64) -> Result<(bool, MemoryDisk), Fail> {
     let disk = FuseDisk::new(MemoryDisk::of(alloc, old.to_vec(alloc)?)?, call);
     let mut engine = engine_over(alloc, disk)?;
@@ -118,8 +119,8 @@ fn format_of(opened: &Opened<MemoryDisk>, bytes: &[u8]) -> Option<u8> {
     bytes.get(at).copied()
 }
 
-/// What a stop leaves of an old device: its head, byte for byte, and its auction. The state in the second slot is of the
-/// second format.
+/// What a stop leaves of an old device: its head, byte for byte, and its auction. The state in the second slot is of
+/// the second format.
 fn leave_old(
     rt: &impl Abort,
     alloc: Global,
@@ -140,8 +141,8 @@ fn leave_old(
     Ok(())
 }
 
-/// A checkpoint is cut at this call, behind so many by which the device is opened. It has ten: eight write the state, and two
-/// retire its frame.
+/// A checkpoint is cut at this call, behind so many by which the device is opened. It has ten: eight write the state,
+/// and two retire its frame.
 fn cut_at(rt: &impl Abort, alloc: Global, old: &[u8], opening: u64, call: u64) -> Result<(), Fail> {
     let (is_whole, disk) = cut(alloc, old, opening.saturating_add(call))?;
     assert_eq!(rt; is_whole, call > 10, "{call}");

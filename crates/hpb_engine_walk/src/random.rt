@@ -82,8 +82,8 @@ impl Random {
         }
     }
 
-    /// Up to six letters, at times many more. Most of them can be accepted after the commands of the auction and one after
-    /// another.
+    /// Up to six letters, at times many more. Most of them can be accepted after the commands of the auction and one
+    /// after another.
     pub(crate) fn letters(
         &mut self,
         alloc: Global,

@@ -8,7 +8,8 @@ const LEAST: u64 = 21;
 /// How often things happened in a walk.
 #[derive(Clone, Copy, Debug, PartialEq, Eq)]
 pub(crate) struct Tally {
-    /// Stops, those after which the batch in flight had landed, and those after which the walk went on with what was left.
+    /// Stops, those after which the batch in flight had landed, and those after which the walk went on with what was
+    /// left.
     pub(crate) stops: u64,
     pub(crate) landed: u64,
     pub(crate) restarts: u64,

@@ -146,8 +146,8 @@ fn is_offered(offered: &Offered, weight: Weight, answers: &Answers, sent: &[Lett
         && offered.answers.as_slice() == answers.as_slice()
 }
 
-/// Walks over one device with such a journal after another, up to so many stops. Checkpoints are seldom, or as many steps as
-/// of commits, or more.
+/// Walks over one device with such a journal after another, up to so many stops. Checkpoints are seldom, or as many
+/// steps as of commits, or more.
 pub(crate) fn walk_from(
     alloc: Global,
     shape: JournalShape,

@@ -1,6 +1,6 @@
-//! Makes a call that takes memory, at a size of its definition, and again where memory was refused; or runs a script as `hpb`
-//! does, or with a word the lines of a small auction, and ends by a status for each fault. `examples/refuse-memory` refuses
-//! each request for memory in turn, and sees by it that none is told for another.
+//! Makes a call that takes memory, at a size of its definition, and again where memory was refused; or runs a script as
+//! `hpb` does, or with a word the lines of a small auction, and ends by a status for each fault.
+//! `examples/refuse-memory` refuses each request for memory in turn, and sees by it that none is told for another.
 #![tactic(auto)]
 
 mod auctions;

@@ -32,8 +32,8 @@ pub struct Closing<D: Disk + Drop> {
     pub auction: Auction,
     /// Whether a call of the device has failed (91).
     pub has_failed: bool,
-    /// The answers of the batch in flight, if one was, as it may be after such a call: none of them has left. The device may
-    /// keep its new commands.
+    /// The answers of the batch in flight, if one was, as it may be after such a call: none of them has left. The
+    /// device may keep its new commands.
     pub in_flight: Option<Answers>,
     /// The list of batches that was published: what it leads to is committed.
     pub published: Trail,
@@ -41,7 +41,8 @@ pub struct Closing<D: Disk + Drop> {
     pub whole: Trail,
 }
 
-/// 96 `counts`: what the clients took isn't what was committed, or a batch is still in flight.
+/// 96 `counts`: what the clients took isn't what was committed, or a batch is in flight though no call of the device has
+/// failed.
 #[derive(Drop)]
 pub struct CloseFault<D: Disk + Drop> {
     /// The device, as the engine leaves it.
@@ -56,7 +57,8 @@ pub struct CloseFault<D: Disk + Drop> {
     pub published: Trail,
     /// The same list, on to the batch in flight, and to all that a report has entered.
     pub whole: Trail,
-    /// How many answers that were taken newly accepted a command, and how many commands were committed since the opening.
+    /// How many answers that were taken newly accepted a command, and how many commands were committed since the
+    /// opening.
     pub counts: Counts,
 }
 
@@ -70,12 +72,12 @@ impl<D: Disk + Drop> CloseFault<D> {
 }
 
 impl<D: Disk + Drop, W: Wait + Drop, J: Naming> House<D, W, J> {
-    /// Closes the house: each report is viewed once more, and compared with the committed auction. The reports are those
-    /// of the clients that the house was started with: of each its own, and no others.
+    /// Closes the house: each report is viewed once more, and compared with the committed auction. The reports are
+    /// those of the clients that the house was started with: of each its own, and no others.
     ///
     /// 96 `counts` exactly where the number of newly accepted answers that were taken isn't that of the commands committed
-    /// since the opening, or a report shows another auction than the committed one, or a batch is still in flight. A report
-    /// that can't be viewed any more shows what it showed.
+    /// since the opening, or a report shows another auction than the committed one, or a batch is in flight though no
+    /// call of the device has failed. A report that can't be viewed any more shows what it showed.
     pub fn close(self, reports: &mut [Report]) -> Result<Closing<D>, CloseFault<D>>
         requires clients { AreReportsOf J.clients reports.old }
         // What was sent and taken stays as it was told, and each list that was seen begins the one that is seen now.
@@ -93,8 +95,8 @@ impl<D: Disk + Drop, W: Wait + Drop, J: Naming> House<D, W, J> {
         ensures taken { OnOk result (All (λ r. accepted_by r ≡ new_commands (answers_of r.seat r.viewer)) reports.new) }
         ensures once { OnOk result (All (λ r. IsPermutation (flat_map accepted_by reports.new) (history_of r.viewer)) reports.new) }
         ensures numbers { IfOk result (λ closing. total reports.new ≡ closing.auction.count - self.opened.count) }
-        // The device keeps each history that it stood for when it was opened, and then the reports' one history; where a call
-        // of it failed it may keep the batch in flight, too, and nothing else.
+        // The device keeps each history that it stood for when it was opened, and then the reports' one history; where
+        // a call of it failed it may keep the batch in flight, too, and nothing else.
         ensures kept { IfOk result (λ closing. LeavesShown D.seen D.may_leave J.image self.opened closing reports.new) }
         // At 96 too it keeps these, and then the commands committed since, which are those of the house's list.
         ensures left { IfErr result (λ fault. LeavesUnsettled D.seen D.may_leave J.image self.opened fault reports.new) }

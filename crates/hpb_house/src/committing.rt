@@ -32,8 +32,8 @@ const PAUSE: u64 = 1;
 /// How often the committer looks for letters that are expected, in all. Other threads run between two looks.
 const LOOKS: u32 = 100;
 
-/// How many of these looks, one after another, may find no other letter where some wait already: these are not to wait long
-/// beside much other work.
+/// How many of these looks, one after another, may find no other letter where some wait already: these are not to wait
+/// long beside much other work.
 const FEW_LOOKS: u32 = 20;
 
 /// What came of a turn of the committer.
@@ -49,17 +49,17 @@ enum Turned {
     Ended,
 }
 
-/// Commits letters: it gathers those that wait, offers them as one batch and makes the steps of its commit, taking the lock
-/// for one step at a time. With nothing to do it waits for its bell. Where more letters are expected, since their senders
-/// were just answered, it looks for them before that: 100 times at most, and where letters wait already, until 20 looks one
-/// after another find no other.
+/// Commits letters: it gathers those that wait, offers them as one batch and makes the steps of its commit, taking the
+/// lock for one step at a time. With nothing to do it waits for its bell. Where more letters are expected, since their
+/// senders were just answered, it looks for them before that: 100 times at most, and where letters wait already, until
+/// 20 looks one after another find no other.
 ///
-/// Letters that are handed back for want of a clean frame, of memory or of room on the board are offered again. Once the
-/// engine has failed it sends a `Halt` to each seat, and from then on only empties the rings. It ends when every seat has
-/// sent its end mark, and then the checkpointer ends too. It may wait.
+/// Letters that are handed back for want of a clean frame, of memory or of room on the board are offered again. Once
+/// the engine has failed it sends a `Halt` to each seat, and from then on only empties the rings. It ends when every
+/// seat has sent its end mark, and then the checkpointer ends too. It may wait.
 ///
-/// All letters that came are on the list then, in the order of their seat, each once; but for those that were still held
-/// when a halt was told to each seat, and those that came after it.
+/// All letters that came are on the list then, in the order of their seat, each once; but for those that were still
+/// held when a halt was told to each seat, and those that came after it.
 pub fn committer<D: Disk + Drop, W: Wait + Drop, J: Naming, G: Gate, R: Wait>(
     rt: &R,
     house: &House<D, W, J>,
@@ -272,8 +272,8 @@ fn halted<D: Disk + Drop, W: Wait + Drop, J: Naming, R: Wait>(
     }
 }
 
-/// Empties the rings until every seat has sent its end mark. A seat whose letters were taken is told, since there is room for
-/// its end mark now.
+/// Empties the rings until every seat has sent its end mark. A seat whose letters were taken is told, since there is
+/// room for its end mark now.
 fn drain<D: Disk + Drop, W: Wait + Drop, J: Naming, G: Gate, R: Wait>(
     rt: &R,
     house: &House<D, W, J>,

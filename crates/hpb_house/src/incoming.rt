@@ -10,8 +10,8 @@ use hpb_rings::Intake;
 use std::marker::PhantomData;
 use std::thread::Promise;
 
-/// What the committer of the house of this name takes to its work: the rings of all seats, and a front of the house's list. All
-/// letters that came through these rings are on that list, each once.
+/// What the committer of the house of this name takes to its work: the rings of all seats, and a front of the house's
+/// list. All letters that came through these rings are on that list, each once.
 #[derive(Drop)]
 pub struct Incoming<J: Naming> {
     /// The committer's side of the rings.
@@ -49,8 +49,8 @@ pub struct Settled {
     pub front: Front,
 }
 
-/// The committer of the house of this name ends as it should: its thread is started with this, and whoever joins it knows
-/// what is so of what it hands back.
+/// The committer of the house of this name ends as it should: its thread is started with this, and whoever joins it
+/// knows what is so of what it hands back.
 #[derive(Drop)]
 pub struct Settles<J: Naming> {
     of: PhantomData<J>,

@@ -50,7 +50,8 @@ impl StartCause {
     }
 }
 
-/// What a house asks for at its start, in this order: the rings, the viewer and the bell are asked for once for each seat.
+/// What a house asks for at its start, in this order: the rings, the viewer and the bell are asked for once for each
+/// seat.
 #[derive(Clone, Copy, Debug, PartialEq, Eq)]
 pub enum StartPart {
     /// The board.
@@ -70,8 +71,8 @@ pub enum StartPart {
 }
 
 impl StartPart {
-    /// Why a house isn't started that was refused this: 94 `place` for a ring or the place of a viewer, 90 `memory` for all
-    /// else.
+    /// Why a house isn't started that was refused this: 94 `place` for a ring or the place of a viewer, 90 `memory` for
+    /// all else.
     pub fn cause(self) -> StartCause
         ensures { result ≡ cause_of self }
     {
@@ -216,8 +217,8 @@ impl<D: Disk + Drop, W: Wait + Drop> House<D, W, Brand> {
     /// Starts a house over an opened device for so many sessions, from 1 to 32: the house, the committer's side of the
     /// rings, and a client for each seat.
     ///
-    /// 90 `memory` where memory is refused, 94 `place` where a ring or a viewer's place is: the part that was refused tells
-    /// which (`StartPart::cause`). Both hand the opened device back as it was.
+    /// 90 `memory` where memory is refused, 94 `place` where a ring or a viewer's place is: the part that was refused
+    /// tells which (`StartPart::cause`). Both hand the opened device back as it was.
     pub fn start(
         rt: W,
         alloc: Global,

@@ -24,7 +24,8 @@ pub struct Workers<J: Naming> {
 impl<J: Naming> Workers<J> {
     /// Starts the workers, each with a gate that is told where it stands.
     ///
-    /// 90 where a thread is refused: the committer ends by itself then, if it was started, once every client is finished.
+    /// 90 where a thread is refused: the committer ends by itself then, if it was started, once every client is
+    /// finished.
     pub fn start<
         's,
         E,

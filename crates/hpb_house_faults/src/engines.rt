@@ -89,8 +89,8 @@ pub(crate) fn drive_device(rt: &HostRuntime, nodes: u64, layout: u8) -> Result<T
     Ok(drive_device_marked(rt, opened, &events))
 }
 
-/// Takes events on what was opened, between the marks. Where that is refused the device is handed back, opened anew, and takes
-/// them then.
+/// Takes events on what was opened, between the marks. Where that is refused the device is handed back, opened anew,
+/// and takes them then.
 fn drive_device_marked(rt: &HostRuntime, opened: Opened<FileDisk>, events: &[Event]) -> Tried {
     let given = opened_sum(rt, &opened);
     let _ = begin(rt);

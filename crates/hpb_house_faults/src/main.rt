@@ -1,5 +1,6 @@
-//! Makes a call that opens a device, starts an engine or a house over it, or answers lines by it, and again where memory was refused:
-//! `examples/refuse-calls` refuses each request for memory in turn, and sees by it that none is told for another.
+//! Makes a call that opens a device, starts an engine or a house over it, or answers lines by it, and again where
+//! memory was refused: `examples/refuse-calls` refuses each request for memory in turn, and sees by it that none is
+//! told for another.
 #![tactic(auto)]
 
 mod engines;

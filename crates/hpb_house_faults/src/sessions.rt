@@ -15,8 +15,9 @@ use std::io::Read;
 /// More bytes than are answered.
 const ROOM: usize = 65_536;
 
-/// Answers the lines of a text by an engine into a room, with no checkpoint but where the journal is full. As many commands as may
-/// be are committed together, which is all that are read: so memory is refused before the first of them is kept.
+/// Answers the lines of a text by an engine into a room, with no checkpoint but where the journal is full. As many
+/// commands as may be are committed together, which is all that are read: so memory is refused before the first of them
+/// is kept.
 fn answered(
     rt: &HostRuntime,
     text: &[u8],
@@ -66,8 +67,8 @@ fn run_marked(
     }
 }
 
-/// `run_device`, of the input and an engine over a new device of an auction of so many nodes. Where it is refused nothing was
-/// answered, and the engine is handed back as it was.
+/// `run_device`, of the input and an engine over a new device of an auction of so many nodes. Where it is refused
+/// nothing was answered, and the engine is handed back as it was.
 pub(crate) fn run(rt: &HostRuntime, nodes: u64, layout: u8) -> Result<Tried> {
     let mut text = Vec::new(rt.alloc());
     rt.stdin().read_to_end(&mut text)?;

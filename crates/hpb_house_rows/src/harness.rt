@@ -197,8 +197,8 @@ fn ended<D: Disk + Drop>(
     }
 }
 
-/// Runs all threads of a house that was started, by the name that is its own, and closes it. So many commands were accepted
-/// when it was opened.
+/// Runs all threads of a house that was started, by the name that is its own, and closes it. So many commands were
+/// accepted when it was opened.
 fn run_started<
     J: Naming + Send + Sync,
     D: Disk + Drop + Send,

@@ -100,8 +100,8 @@ impl Gate for Pages {
     }
 }
 
-/// Holds a checkpoint behind its first page until a commit stands between two of its turns, and that commit until the next page
-/// is written. The commit is the second one: there is nothing to write before the first.
+/// Holds a checkpoint behind its first page until a commit stands between two of its turns, and that commit until the
+/// next page is written. The commit is the second one: there is nothing to write before the first.
 #[derive(Drop)]
 pub(crate) struct Crossing {
     commits: AtomicU32,

@@ -153,8 +153,8 @@ fn are_told<R: Wait>(rt: &R, pages: &Pages, count: u32) -> bool {
     false
 }
 
-/// Lets the checkpointer on from page to page, and commits in between: none before the second page, and one before the third,
-/// and before the fourth.
+/// Lets the checkpointer on from page to page, and commits in between: none before the second page, and one before the
+/// third, and before the fourth.
 #[derive(Drop)]
 struct InTurns {
     pages: Pages,

@@ -37,8 +37,8 @@ fn fill(client: &mut Client<Halt>)
     }
 }
 
-/// The client of the first seat bids, and any other only waits. Each is halted, and gets no answer. Then it posts as much as
-/// its ring takes, so that it can't finish before that is emptied.
+/// The client of the first seat bids, and any other only waits. Each is halted, and gets no answer. Then it posts as
+/// much as its ring takes, so that it can't finish before that is emptied.
 #[derive(Drop)]
 struct Halted {
     right: AtomicU32,

@@ -11,8 +11,8 @@ use hpb_rings::Client;
 use hpb_rules::{Command, Reply};
 use std::sync::Wait;
 
-/// The command of this place behind three rounds, from 0: in each further round z bids on the greatest package, and it is
-/// closed.
+/// The command of this place behind three rounds, from 0: in each further round z bids on the greatest package, and it
+/// is closed.
 fn in_later_round(place: u32) -> Command {
     let rounds = place / 2;
     if place % 2 == 0 {

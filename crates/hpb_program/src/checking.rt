@@ -34,9 +34,9 @@ pub(crate) fn run_check<H: Files<File = File>, W: Write, E: Write>(
     }
 }
 
-/// Writes the lines of the auction that a device keeps: what `SHOW` is answered, and for each node, in the order of
-/// the definition, what `NODE` is answered. It syncs the device first, and writes nothing on it. Before, people are told where it has
-/// what no honest device has.
+/// Writes the lines of the auction that a device keeps: what `SHOW` is answered, and for each node, in the order of the
+/// definition, what `NODE` is answered. It syncs the device first, and writes nothing on it. Before, people are told
+/// where it has what no honest device has.
 #[tactic(auto, using(crate::proofs::Doubting::shown_not, crate::proofs::Doubting::cut_not, crate::proofs::Doubting::told_not))]
 pub fn check_device<D: Disk + Drop, W: Write, E: Write>(
     alloc: Global,

@@ -28,8 +28,8 @@ fn most_open() -> u64 {
     limit.rlim_cur
 }
 
-/// Looks whether as many more files and connections may be open at a time as so many sessions take, by having as many open
-/// for a moment. Refused by 92, or by 90 where memory is refused.
+/// Looks whether as many more files and connections may be open at a time as so many sessions take, by having as many
+/// open for a moment. Refused by 92, or by 90 where memory is refused.
 pub(crate) fn look_for_descriptors<R: Files<File = File>>(
     rt: &R,
     alloc: Global,

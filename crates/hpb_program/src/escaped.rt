@@ -27,8 +27,8 @@ impl fmt::Display for Escaped<'_> {
 /// How many bytes a name in a command has at most.
 const MOST_PASTED: usize = 400;
 
-/// A file's name in a command that is to be pasted: in quotes where a shell wants it, and whole. `F` stands for one that is
-/// longer than a line may be, or has characters that a terminal obeys or doesn't show.
+/// A file's name in a command that is to be pasted: in quotes where a shell wants it, and whole. `F` stands for one
+/// that is longer than a line may be, or has characters that a terminal obeys or doesn't show.
 #[derive(Clone, Copy)]
 pub(crate) struct Pasted<'a>(pub(crate) &'a str);
 

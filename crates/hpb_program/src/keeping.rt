@@ -63,10 +63,11 @@ pub(crate) fn run_file<H: Files<File = File>, R: Read, W: Write, E: Write>(
     }
 }
 
-/// Answers the lines of the input by the auction that a device keeps, and keeps it there: as many commands as have come,
-/// `batch` at most, are made durable together and then answered, and after `every` batches there is a checkpoint. Nothing
-/// is read or written where the device isn't opened. Where it has what no honest device has, people are told so before. At a terminal
-/// commands are answered one at a time, and people are told which number would do in place of one that is refused.
+/// Answers the lines of the input by the auction that a device keeps, and keeps it there: as many commands as have
+/// come, `batch` at most, are made durable together and then answered, and after `every` batches there is a checkpoint.
+/// Nothing is read or written where the device isn't opened. Where it has what no honest device has, people are told so
+/// before. At a terminal commands are answered one at a time, and people are told which number would do in place of one
+/// that is refused.
 pub fn run_kept<D: Disk + Drop, R: Read, W: Write, E: Write>(
     alloc: Global,
     disk: D,

@@ -61,7 +61,8 @@ impl SeenFile {
     }
 }
 
-/// What the system says of the file of a path, and its disk, where it can't be synced or read from the beginning to the end.
+/// What the system says of the file of a path, and its disk, where it can't be synced or read from the beginning to the
+/// end.
 pub(crate) fn trouble_of<H: Files<File = File>>(rt: &H, path: &str) -> Option<io::Error> {
     match read_all(rt, path) {
         Ok(()) => None,

@@ -29,8 +29,9 @@ struct Seen {
 }
 
 impl Seen {
-    /// Those that it has now. The name is another one once the file was moved, removed or replaced; where the system tells none
-    /// it is empty. A file that was cut and then written behind its end is as long as before, but has zeros between.
+    /// Those that it has now. The name is another one once the file was moved, removed or replaced; where the system
+    /// tells none it is empty. A file that was cut and then written behind its end is as long as before, but has zeros
+    /// between.
     fn of(alloc: Global, file: &File) -> Result<Seen, AllocError> {
         let (names, len) = match file.metadata() {
             Ok(found) => (found.nlink(), found.len()),
@@ -66,8 +67,8 @@ fn name_of(alloc: Global, file: &File) -> Result<Vec<u8>, AllocError> {
     name[..count.min(libc::PATH_MAX)].to_vec(alloc)
 }
 
-/// A watch of the file that is served. It tells people by the descriptor of standard errors, as far as memory allows: the
-/// errors that the program was handed are written by the thread that has them alone.
+/// A watch of the file that is served. It tells people by the descriptor of standard errors, as far as memory allows:
+/// the errors that the program was handed are written by the thread that has them alone.
 #[derive(Drop)]
 pub(crate) struct Lookout<'a> {
     alloc: Global,
@@ -78,8 +79,8 @@ pub(crate) struct Lookout<'a> {
 }
 
 impl<'a> Lookout<'a> {
-    /// A watch of the file of a path, from which a device was opened. Refused by 91 where the path leads to another file by
-    /// now, and by 90 where memory is refused.
+    /// A watch of the file of a path, from which a device was opened. Refused by 91 where the path leads to another
+    /// file by now, and by 90 where memory is refused.
     pub(crate) fn new<H: Files<File = File>>(
         rt: &H,
         alloc: Global,

@@ -30,8 +30,8 @@ impl<S> Noted<S> {
         }
     }
 
-    /// Whether the last text that it was to take was cut: it failed, or took nothing, so that a front of the text may stand
-    /// there.
+    /// Whether the last text that it was to take was cut: it failed, or took nothing, so that a front of the text may
+    /// stand there.
     pub fn is_cut(&self) -> bool
         ensures { result ≡ is_cut self.now }
     {

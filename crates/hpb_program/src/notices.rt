@@ -6,8 +6,8 @@ use hpb_rules::Refusal;
 use std::alloc::Global;
 use std::{fmt, io};
 
-/// Writes a line of a notice to standard errors by one call, as far as memory allows. Where it fails there is nowhere left to
-/// say so.
+/// Writes a line of a notice to standard errors by one call, as far as memory allows. Where it fails there is nowhere
+/// left to say so.
 pub(crate) fn notify<N: fmt::Display + Copy>(alloc: Global, notice: N) {
     if let Ok(line) = format!(in alloc; "hpb: {notice}\n") {
         let _ = libc::write(libc::STDERR_FILENO, line.as_bytes());

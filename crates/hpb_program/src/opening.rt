@@ -20,9 +20,9 @@ use std::alloc::{AllocError, Global};
 use std::fmt;
 use std::io::Write;
 
-/// Opens a device, as `open` does. Where it has what no honest device has, which shows that its newest checkpoint may be damaged,
-/// people are told so before anything else, with the counts that could stand; and where it has nothing of that kind they are told
-/// nothing.
+/// Opens a device, as `open` does. Where it has what no honest device has, which shows that its newest checkpoint may
+/// be damaged, people are told so before anything else, with the counts that could stand; and where it has nothing of
+/// that kind they are told nothing.
 ///
 /// 90 and 91 as of `open`, also where memory or a read is refused while that is looked for: then nothing was told.
 #[tactic(auto, using(crate::proofs::Kept::not_opened))]
@@ -93,8 +93,8 @@ fn opened_still<D: Disk + Drop>(disk: D, plan: Plan) -> Opened<D>
     Opened { disk, plan }
 }
 
-/// The line by which people are told of what an auction of so many commands has that none has on an honest device: empty where that
-/// is nothing.
+/// The line by which people are told of what an auction of so many commands has that none has on an honest device:
+/// empty where that is nothing.
 pub(crate) fn line_of_doubts(
     alloc: Global,
     count: u32,

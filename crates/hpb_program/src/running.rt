@@ -36,11 +36,12 @@ use std::thread::Threads;
 /// What is said where the words can't be read.
 const NO_TEXT: &str = "hpb: an argument is not UTF-8\n";
 
-/// The whole of the program, with its status: 0; 1 where a definition or a file is refused, memory is refused or
-/// a stream fails; 2 where the words are wrong. The first word is the program's name. Lines go to the output; that of a refusal,
-/// and the last one of a file that was formatted or served, is there whole unless the output says that it was cut. The errors
-/// are told what is said of the words, help too, and why a definition or a file is refused or a stream failed; and where
-/// the input is a terminal what to type, and which number would do in place of a command that is refused. Only jobs on files use the runtime, and of these only serving may wait.
+/// The whole of the program, with its status: 0; 1 where a definition or a file is refused, memory is refused or a
+/// stream fails; 2 where the words are wrong. The first word is the program's name. Lines go to the output; that of a
+/// refusal, and the last one of a file that was formatted or served, is there whole unless the output says that it was
+/// cut. The errors are told what is said of the words, help too, and why a definition or a file is refused or a stream
+/// failed; and where the input is a terminal what to type, and which number would do in place of a command that is
+/// refused. Only jobs on files use the runtime, and of these only serving may wait.
 pub fn program<
     H: Files<File = File> + Net<Listener = TcpListener, Stream = TcpStream> + Threads + Wait + Sync,
     S: AsStr,
@@ -78,7 +79,8 @@ pub fn refuse_words<E: Write>(error: &io::Error, errors: &mut E) -> u8
     WRONG_WORDS
 }
 
-/// The status of the program where its standard streams can't be held: 1. The errors are told why, as far as there are any.
+/// The status of the program where its standard streams can't be held: 1. The errors are told why, as far as there are
+/// any.
 pub fn refuse_streams<E: Write>(alloc: Global, error: &io::Error, errors: &mut E) -> u8
     ensures status { result ≡ ILL }
     ensures told { TellsOf (E.contents errors.old) (E.contents errors.new) refusals.Stream }
@@ -185,8 +187,8 @@ fn run_job<
     }
 }
 
-/// What is known of a job beside how it ended. A file whose bytes or whose length were refused, or of which a call failed, is looked
-/// at once more.
+/// What is known of a job beside how it ended. A file whose bytes or whose length were refused, or of which a call
+/// failed, is looked at once more.
 fn known_of<'a, H: Files<File = File>, T>(
     rt: &H,
     alloc: Global,
@@ -331,8 +333,8 @@ fn tell_ended<E: Write>(alloc: Global, end: RunEnd, known: Known<'_>, errors: &m
     ILL
 }
 
-/// Says what is wrong with words, or what help they ask for, and gives the program's status. The output has the line of 90
-/// where memory was refused.
+/// Says what is wrong with words, or what help they ask for, and gives the program's status. The output has the line of
+/// 90 where memory was refused.
 fn say_fault<W: Write, E: Write>(fault: WordsFault, output: &mut Noted<W>, errors: &mut E) -> u8
     requires { HasStatus fault }
     ensures status { result ≤ WRONG_WORDS }

@@ -64,8 +64,8 @@ struct Unsaid<D: Disk + Drop> {
     room: String,
 }
 
-/// Serves so many sessions with the auction that the file of a path keeps, as `serve_kept` says, once there may be as many
-/// connections at a time as that takes. The file is closed before the last line is written.
+/// Serves so many sessions with the auction that the file of a path keeps, as `serve_kept` says, once there may be as
+/// many connections at a time as that takes. The file is closed before the last line is written.
 #[tactic(auto, using(crate::proofs::Served::of_device, crate::proofs::Served::unheld, crate::proofs::Served::unopened_file))]
 pub(crate) fn serve_file<
     H: Files<File = File> + Net<Listener = TcpListener, Stream = TcpStream> + Threads + Wait + Sync,
@@ -128,15 +128,15 @@ pub(crate) fn serve_file<
     }
 }
 
-/// Serves so many sessions, from 1 to 32, with the auction that a device keeps, over connections to a port of 127.0.0.1.
-/// `LISTENING` with the port is written once it can be connected to, and `CLOSED` with the number of commands that are
-/// accepted in all once all sessions have ended.
+/// Serves so many sessions, from 1 to 32, with the auction that a device keeps, over connections to a port of
+/// 127.0.0.1. `LISTENING` with the port is written once it can be connected to, and `CLOSED` with the number of
+/// commands that are accepted in all once all sessions have ended.
 ///
-/// Before anything else people are told where the device has what no honest device has. The port is asked for only where it was
-/// opened, and nothing is written where either was refused: 40, 42, 44, 45
-/// and 91 of the device, 92 of the port. A house that wasn't started is 90 or 94, a session that took no answer 95, and
-/// what was answered and isn't what was kept 96. What was served is handed up: the device, which keeps the history that it
-/// stood for when it was opened and then the commands that the sessions were told of as newly accepted.
+/// Before anything else people are told where the device has what no honest device has. The port is asked for only
+/// where it was opened, and nothing is written where either was refused: 40, 42, 44, 45 and 91 of the device, 92 of the
+/// port. A house that wasn't started is 90 or 94, a session that took no answer 95, and what was answered and isn't
+/// what was kept 96. What was served is handed up: the device, which keeps the history that it stood for when it was
+/// opened and then the commands that the sessions were told of as newly accepted.
 pub fn serve_kept<
     H: Net<Listener = TcpListener, Stream = TcpStream> + Threads + Wait + Sync,
     D: Disk + Drop + Send,

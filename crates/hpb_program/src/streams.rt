@@ -20,9 +20,9 @@ use std::os::unix::fs::MetadataExt;
 /// What stands in for a stream that is closed: it reads as empty, and takes what is written.
 const NOTHING: &str = "/dev/null";
 
-/// Opens what is closed of the standard streams on /dev/null. To be called before anything else is opened: a file that were
-/// opened then would be given the number of a closed stream, and what is meant for that stream would be written into the
-/// file, or the file read as input.
+/// Opens what is closed of the standard streams on /dev/null. To be called before anything else is opened: a file that
+/// were opened then would be given the number of a closed stream, and what is meant for that stream would be written
+/// into the file, or the file read as input.
 ///
 /// An error says that a stream stays closed. Then nothing else is to be opened.
 pub fn hold_streams<R: Files<File = File>>(rt: &R) -> io::Result<()> {
@@ -72,8 +72,8 @@ const ERRORS: Named = Named {
 };
 
 impl Named {
-    /// Whether it leads to a file, and that is a regular one: others may stand behind a stream and a path at once. Where the
-    /// system doesn't tell what it leads to, it is taken to lead there, unless it is a pipe.
+    /// Whether it leads to a file, and that is a regular one: others may stand behind a stream and a path at once.
+    /// Where the system doesn't tell what it leads to, it is taken to lead there, unless it is a pipe.
     fn leads_to<H: Files>(self, rt: &H, file: &Metadata) -> bool {
         match fs::metadata(rt, self.path) {
             Ok(found) => file.is_file() && found.dev() == file.dev() && found.ino() == file.ino(),
@@ -137,8 +137,8 @@ fn tell_unled<W: Write>(led: Led, output: &mut Noted<W>)
     tell(Refusal::Device, output);
 }
 
-/// The status of a job whose file standard streams lead to: 1. It is told by 91, but not on a stream that leads there: it would
-/// stand in the auction.
+/// The status of a job whose file standard streams lead to: 1. It is told by 91, but not on a stream that leads there:
+/// it would stand in the auction.
 pub(crate) fn refuse_led<W: Write, E: Write>(
     alloc: Global,
     file: &str,

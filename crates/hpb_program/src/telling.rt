@@ -15,7 +15,8 @@ use std::alloc::Global;
 use std::fmt;
 use std::io::Write;
 
-/// Writes the line of a refusal, unless the output was cut: a front of another line may stand there. It takes no memory.
+/// Writes the line of a refusal, unless the output was cut: a front of another line may stand there. It takes no
+/// memory.
 #[tactic(auto, using(crate::proofs::Lines::told_nothing))]
 pub(crate) fn tell<W: Write>(refusal: Refusal, output: &mut Noted<W>)
     ensures line { TellsLine (is_cut output.new) (W.contents output.old.stream) (W.contents output.new.stream) refusal }

@@ -206,8 +206,8 @@ const MOST_SESSIONS: u8 = MOST_SEATS as u8;
 pub enum Job<'a> {
     /// An auction in memory: a definition and lines from the input.
     Script,
-    /// A file that keeps an auction, by the definition from the input: the file's path, and the layout and the number of
-    /// frames of its journal, which may be out of the layout's range.
+    /// A file that keeps an auction, by the definition from the input: the file's path, and the layout and the number
+    /// of frames of its journal, which may be out of the layout's range.
     Format {
         file: &'a str,
         journal: JournalShape,
@@ -366,8 +366,8 @@ fn refused<S: AsStr>(
     Ok(WordsFault::Refused { text, status })
 }
 
-/// What is said of words: of those with characters that a terminal obeys or doesn't show what is said of them once these
-/// are escaped.
+/// What is said of words: of those with characters that a terminal obeys or doesn't show what is said of them once
+/// these are escaped.
 fn said_of<S: AsStr>(
     alloc: Global,
     error: &clap::Error,

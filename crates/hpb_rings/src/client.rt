@@ -92,8 +92,8 @@ impl<M: Copy> Client<M> {
         }
     }
 
-    /// Posts a letter of its seat, and rings the committer's bell. It hands the letter back where 16 are outstanding, or
-    /// no place in the ring is known to be free.
+    /// Posts a letter of its seat, and rings the committer's bell. It hands the letter back where 16 are outstanding,
+    /// or no place in the ring is known to be free.
     pub fn post(&mut self, letter: Letter) -> Result<(), Letter>
         requires { letter.seat ≡ self.old.seat }
         ensures waiting { MatchResult result (λ _. self.new.waiting.items ≡ self.old.waiting.items ++ record { letter = letter; mark = self.old.mark } ∷ []) (λ back. (back ≡ letter) × (self.new.waiting.items ≡ self.old.waiting.items)) }
@@ -128,10 +128,11 @@ impl<M: Copy> Client<M> {
         self.viewer.answer(self.seat, self.taken.wrapping_add(1))
     }
 
-    /// Takes the next answer, by the last view. `None` where there is none yet, or it isn't among the last 16 of the seat.
+    /// Takes the next answer, by the last view. `None` where there is none yet, or it isn't among the last 16 of the
+    /// seat.
     ///
-    /// Refused where the answer isn't for the oldest letter that waits, or was given when fewer commands were accepted than
-    /// were known at that letter's post (95 `order`): `Err` tells the answer, and nothing changes.
+    /// Refused where the answer isn't for the oldest letter that waits, or was given when fewer commands were accepted
+    /// than were known at that letter's post (95 `order`): `Err` tells the answer, and nothing changes.
     pub fn take(&mut self) -> Result<Option<Answer>, Answer>
         ensures same { (self.new.seat ≡ self.old.seat) × (self.new.letters ≡ self.old.letters) × (self.new.marks ≡ self.old.marks) × (self.new.viewer ≡ self.old.viewer) × (self.new.is_halted ≡ self.old.is_halted) }
         ensures answer { MatchResult result (λ o. o ≡ recent (answers_of self.old.seat self.old.viewer) (self.old.taken + 1)) (λ a. (recent (answers_of self.old.seat self.old.viewer) (self.old.taken + 1) ≡ Some a) × (IsForOldest self.old.waiting.items a → ⊥)) }
@@ -200,17 +201,17 @@ impl<M: Copy> Client<M> {
         self.is_halted
     }
 
-    /// Waits until the bell of its seat rings, or at once where it rang since the last wait. The bell rings where letters of the
-    /// seat are answered, at a halt, and after a halt where letters of the seat were taken out of its ring. A caller polls,
-    /// takes and asks `halted` before it waits; a wait may also end for nothing.
+    /// Waits until the bell of its seat rings, or at once where it rang since the last wait. The bell rings where
+    /// letters of the seat are answered, at a halt, and after a halt where letters of the seat were taken out of its
+    /// ring. A caller polls, takes and asks `halted` before it waits; a wait may also end for nothing.
     pub fn wait<R: Wait>(&mut self, rt: &R)
         ensures same { (self.new.seat ≡ self.old.seat) × (self.new.letters ≡ self.old.letters) × (self.new.marks ≡ self.old.marks) × (self.new.viewer ≡ self.old.viewer) × (self.new.waiting ≡ self.old.waiting) × (self.new.taken ≡ self.old.taken) × (self.new.accepted ≡ self.old.accepted) × (self.new.mark ≡ self.old.mark) × (self.new.is_halted ≡ self.old.is_halted) }
     {
         self.answered.park(rt);
     }
 
-    /// Sends the end mark, and rings the committer's bell. It hands the client back where no place in the ring is known to
-    /// be free.
+    /// Sends the end mark, and rings the committer's bell. It hands the client back where no place in the ring is known
+    /// to be free.
     pub fn finish(mut self) -> Result<Report, Client<M>>
         requires { (self.waiting.items ≡ []) ⊎ (self.is_halted ≡ true) }
         ensures report { IfOk result (λ r. (r.seat ≡ self.seat) × (r.viewer ≡ self.viewer) × (r.taken ≡ self.taken) × (r.accepted ≡ self.accepted) × (r.is_halted ≡ self.is_halted) × (sent r.letters ≡ sent self.letters ++ End ∷ [])) }

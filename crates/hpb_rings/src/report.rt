@@ -11,7 +11,8 @@ use crate::viewing::view_again;
 use hpb_board::Viewer;
 use rtrb::Producer;
 
-/// What a client leaves that has finished: what it sent, what it saw, and how many of its answers newly accepted a command.
+/// What a client leaves that has finished: what it sent, what it saw, and how many of its answers newly accepted a
+/// command.
 ///
 /// What it sent is the letters of the answers that it took, in order, and then the end mark; after a halt letters may
 /// stand between them that it took no answer for.

@@ -36,8 +36,8 @@ pub struct Ring<M: Copy> {
     ghost free: { is_told ≡ false → 0 < known_free marks },
 }
 
-/// Makes the rings of one seat, with room for 16 letters and for one mark, and the seat's bell. Fails only where memory is
-/// refused (90 `memory`).
+/// Makes the rings of one seat, with room for 16 letters and for one mark, and the seat's bell. Fails only where memory
+/// is refused (90 `memory`).
 pub fn seat_rings<M: Copy>(alloc: Global) -> Result<(Ends<M>, Ring<M>), AllocError>
     ensures letters { IfOk result (λ r. IsPair r.0.letters r.1.letters × (known_free r.0.letters ≡ 16) × (received r.1.letters ≡ [])) }
     ensures marks { IfOk result (λ r. IsPair r.1.marks r.0.marks × (sent r.1.marks ≡ []) × (received r.0.marks ≡ [])) }

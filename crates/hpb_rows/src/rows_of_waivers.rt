@@ -72,7 +72,8 @@ fn waiver_refusals(rt: HostRuntime) -> Result<(), Fail> {
     Ok(())
 }
 
-// A waiver is spent in the round in which its bidder waives, also where the bidder is active, and another in a later round.
+// A waiver is spent in the round in which its bidder waives, also where the bidder is active, and another in a later
+// round.
 #[test]
 fn one_waiver_a_round(rt: HostRuntime) -> Result<(), Fail> {
     let alloc = rt.alloc();

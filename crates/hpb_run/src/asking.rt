@@ -22,7 +22,8 @@ pub(crate) fn ask_engine<D: Disk + Drop>(
     requires most { length commands.now ≤ MOST_LETTERS }
     ensures asked { (state : State) → StandsAt D.seen D.may_leave D.failures engine.old.disk engine.old.progress engine.old.failed state
         → IfOk result (λ replies. HasAsked D.seen D.may_leave D.failures engine.new.disk engine.new.progress engine.new.failed state commands.now replies) }
-    // Where the device fails, or had failed, they have one refusal; and 93 where it had worked says that none of them is kept.
+    // Where the device fails, or had failed, they have one refusal; and 93 where it had worked says that none of them
+    // is kept.
     ensures alike { (state : State) → StandsAt D.seen D.may_leave D.failures engine.old.disk engine.old.progress engine.old.failed state
         → engine.new.failed ≡ true → IfOk result (AreAlike D.seen D.may_leave engine.new.disk engine.new.progress engine.new.failed state (length commands.now)) }
     ensures kept { (state : State) → StandsAt D.seen D.may_leave D.failures engine.old.disk engine.old.progress engine.old.failed state

@@ -36,8 +36,8 @@ pub struct DeviceDesk<D: Disk + Drop> {
 }
 
 impl<D: Disk + Drop> DeviceDesk<D> {
-    /// A desk that asks for so many commands together, from 1 to 64 (any other number is taken as the nearest of these), and has a
-    /// checkpoint made after so many commits.
+    /// A desk that asks for so many commands together, from 1 to 64 (any other number is taken as the nearest of
+    /// these), and has a checkpoint made after so many commits.
     ///
     /// 90 where memory is refused: the engine is handed back.
     pub fn new(
@@ -74,8 +74,8 @@ impl<D: Disk + Drop> DeviceDesk<D> {
         engine
     }
 
-    /// Makes a whole checkpoint where one is due: once there have been `every` commits since the last one that was due. Where none is
-    /// due nothing changes, and the device has no call.
+    /// Makes a whole checkpoint where one is due: once there have been `every` commits since the last one that was due.
+    /// Where none is due nothing changes, and the device has no call.
     ///
     /// 90 where memory is refused: it stays due.
     pub fn make_due_checkpoint(&mut self, alloc: Global) -> Result<(), AllocError>
@@ -108,7 +108,8 @@ impl<D: Disk + Drop> DeviceDesk<D> {
     ) -> Result<Replies, AllocError>
         requires some { 0 < length commands.now }
         requires most { length commands.now ≤ MOST_LETTERS }
-        // A commit counts where more commands are accepted than before; where a checkpoint was due, counting has begun anew.
+        // A commit counts where more commands are accepted than before; where a checkpoint was due, counting has begun
+        // anew.
         ensures counted { is_due self.old.every self.old.commits ≡ false
             → OnOk result (self.new.commits ≡ commits_after self.old.commits self.old.engine.progress.committed.count self.new.engine.progress.committed.count) }
         ensures anew { is_due self.old.every self.old.commits ≡ true → OnOk result (self.new.commits ≤ 1) }
@@ -116,7 +117,8 @@ impl<D: Disk + Drop> DeviceDesk<D> {
         ensures asked { (state : State) → DeskStands D.seen D.may_leave D.failures self.old.engine.disk self.old.engine.progress self.old.engine.failed self.old.definition state
             → IfOk result (λ replies. (next : State) × AsksAll RepliesAt never_over state commands.now replies next
             × DeskStands D.seen D.may_leave D.failures self.new.engine.disk self.new.engine.progress self.new.engine.failed self.new.definition next) }
-        // Where the device fails, or had failed, they have one refusal; and 93 where it had worked says that none of them is kept.
+        // Where the device fails, or had failed, they have one refusal; and 93 where it had worked says that none of
+        // them is kept.
         ensures alike { (state : State) → DeskStands D.seen D.may_leave D.failures self.old.engine.disk self.old.engine.progress self.old.engine.failed self.old.definition state
             → self.new.engine.failed ≡ true → IfOk result (AreAlike D.seen D.may_leave self.new.engine.disk self.new.engine.progress self.new.engine.failed state (length commands.now)) }
         ensures kept { (state : State) → DeskStands D.seen D.may_leave D.failures self.old.engine.disk self.old.engine.progress self.old.engine.failed self.old.definition state
@@ -138,7 +140,8 @@ impl<D: Disk + Drop> DeviceDesk<D> {
         ensures asked { (state : State) → DeskStands D.seen D.may_leave D.failures self.old.engine.disk self.old.engine.progress self.old.engine.failed self.old.definition state
             → IfOk result (λ replies. (next : State) × AsksAll RepliesAt never_over state commands.now replies next
             × DeskStands D.seen D.may_leave D.failures self.new.engine.disk self.new.engine.progress self.new.engine.failed self.new.definition next) }
-        // Where the device fails, or had failed, they have one refusal; and 93 where it had worked says that none of them is kept.
+        // Where the device fails, or had failed, they have one refusal; and 93 where it had worked says that none of
+        // them is kept.
         ensures alike { (state : State) → DeskStands D.seen D.may_leave D.failures self.old.engine.disk self.old.engine.progress self.old.engine.failed self.old.definition state
             → self.new.engine.failed ≡ true → IfOk result (AreAlike D.seen D.may_leave self.new.engine.disk self.new.engine.progress self.new.engine.failed state (length commands.now)) }
         ensures kept { (state : State) → DeskStands D.seen D.may_leave D.failures self.old.engine.disk self.old.engine.progress self.old.engine.failed self.old.definition state

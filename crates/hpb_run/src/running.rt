@@ -32,16 +32,17 @@ pub struct Ran<D: Disk + Drop> {
 /// Answers each line of the reader by one line on the writer, as `serve` does, from the auction that an engine keeps on
 /// its device. The engine is given back, whatever comes.
 ///
-/// Commands that were read wait until they are `batch`, from 1 to 64 (any other number is taken as the nearest of these),
-/// until another line is to be answered, or until more is to be read. They are then committed together. A command is
-/// answered `OK` once it is acknowledged, so that no crash loses it.
+/// Commands that were read wait until they are `batch`, from 1 to 64 (any other number is taken as the nearest of
+/// these), until another line is to be answered, or until more is to be read. They are then committed together. A
+/// command is answered `OK` once it is acknowledged, so that no crash loses it.
 ///
-/// A checkpoint is made after each `every` commits: once their answers have left, or before the next commit. Where `every`
-/// is 0, it is only made where the journal is full.
+/// A checkpoint is made after each `every` commits: once their answers have left, or before the next commit. Where
+/// `every` is 0, it is only made where the journal is full.
 ///
 /// The answer 91 says that a call of the device failed in the commit of this command's batch, of which none is
-/// acknowledged, and 93 that one had failed before. Questions are still answered by what is acknowledged. The session ends
-/// by 90 where memory is refused, and by 92 where the reader or the writer fails or more than 1,000,000,000 bytes are read.
+/// acknowledged, and 93 that one had failed before. Questions are still answered by what is acknowledged. The session
+/// ends by 90 where memory is refused, and by 92 where the reader or the writer fails or more than 1,000,000,000 bytes
+/// are read.
 ///
 /// All that is answered is written and flushed before the next commit, before a checkpoint that is due, and before more
 /// is read.
@@ -106,8 +107,8 @@ fn run_session<R: Read, W: Write, D: Disk + Drop>(
     }
 }
 
-/// The same at a terminal: commands are asked one at a time, and behind the answer of one that is refused the errors are told which
-/// number would do, as `serve_at_terminal` says.
+/// The same at a terminal: commands are asked one at a time, and behind the answer of one that is refused the errors
+/// are told which number would do, as `serve_at_terminal` says.
 pub fn run_device_at_terminal<R: Read, W: Write, E: Write, D: Disk + Drop>(
     alloc: Global,
     reader: &mut R,

@@ -66,7 +66,7 @@ pub record EndsAll {D : Type 0} (seen : D → List ℕ) (may_leave : D → List 
 -- **What they come to where serving ends ill.** A 96 hands back the reports, with what the house leaves. Of a 90, a 92 and a 94 nothing is told but
 -- what was written.
 --
--- What is so once so many sessions have ended, and what they were answered isn't what was committed, or a batch is still in flight.
+-- What is so once so many sessions have ended, and what they were answered isn't what was committed, or a batch is in flight though no call of the device has failed.
 pub record EndsDiffering {D : Type 0} (seen : D → List ℕ) (may_leave : D → List ℕ → Type 0) (fails : D → ℕ) (image : List ℕ) (failures : ℕ) (before : AuctionValue) (sessions : ℕ) (differing : Differing D) : Type 0 where
   -- There is a report of each seat.
   pub seats : map (λ (report : Report). report.seat) differing.reports.items ≡ range_with_len 0 sessions

@@ -10,8 +10,8 @@ use std::alloc::Global;
 use std::net::{Shutdown, TcpStream};
 use std::sync::Wait;
 
-/// How often sessions look at their connections for more to read before they sleep until there is some: as many looks as this
-/// are shared by all.
+/// How often sessions look at their connections for more to read before they sleep until there is some: as many looks
+/// as this are shared by all.
 const READ_LOOKS: u32 = 100;
 
 /// How often they look for an answer of the house before they sleep until one comes: so many are shared by all.
@@ -42,8 +42,8 @@ fn share(looks: u32, sessions: usize) -> u32 {
     }
 }
 
-/// Runs a client's session over its connection, which is closed at the end. Without a connection the client is finished at
-/// once.
+/// Runs a client's session over its connection, which is closed at the end. Without a connection the client is finished
+/// at once.
 ///
 /// What ends the session early, 90 `memory` or 92 `stream`, ends nothing else.
 pub(crate) fn serve_connection<R: Wait>(

@@ -26,8 +26,8 @@ pub enum ServeFault<D: Disk + Drop> {
     Writer,
     /// 90 `memory` or 94 `place`: the house was not started.
     Start(StartCause),
-    /// 95 `order`: an answer came that isn't the one that its session waited for. This is the client of that session, as it
-    /// left it.
+    /// 95 `order`: an answer came that isn't the one that its session waited for. This is the client of that session,
+    /// as it left it.
     Order(Client<Halt>),
     /// 96 `counts`: what the sessions were answered isn't what was committed.
     Counts(Differing<D>),
@@ -63,8 +63,8 @@ impl<D: Disk + Drop> From<AllocError> for ServeFault<D> {
 pub(crate) enum SessionsFault {
     /// 90 `memory`: memory was refused, or a thread.
     Memory,
-    /// 95 `order`: an answer came that isn't the one that its session waited for. This is the client of that session, as it
-    /// left it.
+    /// 95 `order`: an answer came that isn't the one that its session waited for. This is the client of that session,
+    /// as it left it.
     Order(Client<Halt>),
 }
 

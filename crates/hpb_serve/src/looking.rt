@@ -4,8 +4,8 @@ use std::io::{ErrorKind, Read, Write};
 use std::net::TcpStream;
 use std::{io, thread};
 
-/// A side of a connection that is looked at for more to read, so many times, before its thread sleeps until there is some.
-/// Other threads run between two looks. With 0 looks it sleeps at once.
+/// A side of a connection that is looked at for more to read, so many times, before its thread sleeps until there is
+/// some. Other threads run between two looks. With 0 looks it sleeps at once.
 #[derive(Clone, Copy)]
 pub(crate) struct Looking<'a> {
     stream: &'a TcpStream,

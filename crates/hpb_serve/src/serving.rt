@@ -33,13 +33,13 @@ pub struct Served<D: Disk + Drop> {
 ///
 /// `LISTENING` with the listener's port is written once the house is started. Then it accepts one connection for each
 /// session, with a thread of its own, and closes the listener. It waits until all sessions have ended, and closes the
-/// house. An accept that fails counts as a session that ended. What ends one session, 90 `memory` or 92 `stream`, ends no
-/// other.
+/// house. An accept that fails counts as a session that ended. What ends one session, 90 `memory` or 92 `stream`, ends
+/// no other.
 ///
-/// Refused: 90 `memory` where memory or a thread is refused, 94 `place` where a session's place is, both before anything
-/// is written or, for 90, after the line; 92 `stream` where the line was not written; 95 `order` where a session left its
-/// client, which is handed back; 96 `counts` where what the sessions were answered isn't what was committed: their reports are
-/// handed back with what the house leaves.
+/// Refused: 90 `memory` where memory or a thread is refused, 94 `place` where a session's place is, both before
+/// anything is written or, for 90, after the line; 92 `stream` where the line was not written; 95 `order` where a
+/// session left its client, which is handed back; 96 `counts` where what the sessions were answered isn't what was
+/// committed: their reports are handed back with what the house leaves.
 pub fn serve_opened<
     H: Net<Listener = TcpListener, Stream = TcpStream> + Threads + Wait + Sync,
     D: Disk + Drop + Send,
@@ -57,7 +57,8 @@ pub fn serve_opened<
     ensures written { Announces (listening_line port) (W.contents output.old) (W.contents output.new) result }
     // All sessions have ended, and the commands that they were told of as newly accepted are those that were committed.
     ensures ended { IfOk result (λ served. EndsAll D.seen D.may_leave D.failures (D.seen opened.disk) (D.failures opened.disk) opened.plan.auction sessions served) }
-    // A 95 hands back the client that a session left with a reason, and a 96 what was answered and what the device keeps.
+    // A 95 hands back the client that a session left with a reason, and a 96 what was answered and what the device
+    // keeps.
     ensures ill { IfErr result (EndsIll D.seen D.may_leave D.failures (D.seen opened.disk) (D.failures opened.disk) opened.plan.auction sessions) }
 {
     serve_watched(
@@ -65,9 +66,9 @@ pub fn serve_opened<
     )
 }
 
-/// Serves so many sessions as `serve_opened` does, while a watch is told what happens beside them: of each place that is taken,
-/// of each connection that is not accepted, and then nothing is accepted for a moment, of a thread that is refused, and of the
-/// first call of the device that fails. It looks at each checkpoint until it has told people of
+/// Serves so many sessions as `serve_opened` does, while a watch is told what happens beside them: of each place that
+/// is taken, of each connection that is not accepted, and then nothing is accepted for a moment, of a thread that is
+/// refused, and of the first call of the device that fails. It looks at each checkpoint until it has told people of
 /// something, and once all sessions have ended.
 pub fn serve_watched<
     H: Net<Listener = TcpListener, Stream = TcpStream> + Threads + Wait + Sync,
@@ -88,7 +89,8 @@ pub fn serve_watched<
     ensures written { Announces (listening_line port) (W.contents output.old) (W.contents output.new) result }
     // All sessions have ended, and the commands that they were told of as newly accepted are those that were committed.
     ensures ended { IfOk result (λ served. EndsAll D.seen D.may_leave D.failures (D.seen opened.disk) (D.failures opened.disk) opened.plan.auction sessions served) }
-    // A 95 hands back the client that a session left with a reason, and a 96 what was answered and what the device keeps.
+    // A 95 hands back the client that a session left with a reason, and a 96 what was answered and what the device
+    // keeps.
     ensures ill { IfErr result (EndsIll D.seen D.may_leave D.failures (D.seen opened.disk) (D.failures opened.disk) opened.plan.auction sessions) }
 {
     let started = match House::start(rt, alloc, opened, sessions) {

@@ -53,7 +53,8 @@ fn next_connection<V: Watch, R: Wait>(
 /// Accepts a connection for each client, one after another, and starts its session in a thread of its own. Then the
 /// listener is closed.
 ///
-/// 90 where a thread is refused. That session is then run by this thread, and is the last: the clients after it are finished.
+/// 90 where a thread is refused. That session is then run by this thread, and is the last: the clients after it are
+/// finished.
 fn start_sessions<'s, E, R: Threads + Wait + Sync, V: Watch>(
     scope: &Scope<'s, E>,
     rt: &'s R,
@@ -108,9 +109,10 @@ fn start_sessions<'s, E, R: Threads + Wait + Sync, V: Watch>(
 
 /// Runs the workers of a house and a session for each client, and waits for all of them: of each client its report.
 ///
-/// 90 where memory or a thread is refused, 95 where a session left its client: that is handed back. Each client that has no
-/// session is finished, so that the committer ends. A watch is told of places that are taken, of connections that were not
-/// accepted, of a thread that was refused and of a device that failed, and looks at each checkpoint and at the end.
+/// 90 where memory or a thread is refused, 95 where a session left its client: that is handed back. Each client that
+/// has no session is finished, so that the committer ends. A watch is told of places that are taken, of connections
+/// that were not accepted, of a thread that was refused and of a device that failed, and looks at each checkpoint and
+/// at the end.
 pub(crate) fn run_threads<
     D: Disk + Drop + Send,
     W: Wait + Drop + Send,

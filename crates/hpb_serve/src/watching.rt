@@ -47,8 +47,8 @@ impl Watch for Unwatched {
     fn look_last(&self) {}
 }
 
-/// The gate of a checkpointer that has a watch look at each checkpoint, until people were told, and tells it that the device has
-/// failed.
+/// The gate of a checkpointer that has a watch look at each checkpoint, until people were told, and tells it that the
+/// device has failed.
 #[derive(Drop)]
 pub(crate) struct Rounds<'a, V> {
     watch: &'a V,

@@ -34,8 +34,8 @@ pub enum ScriptEnd {
 /// gets its answer, as `serve` says, of whose faults these are. Both together are within the bytes that
 /// may be read.
 ///
-/// The errors are told why a definition is refused, and on a terminal that it is accepted, and behind the answer of a refused command which
-/// number would do.
+/// The errors are told why a definition is refused, and on a terminal that it is accepted, and behind the answer of a
+/// refused command which number would do.
 pub fn run_script<R: Read, W: Write, E: Write>(
     alloc: Global,
     reader: &mut R,

@@ -24,9 +24,9 @@ use hpb_wire::{FrontRequest, parse_front, parse_line};
 use std::alloc::{AllocError, Global};
 use std::io::{Read, Write};
 
-/// Answers each line of the reader by one line on the writer, to the end of the reader. What has been
-/// answered is written and flushed before more is read. Where to ask the desk takes a wait (`Desk::waits_when_asked`) it
-/// is written and flushed before the desk is asked, too.
+/// Answers each line of the reader by one line on the writer, to the end of the reader. What has been answered is
+/// written and flushed before more is read. Where to ask the desk takes a wait (`Desk::waits_when_asked`) it is written
+/// and flushed before the desk is asked, too.
 ///
 /// A line has at most 128 bytes and a line feed; any other, a last one without line feed too, is refused
 /// by `ERR 10 line`. No line tells of a fault: 90 where memory is refused, 92 where the reader or the writer

@@ -88,8 +88,8 @@ pub(crate) fn tell_reason<E: Write>(
     }
 }
 
-/// Tells people which number would do in place of a command that is refused, by an auction as it stands, as far as memory and the errors
-/// allow. Where none would, nothing is told.
+/// Tells people which number would do in place of a command that is refused, by an auction as it stands, as far as
+/// memory and the errors allow. Where none would, nothing is told.
 #[tactic(auto, using(crate::proofs::Explained::said_none))]
 pub(crate) fn tell_refused<E: Write>(
     alloc: Global,

@@ -23,10 +23,10 @@ use hpb_rules::{Command, Commands, MOST_READ_BYTES, Refusal, Reply, Request};
 use std::alloc::{AllocError, Global};
 use std::io::{Read, Write};
 
-/// Answers each line as `serve` does, of a desk whose looks leave it as it is, and asks for commands one at a time: the answer to each is
-/// written and flushed at once. Where it is a refusal for which a number would do, the errors are told it, behind the answer, as far as
-/// memory and the errors allow: of 13, 14 and 15 the sender's next ticket, of 21 the step, of 22 the least amount, of 23 the
-/// greatest, of 25 the bidder's eligibility and activity.
+/// Answers each line as `serve` does, of a desk whose looks leave it as it is, and asks for commands one at a time: the
+/// answer to each is written and flushed at once. Where it is a refusal for which a number would do, the errors are
+/// told it, behind the answer, as far as memory and the errors allow: of 13, 14 and 15 the sender's next ticket, of 21
+/// the step, of 22 the least amount, of 23 the greatest, of 25 the bidder's eligibility and activity.
 pub fn serve_at_terminal<R: Read, W: Write, E: Write, D: Desk>(
     alloc: Global,
     reader: &mut R,
@@ -147,8 +147,8 @@ fn pass_typed<W: Write, E: Write, D: Desk>(
     }
 }
 
-/// Asks for one command, writes its answer, and tells what would do where it is refused. Where the desk waits, all that is answered
-/// leaves first.
+/// Asks for one command, writes its answer, and tells what would do where it is refused. Where the desk waits, all that
+/// is answered leaves first.
 fn ask_explained<W: Write, E: Write, D: Desk>(
     alloc: Global,
     writer: &mut W,
@@ -169,7 +169,8 @@ fn ask_explained<W: Write, E: Write, D: Desk>(
     ask_explained_now(alloc, writer, errors, desk, command, output)
 }
 
-/// Asks for one command, writes its answer, and tells what would do where it is refused. Where the desk waits, the output is empty.
+/// Asks for one command, writes its answer, and tells what would do where it is refused. Where the desk waits, the
+/// output is empty.
 fn ask_explained_now<W: Write, E: Write, D: Desk>(
     alloc: Global,
     writer: &mut W,

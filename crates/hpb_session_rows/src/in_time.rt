@@ -18,8 +18,8 @@ pub(crate) struct Spoken {
     pub(crate) answers: Vec<u8>,
 }
 
-/// Runs a session on these lines, on a house over a new device in memory, by a thread of its own. Fails where it has not ended
-/// after the most tries.
+/// Runs a session on these lines, on a house over a new device in memory, by a thread of its own. Fails where it has
+/// not ended after the most tries.
 pub(crate) fn run_in_time<H: Threads + Wait + Clock + Sync + Send + Copy + 'static>(
     rt: &H,
     alloc: Global,

@@ -107,8 +107,8 @@ fn close_house<D: Disk + Drop, W: Wait + Drop, J: Naming>(
     }
 }
 
-/// Runs a session on these lines with the only client of a house that was started, by the name that is its own, and closes
-/// the house.
+/// Runs a session on these lines with the only client of a house that was started, by the name that is its own, and
+/// closes the house.
 fn run_started<
     J: Naming + Send + Sync,
     D: Disk + Drop + Send,

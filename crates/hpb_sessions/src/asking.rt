@@ -14,8 +14,8 @@ use hpb_rules::{Answer, Command, Letter};
 use std::sync::Wait;
 use std::thread;
 
-/// Asks for a command of a client's seat: posts it, and takes its answer. It looks for the answer so many times, and other
-/// threads run between two looks; then it sleeps until the bell of its seat rings.
+/// Asks for a command of a client's seat: posts it, and takes its answer. It looks for the answer so many times, and
+/// other threads run between two looks; then it sleeps until the bell of its seat rings.
 pub(crate) fn ask_client<M: Copy, R: Wait>(
     rt: &R,
     client: &mut Client<M>,

@@ -18,9 +18,10 @@ use std::sync::Wait;
 /// The desk of a session on a house. It posts each command as a letter of its client's seat, and waits for its answer.
 ///
 /// It stands at a state by the history that its client's viewer opened. A command is replied by an answer to its
-/// letter, which fits what the viewer then shows and was judged after all that the session was told of; or, from the first of
-/// these on, by 93 `failed` where the client is halted and one more look finds no answer, or by 95 `order` where an answer
-/// comes that isn't the one that it waits for. A 95 ends the session. Questions are answered by what is published.
+/// letter, which fits what the viewer then shows and was judged after all that the session was told of; or, from the
+/// first of these on, by 93 `failed` where the client is halted and one more look finds no answer, or by 95 `order`
+/// where an answer comes that isn't the one that it waits for. A 95 ends the session. Questions are answered by what is
+/// published.
 #[derive(Drop)]
 pub struct HouseDesk<M: Copy, R: Wait + Drop> {
     rt: R,

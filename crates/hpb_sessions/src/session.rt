@@ -27,8 +27,8 @@ use std::thread;
 ///
 /// All that is answered is written and flushed before the next command is posted, and before more is read.
 ///
-/// The replies fit what the client's viewer shows at the end: each was judged after commands that stand at the front of that
-/// history, and after all that the session was told of before.
+/// The replies fit what the client's viewer shows at the end: each was judged after commands that stand at the front of
+/// that history, and after all that the session was told of before.
 pub fn run_session<M: Copy, R: Wait + Drop, I: Read, O: Write>(
     rt: R,
     alloc: Global,
@@ -39,8 +39,8 @@ pub fn run_session<M: Copy, R: Wait + Drop, I: Read, O: Write>(
 ) -> Session<M>
     requires idle { client.waiting.items ≡ [] }
     ensures own { IsEndOf client result.end }
-    // Each line has the answer of a desk whose answers fit, and the session ends at the state where these lead. Where what was
-    // opened shows a history, what was told of last goes on from what the client's viewer showed at the start.
+    // Each line has the answer of a desk whose answers fit, and the session ends at the state where these lead. Where
+    // what was opened shows a history, what was told of last goes on from what the client's viewer showed at the start.
     ensures served { (state : State) × Serves rules_at over_at RepliesAt ShowsAt one_asked no_memory [] MOST_READ_BYTES
         (streams (I.remaining reader.old) (O.contents writer.old)) (streams (I.remaining reader.new) (O.contents writer.new))
         (at_start client) state result.fault

@@ -11,8 +11,8 @@ const NODES: u32 = 6;
 
 pub(crate) const BIDDERS: usize = 4;
 
-/// The next command of a client: of the auctioneer where there is no bidder of this place. So many before it aren't answered:
-/// mostly none. A close comes seldom, and hardly ever where it would end the auction.
+/// The next command of a client: of the auctioneer where there is no bidder of this place. So many before it aren't
+/// answered: mostly none. A close comes seldom, and hardly ever where it would end the auction.
 pub(crate) fn next_command(
     random: &mut Random,
     auction: &Auction,

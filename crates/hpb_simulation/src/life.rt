@@ -289,7 +289,8 @@ impl<W: Wait + Drop> Life<W> {
     }
 }
 
-/// Opens the device, of which the call with this number fails. Where that is one of the opening, it is opened once more.
+/// Opens the device, of which the call with this number fails. Where that is one of the opening, it is opened once
+/// more.
 fn opened_in(world: &mut World, fault: u64) -> Result<Opened<Device>> {
     let Some(disk) = world.disk.take() else {
         bail!("there is no device");

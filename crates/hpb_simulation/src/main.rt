@@ -1,5 +1,5 @@
-//! A house without its threads: clients, rings, board, engine and a device that fails and stops, one step after another as a
-//! seed picks them. It tells what was sent and what came of it; `bench/simulate` holds that against the rules.
+//! A house without its threads: clients, rings, board, engine and a device that fails and stops, one step after another
+//! as a seed picks them. It tells what was sent and what came of it; `bench/simulate` holds that against the rules.
 #![tactic(auto)]
 
 mod bidding;

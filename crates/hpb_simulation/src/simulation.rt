@@ -13,8 +13,8 @@ use std::sync::Wait;
 /// How many batches are tried at most until all is answered.
 const BATCHES: u32 = 200;
 
-/// Goes through a seed: a new device, some lives of a house over it, each of which ends by a stop, and a last one in which
-/// all is answered. What was told before an error is told too.
+/// Goes through a seed: a new device, some lives of a house over it, each of which ends by a stop, and a last one in
+/// which all is answered. What was told before an error is told too.
 pub(crate) fn simulate<R: Wait>(rt: &R, world: &mut World, seed: u64) -> Result<()> {
     make_device(world, seed)?;
     let lives = world.random.below(6).saturating_add(2);

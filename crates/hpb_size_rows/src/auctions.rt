@@ -74,7 +74,8 @@ pub(crate) fn definition(alloc: Global, size: Size) -> Result<Definition> {
     Ok(Definition::check(alloc, &draft)?)
 }
 
-/// A bid of each bidder on each licence, by its place in its round, at its node's minimum; and the close behind the last.
+/// A bid of each bidder on each licence, by its place in its round, at its node's minimum; and the close behind the
+/// last.
 pub(crate) fn next_letter(auction: &Auction, size: Size, place: u64) -> Letter {
     let licences = size.nodes.saturating_sub(size.packages);
     let bidder = (place % size.bidders.max(1)).min(63) as usize;

@@ -44,8 +44,8 @@ pub(crate) fn formatted(alloc: Global, size: Size, shape: JournalShape) -> Resul
     }
 }
 
-/// Formats a device, opens it, starts an engine and drives it: so many commands are accepted, and so many are found when the
-/// device is opened again.
+/// Formats a device, opens it, starts an engine and drives it: so many commands are accepted, and so many are found
+/// when the device is opened again.
 fn drives(
     alloc: Global,
     (size, shape): (Size, JournalShape),
@@ -163,8 +163,8 @@ fn each_number_of_commands(rt: HostRuntime) -> Result<(), Fail> {
     Ok(())
 }
 
-/// The first events of a thousand: an offer of one command and the four turns of its commit, over and over. A command is accepted
-/// with its fourth turn, and is on the device with the third.
+/// The first events of a thousand: an offer of one command and the four turns of its commit, over and over. A command
+/// is accepted with its fourth turn, and is on the device with the third.
 fn events_of(alloc: Global, shape: JournalShape) -> Result<()> {
     let sent = Sent {
         commands: 200,

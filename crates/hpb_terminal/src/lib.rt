@@ -1,4 +1,5 @@
-//! What a terminal is told of a command that is refused, beside its refusal: the number that would do. Nothing is decided here.
+//! What a terminal is told of a command that is refused, beside its refusal: the number that would do. Nothing is
+//! decided here.
 #![tactic(auto)]
 
 mod reasons;

@@ -75,9 +75,10 @@ impl fmt::Display for Reason<'_> {
     }
 }
 
-/// The number that would do in place of one for which a command is refused, by the auction as it stands: of 13, 14 and 15 the
-/// sender's next ticket, of 21 the step, of 22 the least amount, of 23 the greatest, and of 25 the bidder's eligibility with
-/// its activity. `None` of any other refusal, and where the definition hasn't the command's bidder or node.
+/// The number that would do in place of one for which a command is refused, by the auction as it stands: of 13, 14 and
+/// 15 the sender's next ticket, of 21 the step, of 22 the least amount, of 23 the greatest, and of 25 the bidder's
+/// eligibility with its activity. `None` of any other refusal, and where the definition hasn't the command's bidder or
+/// node.
 pub fn reason_of<'a>(
     auction: &'a Auction,
     command: &Command,

@@ -1,5 +1,5 @@
-//! Devices in a file for calls that are tried while a request for memory is refused: such a device takes no memory once it
-//! is there.
+//! Devices in a file for calls that are tried while a request for memory is refused: such a device takes no memory once
+//! it is there.
 #![tactic(auto)]
 
 mod bids;

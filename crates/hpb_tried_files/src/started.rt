@@ -140,8 +140,8 @@ pub fn is_sum(found: Option<u64>, given: Option<u64>) -> bool
     found.is_some() && found == given
 }
 
-/// What came of a call that succeeded, by the sum of what it gave. Where there is none, the stream is said to be at fault, which no
-/// call here is told by.
+/// What came of a call that succeeded, by the sum of what it gave. Where there is none, the stream is said to be at
+/// fault, which no call here is told by.
 pub fn came_of(sum: Option<u64>) -> Came
     ensures { result ≡ told_by sum }
 {

@@ -455,7 +455,8 @@ fn a_file_in_use_is_refused(rt: HostRuntime) -> Result<(), Fail> {
     Ok(())
 }
 
-/// Whoever replaces a file while it is opened is not taken for it: what is watched would be another one than what is served.
+/// Whoever replaces a file while it is opened is not taken for it: what is watched would be another one than what is
+/// served.
 #[test]
 fn a_watch_is_of_the_file_that_was_opened(rt: HostRuntime) -> Result<(), Fail> {
     let (path, other) = ("hpb_program_watched", "hpb_program_unwatched");

@@ -13,7 +13,8 @@ use std::test::Fail;
 use std::thread::Threads;
 use std::{fs, io};
 
-/// How often in a row each call of a stream is interrupted before it is made: more often than whoever gives up would wait for.
+/// How often in a row each call of a stream is interrupted before it is made: more often than whoever gives up would
+/// wait for.
 const INTERRUPTIONS: u32 = 300;
 
 /// Whether the next call is interrupted, by how often that was so since the last one was made.
@@ -82,8 +83,8 @@ const LINES: &[u8] = b"BID x 1 a 100\nBID y 1 b 150\nCLOSE 1\nSHOW\n";
 
 const ANSWERS: &str = "OK 1\nOK 2\nOK 3\nROUND 2 STAGE 1 OPEN REVENUE 250 COUNT 3\n";
 
-/// Runs the program over an input and an output of which each call is interrupted so often, and tells how it ended, and whether
-/// its output was cut.
+/// Runs the program over an input and an output of which each call is interrupted so often, and tells how it ended, and
+/// whether its output was cut.
 fn run_interrupted<
     H: Files<File = File>
         + Net<Listener = TcpListener, Stream = TcpStream>
