@@ -3,3 +3,4 @@ pub mod Trails
 pub mod Rows
 pub mod Contents
 pub mod Views
+pub mod Limits

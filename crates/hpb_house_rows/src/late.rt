@@ -47,7 +47,7 @@ fn run_committer<
 }
 
 /// Runs a house that was started for one session, by the name that is its own. Its checkpointer starts once the
-/// committer has ended: whether it ends with a halt.
+/// committer has ended. Gives whether the checkpointer ends with a halt.
 fn run_started<
     J: Naming + Send + Sync,
     D: Disk + Drop + Send,
@@ -73,8 +73,8 @@ fn run_started<
     Ok(checkpointer(rt, &house, gate).is_err())
 }
 
-/// Starts a house over what was opened, for one session. Its checkpointer starts once the committer has ended: whether
-/// it ends with a halt. The gate is told where it stands.
+/// Starts a house over what was opened, for one session. Its checkpointer starts once the committer has ended, and the
+/// gate is told where it stands. Gives whether the checkpointer ends with a halt.
 pub(crate) fn run_late<G: Gate, S: Session, R: Threads + Wait + Sync>(
     rt: &R,
     alloc: Global,

@@ -7,6 +7,7 @@ ghost use Rattle.hpb_rings.specs.Marks.{greatest};
 ghost use Rattle.hpb_rings.specs.Taking.{letters_of, posted, slips, newly, IsForOldest};
 ghost use Rattle.hpb_rings.specs.declared.slip.Slip.TheVariants.{End};
 
+use crate::posting::{put, put_reserved};
 use crate::report::Report;
 use crate::ring::Ends;
 use crate::slip::Slip;
@@ -112,11 +113,11 @@ impl<M: Copy> Client<M> {
             letter,
             mark: self.mark,
         };
-        if self.letters.push(slip).is_err() {
+        let Some(put) = put(&mut self.letters, slip) else {
             return Err(letter);
-        }
+        };
         self.waiting.push(waiting);
-        self.bell.unpark();
+        put.ring(&self.bell);
         Ok(())
     }
 
@@ -233,8 +234,7 @@ impl<M: Copy> Client<M> {
             bell,
             ..
         } = self;
-        letters.push_reserved(Slip::End);
-        bell.unpark();
+        put_reserved(&mut letters, Slip::End).ring(&bell);
         Ok(Report {
             seat,
             viewer,

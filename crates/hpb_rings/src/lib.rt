@@ -9,6 +9,7 @@
 
 mod client;
 mod intake;
+mod posting;
 mod report;
 mod ring;
 mod slip;
