@@ -1,5 +1,5 @@
 /* Makes calls of the system fail, wait or be left out: those by which a program has a file, memory, threads, a port and
-   connections, and reads and writes them, and those by which one thread wakes another. Loaded before the C library by
+   connections, and reads and writes them, at once, and those by which one thread wakes another. Loaded before the C library by
    examples/failing.py.
 
    What becomes of which calls stands in the file in FAULTS, as `struct faults`. It is shared memory: whoever has the program
@@ -10,6 +10,7 @@
 #include <fcntl.h>
 #include <linux/futex.h>
 #include <netinet/in.h>
+#include <netinet/tcp.h>
 #include <pthread.h>
 #include <stdarg.h>
 #include <stdint.h>
@@ -28,7 +29,7 @@
 enum { RULES = 2, LEAST_DESCRIPTOR = 200 };
 
 /* Kinds of calls, a bit each. */
-enum { WRITE = 1, SYNC = 2, READ = 4, OPEN = 8, LOCK = 16, ADVICE = 32, PORT = 64, THREAD = 128, ACCEPT = 256, WAKE = 512, REQUEST = 1024, RECEIVE = 2048, SEND = 4096 };
+enum { WRITE = 1, SYNC = 2, READ = 4, OPEN = 8, LOCK = 16, ADVICE = 32, PORT = 64, THREAD = 128, ACCEPT = 256, WAKE = 512, REQUEST = 1024, RECEIVE = 2048, SEND = 4096, PROMPT = 8192 };
 
 /* By whom: the thread whose first call of the file is a write of a batch commits, and any other one that isn't the first
    thread of the program makes checkpoints. */
@@ -232,6 +233,13 @@ ssize_t recv(int descriptor, void *bytes, size_t size, int flags) {
 ssize_t send(int descriptor, const void *bytes, size_t size, int flags) {
     NEXT(send);
     return fails(way_of(SEND)) ? -1 : next(descriptor, bytes, size, flags);
+}
+
+/* By this one small answers leave at once, without waiting for what was sent before. */
+int setsockopt(int descriptor, int level, int option, const void *value, socklen_t size) {
+    NEXT(setsockopt);
+    int is_prompt = level == IPPROTO_TCP && option == TCP_NODELAY && size >= sizeof(int) && *(const int *) value;
+    return is_prompt && fails(way_of(PROMPT)) ? -1 : next(descriptor, level, option, value, size);
 }
 
 /* It answers the number of an error. */
