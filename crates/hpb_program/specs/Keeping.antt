@@ -47,7 +47,7 @@ IsOfOpening (faults.File fault) = Unit {0}
 IsOfOpening (faults.Open cause) = Unit {0}
 IsOfOpening fault = ⊥
 
--- Of a run people are told first what a device has that no honest device has, and at a terminal then of refused commands; of one that did not begin as of any job.
+-- Of a run people are told first what a device has that no honest device has, and at a terminal then what is of the form of sentences; of one that did not begin as of any job.
 abbrev pub TellsRunning : {T : Type 0} → (is_terminal : Bool) → List ℕ → (errors_old errors_new : Option (List ℕ)) → Result T JobFault → Type 0
 TellsRunning is_terminal image errors_old errors_new (Ok done) = (errors_told : Option (List ℕ)) × TellsImage image errors_old errors_told × ExplainsAt is_terminal errors_told errors_new
 TellsRunning is_terminal image errors_old errors_new (Err fault) = TellsStopped image errors_old errors_new fault

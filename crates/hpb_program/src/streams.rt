@@ -1,5 +1,5 @@
 //! The standard streams.
-ghost use Rattle.std.specs.Prelude.{◌≡◌, ◌≤◌};
+ghost use Rattle.std.specs.Prelude.{◌≡◌, ◌≤◌, true, false, codes};
 ghost use Rattle.hpb_program.specs.declared.status.TheConstants.{ILL};
 ghost use Rattle.hpb_rules.specs.declared.refusal.Refusal.TheVariants as refusals;
 ghost use Rattle.hpb_program.specs.Telling.{is_cut, TellsUnled};
@@ -117,12 +117,16 @@ impl Led {
         self.input || self.output || self.errors
     }
 
-    /// The one that people are told of.
-    fn stream(self) -> &'static str {
-        match (self.output, self.errors) {
-            (true, _) => "standard output",
-            (false, true) => "standard errors",
-            (false, false) => "standard input",
+    /// The one that people are told of, by the errors, which don't lead there.
+    fn stream(self) -> &'static str
+        requires { self.errors ≡ false }
+        ensures output { self.output ≡ true → result.now ≡ codes "standard output" }
+        ensures input { self.output ≡ false → result.now ≡ codes "standard input" }
+    {
+        if self.output {
+            "standard output"
+        } else {
+            "standard input"
         }
     }
 }

@@ -510,6 +510,18 @@ fn a_name_of_400_bytes_is_pasted_whole(rt: HostRuntime) -> Result<(), Fail> {
     Ok(())
 }
 
+#[test]
+fn a_name_that_a_shell_reads_is_pasted_in_quotes(rt: HostRuntime) -> Result<(), Fail> {
+    let alloc = rt.alloc();
+    for letter in " $&;|<>()`\"\\*?[]{}~#!^".chars() {
+        let name = format!(in alloc; "a{letter}b")?;
+        let wanted = format!(in alloc; "'a{letter}b'")?;
+        let pasted = format!(in alloc; "{}", Pasted(name.as_str()))?;
+        assert_eq!(rt; pasted.as_str(), wanted.as_str());
+    }
+    Ok(())
+}
+
 /// What help says of the options, and of the numbers that they take.
 const OPTIONS: [(&str, &str); 12] = [
     ("format", "--file <F>     The path of the file\n"),

@@ -68,7 +68,19 @@ static BYTES: [(&[u8], &str); 3] = [
 ];
 
 // Changes of the worked definition: what stands there instead, by which refusal it is refused, and why.
-static CHANGED: [(&str, &str, Refusal, &str); 72] = [
+static CHANGED: [(&str, &str, Refusal, &str); 74] = [
+    (
+        r#""percent":10"#,
+        r#""percent":1E+1"#,
+        Number,
+        "percent: 1E+1 is no whole number in plain digits",
+    ),
+    (
+        r#""percent":10"#,
+        r#""percent":1e-1"#,
+        Number,
+        "percent: 1e-1 is no whole number in plain digits",
+    ),
     // Fields that are unknown.
     (
         r#""step":10"#,

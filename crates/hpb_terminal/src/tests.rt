@@ -1,3 +1,5 @@
+ghost use Rattle.std.specs.Prelude.{◌<◌};
+
 use super::*;
 use hpb_auction::Auction;
 use hpb_rules::{BidderId, Command, NodeId, Refusal};
@@ -36,7 +38,9 @@ fn auction(alloc: Global) -> Result<Auction, Fail> {
     Ok(Auction::new(alloc, &Definition::check(alloc, &draft)?)?)
 }
 
-fn bid(bidder: usize, ticket: u32, node: usize, amount: u64) -> Command {
+fn bid(bidder: usize, ticket: u32, node: usize, amount: u64) -> Command
+    requires { (bidder < 64) × (node < 127) }
+{
     Command::Bid {
         bidder: BidderId::new(bidder),
         ticket,
@@ -45,7 +49,9 @@ fn bid(bidder: usize, ticket: u32, node: usize, amount: u64) -> Command {
     }
 }
 
-fn waiver(bidder: usize, ticket: u32) -> Command {
+fn waiver(bidder: usize, ticket: u32) -> Command
+    requires { bidder < 64 }
+{
     Command::Waive {
         bidder: BidderId::new(bidder),
         ticket,

@@ -7,6 +7,7 @@ use crate::noted::Failures;
 use crate::notices::{Change, ChangeNotice, FailedNotice, MissedNotice, TakenNotice, ThreadNotice};
 use crate::{Job, JobFault, RunEnd};
 use hpb_disk::{FileDisk, FileFault};
+use hpb_format::FormatCause;
 use hpb_recover::Cause;
 use hpb_server::Fault;
 use std::alloc::{AllocError, Global};
@@ -363,6 +364,38 @@ fn faults_of_serving_are_told(rt: HostRuntime) -> Result<(), Fail> {
         };
         let text = format!(in rt.alloc(); "{advice}")?;
         assert_eq!(rt; fault.refusal().number(), number);
+        assert_eq!(rt; text.as_str(), wanted);
+    }
+    Ok(())
+}
+
+#[test]
+fn faults_of_files_are_told(rt: HostRuntime) -> Result<(), Fail> {
+    let system = |number| JobFault::File(FileFault::System(io::Error::from_raw_os_error(number)));
+    for (fault, wanted) in [
+        (
+            system(libc::EACCES),
+            "a.hpb could not be opened: Permission denied (os error 13): see that you may use it, and read its folder",
+        ),
+        (
+            system(libc::EIO),
+            "a.hpb could not be opened: Input/output error (os error 5): see that its path is right, that you may use it, and that its disk is well",
+        ),
+        (
+            JobFault::File(FileFault::TooLong),
+            "a.hpb is longer than any file of an auction: name another",
+        ),
+        (
+            JobFault::Format(FormatCause::Device),
+            "a.hpb could not be read, written or synced. See to its disk: a full one wants room. Then see by `hpb check --file a.hpb` whether the file keeps the auction, and if it doesn't, try again",
+        ),
+    ] {
+        let advice = JobAdvice {
+            fault: &fault,
+            known: known(),
+        };
+        let text = format!(in rt.alloc(); "{advice}")?;
+        assert_eq!(rt; fault.refusal().number(), 91);
         assert_eq!(rt; text.as_str(), wanted);
     }
     Ok(())
