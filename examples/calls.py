@@ -45,7 +45,7 @@ class Seen:
     """Calls by what they are made of: descriptors and paths are given the names that they have for a file."""
 
     def __init__(self, file, link):
-        self.folder = os.path.dirname(file)
+        self.folder = os.path.dirname(file) or "."
         self.roles = {str(file): "file", f"{file}.new": "file beside", self.folder: "folder"}
         if link:
             self.roles.update({str(link): "file", os.path.dirname(link): "folder of the link"})

@@ -6,6 +6,7 @@ import os
 import pathlib
 import random
 import re
+import select
 import shutil
 import socket
 import subprocess
@@ -235,6 +236,18 @@ def without_places(said, sessions):
     taken = PLACE.findall(said)
     compare("which places are told", taken, [(str(place), str(sessions)) for place in range(1, len(taken) + 1)])
     return PLACE.sub("", said)
+
+
+def wait_for_words(server, words, seconds=SECONDS):
+    """What a server says until these words come, and whether they did."""
+    said, end = b"", time.monotonic() + seconds
+    stream = server.process.stderr.fileno()
+    while words.encode() not in said and select.select([stream], [], [], max(0, end - time.monotonic()))[0]:
+        part = os.read(stream, 65536)
+        if not part:
+            break
+        said += part
+    return said.decode(), words.encode() in said
 
 
 class Server:

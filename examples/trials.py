@@ -1,11 +1,13 @@
 """A file that is served to bidders while calls of the program fail, and what has to be so of it then and afterwards."""
+import pathlib
 import resource
+import time
 
 from bidders import DEFINITION, LICENCES, Bidder, attend, wrong_of
 from calls import Shim, build, told
 from encoder import CHUNKS, OPEN, SLOTS
 from failing import NOTHING, Faults
-from outside import LEAST, PAGE, Server
+from outside import LEAST, PAGE, SECONDS, Server, Session
 from outside import compare, count_kept, format_words, free_port, run, serve_words, text_of, without_places
 from wanted import Durable, broken_promises, last_number
 
@@ -28,6 +30,8 @@ CHECKPOINT = {
     *("slot closed", "sync behind slot closed", "page 0", "page 1", "page 2", "page 3", "sync behind page 3"),
     *("slot opened", "sync behind slot opened", "frame closed", "sync behind frame closed"),
 }
+# So often all threads have to be seen asleep.
+CALM = 3
 
 tools, templates = {}, {}
 # How much was tried.
@@ -233,3 +237,17 @@ def written(at, data):
     if len(data) > 1:
         return "batch"
     return f"{'slot' if at in SLOTS else 'frame'} {'opened' if data == OPEN else 'closed'}"
+
+
+def sleep_all(server):
+    """Returns once all threads of the server sleep."""
+    folder, calm, end = pathlib.Path(f"/proc/{server.process.pid}/task"), 0, time.monotonic() + SECONDS
+    while calm < CALM and time.monotonic() < end:
+        states = {(thread / "stat").read_text().rsplit(")", 1)[1].split()[0] for thread in folder.iterdir()}
+        calm = calm + 1 if states == {"S"} else 0
+        time.sleep(0.002)
+
+
+def connect(trial, count):
+    """So many sessions, whose answers are waited for so long."""
+    return [Session(trial.server.port, trial.bound) for _ in range(count)]

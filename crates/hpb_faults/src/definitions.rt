@@ -6,10 +6,9 @@ use hpb_codec::{
 };
 use hpb_define::{DefineFault, read_definition};
 use hpb_rules::Refusal;
-use hpb_tree::{Definition, DefinitionFault};
+use hpb_tree::{Definition, DefinitionFault, Draft};
 use hpb_tried::{
     Came, Tried, begin, definition, definition_came, draft, end, sum_of, sum_of_definition,
-    sum_of_draft,
 };
 use std::alloc::{AllocError, Global};
 use std::io::Read;
@@ -21,17 +20,22 @@ fn checked(alloc: Global, made: Result<Definition, DefinitionFault>) -> Result<C
     }
 }
 
+/// A draft as it is written for people.
+fn text_of(alloc: Global, draft: &Draft) -> Result<String, AllocError> {
+    format!(in alloc; "{draft:?}")
+}
+
 /// `Definition::check`, by a draft of so many nodes.
 pub(crate) fn check(rt: &HostRuntime, nodes: u64) -> Result<Tried> {
     let alloc = rt.alloc();
     let draft = draft(alloc, nodes)?;
-    let given = sum_of_draft(alloc, &draft)?;
+    let given = text_of(alloc, &draft)?;
     begin(rt)?;
     let made = Definition::check(alloc, &draft);
     end(rt)?;
     Ok(Tried {
         first: checked(alloc, made)?,
-        is_same: sum_of_draft(alloc, &draft)? == given,
+        is_same: text_of(alloc, &draft)? == given,
         again: checked(alloc, Definition::check(alloc, &draft))?,
     })
 }

@@ -1,5 +1,5 @@
 //! The worker that commits letters.
-ghost use Rattle.std.specs.Prelude.{◌≡◌, ◌<◌, ◌≤◌, ◌++◌, ◌∷◌, [], List, All, length, vec_len, true};
+ghost use Rattle.std.specs.Prelude.{◌≡◌, ℕ, ◌<◌, ◌≤◌, ◌++◌, ◌∷◌, [], List, All, length, vec_len, true};
 ghost use Rattle.rtrb.specs.Ring.{sent, received};
 ghost use Rattle.hpb_rules.specs.declared.command.Command.{Command};
 ghost use Rattle.hpb_rules.specs.declared.letter.Letter.{Letter};
@@ -7,7 +7,7 @@ ghost use Rattle.hpb_rings.specs.Gathering.{gathered, marks};
 ghost use Rattle.hpb_rings.specs.Slips.{ends};
 ghost use Rattle.hpb_house.specs.Committing.{Comes, IsSettled};
 ghost use Rattle.hpb_house.specs.Owing.{IsOwed};
-ghost use Rattle.hpb_house.specs.declared.committing.Turned.TheVariants.{Ended as End};
+ghost use Rattle.hpb_house.specs.declared.committing.Turned.TheVariants.{Ended as End, Free};
 
 use crate::gate::{Gate, Point};
 use crate::house::House;
@@ -221,6 +221,7 @@ fn commit<D: Disk + Drop, W: Wait + Drop, J: Naming, G: Gate, R: Wait>(
 
 /// It is free, and expects a letter more for each of these answers.
 fn expecting(intake: &mut Intake<Halt>, answers: &Answers) -> Turned
+    ensures expects { (expected : ℕ) → result ≡ Free expected → length answers.now ≤ expected }
     ensures rings { vec_len intake.new.rings ≡ vec_len intake.old.rings }
     ensures comes { (list : List (List Letter)) → IsOwed (gathered intake.old.rings.items) list [] → Comes result (gathered intake.new.rings.items) list }
     ensures goes_on { result ≡ End → ⊥ }

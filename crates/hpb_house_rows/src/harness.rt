@@ -88,7 +88,8 @@ pub(crate) fn finish<R: Wait>(rt: &R, client: Client<Halt>) -> Report
             Ok(report) => return report,
             Err(back) => client = back,
         }
-        thread::yield_now();
+        // Its bell rings where its letters were taken out of the ring.
+        client.wait(rt);
     }
     unreachable!()
 }

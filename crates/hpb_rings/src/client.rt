@@ -7,7 +7,6 @@ ghost use Rattle.hpb_rings.specs.Marks.{greatest};
 ghost use Rattle.hpb_rings.specs.Taking.{letters_of, posted, slips, newly, IsForOldest};
 ghost use Rattle.hpb_rings.specs.declared.slip.Slip.TheVariants.{End};
 
-use crate::posting::{put, put_reserved};
 use crate::report::Report;
 use crate::ring::Ends;
 use crate::slip::Slip;
@@ -108,17 +107,25 @@ impl<M: Copy> Client<M> {
         if self.waiting.is_full() {
             return Err(letter);
         }
+        let before = self.waiting.len();
         let slip = Slip::of(&letter);
         let waiting = Waiting {
             letter,
             mark: self.mark,
         };
-        let Some(put) = put(&mut self.letters, slip) else {
+        if self.letters.push(slip).is_err() {
             return Err(letter);
-        };
+        }
         self.waiting.push(waiting);
-        put.ring(&self.bell);
+        self.ring_behind(before);
         Ok(())
+    }
+
+    /// Rings the committer's bell behind a letter: one more waits than before it was posted.
+    fn ring_behind(&self, before: usize)
+        requires { length self.now.waiting.items ≡ before + 1 }
+    {
+        self.bell.unpark();
     }
 
     /// The next answer that was not taken, by what it sees.
@@ -234,7 +241,8 @@ impl<M: Copy> Client<M> {
             bell,
             ..
         } = self;
-        put_reserved(&mut letters, Slip::End).ring(&bell);
+        letters.push_reserved(Slip::End);
+        bell.unpark();
         Ok(Report {
             seat,
             viewer,

@@ -9,7 +9,6 @@
 
 mod client;
 mod intake;
-mod posting;
 mod report;
 mod ring;
 mod slip;

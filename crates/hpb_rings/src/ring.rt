@@ -96,6 +96,13 @@ impl<M: Copy> Ring<M> {
             self.marks.push_reserved(mark);
             self.is_told = true;
         }
+        self.ring_told();
+    }
+
+    /// Rings the bell of a seat that has its mark.
+    fn ring_told(&self)
+        requires { self.now.is_told ≡ true }
+    {
         self.answered.unpark();
     }
 }

@@ -4,7 +4,7 @@ use rtrb::Producer;
 use std::alloc::{AllocError, Global};
 use std::test::Fail;
 
-/// A seat of three, by both ends of its ring of letters.
+/// A seat, by both ends of its ring of letters.
 #[derive(Drop)]
 struct Seat {
     letters: Producer<Slip>,
@@ -72,5 +72,26 @@ fn each_gathering_begins_at_another_seat(rt: HostRuntime) -> Result<(), Fail> {
             [Some(one), Some(other), Some(last), None]
         );
     }
+    Ok(())
+}
+
+/// Three letters of one seat and one of another: one gathering takes all that wait.
+#[test]
+fn one_gathering_takes_all_that_wait(rt: HostRuntime) -> Result<(), Fail> {
+    let Seat {
+        letters: mut a,
+        ring: first,
+    } = make_seat(rt.alloc())?;
+    let Seat {
+        letters: mut b,
+        ring: second,
+    } = make_seat(rt.alloc())?;
+    for _ in 0..3 {
+        post(&mut a, 0);
+    }
+    post(&mut b, 1);
+    let rings = vec![in rt.alloc(); first, second]?;
+    let mut intake = Intake::new(rings);
+    assert_eq!(rt; gathered(&mut intake), [Some(0), Some(0), Some(0), Some(1)]);
     Ok(())
 }

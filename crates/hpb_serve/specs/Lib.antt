@@ -1,3 +1,4 @@
 pub mod Announcing
 pub mod Ended
 pub mod Faults
+pub mod Limits

@@ -1,5 +1,5 @@
 //! A session over a connection.
-ghost use Rattle.std.specs.Prelude.{◌≡◌, []};
+ghost use Rattle.std.specs.Prelude.{◌≡◌, ◌<◌, ◌/◌, ◌^◌, []};
 ghost use Rattle.hpb_serve.specs.Ended.{EndsWith};
 
 use crate::looking::Looking;
@@ -35,7 +35,9 @@ impl Idle {
 }
 
 /// The part of so many looks that one of so many sessions has.
-fn share(looks: u32, sessions: usize) -> u32 {
+fn share(looks: u32, sessions: usize) -> u32
+    ensures { 0 < sessions → sessions < 2 ^ 32 → result ≡ looks / sessions }
+{
     match u32::try_from(sessions) {
         Ok(sessions) if sessions > 0 => looks / sessions,
         _ => 0,

@@ -32,7 +32,7 @@ fn finish_clients<R: Wait>(rt: &R, clients: Vec<Client<Halt>>)
 }
 
 /// How long nothing is accepted after a connection that was not, in milliseconds: what was missing may be there then.
-const PAUSE: u64 = 100;
+const MISSED_PAUSE: u64 = 100;
 
 /// The next connection. One that is not accepted has ended, and a watch is told of it.
 fn next_connection<V: Watch, R: Wait>(
@@ -44,7 +44,7 @@ fn next_connection<V: Watch, R: Wait>(
         Ok((stream, _)) => Some(stream),
         Err(error) => {
             watch.missed(&error);
-            Parker::new().park_timeout(rt, Duration::from_millis(PAUSE));
+            Parker::new().park_timeout(rt, Duration::from_millis(MISSED_PAUSE));
             None
         }
     }
@@ -111,8 +111,8 @@ fn start_sessions<'s, E, R: Threads + Wait + Sync, V: Watch>(
 ///
 /// 90 where memory or a thread is refused, 95 where a session left its client: that is handed back. Each client that
 /// has no session is finished, so that the committer ends. A watch is told of places that are taken, of connections
-/// that were not accepted, of a thread that was refused and of a device that failed, and looks at each checkpoint and
-/// at the end.
+/// that were not accepted, of a thread that was refused and of a device that failed, and looks at each checkpoint, and
+/// at the end unless a thread was refused.
 pub(crate) fn run_threads<
     D: Disk + Drop + Send,
     W: Wait + Drop + Send,

@@ -1,4 +1,6 @@
 //! What came of a call.
+ghost use Rattle.std.specs.Prelude.{Some};
+ghost use Rattle.hpb_tried.specs.Tries.{came_text};
 
 use hpb_rules::Refusal;
 use std::fmt;
@@ -13,6 +15,8 @@ pub enum Came {
 }
 
 impl fmt::Display for Came {
+    ghost output = { λ came. Some (came_text came) };
+
     fn fmt<W: fmt::Write>(&self, f: &mut fmt::Formatter<W>) -> fmt::Result {
         match *self {
             Came::Well(sum) => write!(f, "ok {sum}"),

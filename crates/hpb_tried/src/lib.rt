@@ -11,5 +11,5 @@ mod tried;
 pub use came::Came;
 pub use drafts::{MOST, definition, draft};
 pub use marks::{begin, end};
-pub use sums::{sum_of, sum_of_auction, sum_of_definition, sum_of_draft};
+pub use sums::{sum_of, sum_of_auction, sum_of_definition};
 pub use tried::{Tried, auction_came, definition_came, tell};

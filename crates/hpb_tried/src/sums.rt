@@ -1,11 +1,13 @@
 //! Sums of what calls are given and give: other bytes have most likely another sum.
+ghost use Rattle.std.specs.Prelude.{◌≡◌, IfOk};
+ghost use Rattle.hpb_tried.specs.Sums.{fnv_1a, sum_of_auction, sum_of_definition};
 
 use hpb_auction::Auction;
 use hpb_codec::{
     HEAD_SIZE, JournalLayout, JournalShape, STATE_SIZE, StateFormat, encode_head, encode_state,
 };
 use hpb_rules::Saved;
-use hpb_tree::{Definition, Draft};
+use hpb_tree::Definition;
 use std::alloc::{AllocError, Global};
 
 /// Where a sum begins, and by what it is multiplied at each byte: those of the hash FNV-1a of 64 bits.
@@ -18,8 +20,10 @@ const JOURNAL: JournalShape = JournalShape {
     frames: 4,
 };
 
-/// The sum of bytes.
-pub fn sum_of(bytes: &[u8]) -> u64 {
+/// The sum of bytes: their hash FNV-1a of 64 bits.
+pub fn sum_of(bytes: &[u8]) -> u64
+    ensures { result ≡ fnv_1a bytes.now }
+{
     let mut sum = BASIS;
     for byte in bytes {
         sum = (sum ^ u64::from(*byte)).wrapping_mul(PRIME);
@@ -27,22 +31,20 @@ pub fn sum_of(bytes: &[u8]) -> u64 {
     sum
 }
 
-/// The sum of a draft, as it is written for people.
-pub fn sum_of_draft(alloc: Global, draft: &Draft) -> Result<u64, AllocError> {
-    let text = format!(in alloc; "{draft:?}")?;
-    Ok(sum_of(text.as_bytes()))
-}
-
 /// The sum of a definition: that of the head that keeps it.
-pub fn sum_of_definition(alloc: Global, definition: &Definition) -> Result<u64, AllocError> {
+pub fn sum_of_definition(alloc: Global, definition: &Definition) -> Result<u64, AllocError>
+    ensures { IfOk result (λ sum. sum ≡ sum_of_definition definition.now) }
+{
     let mut head = vec![in alloc; 0; HEAD_SIZE]?;
     let head = head.as_mut_slice();
     encode_head(definition, JOURNAL, StateFormat::Two, head);
     Ok(sum_of(head))
 }
 
-/// The sum of an auction: that of its definition and of its state.
-pub fn sum_of_auction(alloc: Global, auction: &Auction) -> Result<u64, AllocError> {
+/// The sum of an auction: that of its state and that of its definition.
+pub fn sum_of_auction(alloc: Global, auction: &Auction) -> Result<u64, AllocError>
+    ensures { IfOk result (λ sum. sum ≡ sum_of_auction auction.now) }
+{
     let mut state = vec![in alloc; 0; STATE_SIZE]?;
     let state = state.as_mut_slice();
     let mut saved = Saved::empty();

@@ -1,6 +1,8 @@
 //! A call that was tried.
-ghost use Rattle.std.specs.Prelude.{◌≡◌, true, IfOk, OnErr, OnOk};
-ghost use Rattle.hpb_tried.specs.Tries.{IsWell, LacksMemory};
+ghost use Rattle.std.specs.Prelude.{◌≡◌, IfOk, OnErr};
+ghost use Rattle.hpb_tried.specs.declared.came.Came.TheVariants.{Well};
+ghost use Rattle.hpb_tried.specs.Sums.{sum_of_auction, sum_of_definition};
+ghost use Rattle.hpb_tried.specs.Tries.{LacksMemory};
 
 use crate::came::Came;
 use crate::sums::{sum_of_auction, sum_of_definition};
@@ -47,13 +49,13 @@ pub fn tell<R: Print>(rt: &R, tried: &Tried) -> io::Result<()> {
     println!(rt; "{first}, {given}, {again}")
 }
 
-/// What came of a call that makes a definition.
+/// What came of a call that makes a definition: its sum, or that memory was refused (90).
 pub fn definition_came(
     alloc: Global,
     made: Result<Definition, AllocError>,
 ) -> Result<Came, AllocError>
     ensures refused { OnErr made (IfOk result LacksMemory) }
-    ensures came { OnOk made (IfOk result IsWell) }
+    ensures came { IfOk made (λ definition. IfOk result (λ came. came ≡ Well (sum_of_definition definition))) }
 {
     match made {
         Ok(definition) => Ok(Came::Well(sum_of_definition(alloc, &definition)?)),
@@ -61,10 +63,10 @@ pub fn definition_came(
     }
 }
 
-/// What came of a call that makes an auction.
+/// What came of a call that makes an auction: its sum, or that memory was refused (90).
 pub fn auction_came(alloc: Global, made: Result<Auction, AllocError>) -> Result<Came, AllocError>
     ensures refused { OnErr made (IfOk result LacksMemory) }
-    ensures came { OnOk made (IfOk result IsWell) }
+    ensures came { IfOk made (λ auction. IfOk result (λ came. came ≡ Well (sum_of_auction auction))) }
 {
     match made {
         Ok(auction) => Ok(Came::Well(sum_of_auction(alloc, &auction)?)),

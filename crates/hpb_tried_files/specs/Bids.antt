@@ -1,11 +1,11 @@
 -- The first bid of each bidder.
-use Rattle.std.specs.Prelude.{ℕ, ◌+◌, ◌/◌, List, [], ◌∷◌, map}
+use Rattle.std.specs.Prelude.{ℕ, ◌+◌, List, [], ◌∷◌, map}
 use Rattle.std.specs.List.{range_with_len}
 use Rattle.hpb_engine.specs.declared.event.Event.{Event}
 use Rattle.hpb_engine.specs.declared.event.Event.TheVariants.{Offer, Commit, Checkpoint}
 use Rattle.hpb_rules.specs.declared.command.Command.TheVariants.{Bid}
 use Rattle.hpb_rules.specs.declared.letter.Letter.{Letter}
-use Rattle.hpb_tried.specs.Tries.{licences_of, nodes_of}
+use Rattle.hpb_tried.specs.Drafts.{licences_of, packages_of}
 
 -- The first bid of a bidder: of 1,000, on the licence that stands at its place behind so many packages, from the first seat.
 abbrev pub first_bid : (packages bidder : ℕ) → Letter
@@ -13,7 +13,7 @@ first_bid packages bidder = record { seat = 0; command = Bid bidder 1 (packages 
 
 -- That of each bidder in an auction of so many nodes: as many as there are licences, each on a licence of its own.
 abbrev pub first_bids : ℕ → List Letter
-first_bids nodes = map (first_bid (nodes_of nodes / 2)) (range_with_len 0 (licences_of nodes))
+first_bids nodes = map (first_bid (packages_of nodes)) (range_with_len 0 (licences_of nodes))
 
 -- They are offered together and committed by as many steps as a commit has, and a checkpoint makes its first step.
 abbrev pub first_events : ℕ → List Event

@@ -1,13 +1,12 @@
 -- What devices keep that are made for calls.
-use Rattle.std.specs.Prelude.{◌==◌, ℕ, ◌*◌, List, [], if◌then◌else◌}
+use Rattle.std.specs.Prelude.{◌≡◌, ◌==◌, ℕ, ◌*◌, List, [], if◌then◌else◌}
 use Rattle.hpb_rules.specs.AuctionValue.{AuctionValue, Shows}
-use Rattle.hpb_rules.specs.Tree.{Rules}
 use Rattle.hpb_codec.specs.declared.layout.JournalShape.{JournalShape}
 use Rattle.hpb_codec.specs.declared.layout.JournalLayout.{JournalLayout}
 use Rattle.hpb_codec.specs.declared.layout.JournalLayout.TheVariants.{Pages, Cells}
 use Rattle.hpb_codec.specs.Layouts.{least_frames}
 use Rattle.hpb_format.specs.Outcomes.{IsNew}
-use Rattle.hpb_tried.specs.Tries.{HasSize}
+use Rattle.hpb_tried.specs.Drafts.{rules_with}
 
 -- The layout that a number names, or else the second.
 abbrev pub layout_named : ℕ → JournalLayout
@@ -29,11 +28,11 @@ least_shape layout = least_in (layout_named layout)
 abbrev pub least_size : ℕ → ℕ
 least_size layout = size_in (layout_named layout)
 
--- The image is that of a new device under a definition of so many nodes, with such a journal.
+-- The image is that of a new device under the definition of so many nodes, with such a journal.
 abbrev pub IsNewOf : (nodes layout : ℕ) → List ℕ → Type 0
-IsNewOf nodes layout image = (rules : Rules) × HasSize nodes rules × IsNew rules (least_shape layout) image
+IsNewOf nodes layout image = IsNew (rules_with nodes) (least_shape layout) image
 
--- An auction of so many nodes that accepted nothing yet.
+-- The auction is under that definition, and accepted nothing yet.
 pub record IsFirst (nodes : ℕ) (value : AuctionValue) : Type 0 where
-  pub size : HasSize nodes value.rules
+  pub rules : value.rules ≡ rules_with nodes
   pub shows : Shows value []

@@ -1,6 +1,5 @@
 use Rattle.std.proofs.Common.{◌∙◌, [], sym, subst, ap}
 use Rattle.hpb_codec.specs.declared.head.Head.{Head}
-use Rattle.hpb_tried.specs.Tries.{HasSize}
 use Rattle.hpb_tried_files.specs.Files.{IsNewOf}
 use Rattle.hpb_tried_files.proofs.started.open_new.Goals as goal
 
@@ -12,8 +11,8 @@ pub returns-in-Ok-clause-auction : goal.returns-in-Ok-clause-auction
 returns-in-Ok-clause-auction g c = λ nodes layout within.
     let new = within _ (g.met.D.Disk.seen_may_stay c.args.disk) in
     let read = c.in-Ok.ensures.read in
-    let head = c.heads_are_one.ensures.1 _ _ _ read.1.reaches.laid.spelled new.2.laid.spelled in
+    let head = c.heads_are_one.ensures.1 _ _ _ read.1.reaches.laid.spelled new.laid.spelled in
     record {
-      size = subst (HasSize nodes) (sym (read.2.definition ∙ ap (λ (h : Head). h.definition) head)) new.1;
-      shows = c.in-Ok.ensures.shows [] new.2.stands;
+      rules = read.2.definition ∙ ap (λ (h : Head). h.definition) head;
+      shows = c.in-Ok.ensures.shows [] new.stands;
     }
