@@ -1,14 +1,22 @@
-/* The load of so many sessions on a server: one thread, one command outstanding in each session.
+/* The load of so many sessions on a server: one thread, up to PIPELINE commands outstanding in each session.
  *
- *     load KIND PORT SESSIONS SECONDS WARM MOST LEVELS BIDDERS
+ *     load KIND PORT SESSIONS SECONDS WARM MOST LEVELS BIDDERS [PIPELINE [FLOOD]]
  *
  * KIND is hpb, front, redis-incr, redis-set, redis-rpush, postgres or postgres-prepared. The server listens at 127.0.0.1. Each
  * kind is sent the same bids: those of an auction that is a full binary tree of LEVELS levels (bench/auctions.py), in
  * which each session speaks for its share of the BIDDERS. hpb is sent them as lines, Redis each as one write, with the
  * line as its value, and PostgreSQL each as one row. At a front the sessions are the names s0, s1, .., and one more, which bids
- * nothing, is the auctioneer. What is answered in the first WARM seconds isn't counted; after
- * SECONDS more, or MOST answers in all, it ends. Written are the number of answers that are counted, the seconds that
- * they took, and their 50th and 99th percentile from sending to reading, in microseconds. */
+ * nothing, is the auctioneer. PIPELINE is 1 to 16, and 1 where it isn't given: as soon as an answer frees a place the next bid is
+ * sent, by one send with others where several places are free.
+ *
+ * FLOOD is for hpb alone, and none where it isn't given. With questions or bids one session more has 16 of these outstanding,
+ * whatever PIPELINE is; with silent it is connected and says nothing. In all three half of the bidders are that session's. Its
+ * answers aren't among those that are counted.
+ *
+ * What is answered in the first WARM seconds isn't counted; after SECONDS more, or MOST bids in all, it ends. Written are the
+ * number of answers that are counted, the seconds that they took, and their 50th and 99th percentile from sending to reading, in
+ * microseconds; then how many requests were answered in all, closes, floods and the first seconds among them; and how many of a
+ * flood in the seconds that count. All stay connected until standard input ends. */
 #include <arpa/inet.h>
 #include <errno.h>
 #include <fcntl.h>
@@ -22,17 +30,23 @@
 #include <time.h>
 #include <unistd.h>
 
-enum { MOST_SESSIONS = 1024, MOST_BIDDERS = 64, MOST_NODES = 127, ROOM = 8192, LINE = 128 };
+enum { MOST_SESSIONS = 1024, MOST_BIDDERS = 64, MOST_NODES = 127, MOST_OUTSTANDING = 16 };
+enum { ROOM = 8192, REQUEST = 512, LINE = 128 };
 
 /* What a bid on one licence pays in the first round, and by how many percent it pays more in the next. The rules of the
  * auction want one percent more. */
 enum { FIRST_PRICE = 1000, RAISE = 3 };
 
+enum flood { NONE, SILENT, QUESTIONS, BIDS };
+
 struct session {
     int socket;
     int first_bidder, bidders;
     int bids;       /* in this round */
-    double sent;    /* when its command was; 0 where none is outstanding */
+    int questions;  /* that it has asked */
+    int places;     /* how many requests it may have outstanding */
+    int oldest, outstanding;    /* those that are, in the ring of the times when they were sent */
+    double sent[MOST_OUTSTANDING];
     size_t read;
     char answer[ROOM];
 };
@@ -56,10 +70,24 @@ struct kind {
     int has_auctioneer;
 };
 
+/* From when to when is counted, and up to how many bids; and what came of it. */
+struct figures {
+    double from, end, last;
+    long most, bids, counted, all, flooded;
+    double *times;
+};
+
+static const char *const floods[] = {[NONE] = "none", [SILENT] = "silent", [QUESTIONS] = "questions", [BIDS] = "bids"};
+
 static struct session sessions[MOST_SESSIONS];
+/* The session that floods, and the one that closes a round just now. */
+static struct session *flooder, *closer;
+static enum flood flood;
 static int tickets[MOST_BIDDERS];
-static int count, nodes, round_number = 1, outstanding;
+static int count, connections, nodes, round_number = 1, must_close;
+static int commands, questions; /* that are outstanding, of all sessions */
 static long price = FIRST_PRICE;
+static struct figures figures;
 
 static void fail(const char *what) {
     perror(what);
@@ -89,19 +117,19 @@ static int is_ok(const char *text, size_t length) { return length > 3 && memcmp(
 
 static int write_incr(char *text, struct bid bid) {
     (void)bid;
-    return snprintf(text, ROOM, "*2\r\n$4\r\nINCR\r\n$4\r\nbids\r\n");
+    return snprintf(text, REQUEST, "*2\r\n$4\r\nINCR\r\n$4\r\nbids\r\n");
 }
 
 static int write_set(char *text, struct bid bid) {
     char line[LINE], key[LINE];
     int length = write_line(line, bid) - 1, key_length = snprintf(key, sizeof key, "b%dn%d", bid.bidder, bid.node);
-    return snprintf(text, ROOM, "*3\r\n$3\r\nSET\r\n$%d\r\n%s\r\n$%d\r\n%.*s\r\n", key_length, key, length, length, line);
+    return snprintf(text, REQUEST, "*3\r\n$3\r\nSET\r\n$%d\r\n%s\r\n$%d\r\n%.*s\r\n", key_length, key, length, length, line);
 }
 
 static int write_rpush(char *text, struct bid bid) {
     char line[LINE];
     int length = write_line(line, bid) - 1;
-    return snprintf(text, ROOM, "*3\r\n$5\r\nRPUSH\r\n$4\r\nbids\r\n$%d\r\n%.*s\r\n", length, length, line);
+    return snprintf(text, REQUEST, "*3\r\n$5\r\nRPUSH\r\n$4\r\nbids\r\n$%d\r\n%.*s\r\n", length, length, line);
 }
 
 static int is_no_error(const char *text, size_t length) { return length > 1 && (text[0] == ':' || text[0] == '+'); }
@@ -268,26 +296,74 @@ static struct bid next_bid(struct session *session) {
 
 static int has_bid_all(const struct session *session) { return session->bids == session->bidders * nodes; }
 
-static void send_request(struct session *session, const char *text, int length) {
-    session->sent = now();
-    outstanding++;
+static int asks(const struct session *session) { return session == flooder && flood == QUESTIONS; }
+
+/* Where a session's requests are counted that are outstanding. */
+static int *outstanding_of(const struct session *session) { return asks(session) ? &questions : &commands; }
+
+/* In turn the auction and one of its nodes. */
+static int write_question(char *text, int number) {
+    if (number % 2 == 0) return snprintf(text, REQUEST, "SHOW\n");
+    return snprintf(text, REQUEST, "NODE n%d\n", number / 2 % nodes);
+}
+
+static int is_told(const char *text, size_t length) {
+    return (length > 6 && memcmp(text, "ROUND ", 6) == 0) || (length > 5 && memcmp(text, "NODE ", 5) == 0);
+}
+
+static int write_next(const struct kind *kind, struct session *session, char *text) {
+    return asks(session) ? write_question(text, session->questions++) : kind->write(text, next_bid(session));
+}
+
+/* Whether a session has a request to send. Where the round has to be closed these are bids on all licences alone, so that all
+ * keep their eligibility. */
+static int has_next(const struct kind *kind, struct session *session) {
+    if (asks(session)) return 1;
+    if (has_bid_all(session)) {
+        if (kind->has_rounds) return 0;
+        session->bids = 0;
+    }
+    return !must_close || session->bids < session->bidders;
+}
+
+/* How many requests a session may send now. */
+static int free_places(const struct session *session, double at) {
+    long left = at < figures.end ? figures.most - figures.bids - commands : 0;
+    int places = session->places - session->outstanding;
+    return left < places ? (int)left : places;
+}
+
+static void send_requests(struct session *session, const char *text, int length, int requests) {
+    double at = now();
+    for (int r = 0; r < requests; r++) session->sent[(session->oldest + session->outstanding++) % MOST_OUTSTANDING] = at;
+    *outstanding_of(session) += requests;
     send_all(session, text, (size_t)length);
 }
 
-static void send_bid(const struct kind *kind, struct session *session) {
-    char text[ROOM];
-    send_request(session, text, kind->write(text, next_bid(session)));
+/* Takes all places that are free, by one send. */
+static void fill(const struct kind *kind, struct session *session, double at) {
+    char text[MOST_OUTSTANDING * REQUEST];
+    int length = 0, requests = 0, places = free_places(session, at);
+    for (; requests < places && has_next(kind, session); requests++) length += write_next(kind, session, text + length);
+    if (requests > 0) send_requests(session, text, length, requests);
+}
+
+static void fill_all(const struct kind *kind, double at) {
+    for (int s = 0; s < connections; s++) fill(kind, &sessions[s], at);
 }
 
 static void send_close(struct session *session) {
     char text[LINE];
-    send_request(session, text, snprintf(text, sizeof text, "CLOSE %d\n", round_number));
+    closer = session;
+    send_requests(session, text, snprintf(text, sizeof text, "CLOSE %d\n", round_number), 1);
 }
 
 static void begin_round(void) {
+    closer = NULL;
+    must_close = 0;
     round_number++;
     price += price * RAISE / 100;
-    for (int s = 0; s < count; s++) sessions[s].bids = 0;
+    for (int s = 0; s < connections; s++) sessions[s].bids = 0;
 }
 
 /* Sessions */
@@ -303,27 +379,93 @@ static void connect_session(struct session *session, int port) {
 }
 
 static void share_bidders(int bidders) {
+    if (flooder != NULL) {
+        flooder->first_bidder = bidders / 2;
+        flooder->bidders = bidders - bidders / 2;
+        bidders /= 2;
+    }
     for (int s = 0; s < count; s++) {
         sessions[s].first_bidder = bidders * s / count;
         sessions[s].bidders = bidders * (s + 1) / count - sessions[s].first_bidder;
     }
 }
 
-/* Whether the answer to a session's request is whole. It has to say that the request was kept. */
-static int read_answer(const struct kind *kind, struct session *session) {
+static void connect_all(const struct kind *kind, int port, int poll) {
+    for (int s = 0; s < connections; s++) {
+        connect_session(&sessions[s], port);
+        if (kind->begin != NULL) kind->begin(&sessions[s]);
+        if (fcntl(sessions[s].socket, F_SETFL, O_NONBLOCK) != 0) fail("fcntl");
+        struct epoll_event event = {.events = EPOLLIN, .data.u32 = (unsigned)s};
+        if (epoll_ctl(poll, EPOLL_CTL_ADD, sessions[s].socket, &event) != 0) fail("epoll_ctl");
+    }
+}
+
+/* Answers */
+
+static void refuse(const char *text, size_t length) {
+    fprintf(stderr, "not kept: %.*s\n", (int)length, text);
+    exit(1);
+}
+
+/* Whether more of a session's answers has come. */
+static int receive(struct session *session) {
     ssize_t got = recv(session->socket, session->answer + session->read, ROOM - session->read, 0);
     if (got < 0 && (errno == EAGAIN || errno == EINTR)) return 0;
     if (got <= 0) fail("the server ended a session");
     session->read += (size_t)got;
-    size_t whole = kind->whole(session->answer, session->read);
-    if (whole == 0) return 0;
-    if (whole != session->read || !kind->is_kept(session->answer, whole)) {
-        fprintf(stderr, "not kept: %.*s\n", (int)session->read, session->answer);
-        exit(1);
-    }
-    session->read = 0;
-    outstanding--;
     return 1;
+}
+
+static void count_answer(const struct session *session, double sent, double at) {
+    figures.all++;
+    if (session == closer) return;
+    if (!asks(session)) figures.bids++;
+    if (at < figures.from || at >= figures.end) return;
+    if (session == flooder) {
+        figures.flooded++;
+        return;
+    }
+    figures.times[figures.counted++] = at - sent;
+    figures.last = at;
+}
+
+/* The answer to the oldest request of a session has to say that this was kept, or to tell what was asked. */
+static void take_answer(const struct kind *kind, struct session *session, const char *text, size_t length, double at) {
+    int is_right = asks(session) ? is_told(text, length) : kind->is_kept(text, length);
+    if (session->outstanding == 0 || !is_right) refuse(text, length);
+    double sent = session->sent[session->oldest];
+    session->oldest = (session->oldest + 1) % MOST_OUTSTANDING;
+    session->outstanding--;
+    *outstanding_of(session) -= 1;
+    count_answer(session, sent, at);
+}
+
+/* One after another, those that are whole. What has come of the next one stays. */
+static void take_answers(const struct kind *kind, struct session *session, double at) {
+    size_t taken = 0, whole;
+    while ((whole = kind->whole(session->answer + taken, session->read - taken)) > 0) {
+        take_answer(kind, session, session->answer + taken, whole, at);
+        taken += whole;
+    }
+    session->read -= taken;
+    memmove(session->answer, session->answer + taken, session->read);
+    if (session->outstanding == 0 && session->read > 0) refuse(session->answer, session->read);
+}
+
+static void serve_session(const struct kind *kind, struct session *session) {
+    if (!receive(session)) return;
+    double at = now();
+    take_answers(kind, session, at);
+    if (session == closer && session->outstanding == 0) {
+        begin_round();
+        fill_all(kind, at);
+        return;
+    }
+    if (kind->has_rounds && session->outstanding == 0 && has_bid_all(session)) must_close = 1;
+    fill(kind, session, at);
+    /* Before a round is closed all its bids are answered: an amount is right in its own round alone. */
+    if (must_close && commands == 0 && free_places(session, at) > 0)
+        send_close(kind->has_auctioneer ? &sessions[count] : session);
 }
 
 /* Measuring */
@@ -333,87 +475,93 @@ static int by_size(const void *one, const void *other) {
     return (first > second) - (first < second);
 }
 
-static void tell(double *times, long counted, double seconds) {
+static void tell(void) {
+    double *times = figures.times;
+    long counted = figures.counted;
     if (counted == 0) {
         fprintf(stderr, "nothing was counted\n");
         exit(1);
     }
     qsort(times, (size_t)counted, sizeof *times, by_size);
-    printf("%ld %.6f %.1f %.1f\n", counted, seconds, times[counted / 2] * 1e6, times[counted - 1 - counted / 100] * 1e6);
+    double middle = times[counted / 2], late = times[counted - 1 - counted / 100];
+    printf("%ld %.6f %.1f %.1f ", counted, figures.last - figures.from, middle * 1e6, late * 1e6);
+    printf("%ld %ld\n", figures.all, figures.flooded);
+    fflush(stdout);
 }
 
 static void run(const struct kind *kind, int poll, double warm, double seconds, long most) {
     struct epoll_event events[MOST_SESSIONS];
-    double *times = malloc((size_t)most * sizeof *times);
-    if (times == NULL) fail("malloc");
-    double start = now(), from = start + warm, end = from + seconds, last = from;
-    long answers = 0, counted = 0;
-    int must_close = 0, closer = -1;
-    for (int s = 0; s < count; s++) send_bid(kind, &sessions[s]);
-    while (outstanding > 0) {
+    double start = now(), from = start + warm;
+    figures = (struct figures){.from = from, .end = from + seconds, .last = from, .most = most};
+    figures.times = malloc((size_t)most * sizeof *figures.times);
+    if (figures.times == NULL) fail("malloc");
+    fill_all(kind, start);
+    while (commands + questions > 0) {
         int ready = epoll_wait(poll, events, MOST_SESSIONS, -1);
         if (ready < 0 && errno != EINTR) fail("epoll_wait");
-        for (int e = 0; e < ready; e++) {
-            int s = (int)events[e].data.u32;
-            struct session *session = &sessions[s];
-            if (!read_answer(kind, session)) continue;
-            double at = now();
-            if (s == closer) {
-                closer = -1;
-                begin_round();
-                for (int other = 0; other < count && at < end && answers < most; other++) send_bid(kind, &sessions[other]);
-                continue;
-            }
-            answers++;
-            if (at >= from && at < end) {
-                times[counted++] = at - session->sent;
-                last = at;
-            }
-            if (at >= end || answers + outstanding >= most) continue;
-            if (has_bid_all(session)) {
-                if (kind->has_rounds) must_close = 1;
-                else session->bids = 0;
-            }
-            /* Before a round is closed all its bids are answered: an amount is right in its own round alone. */
-            if (!must_close) send_bid(kind, session);
-            else if (outstanding == 0) {
-                must_close = 0;
-                closer = kind->has_auctioneer ? count : s;
-                send_close(&sessions[closer]);
-            }
-        }
+        for (int e = 0; e < ready; e++) serve_session(kind, &sessions[events[e].data.u32]);
     }
-    tell(times, counted, last - from);
-    free(times);
+    tell();
+    free(figures.times);
+}
+
+/* While all are still connected, whoever started this can see what the server has used. */
+static void hold(void) {
+    char byte;
+    while (read(STDIN_FILENO, &byte, 1) > 0) {}
+}
+
+/* What is asked for */
+
+static const struct kind *find_kind(const char *name) {
+    for (size_t k = 0; k < sizeof kinds / sizeof *kinds; k++)
+        if (strcmp(name, kinds[k].name) == 0) return &kinds[k];
+    return NULL;
+}
+
+static int find_flood(const char *name) {
+    for (int f = NONE; f <= BIDS; f++)
+        if (strcmp(name, floods[f]) == 0) return f;
+    return -1;
+}
+
+/* The sessions that are counted come first; behind them the auctioneer, or the one that floods. */
+static void give_places(const struct kind *kind, int pipeline) {
+    connections = count + kind->has_auctioneer;
+    for (int s = 0; s < count; s++) sessions[s].places = pipeline;
+    if (flood == NONE) return;
+    flooder = &sessions[connections++];
+    flooder->places = flood == SILENT ? 0 : MOST_OUTSTANDING;
+}
+
+static int is_in_range(const struct kind *kind, int levels, int bidders, int pipeline, int wanted) {
+    if (kind == NULL || levels < 1 || nodes > MOST_NODES || bidders > MOST_BIDDERS || count < 1) return 0;
+    if (pipeline < 1 || pipeline > MOST_OUTSTANDING || wanted < 0) return 0;
+    return wanted == NONE ? count <= bidders : strcmp(kind->name, "hpb") == 0 && count <= bidders / 2;
 }
 
 int main(int words, char **word) {
-    if (words != 9) {
-        fprintf(stderr, "load KIND PORT SESSIONS SECONDS WARM MOST LEVELS BIDDERS\n");
+    if (words < 9 || words > 11) {
+        fprintf(stderr, "load KIND PORT SESSIONS SECONDS WARM MOST LEVELS BIDDERS [PIPELINE [FLOOD]]\n");
         return 2;
     }
-    const struct kind *kind = NULL;
-    for (size_t k = 0; k < sizeof kinds / sizeof *kinds; k++)
-        if (strcmp(word[1], kinds[k].name) == 0) kind = &kinds[k];
-    count = atoi(word[3]);
+    const struct kind *kind = find_kind(word[1]);
     int levels = atoi(word[7]), bidders = atoi(word[8]);
+    int pipeline = words > 9 ? atoi(word[9]) : 1, wanted = words > 10 ? find_flood(word[10]) : NONE;
+    count = atoi(word[3]);
     nodes = (1 << levels) - 1;
-    if (kind == NULL || levels < 1 || nodes > MOST_NODES || bidders > MOST_BIDDERS || count < 1 || count > bidders) {
-        fprintf(stderr, "no such kind, or levels, bidders or sessions out of range\n");
+    if (!is_in_range(kind, levels, bidders, pipeline, wanted)) {
+        fprintf(stderr, "no such kind or flood, or levels, bidders, sessions or pipeline out of range\n");
         return 2;
     }
+    flood = (enum flood)wanted;
     int poll = epoll_create1(0);
     if (poll < 0) fail("epoll_create1");
+    give_places(kind, pipeline);
     share_bidders(bidders);
-    int connections = count + kind->has_auctioneer;
-    for (int s = 0; s < connections; s++) {
-        connect_session(&sessions[s], atoi(word[2]));
-        if (kind->begin != NULL) kind->begin(&sessions[s]);
-        if (fcntl(sessions[s].socket, F_SETFL, O_NONBLOCK) != 0) fail("fcntl");
-        struct epoll_event event = {.events = EPOLLIN, .data.u32 = (unsigned)s};
-        if (epoll_ctl(poll, EPOLL_CTL_ADD, sessions[s].socket, &event) != 0) fail("epoll_ctl");
-    }
+    connect_all(kind, atoi(word[2]), poll);
     run(kind, poll, atof(word[5]), atof(word[4]), atol(word[6]));
+    hold();
     for (int s = 0; s < connections; s++) close(sessions[s].socket);
     return 0;
 }

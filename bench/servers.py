@@ -1,5 +1,6 @@
 """Servers for the benchmarks: hpb, Redis and PostgreSQL at a free port of 127.0.0.1, each with its data in a folder of its
 own; and the load that is put on them."""
+import contextlib
 import os
 import pathlib
 import pwd
@@ -21,10 +22,20 @@ PATIENCE = 60
 # An auction accepts no more than 1,000,000 commands; some are closes.
 MOST_ANSWERS = 950_000
 TICKS = os.sysconf("SC_CLK_TCK")
+PIPES = {"stdin": subprocess.PIPE, "stdout": subprocess.PIPE, "stderr": subprocess.PIPE, "text": True}
 REDIS_KINDS = ["redis-incr", "redis-set", "redis-rpush"]
 POSTGRES_KINDS = ["postgres", "postgres-prepared"]
+# How many bids of a session may be in flight.
+PIPELINES = [1, 4, 16]
 # Neither of the two may, or wants to, be run by root.
 UNPRIVILEGED = ["postgres", "nobody"]
+# Takes a core as long as the process that started it is there.
+NOISE = """
+import os, sys
+while os.getppid() == int(sys.argv[1]):
+    for _ in range(100_000):
+        pass
+"""
 
 
 class Fails(Exception):
@@ -65,6 +76,34 @@ def seconds_used(process):
     """The processor's time that a process has used, by all its threads."""
     fields = pathlib.Path(f"/proc/{process.pid}/stat").read_text().rsplit(")", 1)[1].split()
     return (int(fields[11]) + int(fields[12])) / TICKS
+
+
+def switches(process):
+    """How often threads of a process that haven't ended were switched voluntarily, and how often not."""
+    voluntary = involuntary = 0
+    for status in pathlib.Path(f"/proc/{process.pid}/task").glob("*/status"):
+        rows = dict(row.split(":", 1) for row in status.read_text().splitlines())
+        voluntary += int(rows["voluntary_ctxt_switches"])
+        involuntary += int(rows["nonvoluntary_ctxt_switches"])
+    return voluntary, involuntary
+
+
+def used(process):
+    """Seconds of the processor, and switches of both sorts."""
+    return seconds_used(process), *switches(process)
+
+
+@contextlib.contextmanager
+def noise(count):
+    """So many processes beside, each of which takes a core."""
+    words = [sys.executable, "-c", NOISE, str(os.getpid())]
+    beside = [subprocess.Popen(words, stdin=subprocess.DEVNULL) for _ in range(count)]
+    try:
+        yield
+    finally:
+        for process in beside:
+            process.kill()
+            process.wait()
 
 
 def format_file(program, auction, file, journal, layout):
@@ -173,16 +212,22 @@ class Figures:
     """What one run came to."""
 
     def __init__(self, text):
-        answers, seconds, middle, late = text.split()
-        self.rate = int(answers) / float(seconds)
+        answers, seconds, middle, late, requests, flooded = text.split()
+        self.rate, self.flooded = int(answers) / float(seconds), int(flooded) / float(seconds)
         self.middle, self.late = float(middle), float(late)
+        self.requests = int(requests)
+
+    def take_cost(self, before, after):
+        """What a command cost, by what the server had used before all of them and behind: microseconds, and switches."""
+        seconds, self.voluntary, self.involuntary = [(now - then) / self.requests for then, now in zip(before, after)]
+        self.cost = seconds * 1e6
 
 
 class Load:
-    """Puts the same bids on servers of each kind, on new data in this folder each time."""
+    """Puts the same bids on servers of each kind, on new data in this folder each time, so many of each session in flight."""
 
-    def __init__(self, given, folder):
-        self.given, self.folder = given, folder
+    def __init__(self, given, folder, pipeline=1):
+        self.given, self.folder, self.pipeline = given, folder, pipeline
         self.auction = Auction(given.levels, given.bidders)
         self.load, self.calls = build("load", folder), build("device", folder)
 
@@ -192,13 +237,21 @@ class Load:
         os.mkdir(path)
         return path
 
-    def measure(self, kind, port, sessions):
+    def measure(self, kind, port, sessions, flood="none", process=None):
+        """What a load comes to, and what it costs this process, which is looked at while all are still connected."""
         given = self.given
-        words = [kind, port, sessions, given.seconds, given.warm, MOST_ANSWERS, given.levels, given.bidders]
-        run = subprocess.run([self.load, *map(str, words)], capture_output=True, text=True)
+        words = [kind, port, sessions, given.seconds, given.warm, MOST_ANSWERS, given.levels, given.bidders, self.pipeline, flood]
+        before = used(process) if process else None
+        with subprocess.Popen([self.load, *map(str, words)], **PIPES) as run:
+            written = run.stdout.readline()
+            after = used(process) if process and written else None
+            _, said = run.communicate()
         if run.returncode != 0:
-            raise Fails(f"the load of {kind} ended with {run.returncode}: {run.stderr}")
-        return Figures(run.stdout)
+            raise Fails(f"the load of {kind} ended with {run.returncode}: {said}")
+        figures = Figures(written)
+        if process:
+            figures.take_cost(before, after)
+        return figures
 
     def new_file(self):
         file = os.path.join(self.new_folder(), "auction")
@@ -212,10 +265,11 @@ class Load:
             raise Fails(f"serve ended: {server.stop()}")
         return server
 
-    def of_hpb(self, sessions):
-        server = self.serve(sessions)
+    def of_hpb(self, sessions, flood="none"):
+        """Beside these sessions one more floods it, or is silent."""
+        server = self.serve(sessions if flood == "none" else sessions + 1)
         try:
-            figures = self.measure("hpb", server.port, sessions)
+            figures = self.measure("hpb", server.port, sessions, flood, server.process)
             server.end()
         finally:
             server.stop()
@@ -257,3 +311,16 @@ def add_options(words):
     add_layouts(words, both=False)
     words.add_argument("--levels", type=int, default=7, help="of the auction's nodes (default 7: 127 nodes)")
     words.add_argument("--bidders", type=int, default=64, help="of the auction (default 64)")
+
+
+def add_ways(words):
+    """How bids are sent, and beside what."""
+    words.add_argument("--pipeline", type=int, choices=PIPELINES, default=1, help="bids of a session in flight (default 1)")
+    words.add_argument("--noise", type=int, default=0, metavar="N", help="processes beside, each of which takes a core")
+
+
+def ways(given):
+    """What there is to say of these, in a line, or nothing."""
+    told = [f"{given.pipeline} bids of each session in flight"] if given.pipeline > 1 else []
+    told += [f"beside {given.noise} processes that each take a core"] if given.noise else []
+    return ", ".join(told)

@@ -1,5 +1,5 @@
 //! The end that reads.
-ghost use Rattle.std.specs.Prelude.{◌≡◌, ◌⊎◌, length};
+ghost use Rattle.std.specs.Prelude.{◌≡◌, ◌<◌, length};
 ghost use mathlib.Core.List.{IsPrefix};
 ghost use Rattle.left_right.specs.Sides.{view};
 ghost use Rattle.hpb_board.specs.Contents.{content};
@@ -77,12 +77,14 @@ fn look_again(ends: &mut Ends) -> bool
     replace_with(ends, (), |ends, _| look(ends))
 }
 
-/// Copies a board of the same publisher where it has moved on. With the same number of batches both are alike already.
+/// Copies a board of the same publisher where it has moved on, and there alone: with the same number of batches both are
+/// alike already.
 fn take_over(own: &mut Board, board: &Board)
     requires book { board.now.trail.book ≡ own.old.trail.book }
     requires rules { own.old.auction.rules ≡ board.now.auction.rules }
     requires seats { length own.old.rows.items ≡ length board.now.rows.items }
-    ensures copied { (content own.new ≡ content board.now) ⊎ (own.new ≡ own.old) }
+    ensures copied { own.old.number < board.now.number → content own.new ≡ content board.now }
+    ensures kept { (own.old.number < board.now.number → ⊥) → own.new ≡ own.old }
     ensures later { IsPrefix own.old.trail.log own.new.trail.log }
 {
     let mut both = own.trail.again();

@@ -39,14 +39,15 @@ pub(crate) const MOST_CELLS: JournalShape = JournalShape {
 /// Does a row with each of three journals, by the name that it has in the row: `over_layouts!(shape => row(shape)?)`.
 #[macro_export]
 macro_rules! over_layouts {
-    ($shape:ident => $row:expr) => {{
-        let $shape = $crate::devices::FOUR_PAGES;
-        $row;
-        let $shape = $crate::devices::EIGHT_PAGES;
-        $row;
-        let $shape = $crate::devices::SIXTEEN_CELLS;
-        $row;
-    }};
+    ($shape:ident => $row:expr) => {
+        for $shape in [
+            $crate::devices::FOUR_PAGES,
+            $crate::devices::EIGHT_PAGES,
+            $crate::devices::SIXTEEN_CELLS,
+        ] {
+            $row;
+        }
+    };
 }
 
 /// Where the journal begins.

@@ -25,12 +25,11 @@ pub const CELLS: JournalShape = JournalShape {
 /// row(shape)?)`.
 #[macro_export]
 macro_rules! over_layouts {
-    ($shape:ident => $row:expr) => {{
-        let $shape = $crate::devices::PAGES;
-        $row;
-        let $shape = $crate::devices::CELLS;
-        $row;
-    }};
+    ($shape:ident => $row:expr) => {
+        for $shape in [$crate::devices::PAGES, $crate::devices::CELLS] {
+            $row;
+        }
+    };
 }
 
 /// Where the journal begins: behind 13 pages of 4,096 bytes.

@@ -220,6 +220,7 @@ impl<M: Copy> Client<M> {
 
     /// Sends the end mark, and rings the committer's bell. It hands the client back where no place in the ring is known
     /// to be free.
+    #[tactic(auto, using(crate::proofs::Gathering::slip_lemmas))]
     pub fn finish(mut self) -> Result<Report, Client<M>>
         requires { (self.waiting.items ≡ []) ⊎ (self.is_halted ≡ true) }
         ensures report { IfOk result (λ r. (r.seat ≡ self.seat) × (r.viewer ≡ self.viewer) × (r.taken ≡ self.taken) × (r.accepted ≡ self.accepted) × (r.is_halted ≡ self.is_halted) × (sent r.letters ≡ sent self.letters ++ End ∷ [])) }
@@ -242,15 +243,16 @@ impl<M: Copy> Client<M> {
             ..
         } = self;
         letters.push_reserved(Slip::End);
-        bell.unpark();
-        Ok(Report {
+        let report = Report {
             seat,
             viewer,
             letters,
             taken,
             accepted,
             is_halted,
-        })
+        };
+        report.ring(&bell);
+        Ok(report)
     }
 }
 

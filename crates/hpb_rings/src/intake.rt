@@ -28,7 +28,7 @@ impl<M: Copy> Intake<M> {
 
     /// Takes up to 64 letters that came, each with the seat of its ring, in the order in which they were posted there.
     ///
-    /// Each call begins at another seat.
+    /// A call begins at the seat at which the last one was full, or else one seat further than the last one began.
     pub fn gather(&mut self) -> Letters
         ensures each { (seat : ℕ) → at_seat (gathered self.new.rings.items) seat ≡ at_seat (gathered self.old.rings.items) seat ++ of_seat seat result }
         ensures seats { All (λ l. l.seat < vec_len self.old.rings) result }
@@ -36,11 +36,17 @@ impl<M: Copy> Intake<M> {
     {
         let mut letters = Letters::new();
         let count = self.rings.len();
+        let begun = self.first;
+        let mut next = begun.wrapping_add(1);
         for i in 0..count {
-            let seat = (self.first % count + i) % count;
+            let seat = (begun % count + i) % count;
+            let had_room = letters.len() < MOST_LETTERS;
             drain(&mut self.rings[seat], seat as u8, &mut letters);
+            if had_room && letters.len() == MOST_LETTERS {
+                next = seat;
+            }
         }
-        self.first = self.first.wrapping_add(1);
+        self.first = next;
         letters
     }
 

@@ -1,8 +1,9 @@
 //! What a client leaves that has finished.
-ghost use Rattle.std.specs.Prelude.{◌≡◌, ◌≤◌, [], ◌∷◌, ◌++◌, length, take, false};
+ghost use Rattle.std.specs.Prelude.{◌≡◌, ◌≤◌, [], ◌∷◌, ◌++◌, length, take, true, false};
 ghost use mathlib.Core.List.{IsPrefix};
 ghost use Rattle.rtrb.specs.Ring.{sent};
 ghost use Rattle.hpb_board.specs.Publication.{answers_of};
+ghost use Rattle.hpb_rings.specs.Slips.{ends};
 ghost use Rattle.hpb_rings.specs.Taking.{letters_of, slips, newly};
 ghost use Rattle.hpb_rings.specs.declared.slip.Slip.TheVariants.{End};
 
@@ -10,6 +11,9 @@ use crate::slip::Slip;
 use crate::viewing::view_again;
 use hpb_board::Viewer;
 use rtrb::Producer;
+use std::alloc::Global;
+use std::sync::Arc;
+use std::thread::Parker;
 
 /// What a client leaves that has finished: what it sent, what it saw, and how many of its answers newly accepted a
 /// command.
@@ -37,6 +41,13 @@ pub struct Report {
 }
 
 impl Report {
+    /// Rings the committer's bell behind the end mark.
+    pub(crate) fn ring(&self, bell: &Arc<Parker, Global>)
+        requires { ends (sent self.now.letters) ≡ true }
+    {
+        bell.unpark();
+    }
+
     /// Views once more: `false` where the publisher has ended. What it says of the answers taken stays.
     pub fn view_again(&mut self) -> bool
         ensures same { (self.new.seat ≡ self.old.seat) × (self.new.letters ≡ self.old.letters) × (self.new.taken ≡ self.old.taken) × (self.new.accepted ≡ self.old.accepted) × (self.new.is_halted ≡ self.old.is_halted) }

@@ -1,8 +1,10 @@
-ghost use Rattle.std.specs.Prelude.{◌≡◌, ◌<◌, [], length, IfErr, IfOk};
+ghost use Rattle.std.specs.Prelude.{◌≡◌, ◌+◌, ◌<◌, ◌↔◌, [], length, IfErr, IfOk, IsTrue};
 ghost use Rattle.std.specs.Io.KnownBytes.{Keeps};
 ghost use Rattle.hpb_rules.specs.Rendering.{refusal_text, reply_text};
 ghost use Rattle.hpb_wire.specs.Responses.{Adds, text_of};
+ghost use Rattle.hpb_wire.specs.declared.text.TheConstants.{RESPONSE_BYTES};
 ghost use Rattle.hpb_server.specs.Fault.{IsFailure};
+ghost use Rattle.hpb_server.specs.declared.output.TheConstants.{OUTPUT_BYTES};
 ghost use Rattle.hpb_server.specs.Writing.{Puts, Sends, Writes};
 
 use crate::fault::Fault;
@@ -66,7 +68,9 @@ impl Output {
 
     /// Whether room may be missing for one more response.
     #[inline(always)]
-    pub(crate) fn is_nearly_full(&self) -> bool {
+    pub(crate) fn is_nearly_full(&self) -> bool
+        ensures { IsTrue result ↔ OUTPUT_BYTES < length self.now + RESPONSE_BYTES }
+    {
         self.waiting.len() > OUTPUT_BYTES - RESPONSE_BYTES
     }
 

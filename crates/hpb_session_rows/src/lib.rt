@@ -16,6 +16,8 @@ mod rows_of_callers;
 #[cfg(test)]
 mod rows_of_faults;
 #[cfg(test)]
+mod rows_of_flights;
+#[cfg(test)]
 mod rows_of_houses;
 #[cfg(test)]
 mod rows_of_sessions;

@@ -1,4 +1,4 @@
-//! Outputs for the line that tells of the port.
+//! Outputs that tell of what is written, and one that fails.
 
 use std::alloc::Global;
 use std::io;
@@ -36,6 +36,24 @@ impl Write for Heard {
     fn flush(&mut self) -> io::Result<()> {
         self.has_line
             .store(self.bytes.ends_with(b"\n"), Ordering::SeqCst);
+        Ok(())
+    }
+}
+
+/// An output that tells how often is written.
+#[derive(Drop)]
+pub(crate) struct Counted {
+    pub(crate) bytes: Vec<u8>,
+    pub(crate) writes: u32,
+}
+
+impl Write for Counted {
+    fn write(&mut self, bytes: &[u8]) -> io::Result<usize> {
+        self.writes = self.writes.saturating_add(1);
+        self.bytes.write(bytes)
+    }
+
+    fn flush(&mut self) -> io::Result<()> {
         Ok(())
     }
 }

@@ -12,7 +12,7 @@ use Rattle.hpb_rules.specs.Fronts.{IsFront}
 use Rattle.hpb_rules.specs.Lines.{is_line_feed, request_of}
 use Rattle.hpb_rules.specs.Tree.{Rules}
 use Rattle.hpb_server.specs.declared.fault.Fault.{Fault}
-use Rattle.hpb_board.specs.Publication.{Viewing, auction_of}
+use Rattle.hpb_board.specs.Publication.{auction_of}
 use Rattle.hpb_rings.specs.declared.client.Client.{Client}
 use Rattle.hpb_server.specs.DeskLaws.{GoesOn}
 use Rattle.hpb_server.specs.Streams.{Streams}

@@ -1,4 +1,6 @@
 pub mod Seen
+pub mod Order
 pub mod Steps
+pub mod InFlight
 pub mod Lasting
 pub mod Posts

@@ -1,17 +1,15 @@
 -- Single steps of a desk: an answer taken, a command that gets none, and a look.
-use Rattle.std.proofs.Common.{◌≡◌, ◌⊎◌, inl, inr, ℕ, suc, ◌≤◌, Bool, true, false, max, List, [], ◌∷◌, ◌++◌, get_or, length, take, Option, Some, None, refl, sym, ap, subst, ◌∙◌, arith, append_assoc}
+use Rattle.std.proofs.Common.{◌≡◌, inl, inr, ℕ, suc, ◌≤◌, Bool, true, false, max, [], ◌++◌, take, Option, Some, None, refl, sym, ap, subst, ◌∙◌, arith, append_assoc}
 use Rattle.std.specs.declared.alloc.Global.{Global}
-use Rattle.std.specs.Prelude.{◌<◌, if◌then◌else◌, Result, Ok, Err, IsOk, OnOk, ⊤}
-use Rattle.std.proofs.lemmas.Bool.{eqb-true, false≢true}
+use Rattle.std.specs.Prelude.{if◌then◌else◌}
+use Rattle.std.proofs.lemmas.Bool.{eqb-true}
 use Rattle.hpb_rules.specs.declared.command.Command.{Command}
 use Rattle.hpb_rules.specs.declared.letter.Answer.{Answer}
-use Rattle.hpb_rules.specs.declared.limits.TheConstants.{MOST_LETTERS}
-use Rattle.hpb_rules.specs.declared.refusal.Refusal.{Refusal}
 use Rattle.hpb_rules.specs.declared.reply.Reply.{Reply}
 use Rattle.hpb_rules.specs.declared.reply.Reply.TheVariants as replies
 use Rattle.hpb_rules.specs.Answer.{history_after, is_reply_new}
 use Rattle.hpb_rules.specs.AuctionValue.{AuctionValue, Shows}
-use Rattle.hpb_rules.specs.Letters.{Fits, is_answer_new}
+use Rattle.hpb_rules.specs.Letters.{Fits}
 use Rattle.hpb_rules.proofs.Lists.{append_nil, front_self, front_trans}
 use Rattle.hpb_board.specs.Publication.{Viewing, answers_of, auction_of}
 use Rattle.hpb_rings.specs.Marks.{greatest, with_reply}
@@ -20,10 +18,11 @@ use Rattle.hpb_rings.specs.declared.slip.Slip.{Slip}
 use Rattle.rtrb.specs.Ring.{SameProducer}
 use Rattle.rtrb.specs.declared.AnyItems.{AnyItems}
 use Rattle.rtrb.specs.declared.producer.Producer.{Producer}
-use Rattle.hpb_server.specs.Desk.{AsksAll}
 use Rattle.hpb_sessions.specs.declared.stop.Stop.{Stop}
-use Rattle.hpb_sessions.specs.Sessions.{DeskStands, Follows, GoesFrom, IsToldBy, RepliesAt, ShowsAt, State, count_after, over_at, seen_by, told_by}
+use Rattle.hpb_sessions.specs.InFlight.{CameFrom}
+use Rattle.hpb_sessions.specs.Sessions.{DeskStands, Follows, GoesFrom, IsToldBy, RepliesAt, ShowsAt, State, count_after, seen_by, told_by}
 use Rattle.hpb_sessions.specs.Stops.{refusal_of}
+use Rattle.hpb_sessions.proofs.Order.{count_later}
 use Rattle.hpb_sessions.proofs.Seen.{fits_after, fronts_of, seen_counted, seen_front, seen_shown, take_whole, told_fits}
 
 -- what an answer tells is known by the mark after it
@@ -37,14 +36,6 @@ count_known mark given = by given.reply
     by : (reply : Reply) → (if is_reply_new given.at reply then suc given.at else given.at) ≤ with_reply (max mark given.at) reply
     by (replies.Ok n) = number given n (is_reply_new given.at (replies.Ok n)) refl
     by (replies.Refused refusal) = omega arith
-
--- an answer tells of no fewer than were accepted before it
-pub count_later : (given : Answer) → given.at ≤ count_after given
-count_later given = by (is_answer_new given)
-  where
-    by : (b : Bool) → given.at ≤ (if b then suc given.at else given.at)
-    by true = omega arith
-    by false = omega arith
 
 -- a session that is told of no fewer commands goes on
 pub goes : (old new : State) → new.seat ≡ old.seat → SameProducer old.letters new.letters → Follows old.viewing new.viewing → old.told ≤ new.told → GoesFrom old new
@@ -68,30 +59,77 @@ pub same_ring : (first second third : Producer Slip Global AnyItems) → SamePro
 same_ring first second third one two =
     ((two.0.0 ∙ one.0.0, two.0.1 ∙ one.0.1, two.0.2 ∙ one.0.2, two.0.3 ∙ one.0.3), two.1 ∙ one.1)
 
+-- a viewer follows itself
+pub follows_self : (viewing : Viewing) → Follows viewing viewing
+follows_self viewing = (refl, refl, refl, ([], sym (append_nil viewing.list)))
+
 -- it goes on to itself, and so does what goes on from what goes on
 pub goes_self : (state : State) → GoesFrom state state
 goes_self state = record {
   seat = refl;
   letters = ((refl, refl, refl, refl), refl);
-  viewer = (refl, refl, refl, ([], sym (append_nil state.viewing.list)));
+  viewer = follows_self state.viewing;
   told = λ opened. front_self (told_by opened state);
 }
+
+-- one viewer follows another that follows a third
+pub follows_trans : (first second third : Viewing) → Follows first second → Follows second third → Follows first third
+follows_trans first second third one two = (
+  two.0 ∙ one.0,
+  two.1 ∙ one.1,
+  two.2 ∙ one.2,
+  (one.3.0 ++ two.3.0, sym (append_assoc first.list one.3.0 two.3.0) ∙ ap (λ list. list ++ two.3.0) one.3.1 ∙ two.3.1),
+)
 
 pub goes_trans : (first second third : State) → GoesFrom first second → GoesFrom second third → GoesFrom first third
 goes_trans first second third one two = record {
   seat = two.seat ∙ one.seat;
   letters = same_ring first.letters second.letters third.letters one.letters two.letters;
-  viewer = (
-    two.viewer.0 ∙ one.viewer.0,
-    two.viewer.1 ∙ one.viewer.1,
-    two.viewer.2 ∙ one.viewer.2,
-    (
-      one.viewer.3.0 ++ two.viewer.3.0,
-      sym (append_assoc first.viewing.list one.viewer.3.0 two.viewer.3.0) ∙ ap (λ list. list ++ two.viewer.3.0) one.viewer.3.1 ∙ two.viewer.3.1,
-    ),
-  );
+  viewer = follows_trans first.viewing second.viewing third.viewing one.viewer two.viewer;
   told = λ opened. front_trans (told_by opened first) (told_by opened second) (told_by opened third) (one.told opened) (two.told opened);
 }
+
+-- ---- a command that is replied, by where its client came from
+module _ {M : Type 0} (state : State) (client : Client M) (came : CameFrom state client) where
+  -- where a session stands once an answer is taken
+  abbrev pub after_answer : Answer → State
+  after_answer given = record { seat = client.seat; letters = client.letters; viewing = client.viewer; told = count_after given; stop = None }
+
+  pub answered : (command : Command) (given : Answer) → given.letter ≡ record { seat = client.seat; command = command } → state.told ≤ given.at
+      → IsToldBy (answers_of client.seat client.viewer) given → RepliesAt state command given.reply (after_answer given)
+  answered command given own late told = (
+    goes state (after_answer given) came.0 came.1 came.2 (omega (arith, late, count_later given)),
+    inl (record {
+      given = given;
+      own = own ∙ ap (λ n. record { seat = n; command = command }) came.0;
+      replied = refl;
+      among = subst (λ n. IsToldBy (answers_of n client.viewer) given) came.0 told;
+      fits = λ opened shows.
+          let still : Shows client.viewer.opened opened = subst (λ (value : AuctionValue). Shows value opened) (sym came.2.1) shows in
+          let fit = told_fits opened client.viewer client.seat given still told in
+          record {
+            fits = subst (λ (value : AuctionValue). Fits value.rules (seen_by opened client.viewer) given) came.2.1 fit;
+            later = fronts_of state.told given.at (seen_by opened state.viewing) (seen_by opened client.viewer) late (seen_front opened state.viewing client.viewer came.2);
+            told = sym (fits_after client.viewer.opened.rules (seen_by opened client.viewer) given fit)
+                ∙ ap (λ (value : AuctionValue). history_after value.rules (take given.at (seen_by opened client.viewer)) given.letter.command) came.2.1;
+          };
+      before = came.4;
+      after = refl;
+    }),
+  )
+
+  -- where it stands once a command gets none
+  abbrev pub after_stop : Stop → State
+  after_stop why = record { seat = client.seat; letters = client.letters; viewing = client.viewer; told = state.told; stop = Some why }
+
+  pub stopped : (command : Command) (why : Stop) → RepliesAt state command (replies.Refused (refusal_of why)) (after_stop why)
+  stopped command why = (
+    goes state (after_stop why) came.0 came.1 came.2 (omega arith),
+    inr (record { why = why; before = inl came.4; after = refl; replied = refl }),
+  )
+
+  pub stopped_stands : (why : Stop) → DeskStands client (Some why) (after_stop why)
+  stopped_stands why = (refl, refl, came.3, refl, refl)
 
 module _ {M : Type 0} (old new : Client M) (stop : Option Stop) (state : State) (stands : DeskStands old stop state)
     (same : new.seat ≡ old.seat) (ring : SameProducer old.letters new.letters) (follows : Follows old.viewer new.viewer) where
@@ -104,55 +142,6 @@ module _ {M : Type 0} (old new : Client M) (stop : Option Stop) (state : State) 
 
   seated : new.seat ≡ state.seat
   seated = same ∙ sym stands.0
-
-  -- an answer is taken
-  pub answered : (command : Command) (given : Answer) → stop ≡ None → given.letter ≡ record { seat = old.seat; command = command } → old.mark ≤ given.at
-      → IsToldBy (answers_of new.seat new.viewer) given → greatest old.mark given ≤ new.mark
-      → (next : State) × RepliesAt state command given.reply next × DeskStands new stop next
-  answered command given serves own late told known =
-      let next : State = record { seat = new.seat; letters = new.letters; viewing = new.viewer; told = count_after given; stop = stop } in
-      let more : state.told ≤ given.at = omega (arith, stands.2, late) in (
-        next,
-        (
-          goes state next seated on_ring at (omega (arith, more, count_later given)),
-          inl (record {
-            given = given;
-            own = own ∙ ap (λ n. record { seat = n; command = command }) (sym stands.0);
-            replied = refl;
-            among = subst (λ n. IsToldBy (answers_of n new.viewer) given) seated told;
-            fits = λ opened shows.
-                let still : Shows new.viewer.opened opened = subst (λ (value : AuctionValue). Shows value opened) (sym at.1) shows in
-                let fit = told_fits opened new.viewer new.seat given still told in
-                record {
-                  fits = subst (λ (value : AuctionValue). Fits value.rules (seen_by opened new.viewer) given) at.1 fit;
-                  later = fronts_of state.told given.at (seen_by opened state.viewing) (seen_by opened new.viewer) more (seen_front opened state.viewing new.viewer at);
-                  told = sym (fits_after new.viewer.opened.rules (seen_by opened new.viewer) given fit)
-                      ∙ ap (λ (value : AuctionValue). history_after value.rules (take given.at (seen_by opened new.viewer)) given.letter.command) at.1;
-                };
-            before = stands.3 ∙ serves;
-            after = serves;
-          }),
-        ),
-        (refl, refl, omega (arith, count_known old.mark given, known), refl, refl),
-      )
-
-  -- a command gets no answer
-  pub stopped : (command : Command) (why : Stop) (refusal : Refusal) → old.mark ≤ new.mark → (stop ≡ None) ⊎ (stop ≡ Some why) → refusal ≡ refusal_of why
-      → (next : State) × RepliesAt state command (replies.Refused refusal) next × DeskStands new (Some why) next
-  stopped command why refusal more was is =
-      let next : State = record { seat = new.seat; letters = new.letters; viewing = new.viewer; told = state.told; stop = Some why } in (
-        next,
-        (
-          goes state next seated on_ring at (omega arith),
-          inr (record {
-            why = why;
-            before = subst (λ (s : Option Stop). (s ≡ None) ⊎ (s ≡ Some why)) (sym stands.3) was;
-            after = refl;
-            replied = ap replies.Refused is;
-          }),
-        ),
-        (refl, refl, omega (arith, stands.2, more), refl, refl),
-      )
 
   -- a look at what is published
   pub looked : (value : AuctionValue) → value ≡ auction_of new.viewer → new.mark ≡ max old.mark (auction_of new.viewer).count
@@ -181,27 +170,6 @@ module _ {M : Type 0} (old new : Client M) (stop : Option Stop) (state : State) 
   looked_away most =
       let next : State = record { seat = new.seat; letters = new.letters; viewing = new.viewer; told = state.told; stop = stop } in
       (next, (goes state next seated on_ring at (omega arith), sym stands.3, tt), (refl, refl, omega (arith, stands.2, most), refl, refl))
-
--- ---- commands that are asked together
--- none once the session is over
-pub asks_none : (state : State) (commands : List Command) → over_at state ≡ true → AsksAll RepliesAt over_at state commands [] state
-asks_none state [] over = (refl, refl)
-asks_none state (command ∷ commands) over = inl (over, refl, refl)
-
--- one command
-pub asks_one : (state next : State) (items commands : List Command) (command : Command) (reply : Reply) → items ≡ commands → length commands ≤ 1 → 0 < length commands → command ≡ get_or items 0 command
-    → over_at state ≡ false → RepliesAt state command reply next → AsksAll RepliesAt over_at state commands (reply ∷ []) next
-asks_one state next items commands command reply same few some at over it = by commands few some (at ∙ ap (λ list. get_or list 0 command) same)
-  where
-    by : (commands : List Command) → length commands ≤ 1 → 0 < length commands → command ≡ get_or commands 0 command → AsksAll RepliesAt over_at state commands (reply ∷ []) next
-    by [] few some at = absurd (omega (arith, some))
-    by (first ∷ []) few some at = inr (over, reply, [], next, subst (λ (c : Command). RepliesAt state c reply next) at it, (refl, refl), refl)
-    by (first ∷ second ∷ commands) few some at = absurd (omega (arith, few))
-
--- its reply is the only one
-pub only_reply : (result : Result ⊤ Reply) (before after : List Reply) (reply : Reply) → before ≡ [] → (length before < MOST_LETTERS → IsOk result) → OnOk result (after ≡ before ++ reply ∷ []) → after ≡ reply ∷ []
-only_reply (Ok done) before after reply none room pushed = pushed ∙ ap (λ list. list ++ reply ∷ []) none
-only_reply (Err back) before after reply none room pushed = absurd (false≢true (room (omega (arith, ap length none))))
 
 -- what isn't some reason is none
 pub none_of : (stop : Option Stop) → ((why : Stop) → stop ≡ Some why → ⊥) → stop ≡ None

@@ -1,4 +1,5 @@
 pub mod Stops
 pub mod Sessions
+pub mod InFlight
 pub mod Telling
 pub mod Ends

@@ -8,6 +8,7 @@ use Rattle.rtrb.specs.declared.AnyItems.{AnyItems}
 use Rattle.rtrb.specs.declared.producer.Producer.{Producer}
 use Rattle.hpb_rules.specs.declared.command.Command.{Command}
 use Rattle.hpb_rules.specs.declared.letter.Answer.{Answer}
+use Rattle.hpb_rules.specs.declared.limits.TheConstants.{MOST_WAITING}
 use Rattle.hpb_rules.specs.declared.reply.Reply.{Reply}
 use Rattle.hpb_rules.specs.declared.reply.Reply.TheVariants as replies
 use Rattle.hpb_rules.specs.Answer.{history_after}
@@ -54,9 +55,9 @@ rules_at state = state.viewing.opened.rules
 abbrev pub over_at : State → Bool
 over_at state = is_over state.stop
 
--- One command is asked at a time.
-abbrev pub one_asked : ℕ
-one_asked = 1
+-- So many commands are in flight at most: posted together, before the first of them is answered.
+abbrev pub most_in_flight : ℕ
+most_in_flight = MOST_WAITING
 
 -- The commands that a session was told of, where what was opened shows this history: so many of those that the viewer then shows.
 abbrev pub told_by : List Command → State → List Command

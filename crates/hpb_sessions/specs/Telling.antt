@@ -11,11 +11,11 @@ use Rattle.hpb_rules.specs.AuctionValue.{AuctionValue, Shows}
 use Rattle.hpb_server.specs.DeskLaws.{IsOfDesk, RepliesAfter, ShowsAfter}
 use Rattle.hpb_sessions.specs.declared.stop.Stop.{Stop}
 use Rattle.hpb_sessions.specs.declared.stop.Stop.TheVariants.{Halted, Order}
-use Rattle.hpb_sessions.specs.Sessions.{Answers, GoesFrom, RepliesAt, ShowsAt, ShowsSeen, State, Stops, TellsAt, one_asked, rules_at, seen_by, told_by}
+use Rattle.hpb_sessions.specs.Sessions.{Answers, GoesFrom, RepliesAt, ShowsAt, ShowsSeen, State, Stops, TellsAt, most_in_flight, rules_at, seen_by, told_by}
 use Rattle.hpb_sessions.specs.Stops.{refusal_of}
 
-pub one_is_some : (0 < one_asked) × (one_asked ≤ MOST_LETTERS)
-one_is_some = (omega arith, omega arith)
+pub some_in_flight : (0 < most_in_flight) × (most_in_flight ≤ MOST_LETTERS)
+some_in_flight = (omega arith, omega arith)
 
 pub house_keeps_rules : (old new : State) (command : Command) (reply : Reply) → RepliesAt old command reply new → rules_at new ≡ rules_at old
 house_keeps_rules old new command reply it = ap (λ (value : AuctionValue). value.rules) it.0.viewer.1

@@ -3,25 +3,26 @@ ghost use Rattle.std.specs.Prelude.{◌≡◌, [], None, Some, true, ◌⊎◌};
 ghost use Rattle.hpb_sessions.specs.declared.stop.Stop.TheVariants.{Halted, Order};
 ghost use Rattle.hpb_sessions.specs.Stops.{IsInOrder};
 
-use crate::asking::ask_client;
+use crate::asking::{ask_client, refuse_later};
 use crate::end::SessionEnd;
 use crate::session::finish_client;
 use crate::stop::Stop;
 use hpb_auction::Auction;
 use hpb_rings::Client;
-use hpb_rules::{Command, Commands, Replies, Reply};
+use hpb_rules::{Commands, MOST_WAITING, Replies};
 use hpb_server::Desk;
 use hpb_tree::Definition;
 use std::alloc::{AllocError, Global};
 use std::sync::Wait;
 
-/// The desk of a session on a house. It posts each command as a letter of its client's seat, and waits for its answer.
+/// The desk of a session on a house. It posts commands that have come, up to 16, as letters of its client's seat, and
+/// then waits for their answers in that order.
 ///
 /// It stands at a state by the history that its client's viewer opened. A command is replied by an answer to its
 /// letter, which fits what the viewer then shows and was judged after all that the session was told of; or, from the
 /// first of these on, by 93 `failed` where the client is halted and one more look finds no answer, or by 95 `order`
-/// where an answer comes that isn't the one that it waits for. A 95 ends the session. Questions are answered by what is
-/// published.
+/// where an answer comes that isn't the one that it waits for. A 95 ends the session: no command behind it is replied.
+/// Questions are answered by what is published.
 #[derive(Drop)]
 pub struct HouseDesk<M: Copy, R: Wait + Drop> {
     rt: R,
@@ -36,11 +37,12 @@ pub struct HouseDesk<M: Copy, R: Wait + Drop> {
 }
 
 impl<M: Copy, R: Wait + Drop> HouseDesk<M, R> {
-    ghost use Rattle.std.specs.Prelude.{◌≡◌, ◌≢◌, [], None, Some, true};
+    ghost use Rattle.std.specs.Prelude.{◌≡◌, ◌<◌, ◌≤◌, [], None, true, length, IsSome};
     ghost use Rattle.rtrb.specs.Ring.{SameProducer, sent};
-    ghost use Rattle.hpb_sessions.specs.declared.stop.Stop.TheVariants.{Order};
+    ghost use Rattle.hpb_rules.specs.declared.limits.TheConstants.{MOST_WAITING};
+    ghost use Rattle.hpb_server.specs.Desk.{AsksAll};
     ghost use Rattle.hpb_sessions.specs.Ends.{EndsBy, posts_of, seat_of, viewer_of};
-    ghost use Rattle.hpb_sessions.specs.Sessions.{DeskStands, RepliesAt, State};
+    ghost use Rattle.hpb_sessions.specs.Sessions.{DeskStands, RepliesAt, State, over_at};
     ghost use Rattle.hpb_sessions.specs.Stops.{is_over};
 
     /// A desk with a client for which no letter is outstanding. It sleeps until its answers come.
@@ -93,25 +95,30 @@ impl<M: Copy, R: Wait + Drop> HouseDesk<M, R> {
         }
     }
 
-    /// What a command is replied while the session isn't over.
-    fn reply(&mut self, command: Command) -> Reply
-        requires goes_on { self.old.stop ≢ Some Order }
+    /// What commands that are asked together are replied.
+    fn reply(&mut self, commands: &Commands) -> Replies
+        requires some { 0 < length commands.now }
+        requires most { length commands.now ≤ MOST_WAITING }
         ensures replied { (state : State) → DeskStands self.old.client self.old.stop state
-            → (next : State) × RepliesAt state command result next × DeskStands self.new.client self.new.stop next }
+            → (next : State) × AsksAll RepliesAt over_at state commands.now result next × DeskStands self.new.client self.new.stop next }
         ensures rules { self.new.client.viewer.opened ≡ self.old.client.viewer.opened }
         // Nothing is posted once the client is halted.
         ensures silent { self.old.client.is_halted ≡ true → sent self.new.client.letters ≡ sent self.old.client.letters }
+        // Once the desk has stopped, nothing is posted either.
+        ensures stopped { IsSome self.old.stop → self.new.client ≡ self.old.client }
     {
         if let Some(stop) = self.stop {
-            return Reply::Refused(stop.refusal());
+            return refuse_later(stop, commands.len());
         }
-        match ask_client(&self.rt, &mut self.client, &command, self.looks) {
-            Ok(answer) => answer.reply,
-            Err(stop) => {
-                self.stop = Some(stop);
-                Reply::Refused(stop.refusal())
-            }
-        }
+        let mut replies = Replies::new();
+        self.stop = ask_client(
+            &self.rt,
+            &mut self.client,
+            commands.as_slice(),
+            self.looks,
+            &mut replies,
+        );
+        replies
     }
 }
 
@@ -119,9 +126,9 @@ impl<M: Copy, R: Wait + Drop> Desk for HouseDesk<M, R> {
     ghost use Rattle.std.specs.Prelude.{false, true};
     ghost use Rattle.std.proofs.Common.{ap};
     ghost use Rattle.hpb_server.specs.Desk.{no_memory};
-    ghost use Rattle.hpb_sessions.specs.Sessions.{DeskStands, RepliesAt, ShowsAt, State as Standing, TellsAt, one_asked, over_at, rules_at};
+    ghost use Rattle.hpb_sessions.specs.Sessions.{DeskStands, RepliesAt, ShowsAt, State as Standing, TellsAt, most_in_flight, over_at, rules_at};
     ghost use Rattle.hpb_sessions.specs.Stops.{is_over};
-    ghost use Rattle.hpb_sessions.specs.Telling.{house_keeps_rules, house_replies, house_shows, one_is_some};
+    ghost use Rattle.hpb_sessions.specs.Telling.{house_keeps_rules, house_replies, house_shows, some_in_flight};
 
     ghost State = { Standing };
 
@@ -141,7 +148,7 @@ impl<M: Copy, R: Wait + Drop> Desk for HouseDesk<M, R> {
 
     ghost looks = { ShowsAt };
 
-    ghost most = { one_asked };
+    ghost most = { most_in_flight };
 
     ghost takes_memory = { no_memory };
 
@@ -151,7 +158,7 @@ impl<M: Copy, R: Wait + Drop> Desk for HouseDesk<M, R> {
 
     ghost over_is = { λ desk state is. ap is_over is.3 };
 
-    ghost most_is_some = { one_is_some };
+    ghost most_is_some = { some_in_flight };
 
     ghost rules_stay = { house_keeps_rules };
 
@@ -168,7 +175,7 @@ impl<M: Copy, R: Wait + Drop> Desk for HouseDesk<M, R> {
     }
 
     fn most_asked(&self) -> usize {
-        1
+        MOST_WAITING
     }
 
     fn waits_when_asked(&self) -> bool {
@@ -176,12 +183,7 @@ impl<M: Copy, R: Wait + Drop> Desk for HouseDesk<M, R> {
     }
 
     fn ask(&mut self, _alloc: Global, commands: &Commands) -> Result<Replies, AllocError> {
-        let mut replies = Replies::new();
-        if self.is_over() {
-            return Ok(replies);
-        }
-        let _ = replies.push(self.reply(commands.as_slice()[0]));
-        Ok(replies)
+        Ok(self.reply(commands))
     }
 
     fn rest(&mut self, _alloc: Global) -> Result<(), AllocError> {

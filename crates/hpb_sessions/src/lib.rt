@@ -1,4 +1,4 @@
-//! Sessions with the clients of a house: a desk that posts each command and waits for its answer.
+//! Sessions with the clients of a house: a desk that posts commands together, and waits for their answers.
 #![tactic(auto)]
 
 mod asking;

@@ -9,7 +9,7 @@ ghost use Rattle.hpb_server.specs.Desk.{no_memory};
 ghost use Rattle.hpb_server.specs.Serving.{Serves};
 ghost use Rattle.hpb_server.specs.Streams.{streams};
 ghost use Rattle.hpb_sessions.specs.Ends.{EndsAt, IsEndOf};
-ghost use Rattle.hpb_sessions.specs.Sessions.{RepliesAt, ShowsAt, State, TellsAt, at_start, one_asked, over_at, rules_at, seen_by};
+ghost use Rattle.hpb_sessions.specs.Sessions.{RepliesAt, ShowsAt, State, TellsAt, at_start, most_in_flight, over_at, rules_at, seen_by};
 
 use crate::desk::HouseDesk;
 use crate::end::{Session, SessionEnd};
@@ -25,7 +25,8 @@ use std::thread;
 /// finishes the client. After a 95 `order` the client is handed back in place of that. For each answer of the house it
 /// looks so many times, while other threads run, before it sleeps.
 ///
-/// All that is answered is written and flushed before the next command is posted, and before more is read.
+/// Commands that have come are posted together, up to 16. All that is answered is written and flushed before the next
+/// ones are posted, and before more is read.
 ///
 /// The replies fit what the client's viewer shows at the end: each was judged after commands that stand at the front of
 /// that history, and after all that the session was told of before.
@@ -41,7 +42,7 @@ pub fn run_session<M: Copy, R: Wait + Drop, I: Read, O: Write>(
     ensures own { IsEndOf client result.end }
     // Each line has the answer of a desk whose answers fit, and the session ends at the state where these lead. Where
     // what was opened shows a history, what was told of last goes on from what the client's viewer showed at the start.
-    ensures served { (state : State) × Serves rules_at over_at RepliesAt ShowsAt one_asked no_memory [] MOST_READ_BYTES
+    ensures served { (state : State) × Serves rules_at over_at RepliesAt ShowsAt most_in_flight no_memory [] MOST_READ_BYTES
         (streams (I.remaining reader.old) (O.contents writer.old)) (streams (I.remaining reader.new) (O.contents writer.new))
         (at_start client) state result.fault
         × EndsAt result.end state

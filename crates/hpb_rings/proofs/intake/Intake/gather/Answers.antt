@@ -9,7 +9,7 @@ pub loop-i-preserved : goal.loop-i-preserved
 loop-i-preserved g c =
     let rs = c.loop-i.self.rings.items in
     let olds = gathered c.args.self.now.rings.items in
-    let k = (c.loop-i.self.first % c.len-count.result + c.loop-i.i) % c.len-count.result in
+    let k = (c.args.self.now.first % c.len-count.result + c.loop-i.i) % c.len-count.result in
     let y = c.drain.new.ring in
     let cur = c.index_mut.result.now in
     let inv = c.loop-i.invariant in

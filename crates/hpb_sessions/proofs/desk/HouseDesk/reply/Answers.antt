@@ -1,29 +1,23 @@
-use Rattle.std.proofs.Common.{◌≡◌, ◌∙◌, None, ap, inl, inr}
-use Rattle.hpb_rules.specs.declared.reply.Reply.TheVariants as replies
-use Rattle.hpb_sessions.proofs.Steps.{answered, goes_self, none_of, stopped}
+use Rattle.std.proofs.Common.{◌≡◌, ◌∙◌, length, sym, subst}
+use Rattle.hpb_server.specs.Desk.{AsksAll}
+use Rattle.hpb_sessions.specs.InFlight.{refused_after}
+use Rattle.hpb_sessions.specs.Sessions.{RepliesAt, over_at}
+use Rattle.hpb_sessions.proofs.InFlight.{asks_stopped}
+use Rattle.hpb_sessions.proofs.Steps.{none_of}
 use Rattle.hpb_sessions.proofs.desk.HouseDesk.reply.Goals as goal
 
--- a session that was stopped stays where it is
+-- a desk that has stopped stays where it is
 pub returns-in-Some-clause-replied : goal.returns-in-Some-clause-replied
 returns-in-Some-clause-replied g c state stands =
+    let commands = c.args.commands.now in
     let why = c.in-Some.stop in
-    let stops = stands.3 ∙ c.in-Some.is in
-    (state, (goes_self state, inr (record { why = why; before = inr stops; after = stops; replied = ap replies.Refused c.refusal.ensures })), stands)
+    let refused : c.refuse_later.result ≡ refused_after why (length commands) = rw c.len.ensures.value at c.refuse_later.ensures in (
+      state,
+      subst (λ given. AsksAll RepliesAt over_at state commands given state) (sym refused) (asks_stopped state commands why (stands.3 ∙ c.in-Some.is)),
+      stands,
+    )
 
-pub returns-in-Ok-clause-replied : goal.returns-in-Ok-clause-replied
-returns-in-Ok-clause-replied g c state stands =
-    let old = c.args.self.now in
-    let new = c.ask_client.new.client in
-    let none : old.stop ≡ None = none_of old.stop c.in_default.not-Some in
-    let made = c.in-Ok.ensures in
-    answered old.client new old.stop state stands made.seat made.ring made.viewer
-    c.args.command c.in-Ok.answer none made.own made.later made.told made.known
-
-pub returns-in-Err-clause-replied : goal.returns-in-Err-clause-replied
-returns-in-Err-clause-replied g c state stands =
-    let old = c.args.self.now in
-    let new = c.ask_client.new.client in
-    let none : old.stop ≡ None = none_of old.stop c.in_default.not-Some in
-    let made = c.in-Err.ensures in
-    stopped old.client new old.stop state stands made.seat made.ring made.viewer
-    c.args.command c.in-Err.stop c.refusal-in-Err.result made.mark (inl none) c.refusal-in-Err.ensures
+pub returns-clause-replied : goal.returns-clause-replied
+returns-clause-replied g c state stands =
+    let none = none_of c.args.self.now.stop c.in_default.not-Some in
+    rw c.as_slice.ensures.value at (c.ask_client-self.ensures.asked state (stands.0, stands.1, stands.2, stands.3 ∙ none, stands.4))
