@@ -20,7 +20,7 @@ use hpb_board::Front;
 use hpb_disk::Disk;
 use hpb_engine::Step;
 use hpb_rings::Intake;
-use hpb_rules::{Answers, Letters};
+use hpb_rules::{Answers, Letters, MOST_LETTERS};
 use std::sync::Wait;
 use std::thread;
 use std::thread::Parker;
@@ -185,8 +185,9 @@ fn offer<D: Disk + Drop, W: Wait + Drop, J: Naming, G: Gate, R: Wait>(
     match house.offer(rt, letters, front) {
         Offered::InFlight => commit(rt, house, intake, gate),
         Offered::Answered(answers) => {
+            let turned = expecting(intake, &answers);
             wake_answered(intake, &answers);
-            expecting(intake, &answers)
+            turned
         }
         Offered::Back(letters, reason) => hold(rt, house, letters, reason),
     }
@@ -208,10 +209,10 @@ fn commit<D: Disk + Drop, W: Wait + Drop, J: Naming, G: Gate, R: Wait>(
             Ok(Step::Went) => gate.at(rt, Point::Turned),
             Ok(Step::Idle) => return Turned::Free { expected: 0 },
             Ok(Step::Done(answers)) => {
+                let turned = expecting(intake, &answers);
                 wake_answered(intake, &answers);
-                house.checkpointing.unpark();
                 gate.at(rt, Point::Committed);
-                return expecting(intake, &answers);
+                return turned;
             }
             Err(_) => return halted(rt, house, Turned::Free { expected: 0 }),
         }
@@ -226,7 +227,10 @@ fn expecting(intake: &mut Intake<Halt>, answers: &Answers) -> Turned
     ensures comes { (list : List (List Letter)) → IsOwed (gathered intake.old.rings.items) list [] → Comes result (gathered intake.new.rings.items) list }
     ensures goes_on { result ≡ End → ⊥ }
 {
-    let expected = intake.waiting().saturating_add(answers.len());
+    let expected = intake
+        .waiting()
+        .saturating_add(answers.len())
+        .min(MOST_LETTERS);
     Turned::Free { expected }
 }
 
@@ -303,10 +307,15 @@ fn drain<D: Disk + Drop, W: Wait + Drop, J: Naming, G: Gate, R: Wait>(
     unreachable!()
 }
 
-/// Rings the bell of each seat that was answered.
+/// Rings the bell of each seat that was answered, once where its answers stand together.
 fn wake_answered(intake: &Intake<Halt>, answers: &Answers) {
+    let mut woken = None;
     for answer in answers.as_slice() {
-        wake(intake, answer.letter.seat);
+        let seat = answer.letter.seat;
+        if woken != Some(seat) {
+            wake(intake, seat);
+            woken = Some(seat);
+        }
     }
 }
 

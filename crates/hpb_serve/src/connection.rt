@@ -34,12 +34,16 @@ impl Idle {
     }
 }
 
-/// The part of so many looks that one of so many sessions has.
+/// With more sessions than these none looks: each look would take a core from a thread that others wait for.
+const MOST_LOOKING: u32 = 8;
+
+/// The part of so many looks that one of so many sessions has: none where there are many.
 fn share(looks: u32, sessions: usize) -> u32
-    ensures { 0 < sessions → sessions < 2 ^ 32 → result ≡ looks / sessions }
+    ensures few { 0 < sessions → sessions ≤ MOST_LOOKING → result ≡ looks / sessions }
+    ensures many { MOST_LOOKING < sessions → result ≡ 0 }
 {
     match u32::try_from(sessions) {
-        Ok(sessions) if sessions > 0 => looks / sessions,
+        Ok(sessions) if 0 < sessions && sessions <= MOST_LOOKING => looks / sessions,
         _ => 0,
     }
 }

@@ -8,15 +8,14 @@ use Rattle.hpb_rules.specs.declared.letter.Answer.{Answer}
 use Rattle.hpb_rules.specs.declared.reply.Reply.{Reply}
 use Rattle.hpb_rules.specs.declared.reply.Reply.TheVariants as replies
 use Rattle.hpb_board.specs.Publication.{Viewing, answers_of}
-use Rattle.hpb_rings.specs.Marks.{greatest}
 use Rattle.hpb_rings.specs.Taking.{IsForOldest}
 use Rattle.hpb_rings.specs.declared.client.Client.{Client}
 use Rattle.hpb_rings.specs.declared.waiting.Waiting.{Waiting}
 use Rattle.hpb_server.specs.Desk.{AsksAll}
 use Rattle.hpb_sessions.specs.declared.stop.Stop.{Stop}
 use Rattle.hpb_sessions.specs.declared.stop.Stop.TheVariants.{Halted, Order}
-use Rattle.hpb_sessions.specs.InFlight.{AwaitsAfter, CameFrom, refused_after, refused_by, waiting_for}
-use Rattle.hpb_sessions.specs.Sessions.{DeskStands, Follows, IsToldBy, RepliesAt, State, count_after, over_at}
+use Rattle.hpb_sessions.specs.InFlight.{AwaitsAfter, CameFrom, HasLooked, HasTaken, refused_after, refused_by, waiting_for}
+use Rattle.hpb_sessions.specs.Sessions.{DeskStands, Follows, RepliesAt, State, count_after, over_at}
 use Rattle.hpb_sessions.specs.Stops.{is_over, refusal_of}
 use Rattle.hpb_sessions.proofs.Order.{next_later}
 use Rattle.hpb_sessions.proofs.Seen.{take_whole}
@@ -98,43 +97,55 @@ posted_start old new state commands count stands same ring posted within = (
 )
 
 -- ---- answers that are taken
+-- no look at all, and looks behind looks
+pub looked_self : {M : Type 0} (client : Client M) → HasLooked client client
+looked_self client = (refl, refl, follows_self client.viewer, omega arith, λ halted. halted)
+
+pub looked_trans : {M : Type 0} (first second third : Client M) → HasLooked first second → HasLooked second third → HasLooked first third
+looked_trans first second third one two = (
+  two.0 ∙ one.0,
+  two.1 ∙ one.1,
+  follows_trans first.viewer second.viewer third.viewer one.2 two.2,
+  omega (arith, one.3, two.3),
+  λ halted. two.4 (one.4 halted),
+)
+
 -- a client that viewed and took goes on from where it came from
 pub came_on : {M : Type 0} (state : State) (old new : Client M) → CameFrom state old → new.seat ≡ old.seat → SameProducer old.letters new.letters → Follows old.viewer new.viewer → old.mark ≤ new.mark → CameFrom state new
 came_on state old new came seat letters follows mark =
     (seat ∙ came.0, same_ring state.letters old.letters new.letters came.1 letters, follows_trans state.viewing old.viewer new.viewer came.2 follows, omega (arith, came.3, mark), came.4)
 
 -- so many of the letters that a client had waiting are answered
-abbrev pub HasTaken : {M : Type 0} (first client : Client M) (count : ℕ) (given : List Reply) → Type 0
-HasTaken first client count given =
+abbrev pub AreTaken : {M : Type 0} (first client : Client M) (count : ℕ) (given : List Reply) → Type 0
+AreTaken first client count given =
     (commands : List Command) (state : State) → first.waiting.items ≡ waiting_for first.seat first.mark commands → CameFrom state first
     → (next : State) × AsksAll RepliesAt over_at state (take count commands) given next × CameFrom next client × AwaitsAfter client next.told × (0 < count → DeskStands client None next)
 
-pub none_taken : {M : Type 0} (client : Client M) (given : List Reply) → given ≡ [] → HasTaken client client 0 given
+pub none_taken : {M : Type 0} (client : Client M) (given : List Reply) → given ≡ [] → AreTaken client client 0 given
 none_taken client given none commands state waits came = (state, (refl, none), came, awaits_first client commands state.told waits came.3, λ some. absurd (omega (arith, some)))
 
 module _ {M : Type 0} (first old new : Client M) (count : ℕ) (given : Answer) (had : List Reply)
-    (has : HasTaken first old count had) (waiting : old.waiting.items ≡ drop count first.waiting.items) (of : old.seat ≡ first.seat)
-    (seat : new.seat ≡ old.seat) (letters : new.letters ≡ old.letters) (follows : Follows old.viewer new.viewer) (mark : old.mark ≤ new.mark) (known : greatest old.mark given ≤ new.mark)
-    (oldest : IsForOldest old.waiting.items given) (told : IsToldBy (answers_of new.seat new.viewer) given)
-    (at : slice_get (answers_of new.seat new.viewer) old.taken ≡ Some given) (taken : new.taken ≡ old.taken + 1) where
-  pub one_taken : HasTaken first new (count + 1) (had ++ given.reply ∷ [])
+    (has : AreTaken first old count had) (waiting : old.waiting.items ≡ drop count first.waiting.items) (of : old.seat ≡ first.seat)
+    (looked : HasLooked old new) (taken : HasTaken old new given) where
+  pub one_taken : AreTaken first new (count + 1) (had ++ given.reply ∷ [])
   one_taken commands state waits came =
       let before = has commands state waits came in
       let mid : State = before.0 in
-      let came_there : CameFrom mid new = came_on mid old new before.2 seat (ring_kept old.letters new.letters letters) follows mark in
+      let seat = looked.0 in
+      let came_there : CameFrom mid new = came_on mid old new before.2 seat (ring_kept old.letters new.letters looked.1) looked.2 looked.3 in
       let posted = oldest_posted first.seat first.mark commands count given
-      (subst (λ (ws : List Waiting). IsForOldest ws given) (waiting ∙ ap (λ (ws : List Waiting). drop count ws) waits) oldest) in
+      (subst (λ (ws : List Waiting). IsForOldest ws given) (waiting ∙ ap (λ (ws : List Waiting). drop count ws) waits) taken.1) in
       let own : given.letter ≡ record { seat = new.seat; command = posted.0 } = posted.2 ∙ ap (λ n. record { seat = n; command = posted.0 }) (sym (seat ∙ of)) in
-      let late : mid.told ≤ given.at = before.3 new.viewer given follows (subst (λ n. slice_get (answers_of n new.viewer) old.taken ≡ Some given) seat at) oldest in
+      let late : mid.told ≤ given.at = before.3 new.viewer given looked.2 (subst (λ n. slice_get (answers_of n new.viewer) old.taken ≡ Some given) seat taken.0) taken.1 in
       let next : State = after_answer mid new came_there given in
       let one : AsksAll RepliesAt over_at mid (posted.0 ∷ []) (given.reply ∷ []) next =
-      inr (ap is_over before.2.4, given.reply, [], next, answered mid new came_there posted.0 given own late told, (refl, refl), refl) in
-      let stands : DeskStands new None next = (refl, refl, omega (arith, count_known old.mark given, known), refl, refl) in (
+      inr (ap is_over before.2.4, given.reply, [], next, answered mid new came_there posted.0 given own late taken.2, (refl, refl), refl) in
+      let stands : DeskStands new None next = (refl, refl, omega (arith, count_known old.mark given, taken.3), refl, refl) in (
         next,
         subst (λ (front : List Command). AsksAll RepliesAt over_at state front (had ++ given.reply ∷ []) next) (sym (ap (λ n. take n commands) (add-one count) ∙ posted.1))
             (asks_then (take count commands) (posted.0 ∷ []) had (given.reply ∷ []) state mid next before.1 (ap is_over before.2.4) one),
         (refl, ring_kept new.letters new.letters refl, follows_self new.viewer, stands.2, refl),
-        awaits_next new old.taken given at taken,
+        awaits_next new old.taken given taken.0 taken.4,
         λ some. stands,
       )
 

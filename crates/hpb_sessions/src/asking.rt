@@ -1,14 +1,12 @@
 //! Commands of a session that are asked together: they are posted, and their answers are waited for.
-ghost use Rattle.std.specs.Prelude.{◌≡◌, ◌⊎◌, ◌+◌, ◌-◌, ◌<◌, ◌≤◌, [], ◌∷◌, ◌++◌, List, length, take, drop, slice_get, true, false, None, Some, IfOk, IfSome, IsOk, IsErr, IsSome, MatchOption, Ok, Err};
+ghost use Rattle.std.specs.Prelude.{◌≡◌, ◌⊎◌, ◌+◌, ◌-◌, ◌<◌, ◌≤◌, [], ◌∷◌, ◌++◌, List, length, take, true, false, None, Some, IfOk, IsOk, IsErr, IsSome, MatchOption, Ok, Err};
 ghost use Rattle.rtrb.specs.Ring.{SameProducer, sent};
 ghost use Rattle.hpb_board.specs.Publication.{answers_of, recent};
 ghost use Rattle.hpb_rules.specs.declared.command.Command.{Command};
 ghost use Rattle.hpb_rules.specs.declared.limits.TheConstants.{MOST_LETTERS, MOST_WAITING};
-ghost use Rattle.hpb_rings.specs.Marks.{greatest};
-ghost use Rattle.hpb_rings.specs.Taking.{IsForOldest};
 ghost use Rattle.hpb_server.specs.Desk.{AsksAll};
-ghost use Rattle.hpb_sessions.specs.InFlight.{CameFrom, refused_after, refused_by, waiting_for};
-ghost use Rattle.hpb_sessions.specs.Sessions.{DeskStands, Follows, IsToldBy, RepliesAt, State, over_at};
+ghost use Rattle.hpb_sessions.specs.InFlight.{CameFrom, HasLooked, HasTaken, StillWaits, refused_after, refused_by, waiting_for};
+ghost use Rattle.hpb_sessions.specs.Sessions.{DeskStands, RepliesAt, State, over_at};
 ghost use Rattle.hpb_sessions.specs.declared.stop.Stop.TheVariants.{Halted, Order};
 ghost use Rattle.hpb_sessions.specs.Stops.{IsInOrder};
 
@@ -120,13 +118,11 @@ fn take_answers<M: Copy, R: Wait>(
     ensures asked { (commands : List Command) (state : State) → client.old.waiting.items ≡ waiting_for client.old.seat client.old.mark commands → CameFrom state client.old
         → (next : State) × AsksAll RepliesAt over_at state (take (length replies.new) commands) replies.new next × CameFrom next client.new
         × (0 < length replies.new → result ≡ None → DeskStands client.new None next) }
-    ensures letters { client.new.letters ≡ client.old.letters }
-    ensures opened { client.new.viewer.opened ≡ client.old.viewer.opened }
+    ensures looked { HasLooked client.old client.new }
     ensures all { result ≡ None → (client.new.waiting.items ≡ []) × (length replies.new ≡ length client.old.waiting.items) }
     ensures fewer { IsSome result → length replies.new < length client.old.waiting.items }
     ensures halted { result ≡ Some Halted → client.new.is_halted ≡ true }
     ensures unanswered { result ≡ Some Halted → recent (answers_of client.new.seat client.new.viewer) (client.new.taken + 1) ≡ None }
-    ensures stays { client.old.is_halted ≡ true → client.new.is_halted ≡ true }
     ensures order { result ≡ Some Order → IsInOrder client.new.seat client.new.viewer client.new.taken client.new.waiting.items → ⊥ }
 {
     for _ in 0..client.outstanding() {
@@ -185,63 +181,73 @@ fn refuse_all(count: usize, replies: &mut Replies)
     }
 }
 
-/// Takes the answer to the oldest letter that waits. Refused where none has come by the first look after a halt, and
-/// where an answer comes that isn't for that letter, or is older than what the client knew when it posted it.
+/// Takes the answer to the oldest letter that waits: one that its view has already, and else it rests before each look.
+/// Refused where none has come by the first look after a halt, and where an answer comes that isn't for that letter, or is
+/// older than what the client knew when it posted it.
 ///
 /// Whether the client is halted is asked before each look: an answer that came before the halt is found by that look.
 fn take_answer<M: Copy, R: Wait>(rt: &R, client: &mut Client<M>, looks: u32) -> Result<Answer, Stop>
-    ensures same { (client.new.seat ≡ client.old.seat) × (client.new.letters ≡ client.old.letters) }
-    ensures viewer { Follows client.old.viewer client.new.viewer }
-    ensures next { IfOk result (λ answer. slice_get (answers_of client.new.seat client.new.viewer) client.old.taken ≡ Some answer) }
-    ensures oldest { IfOk result (λ answer. IsForOldest client.old.waiting.items answer) }
-    ensures told { IfOk result (λ answer. IsToldBy (answers_of client.new.seat client.new.viewer) answer) }
-    ensures mark { client.old.mark ≤ client.new.mark }
-    ensures known { IfOk result (λ answer. greatest client.old.mark answer ≤ client.new.mark) }
-    ensures taken { IsOk result → (client.new.taken ≡ client.old.taken + 1) × (client.new.waiting.items ≡ drop 1 client.old.waiting.items) }
+    ensures looked { HasLooked client.old client.new }
+    ensures taken { IfOk result (HasTaken client.old client.new) }
     ensures halted { result ≡ Err Halted → client.new.is_halted ≡ true }
     ensures unanswered { result ≡ Err Halted → recent (answers_of client.new.seat client.new.viewer) (client.new.taken + 1) ≡ None }
-    ensures stays { client.old.is_halted ≡ true → client.new.is_halted ≡ true }
     ensures order { result ≡ Err Order → IsInOrder client.new.seat client.new.viewer client.new.taken client.new.waiting.items → ⊥ }
 {
+    if let Some(answer) = take_seen(client)? {
+        return Ok(answer);
+    }
     let mut left = looks;
     for _ in rt.forever() {
         let was_halted = client.halted();
-        match look_behind(client, was_halted) {
-            Ok(Some(answer)) => return Ok(answer),
-            Ok(None) => {}
-            Err(stop) => return Err(stop),
+        if !was_halted {
+            left = rest(rt, client, left);
         }
-        if left > 0 {
-            left -= 1;
-            thread::yield_now();
-        } else {
-            client.wait(rt);
+        if let Some(answer) = look_behind(client, was_halted)? {
+            return Ok(answer);
         }
     }
     unreachable!()
+}
+
+/// Rests before a look, of which so many are left: other threads run meanwhile, or, where none is left, it sleeps until
+/// the bell of its seat rings. It tells how many are left behind that.
+fn rest<M: Copy, R: Wait>(rt: &R, client: &mut Client<M>, left: u32) -> u32
+    ensures same { (client.new.seat ≡ client.old.seat) × (client.new.letters ≡ client.old.letters) × (client.new.viewer ≡ client.old.viewer) × (client.new.waiting ≡ client.old.waiting) × (client.new.taken ≡ client.old.taken) × (client.new.mark ≡ client.old.mark) × (client.new.is_halted ≡ client.old.is_halted) }
+    ensures fewer { result ≡ left - 1 }
+{
+    if left == 0 {
+        client.wait(rt);
+        return 0;
+    }
+    thread::yield_now();
+    left - 1
 }
 
 /// Looks once for the answer to the oldest letter that waits, behind the question whether the client is halted:
 /// `was_halted` is what that told. Where it was, and none has come, there is none to come.
 fn look_behind<M: Copy>(client: &mut Client<M>, was_halted: bool) -> Result<Option<Answer>, Stop>
     requires asked { was_halted ≡ true → client.old.is_halted ≡ true }
-    ensures same { (client.new.seat ≡ client.old.seat) × (client.new.letters ≡ client.old.letters) × (client.new.is_halted ≡ client.old.is_halted) }
-    ensures viewer { Follows client.old.viewer client.new.viewer }
-    ensures next { IfOk result (λ found. IfSome found (λ answer. slice_get (answers_of client.new.seat client.new.viewer) client.old.taken ≡ Some answer)) }
-    ensures oldest { IfOk result (λ found. IfSome found (λ answer. IsForOldest client.old.waiting.items answer)) }
-    ensures told { IfOk result (λ found. IfSome found (λ answer. IsToldBy (answers_of client.new.seat client.new.viewer) answer)) }
-    ensures mark { client.old.mark ≤ client.new.mark }
-    ensures known { IfOk result (λ found. IfSome found (λ answer. greatest client.old.mark answer ≤ client.new.mark)) }
-    ensures taken { IfOk result (λ found. MatchOption found ((client.new.taken ≡ client.old.taken) × (client.new.waiting ≡ client.old.waiting)) (λ _. (client.new.taken ≡ client.old.taken + 1) × (client.new.waiting.items ≡ drop 1 client.old.waiting.items))) }
+    ensures looked { HasLooked client.old client.new }
+    ensures taken { IfOk result (λ found. MatchOption found (StillWaits client.old client.new) (HasTaken client.old client.new)) }
     ensures halted { result ≡ Err Halted → was_halted ≡ true }
     ensures unanswered { result ≡ Err Halted → recent (answers_of client.new.seat client.new.viewer) (client.new.taken + 1) ≡ None }
     ensures none { result ≡ Ok None → was_halted ≡ false }
     ensures order { result ≡ Err Order → IsInOrder client.new.seat client.new.viewer client.new.taken client.new.waiting.items → ⊥ }
 {
-    let _ = client.poll();
-    match client.take() {
-        Ok(None) if was_halted => Err(Stop::Halted),
-        Ok(found) => Ok(found),
-        Err(_) => Err(Stop::Order),
+    client.refresh();
+    match take_seen(client)? {
+        None if was_halted => Err(Stop::Halted),
+        found => Ok(found),
     }
+}
+
+/// Takes the answer to the oldest letter that waits where the client's last view has it.
+fn take_seen<M: Copy>(client: &mut Client<M>) -> Result<Option<Answer>, Stop>
+    ensures looked { HasLooked client.old client.new }
+    ensures same { (client.new.viewer ≡ client.old.viewer) × (client.new.is_halted ≡ client.old.is_halted) }
+    ensures taken { IfOk result (λ found. MatchOption found (StillWaits client.old client.new) (HasTaken client.old client.new)) }
+    ensures none { result ≡ Ok None → recent (answers_of client.new.seat client.new.viewer) (client.new.taken + 1) ≡ None }
+    ensures order { IsErr result → (result ≡ Err Order) × (IsInOrder client.new.seat client.new.viewer client.new.taken client.new.waiting.items → ⊥) }
+{
+    client.take().map_err(|_| Stop::Order)
 }

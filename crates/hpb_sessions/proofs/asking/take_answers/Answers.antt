@@ -1,18 +1,15 @@
 use Rattle.std.proofs.Common.{◌+◌, ◌∷◌, [], None, length, drop, refl, ap, ◌∙◌}
 use Rattle.std.proofs.lemmas.List.{drop-drop, length-append}
 use Rattle.hpb_sessions.specs.Sessions.{DeskStands}
-use Rattle.hpb_sessions.proofs.InFlight.{came_on, none_taken, one_taken}
-use Rattle.hpb_sessions.proofs.Steps.{follows_self, follows_trans, ring_kept}
+use Rattle.hpb_sessions.proofs.InFlight.{came_on, looked_self, looked_trans, none_taken, one_taken}
+use Rattle.hpb_sessions.proofs.Steps.{ring_kept}
 use Rattle.hpb_sessions.proofs.asking.take_answers.Goals as goal
 
 pub loop-init : goal.loop-init
 loop-init g c =
     let client = c.args.client.now in
     record {
-      seat = refl;
-      letters = refl;
-      viewer = follows_self client.viewer;
-      stays = λ halted. halted;
+      looked = looked_self client;
       waiting = refl;
       counted = ap length c.requires.none;
       taken = none_taken client c.args.replies.now c.requires.none;
@@ -27,14 +24,11 @@ loop-preserved g c =
     let made = c.in-Ok.ensures in
     let answer = c.in-Ok.answer in
     record {
-      seat = made.same.0 ∙ was.seat;
-      letters = made.same.1 ∙ was.letters;
-      viewer = follows_trans first.viewer old.viewer new.viewer was.viewer made.viewer;
-      stays = λ halted. made.stays (was.stays halted);
-      waiting = (made.taken refl).1 ∙ ap (λ ws. drop 1 ws) was.waiting ∙ drop-drop 1 c.loop.counter first.waiting.items;
+      looked = looked_trans first old new was.looked made.looked;
+      waiting = made.taken.5 ∙ ap (λ ws. drop 1 ws) was.waiting ∙ drop-drop 1 c.loop.counter first.waiting.items;
       counted = ap length c.put.ensures ∙ length-append c.loop.replies (answer.reply ∷ []) ∙ ap (λ n. n + 1) was.counted;
       taken = rw c.put.ensures
-          (one_taken first old new c.loop.counter answer c.loop.replies was.taken was.waiting was.seat made.same.0 made.same.1 made.viewer made.mark made.known made.oldest made.told made.next (made.taken refl).0);
+          (one_taken first old new c.loop.counter answer c.loop.replies was.taken was.waiting was.looked.0 made.looked made.taken);
     }
 
 pub returns-in-Err-clause-asked : goal.returns-in-Err-clause-asked
@@ -46,7 +40,7 @@ returns-in-Err-clause-asked g c commands state waits came =
     let before = was.taken commands state waits came in (
       before.0,
       rw was.counted before.1,
-      came_on before.0 old new before.2 made.same.0 (ring_kept old.letters new.letters made.same.1) made.viewer made.mark,
+      came_on before.0 old new before.2 made.looked.0 (ring_kept old.letters new.letters made.looked.1) made.looked.2 made.looked.3,
       λ some none. absurd {A = DeskStands new None before.0} (cc none),
     )
 
