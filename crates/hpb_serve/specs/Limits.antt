@@ -1,6 +1,6 @@
 -- The limits of serving, as the numbers that the documents name.
 use Rattle.std.specs.Prelude.{◌≡◌}
-use Rattle.hpb_serve.specs.declared.connection.TheConstants.{READ_LOOKS, ANSWER_LOOKS}
+use Rattle.hpb_serve.specs.declared.connection.TheConstants.{READ_LOOKS, ANSWER_LOOKS, MOST_LOOKING}
 use Rattle.hpb_serve.specs.declared.threads.TheConstants.{MISSED_PAUSE}
 
 -- Each limit of the code is the number that the documents name.
@@ -8,5 +8,7 @@ pub record LimitsAre : Type 0 where
   -- So many looks for more to read are shared by all sessions, and so many for answers.
   pub read_looks : READ_LOOKS ≡ 100
   pub answer_looks : ANSWER_LOOKS ≡ 400
+  -- With more sessions than these none looks.
+  pub looking : MOST_LOOKING ≡ 8
   -- So many milliseconds nothing is accepted after a connection that was not.
   pub pause : MISSED_PAUSE ≡ 100
