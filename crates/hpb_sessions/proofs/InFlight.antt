@@ -101,6 +101,16 @@ posted_start old new state commands count stands same ring posted within = (
 pub looked_self : {M : Type 0} (client : Client M) → HasLooked client client
 looked_self client = (refl, refl, follows_self client.viewer, omega arith, λ halted. halted)
 
+-- nothing that a look changes is changed
+pub looked_aside : {M : Type 0} (old new : Client M) → new.seat ≡ old.seat → new.letters ≡ old.letters → new.viewer ≡ old.viewer → new.mark ≡ old.mark → (old.is_halted ≡ true → new.is_halted ≡ true) → HasLooked old new
+looked_aside old new seat letters viewer mark stays = (
+  seat,
+  letters,
+  subst (λ (viewing : Viewing). Follows old.viewer viewing) (sym viewer) (follows_self old.viewer),
+  omega (arith, mark),
+  stays,
+)
+
 pub looked_trans : {M : Type 0} (first second third : Client M) → HasLooked first second → HasLooked second third → HasLooked first third
 looked_trans first second third one two = (
   two.0 ∙ one.0,
@@ -114,6 +124,10 @@ looked_trans first second third one two = (
 pub came_on : {M : Type 0} (state : State) (old new : Client M) → CameFrom state old → new.seat ≡ old.seat → SameProducer old.letters new.letters → Follows old.viewer new.viewer → old.mark ≤ new.mark → CameFrom state new
 came_on state old new came seat letters follows mark =
     (seat ∙ came.0, same_ring state.letters old.letters new.letters came.1 letters, follows_trans state.viewing old.viewer new.viewer came.2 follows, omega (arith, came.3, mark), came.4)
+
+-- a turn: whether it is halted is asked, it rests, and looks
+pub looked_turn : {M : Type 0} (first was asked rested new : Client M) → HasLooked first was → HasLooked was asked → HasLooked asked rested → HasLooked rested new → HasLooked first new
+looked_turn first was asked rested new before a r l = looked_trans first was new before (looked_trans was asked new a (looked_trans asked rested new r l))
 
 -- so many of the letters that a client had waiting are answered
 abbrev pub AreTaken : {M : Type 0} (first client : Client M) (count : ℕ) (given : List Reply) → Type 0

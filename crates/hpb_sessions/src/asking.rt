@@ -199,9 +199,7 @@ fn take_answer<M: Copy, R: Wait>(rt: &R, client: &mut Client<M>, looks: u32) -> 
     let mut left = looks;
     for _ in rt.forever() {
         let was_halted = client.halted();
-        if !was_halted {
-            left = rest(rt, client, left);
-        }
+        left = rest(rt, client, left);
         if let Some(answer) = look_behind(client, was_halted)? {
             return Ok(answer);
         }
@@ -210,11 +208,15 @@ fn take_answer<M: Copy, R: Wait>(rt: &R, client: &mut Client<M>, looks: u32) -> 
 }
 
 /// Rests before a look, of which so many are left: other threads run meanwhile, or, where none is left, it sleeps until
-/// the bell of its seat rings. It tells how many are left behind that.
+/// the bell of its seat rings. It tells how many are left then. A client that is halted doesn't rest, since nothing may
+/// ring that bell any more.
 fn rest<M: Copy, R: Wait>(rt: &R, client: &mut Client<M>, left: u32) -> u32
     ensures same { (client.new.seat ≡ client.old.seat) × (client.new.letters ≡ client.old.letters) × (client.new.viewer ≡ client.old.viewer) × (client.new.waiting ≡ client.old.waiting) × (client.new.taken ≡ client.old.taken) × (client.new.mark ≡ client.old.mark) × (client.new.is_halted ≡ client.old.is_halted) }
-    ensures fewer { result ≡ left - 1 }
+    ensures fewer { client.old.is_halted ≡ false → result ≡ left - 1 }
 {
+    if client.is_halted {
+        return left;
+    }
     if left == 0 {
         client.wait(rt);
         return 0;
@@ -249,5 +251,8 @@ fn take_seen<M: Copy>(client: &mut Client<M>) -> Result<Option<Answer>, Stop>
     ensures none { result ≡ Ok None → recent (answers_of client.new.seat client.new.viewer) (client.new.taken + 1) ≡ None }
     ensures order { IsErr result → (result ≡ Err Order) × (IsInOrder client.new.seat client.new.viewer client.new.taken client.new.waiting.items → ⊥) }
 {
-    client.take().map_err(|_| Stop::Order)
+    match client.take() {
+        Ok(found) => Ok(found),
+        Err(_) => Err(Stop::Order),
+    }
 }

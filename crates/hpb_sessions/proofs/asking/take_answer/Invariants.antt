@@ -1,4 +1,3 @@
-use Rattle.std.proofs.Common.{◌≡◌}
 use Rattle.hpb_sessions.specs.InFlight.{HasLooked, StillWaits}
 use Rattle.hpb_sessions.proofs.asking.take_answer.Given as goal
 
