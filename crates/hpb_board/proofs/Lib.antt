@@ -3,5 +3,6 @@ mod Prefixes
 mod Values
 mod Rows
 mod Recent
+mod Later
 mod Keeping
 mod Rooms

@@ -60,7 +60,7 @@ last_noted r xs a is i lt near (inr less) =
     let no : i % 16 ≢ r.count % 16 = apart i r.count (omega arith) (omega arith) in
     get_set-else r.last (r.count % 16) (i % 16) (Some a) no ∙ (is.last i less (omega arith) ∙ sym (get_append xs a i less))
 
-noted_IsRow : (r : Row) (xs : List Answer) (a : Answer) → length xs + 1 < 2 ^ 64 → IsRow r xs → IsRow (noted r a) (xs ++ a ∷ [])
+pub noted_IsRow : (r : Row) (xs : List Answer) (a : Answer) → length xs + 1 < 2 ^ 64 → IsRow r xs → IsRow (noted r a) (xs ++ a ∷ [])
 noted_IsRow r xs a room is =
     let long = length-append xs (a ∷ []) in
     let c = is.count in
@@ -71,7 +71,7 @@ noted_IsRow r xs a room is =
     }
 
 -- a row after an answer
-note_here : (rs : List Row) (k : ℕ) (a : Answer) (r : Row) → slice_get (note_at rs k a) k ≡ Some r → (q : Row) × (slice_get rs k ≡ Some q) × (r ≡ noted q a)
+pub note_here : (rs : List Row) (k : ℕ) (a : Answer) (r : Row) → slice_get (note_at rs k a) k ≡ Some r → (q : Row) × (slice_get rs k ≡ Some q) × (r ≡ noted q a)
 note_here [] k a r h = absurd cc
 note_here (q ∷ rs) zero a r h = (q, refl, sym (some_same h))
   where
@@ -79,7 +79,7 @@ note_here (q ∷ rs) zero a r h = (q, refl, sym (some_same h))
     some_same e = cc e
 note_here (q ∷ rs) (suc k) a r h = note_here rs k a r h
 
-note_else : (rs : List Row) (k s : ℕ) (a : Answer) → k ≢ s → slice_get (note_at rs k a) s ≡ slice_get rs s
+pub note_else : (rs : List Row) (k s : ℕ) (a : Answer) → k ≢ s → slice_get (note_at rs k a) s ≡ slice_get rs s
 note_else [] k s a n = refl
 note_else (q ∷ rs) zero zero a n = absurd (n refl)
 note_else (q ∷ rs) zero (suc s) a n = refl
@@ -105,7 +105,7 @@ has_next o x s rest before false e few has r h =
     let apart' : x.seat ≢ s = λ (q : x.seat ≡ s). absurd (grind (arith, nat_tests)) in
     has r (sym (note_else o.rows x.seat s (answer_in o.auction x) apart') ∙ h)
 
-joined_next : (b : Bool) (before rest : List Answer) (a : Answer) → cond b (before ++ a ∷ []) before ++ rest ≡ before ++ cond b (a ∷ rest) rest
+pub joined_next : (b : Bool) (before rest : List Answer) (a : Answer) → cond b (before ++ a ∷ []) before ++ rest ≡ before ++ cond b (a ∷ rest) rest
 joined_next true before rest a = append_assoc before (a ∷ []) rest
 joined_next false before rest a = refl
 
@@ -123,12 +123,12 @@ rows_along (x ∷ xs) o s before few has =
     let all = rows_along xs (taken_in o x) s (cond b (before ++ a ∷ []) before) (few_next b before a x rest few) next in
     λ r h. subst (IsRow r) (joined_next b before (answers_to s (after_letter o.auction x) xs) a) (all r h)
 
-blank_at : (n s : ℕ) (r : Row) → slice_get (replicate n blank) s ≡ Some r → r ≡ blank
+pub blank_at : (n s : ℕ) (r : Row) → slice_get (replicate n blank) s ≡ Some r → r ≡ blank
 blank_at zero s r h = absurd cc
 blank_at (suc n) zero r h = cc h
 blank_at (suc n) (suc s) r h = blank_at n s r h
 
-blank_IsRow : IsRow blank []
+pub blank_IsRow : IsRow blank []
 blank_IsRow = record { count = refl; size = refl; last = λ i lt near. absurd (omega arith) }
 
 -- after any letters the row of a seat has the number of its answers, and the last 16

@@ -9,7 +9,7 @@ use Rattle.hpb_board.specs.declared.board.Opening.{Opening}
 use Rattle.hpb_board.specs.declared.row.Row.{Row}
 use Rattle.hpb_board.specs.Publication.{joined, tally, HasRoom, IsRoomy, AreSeated}
 use Rattle.hpb_board.specs.Rows.{shown_by, begun, HaveRoom, blank}
-use Rattle.hpb_board.proofs.Keeping.{joined-append}
+use Rattle.hpb_board.proofs.Later.{joined-append}
 use Rattle.hpb_board.proofs.Recent.{rows_fresh, length_answers, length_shown, get_is}
 
 pub tally-append : (s : ℕ) (xs ys : List Letter) → tally s (xs ++ ys) ≡ tally s xs + tally s ys

@@ -1,5 +1,5 @@
 -- What letters do to the auction and the rows of answers.
-use Rattle.std.specs.Prelude.{◌<◌, ◌&&◌, nat_lt, if◌then◌else◌, Option, Some, None, slice_get, slice_index_or, ◌≡◌, ℕ, ◌+◌, ◌%◌, ◌^◌, ◌-◌, min, zero, suc, List, [], ◌∷◌, fold, slice_set, replicate}
+use Rattle.std.specs.Prelude.{◌<◌, ◌&&◌, nat_lt, if◌then◌else◌, Option, Some, None, slice_get, slice_index_or, ◌≡◌, ℕ, ◌+◌, ◌%◌, ◌^◌, ◌-◌, min, zero, suc, List, [], ◌∷◌, ◌++◌, fold, length, slice_set, replicate}
 use Rattle.hpb_rules.specs.declared.letter.Answer.{Answer}
 use Rattle.hpb_rules.specs.declared.letter.Letter.{Letter}
 use Rattle.hpb_letters.specs.Judging.{answer_in}
@@ -15,6 +15,18 @@ blank = record { count = 0; last = replicate 16 None }
 -- A row after an answer: it takes the place of the one that came 16 before it.
 abbrev pub noted : Row → Answer → Row
 noted r a = record { count = min (r.count + 1) (2 ^ 64 - 1); last = slice_set r.last (r.count % 16) (Some a) }
+
+-- The row of a seat with these answers.
+abbrev pub row_of : List Answer → Row
+row_of answers = fold noted blank answers
+
+-- The second row is of the same seat with more answers, or as many: the first has some of them, from the first answer on.
+abbrev pub GoesOn : Row → Row → Type 0
+GoesOn r later = (before more : List Answer) × (r ≡ row_of before) × (later ≡ row_of (before ++ more)) × (length (before ++ more) < 2 ^ 64)
+
+-- Each row of the second list goes on from the one of its place in the first.
+abbrev pub GoOn : List Row → List Row → Type 0
+GoOn rows later = (seat : ℕ) (r r' : Row) → slice_get rows seat ≡ Some r → slice_get later seat ≡ Some r' → GoesOn r r'
 
 -- The rows after an answer to a seat.
 abbrev pub note_at : List Row → ℕ → Answer → List Row

@@ -3,7 +3,7 @@ ghost use Rattle.std.specs.Prelude.{◌≡◌, length};
 ghost use Rattle.hpb_board.specs.Publication.{IsRoomy};
 ghost use Rattle.hpb_board.specs.Rows.{taken_in, shown_by};
 
-use crate::row::{BLANK, Row, note_in};
+use crate::row::{BLANK, Row, catch_up_all, note_in};
 use crate::trail::Trail;
 use hpb_auction::Auction;
 use hpb_rules::{Answer, Letter, Letters};
@@ -56,8 +56,10 @@ pub struct Prepared {
 
 impl Board {
     ghost use Rattle.std.specs.Prelude.{◌≡◌, [], length, replicate, IfOk};
+    ghost use mathlib.Core.List.{IsPrefix};
     ghost use Rattle.hpb_board.specs.Rows.{blank};
     ghost use Rattle.hpb_board.specs.Contents.{content};
+    ghost use Rattle.hpb_board.specs.Views.{AreOfOne};
 
     /// The auction as opened, and no answers yet.
     pub(crate) fn new(
@@ -92,11 +94,12 @@ impl Board {
         })
     }
 
-    /// Becomes the same as another board of the same auction. Takes no memory.
-    pub(crate) fn copy_from(&mut self, other: &Board)
-        requires rules { self.old.auction.rules ≡ other.now.auction.rules }
-        requires seats { length self.old.rows.items ≡ length other.now.rows.items }
-        ensures { content self.new ≡ content other.now }
+    /// Becomes the same as a board of the same auction that has gone on. It takes over what is new there, and takes no
+    /// memory.
+    pub(crate) fn catch_up(&mut self, later: &Board)
+        requires one { AreOfOne self.old later.now }
+        requires later { IsPrefix self.old.trail.log later.now.trail.log }
+        ensures { content self.new ≡ content later.now }
     {
         let Board {
             trail,
@@ -104,10 +107,21 @@ impl Board {
             auction,
             rows,
         } = self;
-        *trail = other.trail.again();
-        *number = other.number;
-        auction.copy_from(&other.auction);
-        rows.as_mut_slice().copy_from_slice(other.rows.as_slice());
+        *trail = later.trail.again();
+        *number = later.number;
+        catch_up_auction(auction, &later.auction);
+        catch_up_all(rows.as_mut_slice(), later.rows.as_slice());
+    }
+}
+
+/// Becomes the same as a later value of the auction. With as many accepted commands it is the same already.
+fn catch_up_auction(auction: &mut Auction, later: &Auction)
+    requires rules { auction.old.rules ≡ later.now.rules }
+    requires same { auction.old.count ≡ later.now.count → auction.old ≡ later.now }
+    ensures { auction.new ≡ later.now }
+{
+    if auction.count() != later.count() {
+        auction.copy_from(later);
     }
 }
 

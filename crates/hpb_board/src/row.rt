@@ -1,7 +1,7 @@
 //! The last answers of each seat.
 ghost use Rattle.std.specs.Prelude.{◌≡◌, ◌+◌, ◌<◌, ◌^◌, ◌↔◌, length, IsTrue};
 ghost use Rattle.hpb_board.specs.Publication.{tally};
-ghost use Rattle.hpb_board.specs.Rows.{noted, note_at, told, HaveRoom};
+ghost use Rattle.hpb_board.specs.Rows.{noted, note_at, told, GoesOn, GoOn, HaveRoom};
 
 use hpb_rules::{Answer, Letter, MOST_WAITING};
 
@@ -36,6 +36,34 @@ impl Row {
             return None;
         }
         self.last[((number - 1) % MOST_WAITING as u64) as usize]
+    }
+
+    /// Becomes the same as a row that goes on from it: it takes over the answers that are new there.
+    fn catch_up(&mut self, later: &Row)
+        requires { GoesOn self.old later.now }
+        ensures { self.new ≡ later.now }
+    {
+        if later.count - self.count > MOST_WAITING as u64 {
+            *self = *later;
+            return;
+        }
+        for number in self.count..later.count {
+            match later.recent(number + 1) {
+                Some(answer) => self.note(answer),
+                None => unreachable!(),
+            }
+        }
+    }
+}
+
+/// Each row becomes the same as the one of its place, which goes on from it.
+pub(crate) fn catch_up_all(rows: &mut [Row], later: &[Row])
+    requires long { length rows.old ≡ length later.now }
+    requires later { GoOn rows.old later.now }
+    ensures { rows.new ≡ later.now }
+{
+    for seat in 0..rows.len() {
+        rows[seat].catch_up(&later[seat]);
     }
 }
 

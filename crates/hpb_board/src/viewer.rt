@@ -1,9 +1,9 @@
 //! The end that reads.
-ghost use Rattle.std.specs.Prelude.{◌≡◌, ◌<◌, length};
+ghost use Rattle.std.specs.Prelude.{◌≡◌, ◌<◌};
 ghost use mathlib.Core.List.{IsPrefix};
 ghost use Rattle.left_right.specs.Sides.{view};
 ghost use Rattle.hpb_board.specs.Contents.{content};
-ghost use Rattle.hpb_board.specs.Views.{IsOf, Fits, opened_of};
+ghost use Rattle.hpb_board.specs.Views.{AreOfOne, IsOf, Fits, opened_of};
 
 use crate::board::Board;
 use crate::rule::{Law, Sees, View};
@@ -44,7 +44,7 @@ impl Model for Viewer {
     ghost invariant = { λ p. IsOf p.ends.own.trail.book (opened_of (knows p.ends.reader.place)) (knows p.ends.reader.place) × Fits p.ends.own (knows p.ends.reader.place) };
 }
 
-/// Enters, and copies what it sees where it is new. It copies nothing where the publisher has ended.
+/// Enters, and takes over what is new. It takes over nothing where the publisher has ended.
 #[tactic(auto, using(crate::proofs::Keeping::viewing))]
 fn look(ends: Ends) -> (Ends, bool)
     requires knows { IsOf ends.own.trail.book (opened_of (view ends.reader.place)) (view ends.reader.place) }
@@ -77,12 +77,10 @@ fn look_again(ends: &mut Ends) -> bool
     replace_with(ends, (), |ends, _| look(ends))
 }
 
-/// Copies a board of the same publisher where it has moved on, and there alone: with the same number of batches both are
-/// alike already.
+/// Catches up with a board of the same publisher where that has moved on, and there alone: with the same number of batches
+/// both are alike already.
 fn take_over(own: &mut Board, board: &Board)
-    requires book { board.now.trail.book ≡ own.old.trail.book }
-    requires rules { own.old.auction.rules ≡ board.now.auction.rules }
-    requires seats { length own.old.rows.items ≡ length board.now.rows.items }
+    requires one { AreOfOne own.old board.now }
     ensures copied { own.old.number < board.now.number → content own.new ≡ content board.now }
     ensures kept { (own.old.number < board.now.number → ⊥) → own.new ≡ own.old }
     ensures later { IsPrefix own.old.trail.log own.new.trail.log }
@@ -90,7 +88,7 @@ fn take_over(own: &mut Board, board: &Board)
     let mut both = own.trail.again();
     both.learn(&board.trail);
     if own.number < board.number {
-        own.copy_from(board);
+        own.catch_up(board);
     }
 }
 
