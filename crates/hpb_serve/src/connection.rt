@@ -1,5 +1,5 @@
 //! A session over a connection.
-ghost use Rattle.std.specs.Prelude.{◌≡◌, ◌<◌, ◌/◌, ◌^◌, []};
+ghost use Rattle.std.specs.Prelude.{◌≡◌, ◌<◌, ◌≤◌, ◌/◌, []};
 ghost use Rattle.hpb_serve.specs.Ended.{EndsWith};
 
 use crate::looking::Looking;
