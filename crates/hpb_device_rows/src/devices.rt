@@ -104,13 +104,8 @@ fn node(
     })
 }
 
-/// Six nodes, four bidders and two stages.
-pub(crate) fn six_nodes(alloc: Global) -> Result<Definition, Fail> {
-    six_nodes_with(alloc, 0)
-}
-
-/// The same, with so many waivers.
-fn six_nodes_with(alloc: Global, waivers: u64) -> Result<Definition, Fail> {
+/// A draft of six nodes, four bidders, two stages and so many waivers.
+fn six_nodes_draft(alloc: Global, waivers: u64) -> Result<Draft, AllocError> {
     let mut draft = Draft {
         step: 10,
         percent: 10,
@@ -133,7 +128,18 @@ fn six_nodes_with(alloc: Global, waivers: u64) -> Result<Definition, Fail> {
         let name = String::from_str(alloc, name)?;
         draft.bidders.push(BidderDraft { name, units })?;
     }
-    Ok(Definition::check(alloc, &draft)?)
+    Ok(draft)
+}
+
+/// Six nodes, four bidders, two stages and so many waivers.
+fn six_nodes_with(alloc: Global, waivers: u64) -> Result<Box<Definition>, Fail> {
+    let draft = six_nodes_draft(alloc, waivers)?;
+    Ok(Box::new(alloc, Definition::check(alloc, &draft)?)?)
+}
+
+/// Six nodes, four bidders and two stages.
+pub(crate) fn six_nodes(alloc: Global) -> Result<Box<Definition>, Fail> {
+    six_nodes_with(alloc, 0)
 }
 
 /// What comes of a device that was to be formatted: the device, with the cause of a fault.
@@ -181,7 +187,8 @@ pub(crate) fn new_device_over(
     shape: JournalShape,
     byte: u8,
 ) -> Result<Vec<u8>, Fail> {
-    new_device_of(alloc, &six_nodes(alloc)?, shape, byte)
+    let definition = six_nodes(alloc)?;
+    new_device_of(alloc, &definition, shape, byte)
 }
 
 /// The bytes of a new device with such a journal, which had zeros everywhere.
@@ -195,7 +202,8 @@ pub(crate) fn new_device_with(
     shape: JournalShape,
     waivers: u64,
 ) -> Result<Vec<u8>, Fail> {
-    new_device_of(alloc, &six_nodes_with(alloc, waivers)?, shape, 0)
+    let definition = six_nodes_with(alloc, waivers)?;
+    new_device_of(alloc, &definition, shape, 0)
 }
 
 /// All bytes of a device.

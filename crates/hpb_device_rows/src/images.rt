@@ -174,8 +174,9 @@ fn state_of(alloc: Global, auction: &Auction, index: u64) -> Result<Vec<u8>, All
     Ok(body)
 }
 
-fn new_auction(alloc: Global) -> Result<Auction, Fail> {
-    Ok(Auction::new(alloc, &six_nodes(alloc)?)?)
+fn new_auction(alloc: Global) -> Result<Box<Auction>, Fail> {
+    let definition = six_nodes(alloc)?;
+    Ok(Box::new(alloc, Auction::new(alloc, &definition)?)?)
 }
 
 fn is_refused(auction: &mut Auction, command: &Command) -> bool {
@@ -217,6 +218,7 @@ pub(crate) fn opens_as(
 ) -> Result<bool, Fail> {
     match open(alloc, MemoryDisk::of(alloc, bytes.to_vec(alloc)?)?) {
         Ok(opened) => {
+            let opened = Box::new(alloc, opened)?;
             let auction = opened.auction();
             let is_counted = auction.count() as usize == commands.len() && opened.clean() == clean;
             let state = state_of(alloc, auction, 0)?;

@@ -17,25 +17,38 @@ const IN_THE_NEWEST: usize = 53_247;
 /// number of that batch's first command.
 type Told = (Option<u32>, Option<(u64, u64)>);
 
+/// What is told by doubts.
+fn told_by(doubts: &Doubts) -> Told {
+    let later = match &doubts.frame {
+        None => None,
+        Some(Later { index, frame }) => match frame {
+            Frame::Batch(batch) => Some((*index, batch.first)),
+            _ => Some((*index, 0)),
+        },
+    };
+    (doubts.slot, later)
+}
+
+/// What is told of what was opened, and how many commands it has.
+fn told_of_opened(alloc: Global, opened: Opened<MemoryDisk>) -> Option<(u32, Told)> {
+    let Opened { mut disk, plan, .. } = opened;
+    let doubts = find_doubts(alloc, &mut disk, &plan);
+    let count = plan.auction.count();
+    drop(disk);
+    drop(plan);
+    match doubts {
+        Ok(doubts) => Some((count, told_by(&doubts))),
+        Err(_) => None,
+    }
+}
+
 /// What is told of a device that was opened, and how many commands it has. `None` where it isn't opened.
 fn told_of(alloc: Global, bytes: &[u8]) -> Result<Option<(u32, Told)>, Fail> {
     let disk = MemoryDisk::of(alloc, bytes.to_vec(alloc)?)?;
-    let Ok(opened) = open(alloc, disk) else {
-        return Ok(None);
-    };
-    let Opened { mut disk, plan, .. } = opened;
-    let Ok(doubts) = find_doubts(alloc, &mut disk, &plan) else {
-        return Ok(None);
-    };
-    let Doubts { slot, frame } = doubts;
-    let later = match frame {
-        None => None,
-        Some(Later { index, frame }) => match frame {
-            Frame::Batch(batch) => Some((index, batch.first)),
-            _ => Some((index, 0)),
-        },
-    };
-    Ok(Some((plan.auction.count(), (slot, later))))
+    match open(alloc, disk) {
+        Ok(opened) => Ok(told_of_opened(alloc, opened)),
+        Err(_) => Ok(None),
+    }
 }
 
 /// A checkpoint of one command stands in the second slot; then a byte of it is another one. The device opens by the

@@ -1,9 +1,9 @@
 //! What is opened of a new device, and of what a stop leaves of one.
 
 use crate::devices::{
-    EIGHT_PAGES, FOUR_PAGES, JOURNAL, MOST_CELLS, MOST_PAGES, OPEN, SIXTEEN_CELLS, UNFORMATTED,
-    device_bytes, formatted, formatted_as, frame_at, new_device, new_device_over, opened,
-    opened_front, six_nodes,
+    EIGHT_PAGES, FOUR_PAGES, Found, JOURNAL, MOST_CELLS, MOST_PAGES, OPEN, SIXTEEN_CELLS,
+    UNFORMATTED, device_bytes, formatted, formatted_as, frame_at, new_device, new_device_over,
+    opened, opened_front, six_nodes,
 };
 use crate::images::put;
 use crate::over_layouts;
@@ -31,18 +31,30 @@ const SIZES: [(JournalShape, usize); 6] = [
     (MOST_CELLS, 1_626_112),
 ];
 
+/// Of a device of so many bytes: what comes of formatting it, of opening it then, and of formatting it again.
+fn formatted_twice(
+    alloc: Global,
+    definition: &Definition,
+    shape: JournalShape,
+    len: usize,
+) -> Result<(Option<FormatCause>, Found, Option<FormatCause>), Fail> {
+    let disk = MemoryDisk::zeros(alloc, len)?;
+    let (disk, cause) = formatted(alloc, disk, definition, shape);
+    let (disk, found) = opened(alloc, disk);
+    let (disk, again) = formatted(alloc, disk, definition, shape);
+    drop(disk);
+    Ok((cause, found, again))
+}
+
 #[test]
 fn formatted_and_opened(rt: HostRuntime) -> Result<(), Fail> {
     let alloc = rt.alloc();
     let definition = six_nodes(alloc)?;
     for (shape, len) in SIZES {
         assert_eq!(rt; device_bytes(shape), len);
-        let disk = MemoryDisk::zeros(alloc, len)?;
-        let (disk, cause) = formatted(alloc, disk, &definition, shape);
+        let (cause, found, again) = formatted_twice(alloc, &definition, shape, len)?;
         assert_eq!(rt; cause, None, "{len}");
-        let (disk, found) = opened(alloc, disk);
         assert_eq!(rt; found, Ok((0, u64::from(shape.frames))), "{len}");
-        let (_, again) = formatted(alloc, disk, &definition, shape);
         assert_eq!(rt; again, Some(FormatCause::Formatted), "{len}");
     }
     Ok(())
@@ -170,10 +182,10 @@ fn stopped_at(
 ) -> Result<(bool, bool), Fail> {
     let disk = FuseDisk::new(MemoryDisk::zeros(alloc, device_bytes(shape))?, call);
     let (disk, cause) = formatted(alloc, disk, definition, shape);
-    let stopped = disk
-        .into_inner()
-        .after_stop(alloc, &[fate, fate, fate, fate, fate, fate, fate, fate])?;
-    let (_, found) = opened(alloc, stopped);
+    let disk = disk.into_inner();
+    let stopped = disk.after_stop(alloc, &[fate, fate, fate, fate, fate, fate, fate, fate]);
+    drop(disk);
+    let (_, found) = opened(alloc, stopped?);
     let is_well = match found {
         Ok((count, _)) => count == 0,
         Err(_) => found == UNFORMATTED,

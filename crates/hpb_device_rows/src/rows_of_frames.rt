@@ -77,19 +77,26 @@ fn wrong_batches() -> [(&'static str, Batch); 8] {
     ]
 }
 
+/// What is opened of a new device with this batch, and where its index is 1.
+fn opened_by_index(
+    alloc: Global,
+    shape: JournalShape,
+    first: Batch,
+) -> Result<(Found, Found), Fail> {
+    let mut batches = [first];
+    let own = opened_batches(alloc, shape, &batches)?;
+    batches[0].index = 1;
+    let other = opened_batches(alloc, shape, &batches)?;
+    Ok((own, other))
+}
+
 /// Under another index the frame is of another batch, and only not clean.
 fn damage_frames(rt: &impl Abort, alloc: Global, shape: JournalShape) -> Result<(), Fail> {
     let sound = [batch(0, 1, &[bid(X, 1, A, 100)])];
     assert_eq!(rt; opened_batches(alloc, shape, &sound)?, found(shape, 1, 1));
     for (wrong, first) in wrong_batches() {
-        let mut batches = [first];
-        assert_eq!(rt; opened_batches(alloc, shape, &batches)?, FRAME, "{wrong}");
-        batches[0].index = 1;
-        assert_eq!(rt;
-            opened_batches(alloc, shape, &batches)?,
-            NONE_CLEAN,
-            "{wrong}"
-        );
+        let damaged = opened_by_index(alloc, shape, first)?;
+        assert_eq!(rt; damaged, (FRAME, NONE_CLEAN), "{wrong}");
     }
     Ok(())
 }
@@ -103,6 +110,14 @@ fn damaged_frames(rt: HostRuntime) -> Result<(), Fail> {
 /// The record of the next one: a bid of the first bidder on the third node, with ticket 33 and 100 * 2^32 dollars.
 const SIXTY_FIFTH: [u8; 16] = [1, 0, 2, 0, 0, 0, 0, 33, 0, 0, 0, 0x64, 0, 0, 0, 0];
 
+/// A device with 64 commands in its first frame, and the record of the next one behind them.
+fn with_record_behind(alloc: Global, shape: JournalShape) -> Result<Vec<u8>, Fail> {
+    let mut bytes = with_batches(alloc, shape, &[batch(0, 1, &sixty_four())])?;
+    let behind = JOURNAL.saturating_add(behind_64(shape.layout));
+    put(&mut bytes, behind, &SIXTY_FIFTH);
+    Ok(bytes)
+}
+
 /// The same commands stand in two frames, and then all in one.
 fn add_record(rt: &impl Abort, alloc: Global, shape: JournalShape) -> Result<(), Fail> {
     let first = batch(0, 1, &sixty_four());
@@ -111,9 +126,7 @@ fn add_record(rt: &impl Abort, alloc: Global, shape: JournalShape) -> Result<(),
         opened_batches(alloc, shape, &[first, next])?,
         found(shape, 65, 2)
     );
-    let mut bytes = with_batches(alloc, shape, &[batch(0, 1, &sixty_four())])?;
-    let behind = JOURNAL.saturating_add(behind_64(shape.layout));
-    put(&mut bytes, behind, &SIXTY_FIFTH);
+    let bytes = with_record_behind(alloc, shape)?;
     let count = (JOURNAL + COUNT, 65);
     assert_eq!(rt; opened_with(alloc, &bytes, &[count])?, FRAME);
     let other = opened_with(alloc, &bytes, &[count, (JOURNAL + INDEX, 1)])?;
@@ -156,15 +169,26 @@ fn damaged_at(alloc: Global, sound: &[u8], at: usize, byte: u8) -> Result<(Found
     Ok((own, other))
 }
 
-/// Between the gate and the body nothing is read.
+/// A device whose first frame has a batch of one bid.
+fn with_one_bid(alloc: Global, shape: JournalShape) -> Result<Vec<u8>, Fail> {
+    with_batches(alloc, shape, &[batch(0, 1, &[bid(X, 1, A, 100)])])
+}
+
+/// Each of these bytes, and the last one.
 fn damage_bytes(rt: &impl Abort, alloc: Global, shape: JournalShape) -> Result<(), Fail> {
-    let sound = with_batches(alloc, shape, &[batch(0, 1, &[bid(X, 1, A, 100)])])?;
+    let sound = with_one_bid(alloc, shape)?;
     for (at, byte) in CHANGES {
         let damaged = damaged_at(alloc, &sound, at, byte)?;
         assert_eq!(rt; damaged, (FRAME, NONE_CLEAN), "{at}");
     }
     let damaged = damaged_at(alloc, &sound, last_of_one(shape.layout), 1)?;
     assert_eq!(rt; damaged, (FRAME, NONE_CLEAN));
+    Ok(())
+}
+
+/// Between the gate and the body nothing is read.
+fn damage_unread(rt: &impl Abort, alloc: Global, shape: JournalShape) -> Result<(), Fail> {
+    let sound = with_one_bid(alloc, shape)?;
     for at in 1_usize..16 {
         let unread = opened_with(alloc, &sound, &[(JOURNAL.saturating_add(at), OPEN)])?;
         assert_eq!(rt; unread, found(shape, 1, 1), "{at}");
@@ -174,7 +198,10 @@ fn damage_bytes(rt: &impl Abort, alloc: Global, shape: JournalShape) -> Result<(
 
 #[test]
 fn damaged_by_a_byte(rt: HostRuntime) -> Result<(), Fail> {
-    over_layouts!(shape => damage_bytes(&rt, rt.alloc(), shape)?);
+    over_layouts!(shape => {
+        damage_bytes(&rt, rt.alloc(), shape)?;
+        damage_unread(&rt, rt.alloc(), shape)?;
+    });
     Ok(())
 }
 
@@ -323,7 +350,8 @@ fn frames_out_of_their_order(rt: HostRuntime) -> Result<(), Fail> {
 /// What is opened after a stop of a device whose first frame was to be opened, where the write of its gate had this
 /// fate.
 fn opened_after_stop(alloc: Global, bytes: &[u8], fate: Fate) -> Result<Found, Fail> {
-    let mut disk = MemoryDisk::of(alloc, bytes.to_vec(alloc)?)?;
+    let disk = MemoryDisk::of(alloc, bytes.to_vec(alloc)?)?;
+    let mut disk = Box::new(alloc, disk)?;
     if disk.len() <= JOURNAL {
         return Err("no frame")?;
     }
@@ -332,11 +360,17 @@ fn opened_after_stop(alloc: Global, bytes: &[u8], fate: Fate) -> Result<Found, F
     Ok(found)
 }
 
+/// A device whose first frame has a batch of three bids, and isn't open yet.
+fn with_closed_gate(alloc: Global, shape: JournalShape) -> Result<Vec<u8>, Fail> {
+    let three = [bid(X, 1, A, 100), bid(Y, 1, B, 150), bid(Z, 1, C, 100)];
+    let mut bytes = with_batches(alloc, shape, &[batch(0, 1, &three)])?;
+    put(&mut bytes, JOURNAL, &[0]);
+    Ok(bytes)
+}
+
 /// Each byte that a stop may leave in the gate of the first frame.
 fn tear_gate(rt: &impl Abort, alloc: Global, shape: JournalShape) -> Result<(), Fail> {
-    let three = [bid(X, 1, A, 100), bid(Y, 1, B, 150), bid(Z, 1, C, 100)];
-    let mut whole = with_batches(alloc, shape, &[batch(0, 1, &three)])?;
-    put(&mut whole, JOURNAL, &[0]);
+    let whole = with_closed_gate(alloc, shape)?;
     // All three commands are there, or none of them.
     let (all, none) = (found(shape, 3, 1), found(shape, 0, 0));
     assert_eq!(rt; opened_after_stop(alloc, &whole, Fate::Kept)?, all);

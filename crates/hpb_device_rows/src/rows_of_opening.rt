@@ -159,11 +159,17 @@ fn wanted_calls(shape: JournalShape) -> u64 {
     u64::from(shape.frames).saturating_add(6)
 }
 
+/// A device with a batch of one bid in its first frame.
+fn with_one_bid(alloc: Global, shape: JournalShape) -> Result<Vec<u8>, Fail> {
+    let mut bytes = new_device(alloc, shape)?;
+    let first = batch(0, 1, &[bid(X, 1, A, 100)]);
+    put_batch(alloc, &mut bytes, shape.layout, 0, &first)?;
+    Ok(bytes)
+}
+
 /// Each call of opening fails by itself, and the device is opened again. The call behind them is the sync of that.
 fn fail_each_call(rt: &impl Abort, alloc: Global, shape: JournalShape) -> Result<(), Fail> {
-    let mut whole = new_device(alloc, shape)?;
-    let first = batch(0, 1, &[bid(X, 1, A, 100)]);
-    put_batch(alloc, &mut whole, shape.layout, 0, &first)?;
+    let whole = with_one_bid(alloc, shape)?;
     let past = wanted_calls(shape).saturating_add(1);
     assert_eq!(rt; calls_of_opening(alloc, &whole)?, wanted_calls(shape));
     let sound = Ok((1, u64::from(shape.frames).saturating_sub(1)));

@@ -75,6 +75,10 @@ fn refuse_slot(rt: &impl Abort, alloc: Global, shape: JournalShape) -> Result<()
         let found = opened_with(alloc, &first, &[(FORMAT, format), (WAIVERS, 0)])?;
         assert_eq!(rt; found, sound(shape), "{format}");
     }
+    Ok(())
+}
+
+fn pass_slot(rt: &impl Abort, alloc: Global, shape: JournalShape) -> Result<(), Fail> {
     let both = with_both_formats(alloc, shape)?;
     assert_eq!(rt; opened_with(alloc, &both, &[])?, sound(shape));
     Ok(())
@@ -82,6 +86,9 @@ fn refuse_slot(rt: &impl Abort, alloc: Global, shape: JournalShape) -> Result<()
 
 #[test]
 fn state_without_waivers_refused(rt: HostRuntime) -> Result<(), Fail> {
-    over_layouts!(shape => refuse_slot(&rt, rt.alloc(), shape)?);
+    over_layouts!(shape => {
+        refuse_slot(&rt, rt.alloc(), shape)?;
+        pass_slot(&rt, rt.alloc(), shape)?;
+    });
     Ok(())
 }

@@ -20,6 +20,12 @@ fn causes_of_opening_have_the_words_of_their_refusals(rt: HostRuntime) -> Result
         let cause = Cause::Flawed(flaw).to_string(alloc)?;
         assert_eq!(rt; cause.as_str(), flaw.refusal().word());
     }
+    Ok(())
+}
+
+#[test]
+fn failures_have_the_words_of_their_refusals(rt: HostRuntime) -> Result<(), Fail> {
+    let alloc = rt.alloc();
     let memory = Cause::Memory.to_string(alloc)?;
     assert_eq!(rt; memory.as_str(), Refusal::Memory.word());
     for device in [
