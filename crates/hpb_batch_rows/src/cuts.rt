@@ -1,6 +1,6 @@
 //! A session that is cut at each call of its device, and what is then opened.
 
-use crate::sessions::{LINES, Session, run_faulty};
+use crate::sessions::{LINES, run_faulty};
 use hpb_codec::JournalShape;
 use hpb_engine_rows::calls::count;
 use hpb_engine_rows::devices::{CELLS, FATES, PAGES, count_on};
@@ -44,11 +44,11 @@ fn told(written: &[u8]) -> u32 {
 /// was answered `OK` is found after each stop, alone or with the batch that was in flight. Whether that was found after
 /// one.
 fn cut_at(rt: &impl Abort, alloc: Global, shape: JournalShape, call: u64) -> Result<bool, Fail> {
-    let Session { ran, written } = run_faulty(alloc, (shape, call), LINES, 2, 2)?;
-    let told = told(&written);
-    assert_eq!(rt; ran.engine.failed, call <= CALLS, "{call}");
-    assert_eq!(rt; count(&ran.engine), told, "{call}");
-    let disk = ran.engine.finish().into_inner();
+    let session = run_faulty(alloc, (shape, call), LINES, 2, 2)?;
+    let told = told(&session.written);
+    assert_eq!(rt; session.ran.engine.failed, call <= CALLS, "{call}");
+    assert_eq!(rt; count(&session.ran.engine), told, "{call}");
+    let disk = Box::into_inner(session).ran.engine.finish().into_inner();
     let mut has_landed = false;
     for fate in FATES {
         let found = count_on(alloc, disk.after_stop(alloc, &[fate; 16])?)?;

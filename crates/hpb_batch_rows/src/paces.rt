@@ -5,7 +5,7 @@ use hpb_codec::{JournalLayout, JournalShape};
 use hpb_disk::{Disk, MemoryDisk};
 use hpb_engine::Engine;
 use hpb_engine_rows::calls::count;
-use hpb_engine_rows::devices::new_engine;
+use hpb_engine_rows::devices::{boxed, new_engine};
 use std::alloc::Global;
 use std::process::Abort;
 use std::test::Fail;
@@ -114,25 +114,27 @@ struct Pace {
     every: u32,
 }
 
+/// A session of this pace was ended by no fault, and all its commands are accepted.
+fn accept_all<D: Disk + Drop>(rt: &impl Abort, session: &Session<D>, pace: Pace) {
+    assert_eq!(rt; session.ran.end, Ok(()), "{pace:?}");
+    assert_eq!(rt; count(&session.ran.engine), pace.commands, "{pace:?}");
+}
+
 /// How many calls the lines have that an engine answers. It is given back.
 fn run(
     rt: &impl Abort,
     alloc: Global,
-    engine: Engine<MemoryDisk>,
+    engine: Box<Engine<MemoryDisk>>,
     lines: &str,
     pace: Pace,
-) -> Result<(Engine<MemoryDisk>, usize), Fail> {
-    let Pace {
-        commands,
-        batch,
-        every,
-    } = pace;
+) -> Result<(Box<Engine<MemoryDisk>>, usize), Fail> {
     let before = engine.disk.calls();
-    let Session { ran, .. } = run_lines(alloc, engine, lines.as_bytes(), batch as usize, every);
-    assert_eq!(rt; ran.end, Ok(()), "{pace:?}");
-    assert_eq!(rt; count(&ran.engine), commands, "{pace:?}");
-    let calls = ran.engine.disk.calls().saturating_sub(before);
-    Ok((ran.engine, calls))
+    let batch = pace.batch as usize;
+    let session = run_lines(alloc, engine, lines.as_bytes(), batch, pace.every)?;
+    accept_all(rt, &session, pace);
+    let calls = session.ran.engine.disk.calls().saturating_sub(before);
+    let engine = Box::into_inner(session).ran.engine;
+    Ok((boxed(alloc, engine)?, calls))
 }
 
 /// A session over a new device has so many batches and so many calls.
@@ -142,7 +144,7 @@ fn keep_pace(
     shape: JournalShape,
     lines: &str,
     pace: Pace,
-) -> Result<(Engine<MemoryDisk>, usize), Fail> {
+) -> Result<(Box<Engine<MemoryDisk>>, usize), Fail> {
     let made = batches(pace.commands, pace.batch);
     let (engine, calls) = run(rt, alloc, new_engine(alloc, shape)?, lines, pace)?;
     assert_eq!(rt; engine.progress.ring.next, u64::from(made), "{pace:?}");

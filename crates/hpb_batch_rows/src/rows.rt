@@ -56,7 +56,7 @@ fn fill_journal(
 fn find_all(rt: &impl Abort, alloc: Global, shape: JournalShape) -> Result<(), Fail> {
     let mut engine = new_engine(alloc, shape)?;
     fill_journal(rt, alloc, &mut engine, shape)?;
-    let count = count_on(alloc, engine.finish())?;
+    let count = count_on(alloc, Box::into_inner(engine).finish())?;
     assert_eq!(rt; count, shape.frames.saturating_add(1));
     Ok(())
 }
@@ -87,7 +87,7 @@ fn checkpoint_twice(rt: &impl Abort, alloc: Global, shape: JournalShape) -> Resu
     commit_with(rt, alloc, &mut engine, 0, 4)?;
     checkpoint_with(rt, alloc, &mut engine, 10)?;
     checkpoint_with(rt, alloc, &mut engine, 0)?;
-    assert_eq!(rt; count_on(alloc, engine.finish())?, 1);
+    assert_eq!(rt; count_on(alloc, Box::into_inner(engine).finish())?, 1);
     Ok(())
 }
 

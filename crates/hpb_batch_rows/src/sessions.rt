@@ -4,10 +4,12 @@ use hpb_codec::{JournalLayout, JournalShape};
 use hpb_disk::{Disk, MemoryDisk, OnceDisk};
 use hpb_engine::Engine;
 use hpb_engine_rows::calls::count;
-use hpb_engine_rows::devices::{count_on, engine_over, faulty_engine, new_device_with, new_engine};
+use hpb_engine_rows::devices::{
+    boxed, count_on, engine_over, faulty_engine, new_device_with, new_engine,
+};
 use hpb_engine_rows::over_layouts;
 use hpb_run::{Ran, run_device, run_device_at_terminal};
-use std::alloc::Global;
+use std::alloc::{AllocError, Global};
 use std::process::Abort;
 use std::test::Fail;
 
@@ -29,18 +31,46 @@ pub(crate) struct Session<D: Disk + Drop> {
 /// Runs lines.
 pub(crate) fn run_lines<D: Disk + Drop>(
     alloc: Global,
-    engine: Engine<D>,
+    engine: Box<Engine<D>>,
     lines: &[u8],
     batch: usize,
     every: u32,
-) -> Session<D> {
+) -> Result<Box<Session<D>>, AllocError> {
     let mut reader = lines;
     let mut written = Vec::new(alloc);
+    let engine = Box::into_inner(engine);
     let ran = run_device(alloc, &mut reader, &mut written, engine, batch, every);
-    Session { ran, written }
+    boxed(alloc, Session { ran, written })
 }
 
-/// Runs the lines over a new device, and gives how many calls that took.
+/// A session wrote this text, and no fault ended it.
+fn end_well<D: Disk + Drop>(
+    rt: &impl Abort,
+    session: &Session<D>,
+    text: &[u8],
+    (batch, every): (usize, u32),
+) {
+    assert_eq!(rt; session.written.as_slice(), text, "{batch} {every}");
+    assert_eq!(rt; session.ran.end, Ok(()), "{batch} {every}");
+}
+
+/// Runs the lines over a new device: the session, and how many calls it took.
+fn run_over_new(
+    rt: &impl Abort,
+    alloc: Global,
+    shape: JournalShape,
+    batch: usize,
+    every: u32,
+) -> Result<(Box<Session<MemoryDisk>>, usize), Fail> {
+    let engine = new_engine(alloc, shape)?;
+    let before = engine.disk.calls();
+    let session = run_lines(alloc, engine, LINES, batch, every)?;
+    end_well(rt, &session, ANSWERS, (batch, every));
+    let calls = session.ran.engine.disk.calls().saturating_sub(before);
+    Ok((session, calls))
+}
+
+/// How many calls the lines take over a new device, on which all commands are found then.
 fn calls(
     rt: &impl Abort,
     alloc: Global,
@@ -48,14 +78,10 @@ fn calls(
     batch: usize,
     every: u32,
 ) -> Result<usize, Fail> {
-    let engine = new_engine(alloc, shape)?;
-    let before = engine.disk.calls();
-    let Session { ran, written } = run_lines(alloc, engine, LINES, batch, every);
-    assert_eq!(rt; written.as_slice(), ANSWERS, "{batch} {every}");
-    assert_eq!(rt; ran.end, Ok(()), "{batch} {every}");
-    let after = ran.engine.disk.calls();
-    assert_eq!(rt; count_on(alloc, ran.engine.finish())?, 7, "{batch} {every}");
-    Ok(after.saturating_sub(before))
+    let (session, calls) = run_over_new(rt, alloc, shape, batch, every)?;
+    let disk = Box::into_inner(session).ran.engine.finish();
+    assert_eq!(rt; count_on(alloc, disk)?, 7, "{batch} {every}");
+    Ok(calls)
 }
 
 /// The text is the same for each pair of these numbers.
@@ -93,6 +119,20 @@ fn a_session_makes_so_many_calls(rt: HostRuntime) -> Result<(), Fail> {
     Ok(())
 }
 
+/// Runs the lines at a terminal.
+fn run_at_a_terminal(
+    alloc: Global,
+    engine: Box<Engine<MemoryDisk>>,
+    every: u32,
+) -> Result<Box<Session<MemoryDisk>>, AllocError> {
+    let mut reader = LINES;
+    let mut written = Vec::new(alloc);
+    let mut errors = Vec::new(alloc);
+    let engine = Box::into_inner(engine);
+    let ran = run_device_at_terminal(alloc, &mut reader, &mut written, &mut errors, engine, every);
+    boxed(alloc, Session { ran, written })
+}
+
 /// Runs the lines over a new device at a terminal, and gives how many calls that took.
 fn calls_at_a_terminal(
     rt: &impl Abort,
@@ -102,13 +142,9 @@ fn calls_at_a_terminal(
 ) -> Result<usize, Fail> {
     let engine = new_engine(alloc, shape)?;
     let before = engine.disk.calls();
-    let mut reader = LINES;
-    let mut written = Vec::new(alloc);
-    let mut errors = Vec::new(alloc);
-    let ran = run_device_at_terminal(alloc, &mut reader, &mut written, &mut errors, engine, every);
-    assert_eq!(rt; written.as_slice(), ANSWERS, "{every}");
-    assert_eq!(rt; ran.end, Ok(()), "{every}");
-    Ok(ran.engine.disk.calls().saturating_sub(before))
+    let session = run_at_a_terminal(alloc, engine, every)?;
+    end_well(rt, &session, ANSWERS, (1, every));
+    Ok(session.ran.engine.disk.calls().saturating_sub(before))
 }
 
 /// Seven batches of a command each, of four calls, and with a checkpoint after each: ten calls of the first one, whose
@@ -148,15 +184,24 @@ const WAIVED: &[u8] =
 /// What `x` is shown at the end, on the device that is opened again.
 const OPENED: &[u8] = b"WHO x ELIGIBILITY 0 ACTIVITY 0 TICKET 2 WAIVERS 0\n";
 
-/// A session over a device with one waiver, with a checkpoint after each so many batches, and one over what it left.
-fn waive(rt: &impl Abort, alloc: Global, shape: JournalShape, every: u32) -> Result<(), Fail> {
+/// What a session over a device with one waiver leaves, with a checkpoint after each so many batches.
+fn left_by_waiver(
+    rt: &impl Abort,
+    alloc: Global,
+    shape: JournalShape,
+    every: u32,
+) -> Result<MemoryDisk, Fail> {
     let engine = engine_over(alloc, new_device_with(alloc, shape, 1)?)?;
-    let Session { ran, written } = run_lines(alloc, engine, WAIVING, 1, every);
-    assert_eq!(rt; written.as_slice(), WAIVED, "{every}");
-    assert_eq!(rt; ran.end, Ok(()), "{every}");
-    let engine = engine_over(alloc, ran.engine.finish())?;
-    let Session { written, .. } = run_lines(alloc, engine, b"WHO x\n", 1, 0);
-    assert_eq!(rt; written.as_slice(), OPENED, "{every}");
+    let session = run_lines(alloc, engine, WAIVING, 1, every)?;
+    end_well(rt, &session, WAIVED, (1, every));
+    Ok(Box::into_inner(session).ran.engine.finish())
+}
+
+/// Such a session, and one over what it left.
+fn waive(rt: &impl Abort, alloc: Global, shape: JournalShape, every: u32) -> Result<(), Fail> {
+    let engine = engine_over(alloc, left_by_waiver(rt, alloc, shape, every)?)?;
+    let session = run_lines(alloc, engine, b"WHO x\n", 1, 0)?;
+    assert_eq!(rt; session.written.as_slice(), OPENED, "{every}");
     Ok(())
 }
 
@@ -179,9 +224,9 @@ pub(crate) fn run_faulty(
     lines: &[u8],
     batch: usize,
     every: u32,
-) -> Result<Session<OnceDisk<MemoryDisk>>, Fail> {
+) -> Result<Box<Session<OnceDisk<MemoryDisk>>>, Fail> {
     let engine = faulty_engine(alloc, shape, call)?;
-    Ok(run_lines(alloc, engine, lines, batch, every))
+    Ok(run_lines(alloc, engine, lines, batch, every)?)
 }
 
 /// What a session of batches of two writes where a call of the second one fails.
@@ -189,25 +234,19 @@ const FAULT_IN_SECOND_BATCH: &[u8] = b"OK 1\nOK 2\nERR 91 device\nERR 91 device\
     ROUND 1 STAGE 1 OPEN REVENUE 0 COUNT 2\nERR 93 failed\nERR 93 failed\n\
     ROUND 1 STAGE 1 OPEN REVENUE 0 COUNT 2\nNODE a HIGH 0 - PRICE 0 MIN 100 WIN no\n";
 
-/// The second batch of a session ends with a fault.
-fn fail_second_batch(
-    rt: &impl Abort,
-    alloc: Global,
-    shape: JournalShape,
-    call: u64,
-) -> Result<(), Fail> {
-    let Session { ran, written } = run_faulty(alloc, (shape, call), LINES, 2, 0)?;
-    assert_eq!(rt; written.as_slice(), FAULT_IN_SECOND_BATCH, "{call}");
-    assert_eq!(rt; ran.end, Ok(()), "{call}");
-    assert!(rt; ran.engine.failed, "{call}");
-    assert_eq!(rt; count(&ran.engine), 2, "{call}");
-    Ok(())
+/// The second batch of a session ended with a fault.
+fn fail_second_batch<D: Disk + Drop>(rt: &impl Abort, session: &Session<D>, call: u64) {
+    assert_eq!(rt; session.written.as_slice(), FAULT_IN_SECOND_BATCH, "{call}");
+    assert_eq!(rt; session.ran.end, Ok(()), "{call}");
+    assert!(rt; session.ran.engine.failed, "{call}");
+    assert_eq!(rt; count(&session.ran.engine), 2, "{call}");
 }
 
 /// At each of the four calls of the second commit.
 fn fail_each_call(rt: &impl Abort, alloc: Global, shape: JournalShape) -> Result<(), Fail> {
     for call in 5..9 {
-        fail_second_batch(rt, alloc, shape, call)?;
+        let session = run_faulty(alloc, (shape, call), LINES, 2, 0)?;
+        fail_second_batch(rt, &session, call);
     }
     Ok(())
 }
@@ -222,9 +261,9 @@ fn fault_in_second_batch(rt: HostRuntime) -> Result<(), Fail> {
 fn fail_second_sync(rt: &impl Abort, alloc: Global, shape: JournalShape) -> Result<(), Fail> {
     let lines = b"BID x 1 a 100\nBID y 1 b 150\nSHOW\n";
     let wanted = b"ERR 91 device\nERR 93 failed\nROUND 1 STAGE 1 OPEN REVENUE 0 COUNT 0\n";
-    let Session { ran, written } = run_faulty(alloc, (shape, 4), lines, 1, 0)?;
-    assert_eq!(rt; written.as_slice(), wanted.as_slice());
-    assert_eq!(rt; count(&ran.engine), 0);
+    let session = run_faulty(alloc, (shape, 4), lines, 1, 0)?;
+    assert_eq!(rt; session.written.as_slice(), wanted.as_slice());
+    assert_eq!(rt; count(&session.ran.engine), 0);
     Ok(())
 }
 
@@ -242,10 +281,9 @@ const FAULT_IN_A_CHECKPOINT: &[u8] =
 
 /// The checkpoint has the calls of a session from the fifth on.
 fn fail_checkpoint(rt: &impl Abort, alloc: Global, shape: JournalShape) -> Result<(), Fail> {
-    let Session { ran, written } = run_faulty(alloc, (shape, 6), LINES, 64, 1)?;
-    assert_eq!(rt; written.as_slice(), FAULT_IN_A_CHECKPOINT);
-    assert_eq!(rt; ran.end, Ok(()));
-    assert!(rt; ran.engine.failed);
+    let session = run_faulty(alloc, (shape, 6), LINES, 64, 1)?;
+    end_well(rt, &session, FAULT_IN_A_CHECKPOINT, (64, 1));
+    assert!(rt; session.ran.engine.failed);
     Ok(())
 }
 

@@ -1,12 +1,12 @@
 //! A run that is cut at each of its calls, and what is then opened, told in one call with the run.
 
 use crate::mixed_run::events;
-use crate::rows_of_faults::{moments_of_run, number_of, run};
+use crate::rows_of_faults::{moments_of_run, number_of};
+use crate::runs::{run, survived};
 use hpb_codec::JournalShape;
 use hpb_disk::{Fate, FuseDisk, MemoryDisk};
 use hpb_engine::Event;
-use hpb_engine_rows::devices::{CELLS, FATES, PAGES, new_device, opened, opened_or_cause};
-use hpb_promise::{Survived, drive_then_open};
+use hpb_engine_rows::devices::{CELLS, FATES, PAGES, new_device, opened};
 use std::alloc::Global;
 use std::process::Abort;
 use std::test::Fail;
@@ -19,7 +19,7 @@ fn failed_at(
     call: u64,
 ) -> Result<MemoryDisk, Fail> {
     let disk = match opened(alloc, FuseDisk::new(new_device(alloc, shape)?, call)) {
-        Ok(opened) => run(alloc, opened, events)?.engine.finish(),
+        Ok(opened) => Box::into_inner(run(alloc, opened, events)?).engine.finish(),
         Err(fault) => fault.disk,
     };
     Ok(disk.into_inner())
@@ -32,11 +32,8 @@ fn found_after(
     events: &[Event],
     left: MemoryDisk,
 ) -> Result<u32, Fail> {
-    let opened = opened_or_cause(alloc, new_device(alloc, shape)?)?;
-    let Ok(Survived { found, .. }) = drive_then_open(alloc, opened, events, left) else {
-        return Err(Fail::new("memory was refused"));
-    };
-    match found {
+    let survived = survived(alloc, shape, events, left)?;
+    match &survived.found {
         Ok(again) => Ok(again.auction().count()),
         Err(fault) => Err(Fail::from(fault.cause)),
     }

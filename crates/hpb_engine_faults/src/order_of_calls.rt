@@ -139,7 +139,7 @@ fn commit_two(
 #[test]
 fn order_of_a_commit(rt: HostRuntime) -> Result<(), Fail> {
     let alloc = rt.alloc();
-    over_layouts!(shape => commit_two(&rt, alloc, &mut new_engine(alloc, shape)?, shape)?);
+    over_layouts!(shape => commit_two(&rt, alloc, &mut *new_engine(alloc, shape)?, shape)?);
     Ok(())
 }
 
@@ -233,7 +233,7 @@ fn write_two_checkpoints(
 #[test]
 fn order_of_a_checkpoint(rt: HostRuntime) -> Result<(), Fail> {
     let alloc = rt.alloc();
-    over_layouts!(shape => write_two_checkpoints(&rt, alloc, &mut new_engine(alloc, shape)?, shape)?);
+    over_layouts!(shape => write_two_checkpoints(&rt, alloc, &mut *new_engine(alloc, shape)?, shape)?);
     Ok(())
 }
 
@@ -290,7 +290,7 @@ fn commit_beside(
 #[test]
 fn steps_among_each_other(rt: HostRuntime) -> Result<(), Fail> {
     let alloc = rt.alloc();
-    over_layouts!(shape => commit_beside(&rt, alloc, &mut new_engine(alloc, shape)?, shape)?);
+    over_layouts!(shape => commit_beside(&rt, alloc, &mut *new_engine(alloc, shape)?, shape)?);
     Ok(())
 }
 
@@ -308,7 +308,7 @@ fn retire_four<D: Disk + Drop>(engine: &mut Engine<D>) {
 fn half_retired(
     alloc: Global,
     engine: &mut Engine<MemoryDisk>,
-) -> Result<Opened<MemoryDisk>, Fail> {
+) -> Result<Box<Opened<MemoryDisk>>, Fail> {
     retire_four(engine);
     let fates = [Fate::Kept, Fate::Lost, Fate::Kept, Fate::Lost];
     Ok(opened_after(alloc, engine, &fates)?)
@@ -342,8 +342,8 @@ fn retire_half(
 
 /// The other half of the frames is retired after a stop.
 fn retire_rest(rt: &impl Abort, alloc: Global, shape: JournalShape) -> Result<(), Fail> {
-    let opened = half_retired(alloc, &mut new_engine(alloc, shape)?)?;
-    retire_half(rt, alloc, &mut started(alloc, opened)?, shape)
+    let opened = half_retired(alloc, &mut *new_engine(alloc, shape)?)?;
+    retire_half(rt, alloc, &mut *started(alloc, opened)?, shape)
 }
 
 #[test]

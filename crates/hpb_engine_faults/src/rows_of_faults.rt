@@ -1,6 +1,7 @@
 //! A call of the device fails.
 
 use crate::mixed_run::{Moment, events, moments};
+use crate::runs::run;
 use hpb_codec::JournalShape;
 use hpb_disk::{Disk, Fate, FuseDisk, MemoryDisk, OnceDisk};
 use hpb_engine::{Driven, Engine, Event, Fault, Weight};
@@ -13,8 +14,7 @@ use hpb_engine_rows::letters::Bidder::{X, Y};
 use hpb_engine_rows::letters::Node::{A, B};
 use hpb_engine_rows::letters::{accepted, bid, one, two};
 use hpb_engine_rows::over_layouts;
-use hpb_promise::drive_opened;
-use hpb_recover::{Cause, OpenFault, Opened};
+use hpb_recover::{Cause, OpenFault};
 use hpb_rules::{Answer, Letter, Reply};
 use std::alloc::Global;
 use std::process::Abort;
@@ -72,13 +72,13 @@ fn is_ended_once<D: Disk + Drop>(driven: &mut Driven<D>, events: &[Event], momen
 
 /// The device of a run that has to be ended so.
 fn finished<D: Disk + Drop>(
-    driven: Driven<D>,
+    driven: Box<Driven<D>>,
     events: &[Event],
     moment: Moment,
 ) -> Result<D, Fail> {
     let mut driven = driven;
     if is_ended_once(&mut driven, events, moment) {
-        Ok(driven.engine.finish())
+        Ok(Box::into_inner(driven).engine.finish())
     } else {
         Err(Fail::new("the run did not end as it should"))
     }
@@ -90,18 +90,6 @@ fn unopened<D: Disk + Drop>(fault: OpenFault<D>, moment: Moment) -> Result<D, Fa
         Ok(fault.disk)
     } else {
         Err(Fail::from(fault.cause))
-    }
-}
-
-/// Drives the events over an opened device.
-pub(crate) fn run<D: Disk + Drop>(
-    alloc: Global,
-    opened: Opened<D>,
-    events: &[Event],
-) -> Result<Driven<D>, Fail> {
-    match drive_opened(alloc, opened, events) {
-        Ok(driven) => Ok(driven),
-        Err(_) => Err(Fail::new("memory was refused")),
     }
 }
 
@@ -144,7 +132,7 @@ pub(crate) fn moments_of_run(
     shape: JournalShape,
     events: &[Event],
 ) -> Result<Vec<Moment>, Fail> {
-    moments(alloc, &mut new_engine(alloc, shape)?, events)
+    moments(alloc, &mut *new_engine(alloc, shape)?, events)
 }
 
 /// Whether the batch in flight has landed after a stop, where all calls of this device fail from the one at this moment
@@ -259,7 +247,7 @@ fn left_by_second_sync(
 ) -> Result<MemoryDisk, Fail> {
     let mut engine = faulty_engine(alloc, shape, 8)?;
     fail_second_sync(rt, &mut engine);
-    Ok(engine.finish().into_inner())
+    Ok(Box::into_inner(engine).finish().into_inner())
 }
 
 /// What stops leave of it: the write of the second gate is kept, lost, or filled with bytes.
@@ -305,7 +293,7 @@ fn left_by_step(
 ) -> Result<MemoryDisk, Fail> {
     let mut engine = faulty_engine(alloc, shape, before.saturating_add(4))?;
     fail_step(rt, &mut engine, before);
-    Ok(engine.finish().into_inner())
+    Ok(Box::into_inner(engine).finish().into_inner())
 }
 
 /// Two commands are found on a device after each stop, and without one.

@@ -1,18 +1,18 @@
 //! Events one after another, and what is found after a stop.
 
-use crate::runs::driven;
+use crate::runs::{driven, survived};
 use hpb_codec::JournalShape;
 use hpb_disk::{FuseDisk, MemoryDisk};
 use hpb_engine::{Driven, Engine, Event, Fault};
 use hpb_engine_rows::calls::count;
 use hpb_engine_rows::devices::{
-    Found, calls_of_opening, engine_over, found_in, new_device, new_engine, opened_or_cause,
+    Found, calls_of_opening, engine_over, found_in, new_device, new_engine,
 };
 use hpb_engine_rows::letters::Bidder::X;
 use hpb_engine_rows::letters::Node::A;
 use hpb_engine_rows::letters::{accepted, bid, refused, two};
 use hpb_engine_rows::over_layouts;
-use hpb_promise::{Survived, drive_then_open};
+use hpb_promise::Survived;
 use hpb_rules::{Letter, Refusal};
 use hpb_slots::Slot;
 use std::alloc::Global;
@@ -49,17 +49,13 @@ fn left_by(alloc: Global, shape: JournalShape, events: &[Event]) -> Result<Memor
 }
 
 /// A run over a new device, and the device that a stop at its end leaves, opened.
-fn survived(
+fn survived_whole(
     alloc: Global,
     shape: JournalShape,
     events: &[Event],
-) -> Result<Survived<MemoryDisk, MemoryDisk>, Fail> {
+) -> Result<Box<Survived<MemoryDisk, MemoryDisk>>, Fail> {
     let left = left_by(alloc, shape, events)?;
-    let opened = opened_or_cause(alloc, new_device(alloc, shape)?)?;
-    match drive_then_open(alloc, opened, events, left) {
-        Ok(survived) => Ok(survived),
-        Err(_) => Err(Fail::new("memory was refused")),
-    }
+    survived(alloc, shape, events, left)
 }
 
 /// What was found on the device that was opened.
@@ -81,7 +77,7 @@ fn ends_well(driven: &Driven<MemoryDisk>) -> bool {
 /// A batch and a whole checkpoint are driven, and all is found after a stop. A first checkpoint of one batch takes
 /// eleven steps; the twelfth is idle.
 fn drive_all(rt: &impl Abort, alloc: Global, shape: JournalShape) -> Result<(), Fail> {
-    let survived = survived(alloc, shape, &events(alloc, 12)?)?;
+    let survived = survived_whole(alloc, shape, &events(alloc, 12)?)?;
     assert!(rt; ends_well(&survived.driven));
     let wanted = Found {
         count: 1,
@@ -101,7 +97,7 @@ fn events_are_driven(rt: HostRuntime) -> Result<(), Fail> {
 
 /// Without an event nothing is taken, and the device is found as it was.
 fn drive_nothing(rt: &impl Abort, alloc: Global, shape: JournalShape) -> Result<(), Fail> {
-    let survived = survived(alloc, shape, &[])?;
+    let survived = survived_whole(alloc, shape, &[])?;
     assert!(rt; survived.driven.answers.is_empty());
     assert!(rt; survived.driven.fault.is_none());
     let wanted = Found {
@@ -125,7 +121,7 @@ fn failing(
     alloc: Global,
     shape: JournalShape,
     call: u64,
-) -> Result<Engine<FuseDisk<MemoryDisk>>, Fail> {
+) -> Result<Box<Engine<FuseDisk<MemoryDisk>>>, Fail> {
     let fault = calls_of_opening(alloc, shape)?.saturating_add(call);
     let disk = FuseDisk::new(new_device(alloc, shape)?, fault);
     Ok(engine_over(alloc, disk)?)
@@ -139,7 +135,8 @@ fn ends_early(driven: &Driven<FuseDisk<MemoryDisk>>) -> bool {
 /// A run into a fault: the fourth call of a commit is its second sync.
 fn drive_into_fault(rt: &impl Abort, alloc: Global, shape: JournalShape) -> Result<(), Fail> {
     let engine = failing(alloc, shape, 4)?;
-    assert!(rt; ends_early(&driven(alloc, engine, &events(alloc, 3)?)?));
+    let driven = driven(alloc, engine, &events(alloc, 3)?)?;
+    assert!(rt; ends_early(&driven));
     Ok(())
 }
 

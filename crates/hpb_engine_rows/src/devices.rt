@@ -137,6 +137,11 @@ pub fn bytes_of(alloc: Global, disk: MemoryDisk) -> Result<Vec<u8>> {
     Ok(bytes)
 }
 
+/// A value in a box. Whoever lets go of it does so by one call, however large it is.
+pub fn boxed<T: Drop>(alloc: Global, value: T) -> Result<Box<T>, AllocError> {
+    Ok(Box::new(alloc, value)?)
+}
+
 /// Opens a device.
 pub fn opened<D: Disk + Drop>(alloc: Global, disk: D) -> Result<Opened<D>, OpenFault<D>> {
     match open(alloc, disk) {
@@ -146,28 +151,31 @@ pub fn opened<D: Disk + Drop>(alloc: Global, disk: D) -> Result<Opened<D>, OpenF
 }
 
 /// An engine over what was opened.
-pub fn started<D: Disk + Drop>(alloc: Global, opened: Opened<D>) -> Result<Engine<D>> {
-    match Engine::start(alloc, opened) {
-        Ok(engine) => Ok(engine),
-        Err(_) => bail!("memory was refused"),
+pub fn started<D: Disk + Drop>(alloc: Global, opened: Box<Opened<D>>) -> Result<Box<Engine<D>>> {
+    match Engine::start(alloc, Box::into_inner(opened)) {
+        Ok(engine) => Ok(boxed(alloc, engine)?),
+        Err(opened) => {
+            drop(opened);
+            bail!("memory was refused")
+        }
     }
 }
 
 /// What is opened of a device, without the device where it isn't.
-pub fn opened_or_cause<D: Disk + Drop>(alloc: Global, disk: D) -> Result<Opened<D>> {
+pub fn opened_or_cause<D: Disk + Drop>(alloc: Global, disk: D) -> Result<Box<Opened<D>>> {
     match opened(alloc, disk) {
-        Ok(opened) => Ok(opened),
+        Ok(opened) => Ok(boxed(alloc, opened)?),
         Err(fault) => Err(Error::from(fault.cause)),
     }
 }
 
 /// An engine over a device.
-pub fn engine_over<D: Disk + Drop>(alloc: Global, disk: D) -> Result<Engine<D>> {
+pub fn engine_over<D: Disk + Drop>(alloc: Global, disk: D) -> Result<Box<Engine<D>>> {
     started(alloc, opened_or_cause(alloc, disk)?)
 }
 
 /// An engine over a new device with such a journal.
-pub fn new_engine(alloc: Global, shape: JournalShape) -> Result<Engine<MemoryDisk>> {
+pub fn new_engine(alloc: Global, shape: JournalShape) -> Result<Box<Engine<MemoryDisk>>> {
     engine_over(alloc, new_device(alloc, shape)?)
 }
 
@@ -182,7 +190,7 @@ pub fn faulty_engine(
     alloc: Global,
     shape: JournalShape,
     call: u64,
-) -> Result<Engine<OnceDisk<MemoryDisk>>> {
+) -> Result<Box<Engine<OnceDisk<MemoryDisk>>>> {
     let fault = calls_of_opening(alloc, shape)?.saturating_add(call);
     engine_over(alloc, OnceDisk::new(new_device(alloc, shape)?, fault))
 }
@@ -195,7 +203,7 @@ pub fn opened_after(
     alloc: Global,
     engine: &Engine<MemoryDisk>,
     fates: &[Fate],
-) -> Result<Opened<MemoryDisk>> {
+) -> Result<Box<Opened<MemoryDisk>>> {
     opened_or_cause(alloc, engine.disk.after_stop(alloc, fates)?)
 }
 

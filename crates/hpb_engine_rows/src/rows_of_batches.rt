@@ -47,7 +47,7 @@ fn answer_together(rt: &impl Abort, engine: &mut Engine<MemoryDisk>) {
 
 #[test]
 fn batch_answers_together(rt: HostRuntime) -> Result<(), Fail> {
-    over_layouts!(shape => answer_together(&rt, &mut new_engine(rt.alloc(), shape)?));
+    over_layouts!(shape => answer_together(&rt, &mut *new_engine(rt.alloc(), shape)?));
     Ok(())
 }
 
@@ -77,7 +77,7 @@ fn repeat(rt: &impl Abort, engine: &mut Engine<MemoryDisk>) {
 
 #[test]
 fn repeat_makes_no_device_call(rt: HostRuntime) -> Result<(), Fail> {
-    over_layouts!(shape => repeat(&rt, &mut new_engine(rt.alloc(), shape)?));
+    over_layouts!(shape => repeat(&rt, &mut *new_engine(rt.alloc(), shape)?));
     Ok(())
 }
 
@@ -99,7 +99,7 @@ fn offer_nothing_new(rt: &impl Abort, engine: &mut Engine<MemoryDisk>) {
 
 #[test]
 fn letters_without_a_new_command(rt: HostRuntime) -> Result<(), Fail> {
-    over_layouts!(shape => offer_nothing_new(&rt, &mut new_engine(rt.alloc(), shape)?));
+    over_layouts!(shape => offer_nothing_new(&rt, &mut *new_engine(rt.alloc(), shape)?));
     Ok(())
 }
 
@@ -115,7 +115,7 @@ fn fill_batch(rt: &impl Abort, engine: &mut Engine<MemoryDisk>) {
 
 #[test]
 fn greatest_batch(rt: HostRuntime) -> Result<(), Fail> {
-    over_layouts!(shape => fill_batch(&rt, &mut new_engine(rt.alloc(), shape)?));
+    over_layouts!(shape => fill_batch(&rt, &mut *new_engine(rt.alloc(), shape)?));
     Ok(())
 }
 
@@ -143,6 +143,6 @@ fn fill_journal(rt: &impl Abort, engine: &mut Engine<MemoryDisk>, shape: Journal
 
 #[test]
 fn journal_full(rt: HostRuntime) -> Result<(), Fail> {
-    over_layouts!(shape => fill_journal(&rt, &mut new_engine(rt.alloc(), shape)?, shape));
+    over_layouts!(shape => fill_journal(&rt, &mut *new_engine(rt.alloc(), shape)?, shape));
     Ok(())
 }

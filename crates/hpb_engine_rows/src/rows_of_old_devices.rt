@@ -11,7 +11,7 @@ use crate::states::{same, state_after};
 use hpb_auction::Auction;
 use hpb_codec::JournalShape;
 use hpb_disk::{Fate, FuseDisk, MemoryDisk};
-use hpb_engine::Rest;
+use hpb_engine::{Engine, Rest};
 use hpb_recover::Opened;
 use hpb_rules::{Letter, NodeId};
 use hpb_slots::Slot;
@@ -59,11 +59,11 @@ fn first_round() -> [Letter; 5] {
 fn old_device(alloc: Global, shape: JournalShape) -> Result<Vec<u8>, Fail> {
     let mut engine = new_engine(alloc, shape)?;
     let _ = commit(&mut engine, list_of(&first_round()));
-    made_old(alloc, engine.finish())
+    made_old(alloc, Box::into_inner(engine).finish())
 }
 
 /// What is opened of a device with these bytes.
-fn opened_bytes(alloc: Global, bytes: &[u8]) -> Result<Opened<MemoryDisk>, Fail> {
+fn opened_bytes(alloc: Global, bytes: &[u8]) -> Result<Box<Opened<MemoryDisk>>, Fail> {
     let disk = MemoryDisk::of(alloc, bytes.to_vec(alloc)?)?;
     Ok(opened_or_cause(alloc, disk)?)
 }
@@ -107,7 +107,7 @@ fn cut(alloc: Global, old: &[u8], call: u64) -> Result<(bool, MemoryDisk), Fail>
     let disk = FuseDisk::new(MemoryDisk::of(alloc, old.to_vec(alloc)?)?, call);
     let mut engine = engine_over(alloc, disk)?;
     let is_whole = steps_to_whole(&mut engine, 20) > 0;
-    Ok((is_whole, engine.finish().into_inner()))
+    Ok((is_whole, Box::into_inner(engine).finish().into_inner()))
 }
 
 /// The format of the state that is opened, as it stands in these bytes.
@@ -164,23 +164,32 @@ fn cut_each(rt: &impl Abort, alloc: Global, shape: JournalShape) -> Result<(), F
     Ok(())
 }
 
+/// The formats of the states in the first and in the second slot.
+fn formats_in(bytes: &[u8]) -> (Option<u8>, Option<u8>) {
+    (bytes.get(IN_FIRST).copied(), bytes.get(IN_SECOND).copied())
+}
+
 /// Two whole checkpoints of an old device, with a command between them: each writes the second format into its slot.
+fn write_second_format(
+    rt: &impl Abort,
+    alloc: Global,
+    engine: &mut Engine<MemoryDisk>,
+) -> Result<(), Fail> {
+    assert_eq!(rt; steps_to_whole(engine, 20), 11);
+    let bytes = bytes_of(alloc, engine.disk.after_stop(alloc, &[])?)?;
+    assert_eq!(rt; formats_in(&bytes), (Some(1), Some(2)));
+    assert!(rt; commits_one(engine, accepted(bid(W, 2, C, 250), 5)));
+    assert_eq!(rt; steps_to_whole(engine, 20), 11);
+    Ok(())
+}
+
+/// Both slots have the second format then, and the head is the same.
 fn write_both(rt: &impl Abort, alloc: Global, shape: JournalShape) -> Result<(), Fail> {
     let old = old_device(alloc, shape)?;
     let mut engine = engine_over(alloc, MemoryDisk::of(alloc, old.to_vec(alloc)?)?)?;
-    assert_eq!(rt; steps_to_whole(&mut engine, 20), 11);
-    let bytes = bytes_of(alloc, engine.disk.after_stop(alloc, &[])?)?;
-    assert_eq!(rt;
-        (bytes.get(IN_FIRST), bytes.get(IN_SECOND)),
-        (Some(&1), Some(&2))
-    );
-    assert!(rt; commits_one(&mut engine, accepted(bid(W, 2, C, 250), 5)));
-    assert_eq!(rt; steps_to_whole(&mut engine, 20), 11);
-    let bytes = bytes_of(alloc, engine.finish())?;
-    assert_eq!(rt;
-        (bytes.get(IN_FIRST), bytes.get(IN_SECOND)),
-        (Some(&2), Some(&2))
-    );
+    write_second_format(rt, alloc, &mut engine)?;
+    let bytes = bytes_of(alloc, Box::into_inner(engine).finish())?;
+    assert_eq!(rt; formats_in(&bytes), (Some(2), Some(2)));
     assert!(rt; bytes.get(..HEAD_END) == old.get(..HEAD_END));
     Ok(())
 }
@@ -202,7 +211,7 @@ fn rest(rt: &impl Abort, alloc: Global, shape: JournalShape) -> Result<(), Fail>
     let old = made_old(alloc, new_device(alloc, shape)?)?;
     let mut engine = engine_over(alloc, MemoryDisk::of(alloc, old.to_vec(alloc)?)?)?;
     assert!(rt; steps(&mut engine, Ok(Rest::Idle)));
-    assert!(rt; bytes_of(alloc, engine.finish())? == old);
+    assert!(rt; bytes_of(alloc, Box::into_inner(engine).finish())? == old);
     Ok(())
 }
 

@@ -68,7 +68,7 @@ fn write_gate(
 #[test]
 fn stop_in_the_gate_write(rt: HostRuntime) -> Result<(), Fail> {
     let alloc = rt.alloc();
-    over_layouts!(shape => write_gate(&rt, alloc, &mut new_engine(alloc, shape)?, shape)?);
+    over_layouts!(shape => write_gate(&rt, alloc, &mut *new_engine(alloc, shape)?, shape)?);
     Ok(())
 }
 
@@ -111,7 +111,7 @@ fn write_third_page(
 #[test]
 fn stop_in_the_third_page(rt: HostRuntime) -> Result<(), Fail> {
     let alloc = rt.alloc();
-    over_layouts!(shape => write_third_page(&rt, alloc, &mut new_engine(alloc, shape)?, shape)?);
+    over_layouts!(shape => write_third_page(&rt, alloc, &mut *new_engine(alloc, shape)?, shape)?);
     Ok(())
 }
 
@@ -148,7 +148,7 @@ fn stop_retiring(
     rt: &impl Abort,
     alloc: Global,
     shape: JournalShape,
-) -> Result<Opened<MemoryDisk>, Fail> {
+) -> Result<Box<Opened<MemoryDisk>>, Fail> {
     let mut engine = new_engine(alloc, shape)?;
     assert!(rt; retires_two(&mut engine));
     let opened = opened_after(alloc, &engine, &[Fate::Kept, Fate::Lost])?;
@@ -172,7 +172,7 @@ fn fill_clean(rt: &impl Abort, engine: &mut Engine<MemoryDisk>, shape: JournalSh
 /// The engine goes on after such a stop.
 fn go_on(rt: &impl Abort, alloc: Global, shape: JournalShape) -> Result<(), Fail> {
     let opened = stop_retiring(rt, alloc, shape)?;
-    fill_clean(rt, &mut started(alloc, opened)?, shape);
+    fill_clean(rt, &mut *started(alloc, opened)?, shape);
     Ok(())
 }
 
@@ -207,7 +207,7 @@ fn find_clean(
 /// The engine retires what is left after such a stop.
 fn retire_on(rt: &impl Abort, alloc: Global, shape: JournalShape) -> Result<(), Fail> {
     let opened = stop_retiring(rt, alloc, shape)?;
-    find_clean(rt, alloc, &mut started(alloc, opened)?, shape)
+    find_clean(rt, alloc, &mut *started(alloc, opened)?, shape)
 }
 
 #[test]

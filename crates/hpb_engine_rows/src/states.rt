@@ -1,14 +1,21 @@
 //! Auctions, and whether two of them are equal.
 
-use crate::devices::six_nodes;
+use crate::devices::{boxed, six_nodes};
 use anyhow::Result;
 use hpb_auction::Auction;
 use hpb_rules::{BidderId, Letter, NodeId, Saved};
 use std::alloc::Global;
 
+/// The auction before the first letter.
+fn new_auction(alloc: Global) -> Result<Box<Auction>> {
+    let definition = boxed(alloc, six_nodes(alloc)?)?;
+    let auction = Auction::new(alloc, &definition)?;
+    Ok(boxed(alloc, auction)?)
+}
+
 /// The auction after letters that are all accepted.
-pub fn state_after(alloc: Global, letters: &[Letter]) -> Result<Auction> {
-    let mut auction = Auction::new(alloc, &six_nodes(alloc)?)?;
+pub fn state_after(alloc: Global, letters: &[Letter]) -> Result<Box<Auction>> {
+    let mut auction = new_auction(alloc)?;
     for letter in letters {
         auction.apply(&letter.command);
     }
