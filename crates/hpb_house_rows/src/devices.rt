@@ -14,9 +14,9 @@ use std::test::Fail;
 pub(crate) fn six_nodes_opened(
     alloc: Global,
     shape: JournalShape,
-) -> Result<Opened<MemoryDisk>, Fail> {
+) -> Result<Box<Opened<MemoryDisk>>, Fail> {
     match opened(alloc, new_device(alloc, shape)?) {
-        Ok(opened) => Ok(opened),
+        Ok(opened) => Ok(Box::new(alloc, opened)?),
         Err(fault) => Err(Fail::from(Error::from(fault.cause))),
     }
 }
@@ -26,11 +26,11 @@ pub(crate) fn faulty_opened(
     alloc: Global,
     shape: JournalShape,
     call: u64,
-) -> Result<Opened<OnceDisk<MemoryDisk>>, Fail> {
+) -> Result<Box<Opened<OnceDisk<MemoryDisk>>>, Fail> {
     let fault = calls_of_opening(alloc, shape)?.saturating_add(call);
     let disk = OnceDisk::new(new_device(alloc, shape)?, fault);
     match opened(alloc, disk) {
-        Ok(opened) => Ok(opened),
+        Ok(opened) => Ok(Box::new(alloc, opened)?),
         Err(fault) => Err(Fail::from(Error::from(fault.cause))),
     }
 }
@@ -66,24 +66,34 @@ fn wide_draft(alloc: Global) -> Result<Draft, AllocError> {
     Ok(draft)
 }
 
-/// A new device of 32 licences, 32 bidders and 64 frames of this layout, opened.
-pub(crate) fn wide_opened(
-    alloc: Global,
-    layout: JournalLayout,
-) -> Result<Opened<MemoryDisk>, Fail> {
+/// Of them, checked.
+fn wide_definition(alloc: Global) -> Result<Box<Definition>, Fail> {
     let draft = wide_draft(alloc)?;
-    let definition = Definition::check(alloc, &draft)?;
+    Ok(Box::new(alloc, Definition::check(alloc, &draft)?)?)
+}
+
+/// A new device of them with 64 frames of this layout.
+fn wide_device(alloc: Global, layout: JournalLayout) -> Result<MemoryDisk, Fail> {
+    let definition = wide_definition(alloc)?;
     let shape = JournalShape {
         layout,
         frames: FRAMES,
     };
     let disk = MemoryDisk::zeros(alloc, device_bytes(shape))?;
-    let disk = match format_layout(alloc, disk, &definition, FRAMES, layout.byte()) {
-        Ok(disk) => disk,
-        Err(fault) => return Err(Fail::from(Error::from(fault.cause))),
-    };
+    match format_layout(alloc, disk, &definition, FRAMES, layout.byte()) {
+        Ok(disk) => Ok(disk),
+        Err(fault) => Err(Fail::from(Error::from(fault.cause))),
+    }
+}
+
+/// A new device of 32 licences, 32 bidders and 64 frames of this layout, opened.
+pub(crate) fn wide_opened(
+    alloc: Global,
+    layout: JournalLayout,
+) -> Result<Box<Opened<MemoryDisk>>, Fail> {
+    let disk = wide_device(alloc, layout)?;
     match opened(alloc, disk) {
-        Ok(opened) => Ok(opened),
+        Ok(opened) => Ok(Box::new(alloc, opened)?),
         Err(fault) => Err(Fail::from(Error::from(fault.cause))),
     }
 }

@@ -235,7 +235,7 @@ fn run_started<
 fn run_house<D: Disk + Drop + Send, G: Gate + Sync, S: Session + Sync, R: Threads + Wait + Sync>(
     rt: &R,
     alloc: Global,
-    opened: Opened<D>,
+    opened: Box<Opened<D>>,
     sessions: u8,
     gate: &G,
     session: &S,
@@ -243,7 +243,7 @@ fn run_house<D: Disk + Drop + Send, G: Gate + Sync, S: Session + Sync, R: Thread
     requires { (1 ≤ sessions) × (sessions ≤ 32) }
 {
     let before = opened.auction().count();
-    let Ok(started) = House::start(rt, alloc, opened, sessions) else {
+    let Ok(started) = House::start(rt, alloc, Box::into_inner(opened), sessions) else {
         return Err(Fail::new("the house was not started"));
     };
     run_started::<Brand, D, &R, G, S, R>(rt, alloc, started, before, gate, session)
@@ -253,7 +253,7 @@ fn run_house<D: Disk + Drop + Send, G: Gate + Sync, S: Session + Sync, R: Thread
 pub(crate) fn run_in_memory<G: Gate + Sync, S: Session + Sync, R: Threads + Wait + Sync>(
     rt: &R,
     alloc: Global,
-    opened: Opened<MemoryDisk>,
+    opened: Box<Opened<MemoryDisk>>,
     sessions: u8,
     gate: &G,
     session: &S,
@@ -267,7 +267,7 @@ pub(crate) fn run_in_memory<G: Gate + Sync, S: Session + Sync, R: Threads + Wait
 pub(crate) fn run_with_fault<G: Gate + Sync, S: Session + Sync, R: Threads + Wait + Sync>(
     rt: &R,
     alloc: Global,
-    opened: Opened<OnceDisk<MemoryDisk>>,
+    opened: Box<Opened<OnceDisk<MemoryDisk>>>,
     sessions: u8,
     gate: &G,
     session: &S,

@@ -46,8 +46,32 @@ fn run_committer<
     )
 }
 
-/// Runs a house that was started for one session, by the name that is its own. Its checkpointer starts once the
-/// committer has ended. Gives whether the checkpointer ends with a halt.
+/// Runs a house with the first of its clients. Its checkpointer starts once the committer has ended. Gives whether the
+/// checkpointer ends with a halt.
+fn run_ready<
+    D: Disk + Drop + Send,
+    W: Wait + Drop + Send,
+    J: Naming + Send + Sync,
+    G: Gate,
+    S: Session,
+    R: Threads + Wait + Sync,
+>(
+    rt: &R,
+    house: &House<D, W, J>,
+    incoming: Incoming<J>,
+    clients: Vec<Client<Halt>>,
+    gate: &G,
+    session: &S,
+) -> Result<bool, Fail> {
+    let mut clients = clients;
+    let Some(client) = clients.pop() else {
+        return Err(Fail::new("the house has no client"));
+    };
+    run_committer(rt, house, incoming, client, session)?;
+    Ok(checkpointer(rt, house, gate).is_err())
+}
+
+/// Runs a house that was started for one session, by the name that is its own, as `run_ready` does.
 fn run_started<
     J: Naming + Send + Sync,
     D: Disk + Drop + Send,
@@ -64,13 +88,11 @@ fn run_started<
     let Ready {
         house,
         incoming,
-        mut clients,
+        clients,
     } = started.named::<J>();
-    let Some(client) = clients.pop() else {
-        return Err(Fail::new("the house has no client"));
-    };
-    run_committer(rt, &house, incoming, client, session)?;
-    Ok(checkpointer(rt, &house, gate).is_err())
+    let is_halted = run_ready(rt, &house, incoming, clients, gate, session);
+    drop(house);
+    is_halted
 }
 
 /// Starts a house over what was opened, for one session. Its checkpointer starts once the committer has ended, and the
@@ -78,11 +100,11 @@ fn run_started<
 pub(crate) fn run_late<G: Gate, S: Session, R: Threads + Wait + Sync>(
     rt: &R,
     alloc: Global,
-    opened: Opened<OnceDisk<MemoryDisk>>,
+    opened: Box<Opened<OnceDisk<MemoryDisk>>>,
     gate: &G,
     session: &S,
 ) -> Result<bool, Fail> {
-    let Ok(started) = House::start(rt, alloc, opened, 1) else {
+    let Ok(started) = House::start(rt, alloc, Box::into_inner(opened), 1) else {
         return Err(Fail::new("the house was not started"));
     };
     run_started::<Brand, OnceDisk<MemoryDisk>, &R, G, S, R>(rt, started, gate, session)

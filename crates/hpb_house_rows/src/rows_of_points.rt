@@ -5,12 +5,16 @@ use crate::harness::{Session, run_in_memory, run_with_fault};
 use crate::late::run_late;
 use crate::script::accepted_command;
 use crate::turns::{TURNS, pause, post};
+use hpb_codec::JournalShape;
 use hpb_engine_rows::over_layouts;
 use hpb_house::{Gate, Halt, Point};
 use hpb_rings::Client;
+use std::alloc::Global;
+use std::process::Abort;
 use std::sync::Wait;
 use std::sync::atomic::{AtomicU32, Ordering};
 use std::test::*;
+use std::thread::Threads;
 
 /// How often each point was told, but for `Gathered`.
 #[derive(Clone, Copy, Debug, PartialEq, Eq)]
@@ -94,38 +98,60 @@ impl Session for Telling {
     }
 }
 
+/// A commit of four turns, and a checkpoint that retires its frame.
+fn tell_commit<R: Threads + Wait + Sync + Abort>(
+    rt: &R,
+    alloc: Global,
+    shape: JournalShape,
+) -> Result<(), Fail> {
+    let session = Telling {
+        tally: Tally::new(),
+    };
+    let opened = six_nodes_opened(alloc, shape)?;
+    let run = run_in_memory(rt, alloc, opened, 1, &session.tally, &session)?;
+    let wanted = Told {
+        turned: 3,
+        committed: 1,
+        pages: 4,
+        retired: 1,
+        failed: 0,
+    };
+    assert_eq!(rt; session.tally.told(), wanted);
+    assert!(rt; session.tally.gathered.load(Ordering::SeqCst) > 1);
+    assert!(rt; run.outcome.is_closed);
+    Ok(())
+}
+
+/// A commit whose second call fails.
+fn tell_fault<R: Threads + Wait + Sync + Abort>(
+    rt: &R,
+    alloc: Global,
+    shape: JournalShape,
+) -> Result<(), Fail> {
+    let session = Telling {
+        tally: Tally::new(),
+    };
+    let opened = faulty_opened(alloc, shape, 2)?;
+    let run = run_with_fault(rt, alloc, opened, 1, &session.tally, &session)?;
+    let wanted = Told {
+        turned: 1,
+        committed: 0,
+        pages: 0,
+        retired: 0,
+        failed: 1,
+    };
+    assert_eq!(rt; session.tally.told(), wanted);
+    assert!(rt; session.tally.gathered.load(Ordering::SeqCst) > 1);
+    assert!(rt; run.outcome.is_closed);
+    Ok(())
+}
+
 #[test]
 fn every_point_is_told(rt: HostRuntime) -> Result<(), Fail> {
     let alloc = rt.alloc();
     over_layouts!(shape => {
-        // A commit of four turns, and a checkpoint that retires its frame.
-        let session = Telling { tally: Tally::new() };
-        let opened = six_nodes_opened(alloc, shape)?;
-        let run = run_in_memory(&rt, alloc, opened, 1, &session.tally, &session)?;
-        let wanted = Told {
-            turned: 3,
-            committed: 1,
-            pages: 4,
-            retired: 1,
-            failed: 0,
-        };
-        assert_eq!(rt; session.tally.told(), wanted);
-        assert!(rt; session.tally.gathered.load(Ordering::SeqCst) > 1);
-        assert!(rt; run.outcome.is_closed);
-        // A commit whose second call fails.
-        let session = Telling { tally: Tally::new() };
-        let opened = faulty_opened(alloc, shape, 2)?;
-        let run = run_with_fault(&rt, alloc, opened, 1, &session.tally, &session)?;
-        let wanted = Told {
-            turned: 1,
-            committed: 0,
-            pages: 0,
-            retired: 0,
-            failed: 1,
-        };
-        assert_eq!(rt; session.tally.told(), wanted);
-        assert!(rt; session.tally.gathered.load(Ordering::SeqCst) > 1);
-        assert!(rt; run.outcome.is_closed);
+        tell_commit(&rt, alloc, shape)?;
+        tell_fault(&rt, alloc, shape)?;
     });
     Ok(())
 }
@@ -142,16 +168,27 @@ impl Session for Bidding {
     }
 }
 
+/// What is told of the only commit, whose call of this number fails, and whether the checkpointer ends with a halt.
+fn told_late<R: Threads + Wait + Sync>(
+    rt: &R,
+    alloc: Global,
+    shape: JournalShape,
+    call: u64,
+) -> Result<(Told, bool), Fail> {
+    let opened = faulty_opened(alloc, shape, call)?;
+    let tally = Tally::new();
+    let is_halted = run_late(rt, alloc, opened, &tally, &Bidding)?;
+    Ok((tally.told(), is_halted))
+}
+
 #[test]
 fn fault_of_a_commit_is_told_once_all_has_ended(rt: HostRuntime) -> Result<(), Fail> {
     let alloc = rt.alloc();
     over_layouts!(shape => {
-        // Each of the four calls of the only commit, and none of them.
+        // Each of its four calls, and none of them.
         for call in 1..6 {
             let fails = call < 5;
-            let tally = Tally::new();
-            let opened = faulty_opened(alloc, shape, call)?;
-            let is_halted = run_late(&rt, alloc, opened, &tally, &Bidding)?;
+            let (told, is_halted) = told_late(&rt, alloc, shape, call)?;
             let wanted = Told {
                 turned: 0,
                 committed: 0,
@@ -159,7 +196,7 @@ fn fault_of_a_commit_is_told_once_all_has_ended(rt: HostRuntime) -> Result<(), F
                 retired: 0,
                 failed: u32::from(fails),
             };
-            assert_eq!(rt; tally.told(), wanted, "{call}");
+            assert_eq!(rt; told, wanted, "{call}");
             assert_eq!(rt; is_halted, fails, "{call}");
         }
     });

@@ -8,7 +8,7 @@ use hpb_engine_rows::letters::Node::A;
 use hpb_engine_rows::letters::bid;
 use hpb_engine_rows::over_layouts;
 use hpb_rules::Letters;
-use std::alloc::AllocError;
+use std::alloc::{AllocError, Global};
 use std::sync::Wait;
 use std::test::*;
 
@@ -29,20 +29,35 @@ fn count_seen(viewer: &mut Viewer) -> Option<u32> {
     viewer.view().map(|auction| auction.count())
 }
 
+/// What a viewer sees of a first bid while it is prepared, and what one that is introduced then; and what both see once
+/// it is published.
+fn seen_of_prepared<R: Wait + Drop>(
+    alloc: Global,
+    publisher: &mut Publisher<R>,
+) -> Result<[Option<u32>; 4], AllocError>
+    requires idle { publisher.old.pending ≡ [] }
+    requires seats { 0 < publisher.old.seats }
+{
+    let mut viewer = Box::new(alloc, publisher.introduce(alloc)?)?;
+    prepare_bid(publisher)?;
+    let by_first = count_seen(&mut viewer);
+    let mut later = Box::new(alloc, publisher.introduce(alloc)?)?;
+    let by_later = count_seen(&mut later);
+    publisher.publish();
+    let both = (count_seen(&mut viewer), count_seen(&mut later));
+    Ok([by_first, by_later, both.0, both.1])
+}
+
 #[test]
 fn prepared_bid_is_not_seen(rt: HostRuntime) -> Result<(), Fail> {
     let alloc = rt.alloc();
     over_layouts!(shape => {
         let opened = six_nodes_opened(alloc, shape)?;
-        let mut publisher = Publisher::open(&rt, alloc, opened.auction(), 2, 2)?;
-        let mut viewer = publisher.introduce(alloc)?;
-        prepare_bid(&mut publisher)?;
-        assert_eq!(rt; count_seen(&mut viewer), Some(0));
-        let mut later = publisher.introduce(alloc)?;
-        assert_eq!(rt; count_seen(&mut later), Some(0));
-        publisher.publish();
-        assert_eq!(rt; count_seen(&mut viewer), Some(1));
-        assert_eq!(rt; count_seen(&mut later), Some(1));
+        let publisher = Publisher::open(&rt, alloc, opened.auction(), 2, 2);
+        drop(opened);
+        let mut publisher = publisher?;
+        let seen = seen_of_prepared(alloc, &mut publisher)?;
+        assert_eq!(rt; seen, [Some(0), Some(0), Some(1), Some(1)]);
     });
     Ok(())
 }
@@ -52,8 +67,10 @@ fn view_is_none_where_the_publisher_has_ended(rt: HostRuntime) -> Result<(), Fai
     let alloc = rt.alloc();
     over_layouts!(shape => {
         let opened = six_nodes_opened(alloc, shape)?;
-        let mut publisher = Publisher::open(&rt, alloc, opened.auction(), 2, 2)?;
-        let mut viewer = publisher.introduce(alloc)?;
+        let publisher = Publisher::open(&rt, alloc, opened.auction(), 2, 2);
+        drop(opened);
+        let mut publisher = Box::new(alloc, publisher?)?;
+        let mut viewer = Box::new(alloc, publisher.introduce(alloc)?)?;
         prepare_bid(&mut publisher)?;
         publisher.publish();
         assert_eq!(rt; count_seen(&mut viewer), Some(1));
