@@ -5,7 +5,7 @@ use hpb_auction::{Auction, run_commands};
 use hpb_disk::MemoryDisk;
 use hpb_engine::{Part, Rest, Weight};
 use hpb_engine_rows::calls::Turn;
-use hpb_engine_rows::devices::six_nodes;
+use hpb_engine_rows::devices::{boxed, six_nodes};
 use hpb_engine_rows::states::same;
 use hpb_recover::{Opened, Plan};
 use hpb_rules::{Answer, Answers, Command, Letters};
@@ -65,14 +65,14 @@ impl Model {
     }
 
     /// The auction after the acknowledged commands.
-    pub(crate) fn auction(&self, alloc: Global) -> Result<Auction> {
-        let definition = six_nodes(alloc)?;
+    pub(crate) fn auction(&self, alloc: Global) -> Result<Box<Auction>> {
+        let definition = boxed(alloc, six_nodes(alloc)?)?;
         let run = run_commands(alloc, &definition, &self.acknowledged)?;
-        Ok(run.auction)
+        Ok(boxed(alloc, run.auction)?)
     }
 
     /// The auction after those in flight too.
-    fn landed(&self, alloc: Global) -> Result<Auction> {
+    fn landed(&self, alloc: Global) -> Result<Box<Auction>> {
         let mut auction = self.auction(alloc)?;
         if let Some(flight) = &self.flight {
             for command in &flight.commands {
@@ -235,7 +235,7 @@ impl Model {
 }
 
 /// Letters that are judged one after another from an auction on.
-fn judged(alloc: Global, auction: Auction, letters: &Letters) -> Result<Flight, AllocError> {
+fn judged(alloc: Global, auction: Box<Auction>, letters: &Letters) -> Result<Flight, AllocError> {
     let mut auction = auction;
     let (mut answers, mut commands) = (Answers::new(), Vec::new(alloc));
     for letter in letters.as_slice() {

@@ -25,7 +25,7 @@ const EVENTS: usize = 400;
 #[derive(Drop)]
 struct Walk {
     alloc: Global,
-    engine: Engine<MemoryDisk>,
+    engine: Box<Engine<MemoryDisk>>,
     model: Model,
     tally: Tally,
 }

@@ -9,7 +9,7 @@ use crate::tale::Tale;
 use anyhow::{Result, bail};
 use hpb_disk::{MemoryDisk, OnceDisk};
 use hpb_engine::{Fault, Rest, Step};
-use hpb_engine_rows::devices::{opened, opened_or_cause};
+use hpb_engine_rows::devices::{boxed, opened, opened_or_cause};
 use hpb_house::{Halt, House, Keeper, Offered, Reason, Started};
 use hpb_recover::{Cause, Opened};
 use hpb_rings::{Client, Intake};
@@ -48,13 +48,13 @@ pub(crate) struct Life<W: Wait + Drop> {
 
 impl<W: Wait + Drop> Life<W> {
     /// Opens the device, of which the call with this number fails, none at 0, and starts a house over it.
-    pub(crate) fn begin(rt: W, world: &mut World, fault: u64) -> Result<Life<W>> {
+    pub(crate) fn begin(rt: W, world: &mut World, fault: u64) -> Result<Box<Life<W>>> {
         let opened = opened_in(world, fault)?;
         world.tale.auction(opened.auction())?;
         for sender in world.senders.iter_mut() {
             sender.repeat();
         }
-        match House::start(rt, world.alloc, opened, SEATS) {
+        match House::start(rt, world.alloc, Box::into_inner(opened), SEATS) {
             Ok(
                 Started {
                     keeper,
@@ -62,14 +62,20 @@ impl<W: Wait + Drop> Life<W> {
                     clients,
                     ..
                 },
-            ) => Ok(Life {
-                keeper,
-                intake,
-                clients,
-                held: None,
-                is_committing: false,
-            }),
-            Err(_) => bail!("the house was not started"),
+            ) => {
+                let life = Life {
+                    keeper,
+                    intake,
+                    clients,
+                    held: None,
+                    is_committing: false,
+                };
+                Ok(boxed(world.alloc, life)?)
+            }
+            Err(fault) => {
+                drop(fault);
+                bail!("the house was not started")
+            }
         }
     }
 
@@ -291,12 +297,12 @@ impl<W: Wait + Drop> Life<W> {
 
 /// Opens the device, of which the call with this number fails. Where that is one of the opening, it is opened once
 /// more.
-fn opened_in(world: &mut World, fault: u64) -> Result<Opened<Device>> {
+fn opened_in(world: &mut World, fault: u64) -> Result<Box<Opened<Device>>> {
     let Some(disk) = world.disk.take() else {
         bail!("there is no device");
     };
     match opened(world.alloc, OnceDisk::new(disk, fault)) {
-        Ok(opened) => Ok(opened),
+        Ok(opened) => Ok(boxed(world.alloc, opened)?),
         Err(fault) => {
             if fault.cause != Cause::Device {
                 bail!("a device that isn't opened: {}", fault.cause);

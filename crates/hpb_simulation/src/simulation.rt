@@ -60,7 +60,7 @@ fn live<R: Wait>(rt: &R, world: &mut World) -> Result<()> {
     let fault = world.random.fault();
     let mut life = Life::begin(rt, world, fault)?;
     make_steps(&mut life, world)?;
-    life.stop(world)
+    Box::into_inner(life).stop(world)
 }
 
 /// Some steps, behind which a batch may be on its way.
@@ -91,7 +91,7 @@ fn pace(random: &mut Random) -> u32
 fn settle<R: Wait>(rt: &R, world: &mut World) -> Result<()> {
     let mut life = Life::begin(rt, world, 0)?;
     answer_all(&mut life, world)?;
-    life.stop(world)
+    Box::into_inner(life).stop(world)
 }
 
 fn answer_all<W: Wait + Drop>(life: &mut Life<W>, world: &mut World) -> Result<()> {

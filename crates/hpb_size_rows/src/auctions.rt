@@ -3,6 +3,7 @@
 use anyhow::Result;
 use hpb_auction::Auction;
 use hpb_engine::Event;
+use hpb_engine_rows::devices::boxed;
 use hpb_rules::{Answer, BidderId, Command, Letter, Letters, NodeId, Reply};
 use hpb_tree::{BidderDraft, Definition, Draft, NodeDraft, TermsDraft};
 use std::alloc::{AllocError, Global};
@@ -109,14 +110,16 @@ fn bid(auction: &Auction, bidder: usize, node: usize) -> Command {
     }
 }
 
+/// An auction of such a size, before the first letter.
+fn new_auction(alloc: Global, size: Size) -> Result<Box<Auction>> {
+    let definition = boxed(alloc, definition(alloc, size)?)?;
+    let auction = Auction::new(alloc, &definition)?;
+    Ok(boxed(alloc, auction)?)
+}
+
 /// The events of all batches, each of which is committed.
-pub(crate) fn events(
-    alloc: Global,
-    definition: &Definition,
-    size: Size,
-    sent: Sent,
-) -> Result<Vec<Event>> {
-    let mut auction = Auction::new(alloc, definition)?;
+pub(crate) fn events(alloc: Global, size: Size, sent: Sent) -> Result<Vec<Event>> {
+    let mut auction = new_auction(alloc, size)?;
     let (mut events, mut letters) = (Vec::new(alloc), Letters::new());
     let (mut place, mut batches) = (0u64, 0u32);
     for count in 1..=sent.commands {

@@ -5,9 +5,9 @@ ghost use Rattle.hpb_board.specs.Publication.{AreSeated};
 use crate::auctions::{Size, next_letter};
 use crate::rows::{cells, formatted};
 use anyhow::{Result, bail};
-use hpb_disk::Disk;
+use hpb_disk::{Disk, MemoryDisk};
 use hpb_engine::{Rest, Step};
-use hpb_engine_rows::devices::opened_or_cause;
+use hpb_engine_rows::devices::{boxed, count_on, opened_or_cause};
 use hpb_house::{House, Keeper, Offered, Reason, Started};
 use hpb_rules::{Command, Letter, Letters};
 use std::alloc::Global;
@@ -85,12 +85,20 @@ fn keeps<D: Disk + Drop, W: Wait + Drop>(keeper: &mut Keeper<D, W>, letter: &Let
     commits(keeper)
 }
 
-/// Each batch has the next command that is accepted.
-fn keeps_batches<R: Wait>(rt: &R, alloc: Global) -> Result<()> {
+/// The keeper of a house over a new device.
+fn new_keeper<R: Wait>(rt: &R, alloc: Global) -> Result<Box<Keeper<MemoryDisk, &R>>> {
     let opened = opened_or_cause(alloc, formatted(alloc, SIZE, cells(1_024))?)?;
-    let Ok(Started { mut keeper, .. }) = House::start(rt, alloc, opened, 1) else {
-        bail!("the house was not started");
-    };
+    match House::start(rt, alloc, Box::into_inner(opened), 1) {
+        Ok(Started { keeper, .. }) => Ok(boxed(alloc, keeper)?),
+        Err(fault) => {
+            drop(fault);
+            bail!("the house was not started")
+        }
+    }
+}
+
+/// Each batch has the next command that is accepted.
+fn keeps_batches<D: Disk + Drop, W: Wait + Drop>(keeper: &mut Keeper<D, W>) -> Result<()> {
     let mut place = 0u64;
     for number in 1..=BATCHES {
         let command = next_letter(keeper.committed(), SIZE, place).command;
@@ -98,7 +106,7 @@ fn keeps_batches<R: Wait>(rt: &R, alloc: Global) -> Result<()> {
             Command::Close { .. } => 0,
             _ => place.saturating_add(1),
         };
-        keeps(&mut keeper, &Letter { seat: 0, command })?;
+        keeps(keeper, &Letter { seat: 0, command })?;
         if keeper.published().count() != number {
             bail!(
                 "{} commands after {number} batches",
@@ -106,15 +114,22 @@ fn keeps_batches<R: Wait>(rt: &R, alloc: Global) -> Result<()> {
             );
         }
     }
-    let opened = opened_or_cause(alloc, keeper.finish().disk)?;
-    if opened.auction().count() != BATCHES {
-        bail!("{} commands are opened", opened.auction().count());
+    Ok(())
+}
+
+/// All commands are found when the device is opened again.
+fn keeps_all<R: Wait>(rt: &R, alloc: Global) -> Result<()> {
+    let mut keeper = new_keeper(rt, alloc)?;
+    keeps_batches(&mut keeper)?;
+    let count = count_on(alloc, Box::into_inner(keeper).finish().disk)?;
+    if count != BATCHES {
+        bail!("{count} commands are opened");
     }
     Ok(())
 }
 
 #[test]
 fn house_of_many_batches(rt: HostRuntime) -> Result<(), Fail> {
-    keeps_batches(&rt, rt.alloc())?;
+    keeps_all(&rt, rt.alloc())?;
     Ok(())
 }

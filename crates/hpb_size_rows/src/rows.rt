@@ -7,7 +7,7 @@ use anyhow::{Error, Result, bail};
 use hpb_codec::{JournalLayout, JournalShape};
 use hpb_disk::MemoryDisk;
 use hpb_engine::{Driven, Event, drive};
-use hpb_engine_rows::devices::{device_bytes, opened_or_cause, started};
+use hpb_engine_rows::devices::{boxed, count_on, device_bytes, engine_over, opened_or_cause};
 use hpb_format::format_layout;
 use hpb_house::House;
 use std::alloc::Global;
@@ -44,6 +44,25 @@ pub(crate) fn formatted(alloc: Global, size: Size, shape: JournalShape) -> Resul
     }
 }
 
+/// Opens a device, starts an engine and drives it.
+fn driven(alloc: Global, disk: MemoryDisk, events: &[Event]) -> Result<Box<Driven<MemoryDisk>>> {
+    let engine = engine_over(alloc, disk)?;
+    match drive(alloc, Box::into_inner(engine), events) {
+        Ok(driven) => Ok(boxed(alloc, driven)?),
+        Err(engine) => {
+            drop(engine);
+            bail!("memory was refused")
+        }
+    }
+}
+
+/// Whether there was no fault, and so many commands are newly accepted, from the first on.
+fn is_accepted(driven: &Driven<MemoryDisk>, accepted: u32) -> bool {
+    driven.fault.is_none()
+        && driven.answers.len() == accepted as usize
+        && are_accepted(&driven.answers)
+}
+
 /// Formats a device, opens it, starts an engine and drives it: so many commands are accepted, and so many are found
 /// when the device is opened again.
 fn drives(
@@ -52,25 +71,11 @@ fn drives(
     events: &[Event],
     (accepted, found): (u32, u32),
 ) -> Result<()> {
-    let engine = started(
-        alloc,
-        opened_or_cause(alloc, formatted(alloc, size, shape)?)?,
-    )?;
-    let Ok(
-        Driven {
-            engine,
-            answers,
-            fault,
-        },
-    ) = drive(alloc, engine, events)
-    else {
-        bail!("memory was refused");
-    };
-    if fault.is_some() || answers.len() != accepted as usize || !are_accepted(&answers) {
+    let driven = driven(alloc, formatted(alloc, size, shape)?, events)?;
+    if !is_accepted(&driven, accepted) {
         bail!("{size:?}, {shape:?}, {} events: an answer", events.len());
     }
-    let opened = opened_or_cause(alloc, engine.finish())?;
-    if opened.auction().count() != found {
+    if count_on(alloc, Box::into_inner(driven).engine.finish())? != found {
         bail!(
             "{size:?}, {shape:?}, {} events: what is opened",
             events.len()
@@ -86,7 +91,7 @@ fn works(alloc: Global, size: Size, shape: JournalShape, commands: u32, batch: u
         batch,
         frames: shape.frames,
     };
-    let events = events(alloc, &definition(alloc, size)?, size, sent)?;
+    let events = events(alloc, size, sent)?;
     drives(alloc, (size, shape), &events, (commands, commands))
 }
 
@@ -171,7 +176,7 @@ fn events_of(alloc: Global, shape: JournalShape) -> Result<()> {
         batch: 1,
         frames: shape.frames,
     };
-    let events = events(alloc, &definition(alloc, GREATEST)?, GREATEST, sent)?;
+    let events = events(alloc, GREATEST, sent)?;
     if events.len() != 1_000 {
         bail!("{} events", events.len());
     }
@@ -195,8 +200,12 @@ fn starts<R: Wait>(rt: &R, alloc: Global, shape: JournalShape, sessions: u8) -> 
     requires { (1 ≤ sessions) × (sessions ≤ 32) }
 {
     let opened = opened_or_cause(alloc, formatted(alloc, GREATEST, shape)?)?;
-    let Ok(started) = House::start(rt, alloc, opened, sessions) else {
-        bail!("the house was not started");
+    let started = match House::start(rt, alloc, Box::into_inner(opened), sessions) {
+        Ok(started) => boxed(alloc, started)?,
+        Err(fault) => {
+            drop(fault);
+            bail!("the house was not started")
+        }
     };
     if started.clients.len() != usize::from(sessions) {
         bail!("{} clients", started.clients.len());
