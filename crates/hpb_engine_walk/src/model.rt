@@ -179,12 +179,14 @@ impl Model {
             return Ok(None);
         }
         let next = opened.plan.next;
-        if next == self.next && same(opened.auction(), &self.auction(alloc)?) {
+        let acknowledged = self.auction(alloc)?;
+        if next == self.next && same(opened.auction(), &acknowledged) {
             return Ok(Some(Standing::Acknowledged));
         }
+        let landed = self.landed(alloc)?;
         if self.may_land()
             && next == self.next.saturating_add(1)
-            && same(opened.auction(), &self.landed(alloc)?)
+            && same(opened.auction(), &landed)
         {
             return Ok(Some(Standing::WithFlight));
         }
