@@ -1,18 +1,25 @@
 //! The auction: a machine over commands. It keeps tables that never grow, by which it answers.
 #![tactic(auto)]
 
+mod accepting;
 mod applying;
 mod auction;
 mod judging;
+mod letters;
+mod reply;
 mod restorable;
 mod running;
 mod saving;
 mod sender;
+#[cfg(test)]
+mod tests;
 mod verdict;
 mod views;
 
+pub use accepting::accepts_any;
 pub use applying::Applied;
 pub use auction::Auction;
+pub use letters::{Judged, judge_letters};
 pub use restorable::is_saved;
 pub use running::{Run, run_commands};
 pub use views::{BidderView, NodeView};

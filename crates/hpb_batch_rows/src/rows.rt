@@ -1,6 +1,5 @@
 //! Batches and whole checkpoints over a device.
 
-use hpb_batches::{Ended, commit_letters, make_checkpoint};
 use hpb_codec::JournalShape;
 use hpb_disk::{Disk, MemoryDisk, OnceDisk};
 use hpb_engine::{Engine, Fault};
@@ -8,6 +7,7 @@ use hpb_engine_rows::calls::{count, steps_retiring};
 use hpb_engine_rows::devices::{count_on, faulty_engine, new_engine};
 use hpb_engine_rows::letters::{accepted, in_round, one};
 use hpb_engine_rows::over_layouts;
+use hpb_run::{Ended, commit_letters, make_checkpoint};
 use std::alloc::{AllocError, Global};
 use std::process::Abort;
 use std::test::Fail;

@@ -8,6 +8,7 @@ use Rattle.std.proofs.lemmas.Nat.{one_shl}
 use Rattle.hpb_rules.specs.declared.command.Offer.{Offer}
 use Rattle.hpb_rules.specs.History.{amount_of, greater}
 use Rattle.hpb_rules.specs.Saved.{has_bit}
+use Rattle.hpb_rules.proofs.Masks.{ltb_other, ltb_same}
 use Rattle.hpb_bids.specs.Inside.{closed, is_raised, tables_view}
 use Rattle.hpb_bids.specs.declared.books.NodeBids.{NodeBids}
 use Rattle.hpb_bids.specs.View.{BooksView, IsBooks, folded, offer_at, AreChanged}
@@ -23,16 +24,6 @@ AreRaised nodes i mask = (n : ℕ) → has_bit mask n ≡ (ltb n i && raised_at 
 
 pub none_raised : (nodes : List NodeBids) → AreRaised nodes 0 0
 none_raised nodes n = ap (λ k. k == 1) (bit_at-zero n) ∙ sym (ap (λ b. b && raised_at nodes n) (le-ltb n 0 (omega arith)))
-
--- the test of a place, once that place is looked at
-ltb_same : (n i : ℕ) → n ≡ i → ltb n (i + 1) ≡ true
-ltb_same n i e = lt-ltb n (i + 1) (omega arith)
-
-ltb_other : (n i : ℕ) → (n ≡ i → ⊥) → ltb n (i + 1) ≡ ltb n i
-ltb_other n i other = ⊎_elim
-    (λ less. lt-ltb n (i + 1) (omega arith) ∙ sym (lt-ltb n i less))
-    (λ no. ⊎_elim (λ above. le-ltb n (i + 1) (omega arith) ∙ sym (le-ltb n i no)) (λ le. absurd (other (omega arith))) (cases_lt i n))
-    (cases_lt n i)
 
 module _ (nodes : List NodeBids) (i mask : ℕ) (so_far : AreRaised nodes i mask) where
   -- the node at the next place is raised

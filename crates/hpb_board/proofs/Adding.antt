@@ -7,7 +7,7 @@ use prog.Atomic.{either}
 use Rattle.hpb_rules.specs.declared.letter.Letter.{Letter}
 use Rattle.logbook.specs.Pages.{Cell, cell, keeps, no_nib, step, Moves, Goes}
 use Rattle.hpb_board.specs.Trails.{IsKept, Adds}
-use Rattle.hpb_board.proofs.Prefixes.{prefix_whole}
+use Rattle.hpb_rules.proofs.Prefixes.{prefix_whole}
 
 -- what clients see of the log
 abbrev pub shown : List (List Letter) → List (List Letter)

@@ -9,11 +9,13 @@ use mathlib.Core.List.{IsPrefix}
 use Rattle.hpb_rules.specs.declared.letter.Answer.{Answer}
 use Rattle.hpb_rules.specs.declared.letter.Letter.{Letter}
 use Rattle.hpb_rules.specs.AuctionValue.{AuctionValue}
-use Rattle.hpb_letters.specs.Judging.{answer_in, judged_in}
+use Rattle.hpb_rules.specs.Judging.{answer_in, judged_in, after_letter, value_by}
 use Rattle.hpb_board.specs.declared.board.Opening.{Opening}
 use Rattle.hpb_board.specs.declared.board.Shown.{Shown}
 use Rattle.hpb_board.specs.declared.row.Row.{Row}
-use Rattle.hpb_board.specs.Publication.{answers_to, after_letter, joined, recent, value_by, IsRoomy}
+use Rattle.hpb_board.specs.Publication.{answers_to, recent, IsRoomy}
+use Rattle.hpb_rules.specs.Fronts.{joined}
+use Rattle.hpb_rules.proofs.Judged.{joined_append, judged_join}
 use Rattle.hpb_board.specs.Rows.{noted, note_at, taken_in, shown_by, blank, begun, told, row_of, GoesOn, GoOn}
 use Rattle.hpb_board.proofs.Recent.{IsRow, noted_IsRow, blank_IsRow, note_here, note_else, joined_next, blank_at, told_recent, length_answers}
 
@@ -122,24 +124,16 @@ row_is : (o : Opening) (s : ℕ) (xs : List Letter) (r : Row) → slice_get (sho
 row_is o s xs r h = is_along xs (begun o) s [] (λ q at. blank_at o.seats s q at) r h
 
 -- letters that go on have answers that go on
-judged_more : (xs ys : List Letter) (value : AuctionValue) → judged_in value (xs ++ ys) ≡ judged_in value xs ++ judged_in (value_by value xs) ys
-judged_more [] ys value = refl
-judged_more (x ∷ xs) ys value = ap (λ (l : List Answer). answer_in value x ∷ l) (judged_more xs ys (after_letter value x))
-
 answers_more : (s : ℕ) (value : AuctionValue) (xs ys : List Letter) → answers_to s value (xs ++ ys) ≡ answers_to s value xs ++ answers_to s (value_by value xs) ys
 answers_more s value xs ys =
-    ap (filter (λ (a : Answer). a.letter.seat == s)) (judged_more xs ys value) ∙ filter-append (λ (a : Answer). a.letter.seat == s) (judged_in value xs) (judged_in (value_by value xs) ys)
-
-pub joined-append : (xs ys : List (List Letter)) → joined (xs ++ ys) ≡ joined xs ++ joined ys
-joined-append [] ys = refl
-joined-append (x ∷ xs) ys = ap (λ (l : List Letter). x ++ l) (joined-append xs ys) ∙ sym (append_assoc x (joined xs) (joined ys))
+    ap (filter (λ (a : Answer). a.letter.seat == s)) (judged_join value xs ys) ∙ filter-append (λ (a : Answer). a.letter.seat == s) (judged_in value xs) (judged_in (value_by value xs) ys)
 
 -- where one list begins another, each row of the second goes on
 pub rows_go_on : (o : Opening) (xs ys : List (List Letter)) → IsPrefix xs ys → IsRoomy ys → GoOn (shown_by (begun o) (joined xs)).rows (shown_by (begun o) (joined ys)).rows
 rows_go_on o xs ys begins roomy s r r' at at' =
     let before : List Answer = answers_to s o.auction (joined xs) in
     let more : List Answer = answers_to s (value_by o.auction (joined xs)) (joined begins.0) in
-    let all : joined ys ≡ joined xs ++ joined begins.0 = ap joined (sym begins.1) ∙ joined-append xs begins.0 in
+    let all : joined ys ≡ joined xs ++ joined begins.0 = ap joined (sym begins.1) ∙ joined_append xs begins.0 in
     let e : answers_to s o.auction (joined ys) ≡ before ++ more = ap (answers_to s o.auction) all ∙ answers_more s o.auction (joined xs) (joined begins.0) in
     let few : length (answers_to s o.auction (joined ys)) < 2 ^ 64 = let n = length_answers s o.auction (joined ys) in let m = roomy s in omega (arith, n, m) in
     (before, more, row_is o s (joined xs) r at, row_is o s (joined ys) r' at' ∙ ap row_of e, subst (λ (l : List Answer). length l < 2 ^ 64) e few)

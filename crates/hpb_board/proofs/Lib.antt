@@ -1,5 +1,4 @@
 mod Adding
-mod Prefixes
 mod Values
 mod Rows
 mod Recent

@@ -8,11 +8,11 @@ use Rattle.std.proofs.lemmas.Bool.Decides.{nat_tests}
 use Rattle.hpb_rules.specs.declared.letter.Answer.{Answer}
 use Rattle.hpb_rules.specs.declared.letter.Letter.{Letter}
 use Rattle.hpb_rules.specs.AuctionValue.{AuctionValue}
-use Rattle.hpb_letters.specs.Judging.{answer_in, judged_in}
+use Rattle.hpb_rules.specs.Judging.{answer_in, judged_in, after_letter}
 use Rattle.hpb_board.specs.declared.board.Opening.{Opening}
 use Rattle.hpb_board.specs.declared.board.Shown.{Shown}
 use Rattle.hpb_board.specs.declared.row.Row.{Row}
-use Rattle.hpb_board.specs.Publication.{answers_to, recent, tally, after_letter}
+use Rattle.hpb_board.specs.Publication.{answers_to, recent, tally}
 use Rattle.hpb_board.specs.Rows.{noted, note_at, taken_in, shown_by, blank, begun, told}
 use Rattle.hpb_board.proofs.Rows.{length_rows}
 

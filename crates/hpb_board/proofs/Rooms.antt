@@ -7,9 +7,11 @@ use Rattle.std.proofs.lemmas.Bool.Decides.{nat_tests}
 use Rattle.hpb_rules.specs.declared.letter.Letter.{Letter}
 use Rattle.hpb_board.specs.declared.board.Opening.{Opening}
 use Rattle.hpb_board.specs.declared.row.Row.{Row}
-use Rattle.hpb_board.specs.Publication.{joined, tally, HasRoom, IsRoomy, AreSeated}
+use Rattle.hpb_board.specs.Publication.{tally, HasRoom, IsRoomy, AreSeated}
+use Rattle.hpb_rules.specs.Fronts.{joined}
 use Rattle.hpb_board.specs.Rows.{shown_by, begun, HaveRoom, blank}
-use Rattle.hpb_board.proofs.Later.{joined-append}
+use Rattle.hpb_board.proofs.Later.{}
+use Rattle.hpb_rules.proofs.Judged.{joined_append}
 use Rattle.hpb_board.proofs.Recent.{rows_fresh, length_answers, length_shown, get_is}
 
 pub tally-append : (s : ℕ) (xs ys : List Letter) → tally s (xs ++ ys) ≡ tally s xs + tally s ys
@@ -32,7 +34,7 @@ below_or n m = grind arith
 -- a batch for which there is room leaves the list countable
 pub roomy_after : (seats : ℕ) (list : List (List Letter)) (letters : List Letter) → IsRoomy list → AreSeated seats letters → HasRoom seats list letters → IsRoomy (list ++ letters ∷ [])
 roomy_after seats list letters roomy seated room s =
-    let all : joined (list ++ letters ∷ []) ≡ joined list ++ letters = joined-append list (letters ∷ []) ∙ ap (λ (l : List Letter). joined list ++ l) (append-nil letters) in
+    let all : joined (list ++ letters ∷ []) ≡ joined list ++ letters = joined_append list (letters ∷ []) ∙ ap (λ (l : List Letter). joined list ++ l) (append-nil letters) in
     subst (λ (l : List Letter). tally s l < 2 ^ 64) (sym all) (⊎_elim (λ (lt : s < seats). room s lt) (λ (le : seats ≤ s). past le) (below_or s seats))
   where
     past : seats ≤ s → tally s (joined list ++ letters) < 2 ^ 64

@@ -2,7 +2,7 @@
 use Rattle.std.proofs.Common.{◌≡◌, ℕ, ◌<◌, ◌≤◌, zero, suc, List, [], ◌∷◌, length, set, get_or, refl, ap, ◌∙◌, arith}
 use Rattle.hpb_rules.specs.declared.letter.Answer.{Answer}
 use Rattle.hpb_rules.specs.declared.letter.Letter.{Letter}
-use Rattle.hpb_letters.specs.Judging.{answer_in}
+use Rattle.hpb_rules.specs.Judging.{answer_in}
 use Rattle.hpb_board.specs.declared.row.Row.{Row}
 use Rattle.hpb_board.specs.declared.board.Shown.{Shown}
 use Rattle.hpb_board.specs.Rows.{noted, note_at, taken_in, shown_by}

@@ -5,25 +5,13 @@ use Rattle.hpb_rules.specs.declared.letter.Answer.{Answer}
 use Rattle.hpb_rules.specs.declared.letter.Letter.{Letter}
 use Rattle.hpb_rules.specs.AuctionValue.{AuctionValue}
 use Rattle.hpb_rules.specs.Values.{next_value}
-use Rattle.hpb_letters.specs.Judging.{judged_in}
+use Rattle.hpb_rules.specs.Judging.{judged_in, value_by}
+use Rattle.hpb_rules.specs.Fronts.{joined}
 use Rattle.logbook.specs.Pages.{Book}
 
 -- **What a list leads to.** A list has the published batches of letters, since the auction was opened. Each letter is judged by the auction after
 -- those before it, so a list leads to one auction, and to the answers of each seat.
 --
--- The letters of all batches, in order.
-abbrev pub joined : List (List Letter) → List Letter
-joined [] = []
-joined (batch ∷ batches) = batch ++ joined batches
-
--- The value of an auction after a letter.
-abbrev pub after_letter : AuctionValue → Letter → AuctionValue
-after_letter value letter = next_value value letter.command
-
--- The value of an auction after letters: each is judged by the value after those before it.
-abbrev pub value_by : AuctionValue → List Letter → AuctionValue
-value_by value letters = fold after_letter value letters
-
 -- The answers to the letters of one seat, among letters that a value judges one after another.
 abbrev pub answers_to : ℕ → AuctionValue → List Letter → List Answer
 answers_to seat value letters = filter (λ a. a.letter.seat == seat) (judged_in value letters)

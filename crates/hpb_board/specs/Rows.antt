@@ -2,11 +2,11 @@
 use Rattle.std.specs.Prelude.{◌<◌, ◌&&◌, nat_lt, if◌then◌else◌, Option, Some, None, slice_get, slice_index_or, ◌≡◌, ℕ, ◌+◌, ◌%◌, ◌^◌, ◌-◌, min, zero, suc, List, [], ◌∷◌, ◌++◌, fold, length, slice_set, replicate}
 use Rattle.hpb_rules.specs.declared.letter.Answer.{Answer}
 use Rattle.hpb_rules.specs.declared.letter.Letter.{Letter}
-use Rattle.hpb_letters.specs.Judging.{answer_in}
+use Rattle.hpb_rules.specs.Judging.{answer_in, after_letter}
 use Rattle.hpb_board.specs.declared.row.Row.{Row}
 use Rattle.hpb_board.specs.declared.board.Shown.{Shown}
 use Rattle.hpb_board.specs.declared.board.Opening.{Opening}
-use Rattle.hpb_board.specs.Publication.{after_letter, tally}
+use Rattle.hpb_board.specs.Publication.{tally}
 
 -- A row without an answer.
 abbrev pub blank : Row

@@ -6,7 +6,7 @@ use Rattle.hpb_disk.specs.Gates.{open_byte, HasOpenGate, HasClosedGate}
 use Rattle.hpb_disk.specs.Images.{part, put, Torn, TornFrom, Within}
 use Rattle.hpb_disk.proofs.Regions.{stays_elsewhere}
 
-is_open_byte : (bytes : List ℕ) → (bytes ≡ open_byte) ⊎ (bytes ≢ open_byte)
+pub is_open_byte : (bytes : List ℕ) → (bytes ≡ open_byte) ⊎ (bytes ≢ open_byte)
 is_open_byte [] = inr (λ is. absurd (cc))
 is_open_byte (byte ∷ []) = ⊎_elim (λ is. inl (ap (λ (n : ℕ). n ∷ []) is)) (λ other. inr (λ is. other (cc))) (cases_eq byte 165)
 is_open_byte (byte ∷ next ∷ bytes) = inr (λ is. absurd (cc))

@@ -73,7 +73,7 @@ module _ {D : Type 0} (seen : D → List ℕ) (may_leave : D → List ℕ → Ty
   then_leaves here next first second =
       leaves_join (moment old) (moment here) (moment next) (left_since old) (left_since here) (left_since next) (may_leave here) (may_leave next) either first second
 
-  pub after_write : (next : D) → Takes old next (TornFrom (1 + length bytes) (length bytes) (may_leave old))
+  after_write : (next : D) → Takes old next (TornFrom (1 + length bytes) (length bytes) (may_leave old))
       → Within (may_leave next) (TornFrom (1 + length bytes) (length bytes) (may_leave old)) → Leaves old next
   after_write next time crash =
       call_leaves old next (TornFrom (1 + length bytes) (length bytes) (may_leave old)) time crash
@@ -82,12 +82,20 @@ module _ {D : Type 0} (seen : D → List ℕ) (may_leave : D → List ℕ → Ty
   pub after_sync : (here next : D) → Leaves old here → Takes here next (may_leave here) → Within (may_leave next) (may_leave here) → Leaves old next
   after_sync here next so_far time crash = then_leaves here next so_far (call_leaves here next (may_leave here) time crash so_far.after)
 
-  pub after_gate : (here next : D) → Leaves old here → Only (written bytes (seen old) room closed) (may_leave here) → Takes here next (TornFrom 0 1 (may_leave here))
+  after_gate : (here next : D) → Leaves old here → Only (written bytes (seen old) room closed) (may_leave here) → Takes here next (TornFrom 0 1 (may_leave here))
       → Within (may_leave next) (TornFrom 0 1 (may_leave here)) → Leaves old next
   after_gate here next so_far only time crash =
       then_leaves here next so_far
       (call_leaves here next (TornFrom 0 1 (may_leave here)) time crash
       (λ image torn. torn_gate bytes (seen old) room closed image (subst (λ (from : List ℕ). Torn 0 1 from image) (only torn.0 torn.1) torn.2)))
+
+  -- The write behind the other place, a sync, and the gate.
+  pub after_opening : (one two three : D) → Takes old one (TornFrom (1 + length bytes) (length bytes) (may_leave old))
+      → Within (may_leave one) (TornFrom (1 + length bytes) (length bytes) (may_leave old)) → seen one ≡ written bytes (seen old) room closed
+      → Takes one two (may_leave one) → Within (may_leave two) (may_leave one) → Only (seen one) (may_leave two)
+      → Takes two three (TornFrom 0 1 (may_leave two)) → Within (may_leave three) (TornFrom 0 1 (may_leave two)) → Leaves old three
+  after_opening one two three time_one crash_one is time_two crash_two only time_three crash_three =
+      after_gate two three (after_sync one two (after_write one time_one crash_one) time_two crash_two) (λ image may. only image may ∙ is) time_three crash_three
 
   -- The new record counts in what a crash leaves after the last sync.
   pub stands_after : (here : D) (opened_image : List ℕ) → Only opened_image (may_leave here) → opened_image ≡ put 0 open_byte (written bytes (seen old) room closed)

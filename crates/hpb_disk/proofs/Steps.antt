@@ -1,7 +1,8 @@
 -- One call more in the trace of a device.
-use Rattle.std.proofs.Common.{◌≡◌, ◌⊎◌, inl, inr, ℕ, ◌≤◌, List, ◌∷◌, length, sym, subst, arith}
+use Rattle.std.proofs.Common.{◌≡◌, ◌⊎◌, inl, inr, ℕ, ◌≤◌, List, [], ◌∷◌, length, sym, subst, arith}
 use Rattle.hpb_disk.specs.Calls.{Call, calls_of, call_of, left_of, since_of}
-use Rattle.hpb_disk.specs.Events.{Event}
+use Rattle.hpb_disk.specs.Devices.{shown_may_stay}
+use Rattle.hpb_disk.specs.Events.{Event, event_of}
 use Rattle.hpb_disk.specs.Images.{Within, Elapses}
 
 one_elapses : (first : List ℕ) (calls : List Call) (call : Call) (during : List ℕ → Type 0) → Within (left_of first (call ∷ calls)) during
@@ -30,3 +31,13 @@ elapses first later_first events later event during note within =
     noted first later_first events later event
     (λ (l : List ℕ) (calls : List Call). Elapses (length (calls_of events)) (length calls) (since_of first (calls_of events)) (since_of l calls) during)
     note (one_elapses first (calls_of events) (call_of event) during within)
+
+-- A sync, after which a crash leaves what a read gives.
+module _ (first later_first : List ℕ) (events later : List Event) (note : (later_first ≡ first) × (later ≡ event_of (2 ∷ 0 ∷ []) [] ∷ events)) where
+  pub synced_leaves : Within (left_of later_first (calls_of later)) (left_of first (calls_of events))
+  synced_leaves =
+      noted first later_first events later (event_of (2 ∷ 0 ∷ []) []) (λ (l : List ℕ) (calls : List Call). Within (left_of l calls) (left_of first (calls_of events)))
+      note (shown_may_stay first (calls_of events))
+
+  pub synced_elapses : Elapses (length (calls_of events)) (length (calls_of later)) (since_of first (calls_of events)) (since_of later_first (calls_of later)) (left_of first (calls_of events))
+  synced_elapses = elapses first later_first events later (event_of (2 ∷ 0 ∷ []) []) (left_of first (calls_of events)) note (shown_may_stay first (calls_of events))

@@ -1,6 +1,6 @@
 -- Calls of a device one after another.
 use Rattle.std.proofs.Common.{◌≡◌, List, [], ◌∷◌, ◌++◌, refl, sym, ◌∙◌, ap, append_assoc}
-use Rattle.std.specs.Prelude.{Result, Ok, Err, IsErrAnd}
+use Rattle.std.specs.Prelude.{Result, Ok, Err, IsErrAnd, OnOk}
 use Rattle.hpb_disk.specs.Asked.{Asked, Asks, AsksInTurn}
 use Rattle.hpb_disk.specs.Asked.Asked.{fails}
 
@@ -33,6 +33,25 @@ at_later one two old middle new first breaks = (
 pub fails_after : (one two old middle new : List Asked) → middle ≡ one ++ old → new ≡ fails ∷ two ++ middle → new ≡ fails ∷ (two ++ one) ++ old
 fails_after one two old middle new first second =
     second ∙ ap (λ (l : List Asked). fails ∷ l) (ap (λ (l : List Asked). two ++ l) first ∙ sym (append_assoc two one old))
+
+-- So it is of the last call, whether it succeeds or not,
+pub asks_on : {T E : Type 0} (result : Result T E) (one two old middle new : List Asked) → middle ≡ one ++ old → Asks result two middle new → Asks result (two ++ one) old new
+asks_on (Ok value) one two old middle new first second = and_then one two old middle new first second
+asks_on (Err error) one two old middle new first second = fails_after one two old middle new first second
+
+-- by itself, and after others.
+pub in_turn : {T E : Type 0} (result : Result T E) (calls old new : List Asked) → Asks result calls old new → AsksInTurn result calls old new
+in_turn (Ok value) calls old new is = is
+in_turn (Err error) calls old new is = at_last calls old new is
+
+pub in_turn_on : {T E : Type 0} (result : Result T E) (one two old middle new : List Asked) → middle ≡ one ++ old → AsksInTurn result two middle new → AsksInTurn result (two ++ one) old new
+in_turn_on (Ok value) one two old middle new first second = and_then one two old middle new first second
+in_turn_on (Err error) one two old middle new first second = at_later one two old middle new first second
+
+-- Two things that hold where a call succeeds.
+pub both_ok : {T E : Type 0} (P Q : Type 0) (result : Result T E) → OnOk result P → OnOk result Q → OnOk result (P × Q)
+both_ok P Q (Ok value) one other = (one, other)
+both_ok P Q (Err error) one other = tt
 
 -- A result that hands an error on tells of the call that failed.
 pub failed_with : {T E : Type 0} (P : E → Type 0) (result : Result T E) (call old new : List Asked) → IsErrAnd result P → new ≡ fails ∷ call ++ old → Asks result call old new

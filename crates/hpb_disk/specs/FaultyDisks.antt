@@ -1,5 +1,5 @@
 -- What a device shows that is made to fail.
-use Rattle.std.specs.Prelude.{ℕ, ◌+◌, ◌-◌, Bool, List, length}
+use Rattle.std.specs.Prelude.{ℕ, ◌+◌, ◌-◌, List, length}
 use Rattle.hpb_disk.specs.declared.disk.Disk.{Ghosts}
 use Rattle.hpb_disk.specs.declared.faulty.FaultyDisk.{FaultyDisk}
 use Rattle.hpb_disk.specs.declared.faulty.Faults.{Ghosts as FaultsGhosts}

@@ -290,6 +290,7 @@ impl Disk for FileDisk {
         }
     }
 
+    #[tactic(auto, using(crate::proofs::Steps::synced_leaves))]
     fn sync(&mut self) -> Result<(), DiskFailed>
         ensures durable { OnOk result (Only (file_seen self.old) (file_left self.new)) }
         ensures seen { file_seen self.new ≡ file_seen self.old }

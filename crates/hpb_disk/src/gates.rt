@@ -24,10 +24,8 @@ pub fn gate_is_open<D: Disk>(disk: &mut D, at: usize) -> Result<bool, DiskFailed
     ensures asked { Asks result [] (D.asked disk.old) (D.asked disk.new) }
 {
     let mut gate = [0];
-    match disk.read_into(at, &mut gate) {
-        Ok(()) => Ok(gate == [OPEN]),
-        Err(failed) => Err(failed),
-    }
+    disk.read_into(at, &mut gate)?;
+    Ok(gate == [OPEN])
 }
 
 /// Opens a gate. It counts after the next sync; until then a crash may leave it open or closed, and all else as it
@@ -43,10 +41,7 @@ pub fn open_gate<D: Disk>(disk: &mut D, at: usize) -> Result<(), DiskFailed>
     ensures cause { CountsFailure result (D.failures disk.old) (D.failures disk.new) }
     ensures asked { Asks result (writes at open_byte ∷ []) (D.asked disk.old) (D.asked disk.new) }
 {
-    match disk.write_at(at, &[OPEN]) {
-        Ok(()) => Ok(()),
-        Err(failed) => Err(failed),
-    }
+    disk.write_at(at, &[OPEN])
 }
 
 /// Closes a gate that may be open. One that is closed in all that a crash may leave isn't written, as a torn byte could
@@ -67,8 +62,5 @@ pub fn close_gate<D: Disk>(disk: &mut D, at: usize, may_be_open: bool) -> Result
     if !may_be_open {
         return Ok(());
     }
-    match disk.write_at(at, &[CLOSED]) {
-        Ok(()) => Ok(()),
-        Err(failed) => Err(failed),
-    }
+    disk.write_at(at, &[CLOSED])
 }

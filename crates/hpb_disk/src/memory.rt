@@ -204,6 +204,7 @@ impl Disk for MemoryDisk {
         }
     }
 
+    #[tactic(auto, using(crate::proofs::Steps::synced_leaves))]
     fn sync(&mut self) -> Result<(), DiskFailed>
         ensures durable { OnOk result (Only (memory_seen self.old) (memory_left self.new)) }
         ensures seen { memory_seen self.new ≡ memory_seen self.old }

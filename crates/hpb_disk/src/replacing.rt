@@ -29,8 +29,5 @@ pub fn replace_record<D: Disk>(disk: &mut D, bytes: &[u8]) -> Result<(), DiskFai
     // What stands behind the gate has to be whole first: a gate that is torn open shows it.
     disk.sync()?;
     open_gate(disk, 0)?;
-    match disk.sync() {
-        Ok(()) => Ok(()),
-        Err(failed) => Err(failed),
-    }
+    disk.sync()
 }

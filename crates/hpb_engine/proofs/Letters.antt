@@ -13,16 +13,16 @@ use Rattle.hpb_rules.specs.Letters.{judged, new_commands}
 use Rattle.hpb_rules.specs.Machine.{Flight, Machine, in_flight, offered, take_letters}
 use Rattle.hpb_rules.specs.Tree.{Rules}
 use Rattle.hpb_rules.specs.Values.{value_after}
-use Rattle.hpb_codec.specs.Records.{HasTicket}
-use Rattle.hpb_letters.specs.Judging.{judged_in}
-use Rattle.hpb_letters.specs.Laws.{JudgedIsShown}
-use Rattle.hpb_progress.specs.declared.progress.Progress.{Progress}
-use Rattle.hpb_progress.specs.Cuts.{Cut, all}
-use Rattle.hpb_progress.specs.Facts.{Fits, IsFlight}
-use Rattle.hpb_progress.specs.Keeping.{Inside, Keeps}
-use Rattle.hpb_progress.specs.Laws.{Laws}
-use Rattle.hpb_progress.specs.Steps.{begun}
-use Rattle.hpb_progress.proofs.Committing.{begun_facts, begun_fits, begun_reads}
+use Rattle.hpb_rules.specs.Rounds.{HasTicket}
+use Rattle.hpb_rules.specs.Judging.{judged_in}
+use Rattle.hpb_rules.specs.LetterLaws.{JudgedIsShown}
+use Rattle.hpb_engine.specs.declared.progress.Progress.{Progress}
+use Rattle.hpb_engine.specs.Cuts.{Cut, all}
+use Rattle.hpb_engine.specs.Facts.{Fits, IsFlight}
+use Rattle.hpb_engine.specs.Keeping.{Inside, Keeps}
+use Rattle.hpb_engine.specs.Laws.{Laws}
+use Rattle.hpb_engine.specs.Moves.{begun}
+use Rattle.hpb_engine.proofs.CommitTurns.{begun_facts, begun_fits, begun_reads}
 use Rattle.hpb_engine.specs.Offers.{AreOld}
 
 some_of : (commands : List Command) → (commands ≡ [] → ⊥) → 0 < length commands
@@ -30,53 +30,45 @@ some_of [] not = absurd (not refl)
 some_of (command ∷ commands) not = omega arith
 
 -- What judging letters says of the commands that are new among them.
-pub record IsJudged (working after : AuctionValue) (letters : List Letter) (answers : List Answer) (commands : List Command) : Type 0 where
-  pub value : answers ≡ judged_in working letters
-  pub commands_are : commands ≡ new_commands answers
-  pub accepted : AllAccepted working commands
-  pub leads : after ≡ value_after working commands
-  pub rules : after.rules ≡ working.rules
-  pub tickets : AllByRecursion HasTicket commands
-  pub known : AllByRecursion (λ command. unknown working.rules command ≡ None) commands
-
-module _ (laws : Laws) {D : Type 0} (seen : D → List ℕ) (may_leave : D → List ℕ → Type 0) (disk : D) (s : Progress) (failed : Bool) (free : s.commit.busy ≡ false)
-    (rest : s.commit.working ≡ s.committed) (letters : List Letter) (new : AreOld s letters → ⊥) (room : s.ring.next < s.ring.clean_end)
-    (answers : List Answer) (commands : List Command) (after : AuctionValue) (is : IsJudged s.commit.working after letters answers commands) (first : ℕ) (numbered : first ≡ suc s.committed.count) where
+module _ (laws : Laws) (s : Progress) (free : s.commit.busy ≡ false) (rest : s.commit.working ≡ s.committed) (letters : List Letter) (new : AreOld s letters → ⊥) (room : s.ring.next < s.ring.clean_end)
+    {answers : List Answer} {commands : List Command} {after : AuctionValue} (value : answers ≡ judged_in s.commit.working letters) (commands_are : commands ≡ new_commands answers)
+    (accepted : AllAccepted s.commit.working commands) (leads : after ≡ value_after s.commit.working commands) (ruled : after.rules ≡ s.commit.working.rules)
+    (tickets : AllByRecursion HasTicket commands) (known : AllByRecursion (λ command. unknown s.commit.working.rules command ≡ None) commands)
+    {first : ℕ} (numbered : first ≡ suc s.committed.count) where
   abbrev pub flying : Progress
   flying = begun s (record { index = s.ring.next; first = first; commands = commands }) answers after
 
   same : answers ≡ judged_in s.committed letters
-  same = is.value ∙ ap (λ (value : AuctionValue). judged_in value letters) rest
+  same = value ∙ ap (λ (value : AuctionValue). judged_in value letters) rest
 
-  pub are_new : commands ≡ [] → ⊥
-  are_new none = new (ap new_commands (sym same) ∙ sym is.commands_are ∙ none)
+  are_new : commands ≡ [] → ⊥
+  are_new none = new (ap new_commands (sym same) ∙ sym commands_are ∙ none)
 
   flight : (k : Cut) → Fits s k → IsFlight k.rules s.ring.next s.committed (all k) flying.commit
   flight k fits =
-      let ruled : s.commit.working.rules ≡ k.rules = ap (λ (value : AuctionValue). value.rules) rest ∙ fits.rules in
+      let by_rules : s.commit.working.rules ≡ k.rules = ap (λ (value : AuctionValue). value.rules) rest ∙ fits.rules in
       let count : s.committed.count ≡ length (all k) = ap (λ (value : AuctionValue). value.count) fits.shows.1 ∙ length-reverse (all k) in
       record {
         kept = record {
           some = some_of commands are_new;
-          tickets = is.tickets;
-          known = subst (λ (rules : Rules). AllByRecursion (λ command. unknown rules command ≡ None) commands) ruled is.known;
+          tickets = tickets;
+          known = subst (λ (rules : Rules). AllByRecursion (λ command. unknown rules command ≡ None) commands) by_rules known;
         };
         index = refl;
         first = numbered ∙ ap suc count;
-        accepted = subst (λ (value : AuctionValue). AllAccepted value commands) rest is.accepted;
-        after = is.leads ∙ ap (λ (value : AuctionValue). value_after value commands) rest;
-        new = is.commands_are;
+        accepted = subst (λ (value : AuctionValue). AllAccepted value commands) rest accepted;
+        after = leads ∙ ap (λ (value : AuctionValue). value_after value commands) rest;
+        new = commands_are;
       }
 
-  pub inside_flying : may_leave disk (seen disk) → (history : List Command) → Inside seen may_leave disk s failed history → Inside seen may_leave disk flying failed history
-  inside_flying stays history inside =
+  pub inside_flying : {D : Type 0} {seen : D → List ℕ} {may_leave : D → List ℕ → Type 0} {disk : D} {failed : Bool} → may_leave disk (seen disk) → (history : List Command) → Inside seen may_leave disk s failed history → Inside seen may_leave disk flying failed history
+  inside_flying {seen = seen} {disk = disk} stays history inside =
       let k = inside.cut in
       let batch = flying.commit.batch in
-      let ruled : after.rules ≡ s.committed.rules = is.rules ∙ ap (λ (value : AuctionValue). value.rules) rest in
       record {
         cut = k;
         whole = inside.whole;
-        fits = begun_fits laws s k inside.fits free room batch answers after ruled (flight k inside.fits);
+        fits = begun_fits laws s k inside.fits free room batch answers after (ruled ∙ ap (λ (value : AuctionValue). value.rules) rest) (flight k inside.fits);
         images = λ image left. begun_facts laws s k inside.fits free batch answers after image (inside.images image left);
         reads = λ works. begun_reads laws s k inside.fits free batch answers after (seen disk) (inside.images (seen disk) stays) (inside.reads works);
       }
@@ -90,7 +82,7 @@ abbrev at_flight : List Command → Option Flight → Machine
 at_flight acknowledged flight = record { acknowledged = acknowledged; flight = flight }
 
 -- With nothing in flight the machine takes letters by the answers that they are given.
-module _ (shown : JudgedIsShown) {D : Type 0} (seen : D → List ℕ) (may_leave : D → List ℕ → Type 0) (disk : D) (s : Progress) (failed : Bool) (machine : Machine)
+module _ (shown : JudgedIsShown) {D : Type 0} {seen : D → List ℕ} {may_leave : D → List ℕ → Type 0} {disk : D} {s : Progress} {failed : Bool} {machine : Machine}
     (keeps : Keeps seen may_leave disk s failed machine) (letters : List Letter) (free : s.commit.busy ≡ false) where
   rests : machine.flight ≡ None
   rests = keeps.flight ∙ ap (λ (busy : Bool). if busy then Some (record { answers = s.commit.answers; turns = s.commit.turns }) else None) free

@@ -1,4 +1,12 @@
-pub mod Snapshots
 pub mod Machines
 pub mod Letters
 pub mod Running
+pub mod Regions
+pub mod Asked
+pub mod DeviceCalls
+pub mod Cutting
+pub mod CommitTurns
+pub mod CheckpointSteps
+pub mod RetiredFrames
+pub mod Standing
+pub mod FreshStart

@@ -1,18 +1,18 @@
 -- What is kept after a step is the machine's.
-use Rattle.std.proofs.Common.{◌≡◌, ◌⊎◌, inl, inr, ⊎_elim, ℕ, ◌+◌, ◌<◌, ◌≤◌, Bool, true, false, List, ◌++◌, Option, Some, None, Result, Ok, Err, refl, sym, ◌∙◌, ap, subst, arith}
+use Rattle.std.proofs.Common.{◌≡◌, inl, inr, ⊎_elim, ℕ, zero, suc, ◌+◌, ◌<◌, ◌≤◌, Bool, true, false, List, ◌++◌, Option, Some, None, Result, Ok, Err, refl, sym, ◌∙◌, ap, subst, arith}
 use Rattle.hpb_rules.specs.declared.command.Command.{Command}
 use Rattle.hpb_disk.specs.Images.{LeavesOnly}
-use Rattle.std.proofs.lemmas.Bool.{cases_lt, cases_eq}
+use Rattle.std.proofs.lemmas.Bool.{cases_eq}
 use Rattle.std.specs.Prelude.{if◌then◌else◌}
 use Rattle.hpb_rules.specs.declared.letter.Answer.{Answer}
 use Rattle.hpb_rules.specs.Letters.{new_commands}
 use Rattle.hpb_rules.specs.Machine.{Machine, Flight, at_rest, in_flight, turn}
-use Rattle.hpb_progress.specs.declared.progress.Commit.{Commit}
-use Rattle.hpb_progress.specs.declared.progress.Progress.{Progress}
-use Rattle.hpb_progress.specs.Keeping.{Inside, Keeps, StandsBetween, StandsEither, StandsFor, flight_of, machine_of}
-use Rattle.hpb_progress.specs.Laws.{Laws}
-use Rattle.hpb_progress.proofs.Standing.{kept_inside, kept_machine}
-use Rattle.hpb_progress.specs.Steps.{turned}
+use Rattle.hpb_engine.specs.declared.progress.Commit.{Commit}
+use Rattle.hpb_engine.specs.declared.progress.Progress.{Progress}
+use Rattle.hpb_engine.specs.Keeping.{Inside, Keeps, StandsBetween, StandsEither, StandsFor, flight_of, machine_of}
+use Rattle.hpb_engine.specs.Laws.{Laws}
+use Rattle.hpb_engine.proofs.Standing.{kept_inside}
+use Rattle.hpb_engine.specs.Moves.{turned}
 use Rattle.hpb_engine.specs.declared.step.Fault.{Fault}
 use Rattle.hpb_engine.specs.declared.step.Fault.TheVariants as faults
 use Rattle.hpb_engine.specs.declared.step.Step.{Step}
@@ -30,114 +30,95 @@ since_map images others each leaves = record {
   after = λ image left. each image (leaves.after image left);
 }
 
-abbrev with_flight : List Command → Option Flight → Machine
+-- Without a call nothing is torn.
+pub leaves_same : {now : ℕ} {past : ℕ → List ℕ → Type 0} {left images : List ℕ → Type 0} → ((image : List ℕ) → left image → images image) → LeavesOnly now now past past left images
+leaves_same each = record { later = omega arith; nothing_else = λ at image le was. inl was; keeps = λ at image le was. was; after = each }
+
+abbrev pub with_flight : List Command → Option Flight → Machine
 with_flight history flight = record { acknowledged = history; flight = flight }
 
 abbrev with_commit : List Command → Commit → Machine
 with_commit history commit = record { acknowledged = history; flight = flight_of commit }
 
-module _ (laws : Laws) {D : Type 0} (seen : D → List ℕ) (may_leave : D → List ℕ → Type 0) (old new : D) (s t : Progress) (failed after : Bool) (machine : Machine)
-    (keeps : Keeps seen may_leave old s failed machine) where
-  is : machine_of s machine.acknowledged ≡ machine
-  is = sym (kept_machine seen may_leave old s failed machine keeps)
+-- The machine that is kept, by the progress.
+machine_is : {D : Type 0} {seen : D → List ℕ} {may_leave : D → List ℕ → Type 0} {disk : D} {s : Progress} {failed : Bool} {machine : Machine} → Keeps seen may_leave disk s failed machine
+    → machine_of s machine.acknowledged ≡ machine
+machine_is {machine = machine} keeps = ap (with_flight machine.acknowledged) (sym keeps.flight)
 
-  -- A step that leaves what is acknowledged and what is in flight.
-  module _ (same : SameCore s t) where
-    still : machine_of t machine.acknowledged ≡ machine
-    still = ap (with_commit machine.acknowledged) same.commit ∙ is
+-- A step that leaves what is acknowledged and what is in flight.
+module _ {D : Type 0} {seen : D → List ℕ} {may_leave : D → List ℕ → Type 0} {old : D} {s t : Progress} {failed : Bool} {machine : Machine}
+    (keeps : Keeps seen may_leave old s failed machine) (same : SameCore s t) where
+  still : machine_of t machine.acknowledged ≡ machine
+  still = ap (with_commit machine.acknowledged) same.commit ∙ machine_is keeps
 
-    pub kept_still : Inside seen may_leave new t after machine.acknowledged → Keeps seen may_leave new t after machine
-    kept_still inside = subst (Keeps seen may_leave new t after) still (kept_inside laws seen may_leave new t after machine.acknowledged inside)
+  pub kept_still : {new : D} {after : Bool} (laws : Laws) → Inside seen may_leave new t after machine.acknowledged → Keeps seen may_leave new t after machine
+  kept_still {new = new} {after = after} laws inside = subst (Keeps seen may_leave new t after) still (kept_inside laws seen may_leave new t after machine.acknowledged inside)
 
-    pub since_still : {before now : ℕ} {past since : ℕ → List ℕ → Type 0} {left : List ℕ → Type 0}
-        → LeavesOnly before now past since left (StandsBetween s t machine.acknowledged) → LeavesOnly before now past since left (StandsFor machine)
-    since_still leaves = since_map (StandsBetween s t machine.acknowledged) (StandsFor machine)
-        (λ image stands. ⊎_elim (λ one. subst (λ (m : Machine). StandsFor m image) is one) (λ other. subst (λ (m : Machine). StandsFor m image) still other) stands) leaves
+  pub since_still : {before now : ℕ} {past since : ℕ → List ℕ → Type 0} {left : List ℕ → Type 0}
+      → LeavesOnly before now past since left (StandsBetween s t machine.acknowledged) → LeavesOnly before now past since left (StandsFor machine)
+  since_still leaves = since_map (StandsBetween s t machine.acknowledged) (StandsFor machine)
+      (λ image stands. ⊎_elim (λ one. subst (λ (m : Machine). StandsFor m image) (machine_is keeps) one) (λ other. subst (λ (m : Machine). StandsFor m image) still other) stands) leaves
 
 -- The machine by whether a batch is in flight.
-free_machine : (s : Progress) (history : List Command) → s.commit.busy ≡ false → machine_of s history ≡ at_rest history
-free_machine s history free =
-    ap (λ (busy : Bool). with_flight history (if busy then Some (record { answers = s.commit.answers; turns = s.commit.turns }) else None)) free
-
-busy_machine : (s : Progress) (history : List Command) → s.commit.busy ≡ true → machine_of s history ≡ in_flight history s.commit.answers s.commit.turns
-busy_machine s history busy =
-    ap (λ (busy : Bool). with_flight history (if busy then Some (record { answers = s.commit.answers; turns = s.commit.turns }) else None)) busy
-
--- The numbers of turns before the third.
-early : (turns : ℕ) → turns < 3 → (turns ≡ 0) ⊎ ((turns ≡ 1) ⊎ (turns ≡ 2))
-early turns less = elim (cases_lt turns 1) [
-  | inl none ↦ inl (omega (arith, none))
-  | inr some ↦ elim (cases_lt turns 2) [ inl one ↦ inr (inl (omega (arith, one, some))) | inr two ↦ inr (inr (omega (arith, two, less))) ]
-]
+pub machine_by : {busy : Bool} (s : Progress) (history : List Command) → s.commit.busy ≡ busy
+    → machine_of s history ≡ with_flight history (if busy then Some (record { answers = s.commit.answers; turns = s.commit.turns }) else None)
+machine_by s history is = ap (λ (busy : Bool). with_flight history (if busy then Some (record { answers = s.commit.answers; turns = s.commit.turns }) else None)) is
 
 -- A turn of a flight that hasn't landed.
 turns_on : (history : List Command) (answers : List Answer) (turns : ℕ) → turns < 3 → (turn true (in_flight history answers turns)).machine ≡ in_flight history answers (turns + 1)
-turns_on history answers turns less =
-    let go : (n m : ℕ) → (turn true (in_flight history answers n)).machine ≡ in_flight history answers m → turns ≡ n → turns + 1 ≡ m
-    → (turn true (in_flight history answers turns)).machine ≡ in_flight history answers (turns + 1) =
-    λ n m step is next. ap (λ (i : ℕ). (turn true (in_flight history answers i)).machine) is ∙ step ∙ sym (ap (in_flight history answers) next) in
-    elim (early turns less) [
-      | inl zeroth ↦ go 0 1 refl zeroth (omega (arith, zeroth))
-      | inr (inl first) ↦ go 1 2 refl first (omega (arith, first))
-      | inr (inr second) ↦ go 2 3 refl second (omega (arith, second))
-    ]
+turns_on history answers zero less = refl
+turns_on history answers (suc zero) less = refl
+turns_on history answers (suc (suc zero)) less = refl
+turns_on history answers (suc (suc (suc turns))) less = absurd (omega (arith, less))
 
 -- One whose call fails: it stays, unless it lands.
 fails_back : (history : List Command) (answers : List Answer) (turns : ℕ) → turns ≤ 3 → (turns ≡ 2 → ⊥) → (turn false (in_flight history answers turns)).machine ≡ in_flight history answers turns
-fails_back history answers turns most not =
-    let go : (n : ℕ) → (turn false (in_flight history answers n)).machine ≡ in_flight history answers n → turns ≡ n
-    → (turn false (in_flight history answers turns)).machine ≡ in_flight history answers turns =
-    λ n step is. ap (λ (i : ℕ). (turn false (in_flight history answers i)).machine) is ∙ step ∙ sym (ap (in_flight history answers) is) in
-    elim (cases_lt turns 3) [
-      | inr late ↦ go 3 refl (omega (arith, late, most))
-      | inl less ↦ elim (early turns less) [
-        | inl zeroth ↦ go 0 refl zeroth
-        | inr (inl first) ↦ go 1 refl first
-        | inr (inr second) ↦ absurd (not second)
-      ]
-    ]
+fails_back history answers zero most not = refl
+fails_back history answers (suc zero) most not = refl
+fails_back history answers (suc (suc zero)) most not = absurd (not refl)
+fails_back history answers (suc (suc (suc zero))) most not = refl
+fails_back history answers (suc (suc (suc (suc turns)))) most not = absurd (omega (arith, most))
 
 -- A turn does to the machine what it does to the progress.
 turn_machine : (failed : Bool) (result : Result Step Fault) (s t : Progress) (history : List Command) → s.commit.turns ≤ 3
     → (s.commit.busy ≡ true → s.commit.batch.commands ≡ new_commands s.commit.answers) → TurnLeads failed result s t
     → (turn_by result (machine_of s history)).machine ≡ machine_of t (acknowledged_by result s history)
 turn_machine failed (Ok steps.Idle) s t history most new leads =
-    ap (λ (m : Machine). (turn true m).machine) (free_machine s history leads.1) ∙ sym (free_machine s history leads.1) ∙ ap (λ (p : Progress). machine_of p history) (sym leads.2)
+    ap (λ (m : Machine). (turn true m).machine) (machine_by s history leads.1) ∙ sym (machine_by s history leads.1) ∙ ap (λ (p : Progress). machine_of p history) (sym leads.2)
 turn_machine failed (Ok steps.Went) s t history most new leads =
-    ap (λ (m : Machine). (turn true m).machine) (busy_machine s history leads.1) ∙ turns_on history s.commit.answers s.commit.turns leads.2
-    ∙ sym (busy_machine (turned s (s.commit.turns + 1)) history leads.1) ∙ ap (λ (p : Progress). machine_of p history) (sym leads.3)
+    ap (λ (m : Machine). (turn true m).machine) (machine_by s history leads.1) ∙ turns_on history s.commit.answers s.commit.turns leads.2
+    ∙ sym (machine_by (turned s (s.commit.turns + 1)) history leads.1) ∙ ap (λ (p : Progress). machine_of p history) (sym leads.3)
 turn_machine failed (Ok (steps.Done answers)) s t history most new leads =
-    ap (λ (m : Machine). (turn true m).machine) (busy_machine s history leads.1) ∙ ap (λ (n : ℕ). (turn true (in_flight history s.commit.answers n)).machine) leads.2
+    ap (λ (m : Machine). (turn true m).machine) (machine_by s history leads.1) ∙ ap (λ (n : ℕ). (turn true (in_flight history s.commit.answers n)).machine) leads.2
     ∙ ap (λ (commands : List Command). at_rest (history ++ commands)) (sym (new leads.1)) ∙ ap (λ (p : Progress). machine_of p (history ++ s.commit.batch.commands)) (sym leads.4)
 turn_machine failed (Err faults.Device) s t history most new leads = elim (cases_eq s.commit.turns 2) [
   | inl second ↦
-      ap (λ (m : Machine). (turn false m).machine) (busy_machine s history leads.1) ∙ ap (λ (n : ℕ). (turn false (in_flight history s.commit.answers n)).machine) second
-      ∙ sym (busy_machine (turned s 3) history leads.1) ∙ ap (λ (p : Progress). machine_of p history) (sym (leads.2 second))
+      ap (λ (m : Machine). (turn false m).machine) (machine_by s history leads.1) ∙ ap (λ (n : ℕ). (turn false (in_flight history s.commit.answers n)).machine) second
+      ∙ sym (machine_by (turned s 3) history leads.1) ∙ ap (λ (p : Progress). machine_of p history) (sym (leads.2 second))
   | inr not ↦
-      ap (λ (m : Machine). (turn false m).machine) (busy_machine s history leads.1) ∙ fails_back history s.commit.answers s.commit.turns most not
-      ∙ sym (busy_machine s history leads.1) ∙ ap (λ (p : Progress). machine_of p history) (sym (leads.3 not))
+      ap (λ (m : Machine). (turn false m).machine) (machine_by s history leads.1) ∙ fails_back history s.commit.answers s.commit.turns most not
+      ∙ sym (machine_by s history leads.1) ∙ ap (λ (p : Progress). machine_of p history) (sym (leads.3 not))
 ]
 turn_machine failed (Err faults.Failed) s t history most new leads = ap (λ (p : Progress). machine_of p history) (sym leads.1)
 
-module _ (laws : Laws) {D : Type 0} (seen : D → List ℕ) (may_leave : D → List ℕ → Type 0) (old new : D) (s t : Progress) (failed after : Bool) (machine : Machine)
-    (keeps : Keeps seen may_leave old s failed machine) (result : Result Step Fault) (leads : TurnLeads failed result s t) where
-  was : machine_of s machine.acknowledged ≡ machine
-  was = sym (kept_machine seen may_leave old s failed machine keeps)
-
+module _ {D : Type 0} {seen : D → List ℕ} {may_leave : D → List ℕ → Type 0} {old : D} {s : Progress} {failed : Bool} {machine : Machine}
+    (keeps : Keeps seen may_leave old s failed machine) (t : Progress) (result : Result Step Fault) (leads : TurnLeads failed result s t) where
   becomes : machine_of t (acknowledged_by result s machine.acknowledged) ≡ (turn_by result machine).machine
   becomes =
       sym (turn_machine failed result s t machine.acknowledged keeps.inside.fits.safe.commit.turns (λ busy. (keeps.inside.fits.flight busy).new) leads)
-      ∙ ap (λ (m : Machine). (turn_by result m).machine) was
+      ∙ ap (λ (m : Machine). (turn_by result m).machine) (machine_is keeps)
 
-  pub kept_turn : Inside seen may_leave new t after (acknowledged_by result s machine.acknowledged) → Keeps seen may_leave new t after (turn_by result machine).machine
-  kept_turn inside = subst (Keeps seen may_leave new t after) becomes (kept_inside laws seen may_leave new t after (acknowledged_by result s machine.acknowledged) inside)
+  pub kept_turn : {new : D} {after : Bool} (laws : Laws) → Inside seen may_leave new t after (acknowledged_by result s machine.acknowledged)
+      → Keeps seen may_leave new t after (turn_by result machine).machine
+  kept_turn {new = new} {after = after} laws inside =
+      subst (Keeps seen may_leave new t after) becomes (kept_inside laws seen may_leave new t after (acknowledged_by result s machine.acknowledged) inside)
 
   -- Until it is acknowledged a flight may be lost.
   before_done : (answers : List Answer) (image : List ℕ) → result ≡ Ok (steps.Done answers) → StandsFor (machine_of t machine.acknowledged) image → StandsFor machine image
-  before_done answers image is stands =
-      let done : TurnLeads failed (Ok (steps.Done answers)) s t = subst (λ (r : Result Step Fault). TurnLeads failed r s t) is leads in
+  before_done answers image same stands =
+      let done : TurnLeads failed (Ok (steps.Done answers)) s t = subst (λ (r : Result Step Fault). TurnLeads failed r s t) same leads in
       let rest : StandsFor (at_rest machine.acknowledged) image = subst (λ (p : Progress). StandsFor (machine_of p machine.acknowledged) image) done.4 stands in
-      subst (λ (m : Machine). StandsFor m image) (sym (busy_machine s machine.acknowledged done.1) ∙ was) (rest.0, inl rest.1, rest.2)
+      subst (λ (m : Machine). StandsFor m image) (sym (machine_by s machine.acknowledged done.1) ∙ machine_is keeps) (rest.0, inl rest.1, rest.2)
 
   either : (image : List ℕ) → (r : Result Step Fault) → result ≡ r → StandsFor (machine_of t machine.acknowledged) image → StandsEither machine (turn_by result machine).machine image
   either image (Ok (steps.Done answers)) is stands = inl (before_done answers image is stands)
@@ -148,4 +129,4 @@ module _ (laws : Laws) {D : Type 0} (seen : D → List ℕ) (may_leave : D → L
   pub since_turn : {before now : ℕ} {past since : ℕ → List ℕ → Type 0} {left : List ℕ → Type 0}
       → LeavesOnly before now past since left (StandsBetween s t machine.acknowledged) → LeavesOnly before now past since left (StandsEither machine (turn_by result machine).machine)
   since_turn leaves = since_map (StandsBetween s t machine.acknowledged) (StandsEither machine (turn_by result machine).machine)
-      (λ image stands. ⊎_elim (λ one. inl (subst (λ (m : Machine). StandsFor m image) was one)) (λ other. either image result refl other) stands) leaves
+      (λ image stands. ⊎_elim (λ one. inl (subst (λ (m : Machine). StandsFor m image) (machine_is keeps) one)) (λ other. either image result refl other) stands) leaves

@@ -6,10 +6,10 @@ use Rattle.hpb_journal.specs.Places.{writes_body, opens_frame, closes_frame}
 use Rattle.hpb_journal.specs.Shapes.{shape_of}
 use Rattle.hpb_slots.specs.Slots.{other_of}
 use Rattle.hpb_slots.specs.Writes.{writes_chunk, opens_slot, closes_slot}
-use Rattle.hpb_progress.specs.declared.progress.Progress.{Progress}
-use Rattle.hpb_progress.specs.declared.progress.Checkpoint.{Checkpoint}
-use Rattle.hpb_progress.specs.declared.progress.Ring.{Ring}
-use Rattle.hpb_progress.specs.Numbers.{end_of, may_be_open}
+use Rattle.hpb_engine.specs.declared.progress.Progress.{Progress}
+use Rattle.hpb_engine.specs.declared.progress.Checkpoint.{Checkpoint}
+use Rattle.hpb_engine.specs.declared.progress.Ring.{Ring}
+use Rattle.hpb_engine.specs.Numbers.{end_of, may_be_open}
 
 -- A turn of a batch in flight: at the first its body is written, at the third the gate of its frame; at the second and the fourth there is a sync.
 abbrev pub turn_in_flight : Progress → Asked

@@ -4,3 +4,10 @@ pub mod Checkpoints
 pub mod Offers
 pub mod Runs
 pub mod Starts
+pub mod Cuts
+pub mod Numbers
+pub mod Facts
+pub mod Moves
+pub mod Keeping
+pub mod Laws
+pub mod Starting

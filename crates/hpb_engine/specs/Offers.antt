@@ -6,9 +6,9 @@ use Rattle.hpb_rules.specs.Letters.{new_commands}
 use Rattle.hpb_rules.specs.Machine.{Machine, Effect, take_letters}
 use Rattle.hpb_rules.specs.Tree.{Rules}
 use Rattle.hpb_rules.specs.Values.{value_after}
-use Rattle.hpb_letters.specs.Judging.{judged_in}
-use Rattle.hpb_progress.specs.declared.progress.Progress.{Progress}
-use Rattle.hpb_progress.specs.Steps.{begun}
+use Rattle.hpb_rules.specs.Judging.{judged_in}
+use Rattle.hpb_engine.specs.declared.progress.Progress.{Progress}
+use Rattle.hpb_engine.specs.Moves.{begun}
 use Rattle.hpb_engine.specs.declared.begun.Begun.{Begun}
 use Rattle.hpb_engine.specs.declared.begun.Begun.TheVariants as outcomes
 use Rattle.hpb_engine.specs.declared.begun.Weight.{Weight}

@@ -5,9 +5,9 @@ use Rattle.hpb_rules.specs.declared.letter.Letter.{Letter}
 use Rattle.hpb_rules.specs.AuctionValue.{Shows}
 use Rattle.hpb_rules.specs.Machine.{Machine}
 use Rattle.hpb_disk.specs.Images.{LeavesOnly}
-use Rattle.hpb_progress.specs.declared.progress.Progress.{Progress}
-use Rattle.hpb_progress.specs.Keeping.{Keeps, StandsEither, StandsFor, flight_of}
-use Rattle.hpb_progress.specs.Numbers.{IsSafe}
+use Rattle.hpb_engine.specs.declared.progress.Progress.{Progress}
+use Rattle.hpb_engine.specs.Keeping.{Keeps, StandsEither, StandsFor, flight_of}
+use Rattle.hpb_engine.specs.Numbers.{IsSafe}
 use Rattle.hpb_engine.specs.declared.begun.Begun.{Begun}
 use Rattle.hpb_engine.specs.declared.event.Event.{Event}
 use Rattle.hpb_engine.specs.declared.event.Event.TheVariants as events

@@ -1,14 +1,16 @@
 -- What steps answer, where they lead, and what a crash since then may leave.
-use Rattle.std.specs.Prelude.{◌≡◌, ℕ, ◌+◌, ◌<◌, Bool, true, false, List, [], ◌++◌, Result, Ok, Err, MatchResult, if◌then◌else◌}
+use Rattle.std.specs.Prelude.{◌≡◌, ℕ, ◌+◌, ◌<◌, Bool, true, false, List, [], ◌∷◌, ◌++◌, Result, Ok, Err, MatchResult, OnOk, OnErr, ⊤, if◌then◌else◌}
 use Rattle.hpb_rules.specs.declared.command.Command.{Command}
 use Rattle.hpb_rules.specs.declared.letter.Answer.{Answer}
 use Rattle.hpb_rules.specs.declared.refusal.Refusal.{Refusal}
 use Rattle.hpb_rules.specs.declared.refusal.Refusal.TheVariants as refusals
 use Rattle.hpb_rules.specs.Machine.{Machine, Effect, turn}
-use Rattle.hpb_disk.specs.Images.{LeavesOnly}
-use Rattle.hpb_progress.specs.declared.progress.Progress.{Progress}
-use Rattle.hpb_progress.specs.Keeping.{Inside, StandsBetween}
-use Rattle.hpb_progress.specs.Steps.{turned, acknowledged}
+use Rattle.hpb_disk.specs.Asked.{Asked, Asks}
+use Rattle.hpb_disk.specs.Asked.Asked.{syncs}
+use Rattle.hpb_disk.specs.Images.{CountsFailure, Elapses, LeavesOnly, Only, Within}
+use Rattle.hpb_engine.specs.declared.progress.Progress.{Progress}
+use Rattle.hpb_engine.specs.Keeping.{Inside, StandsBetween}
+use Rattle.hpb_engine.specs.Moves.{turned, acknowledged}
 use Rattle.hpb_engine.specs.declared.step.Fault.{Fault}
 use Rattle.hpb_engine.specs.declared.step.Fault.TheVariants as faults
 use Rattle.hpb_engine.specs.declared.step.Step.{Step}
@@ -60,10 +62,6 @@ TurnLeads failed (Ok (steps.Done answers)) s t = (failed ≡ false) × (s.commit
 TurnLeads failed (Err faults.Device) s t = (failed ≡ false) × (s.commit.busy ≡ true) × (s.commit.turns ≡ 2 → t ≡ turned s 3) × ((s.commit.turns ≡ 2 → ⊥) → t ≡ s)
 TurnLeads failed (Err faults.Failed) s t = (failed ≡ true) × (t ≡ s)
 
--- What rests on the parts of the device before a call rests on them after it.
-abbrev pub KeepsOn : {D : Type 0} (seen : D → List ℕ) (may_leave : D → List ℕ → Type 0) (old new : D) (s t : Progress) (failed after : Bool) → Type 0
-KeepsOn seen may_leave old new s t failed after = (history : List Command) → Inside seen may_leave old s failed history → Inside seen may_leave new t after history
-
 -- An image that a crash may have left since before it stands for what a stop may leave, before the call or after it.
 abbrev pub LeavesBetween : {D : Type 0} (seen : D → List ℕ) (may_leave : D → List ℕ → Type 0) (moment : D → ℕ) (left_since : D → ℕ → List ℕ → Type 0)
     (old new : D) (s t : Progress) (failed : Bool) → Type 0
@@ -71,7 +69,41 @@ LeavesBetween seen may_leave moment left_since old new s t failed =
     (history : List Command) → Inside seen may_leave old s failed history
     → LeavesOnly (moment old) (moment new) (left_since old) (left_since new) (may_leave new) (StandsBetween s t history)
 
--- A fault is told exactly where the number of failures rises, and the engine counts as failed from then on.
-abbrev pub TellsFault : {T : Type 0} → Result T Fault → (before after : ℕ) (failed : Bool) → Type 0
-TellsFault result before after failed =
-    MatchResult result (λ _. (after ≡ before) × (failed ≡ false)) (λ fault. (fault ≡ faults.Device) × (before < after) × (failed ≡ true))
+-- What a step answers, apart from what it tells.
+abbrev pub outcome_of : {T : Type 0} → Result T Fault → Result ⊤ Fault
+outcome_of (Ok told) = Ok tt
+outcome_of (Err fault) = Err fault
+
+-- What a step is to the device, which may have failed before it.
+pub record OnDevice {D T : Type 0} (moment : D → ℕ) (failures : D → ℕ) (trace : D → List Asked) (old new : D) (failed after : Bool) (result : Result T Fault)
+    (count : ℕ) (call : List Asked) : Type 0 where
+  -- Its calls of the device are known beforehand: at most one.
+  pub calls : moment new ≡ moment old + count
+  -- It asks the device for the one call of this step, if it has one, whether that succeeds or not.
+  pub asked : failed ≡ false → Asks result call (trace old) (trace new)
+  -- 91 comes only where the device failed in this call, and 93 exactly after a 91.
+  pub cause : result ≡ Err faults.Device → failures old < failures new
+  pub counted : OnOk result (failures new ≡ failures old)
+  -- After a fault there is no call.
+  pub stays : result ≡ Err faults.Failed → new ≡ old
+  pub works : OnOk result (after ≡ false)
+  pub fails : OnErr result (after ≡ true)
+
+-- The same, and what is kept: what rests on the parts of the device before a step rests on them after it, with the acknowledged commands that follow.
+pub record Called {D : Type 0} (seen : D → List ℕ) (may_leave : D → List ℕ → Type 0) (moment : D → ℕ) (left_since : D → ℕ → List ℕ → Type 0) (failures : D → ℕ)
+    (trace : D → List Asked) (old new : D) (s t : Progress) (failed after : Bool) (outcome : Result ⊤ Fault) (later : List Command → List Command)
+    (count : ℕ) (call : List Asked) : Type 0 where
+  pub keeps : (history : List Command) → Inside seen may_leave old s failed history → Inside seen may_leave new t after (later history)
+  pub since : LeavesBetween seen may_leave moment left_since old new s t failed
+  pub device : OnDevice moment failures trace old new failed after outcome count call
+
+-- A sync whose failure is told.
+pub record Synced {D : Type 0} (seen : D → List ℕ) (may_leave : D → List ℕ → Type 0) (moment : D → ℕ) (left_since : D → ℕ → List ℕ → Type 0) (failures : D → ℕ)
+    (trace : D → List Asked) (old new : D) (after : Bool) (result : Result ⊤ Fault) : Type 0 where
+  pub durable : OnOk result (Only (seen old) (may_leave new))
+  pub seen_still : seen new ≡ seen old
+  pub crash : Within (may_leave new) (may_leave old)
+  pub time : Elapses (moment old) (moment new) (left_since old) (left_since new) (may_leave old)
+  pub cause : CountsFailure result (failures old) (failures new)
+  pub asked : Asks result (syncs ∷ []) (trace old) (trace new)
+  pub told : MatchResult result (λ _. after ≡ false) (λ fault. (fault ≡ faults.Device) × (after ≡ true))

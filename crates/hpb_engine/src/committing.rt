@@ -1,22 +1,18 @@
 //! A commit, by turns of one device call each.
-ghost use Rattle.std.specs.Prelude.{◌≡◌, ◌+◌, ◌<◌, ◌≤◌, ◌++◌, ◌∷◌, ℕ, List, [], Ok, Err, true, false, OnErr, OnOk, MatchResult};
-ghost use Rattle.hpb_rules.specs.declared.command.Command.{Command};
+ghost use Rattle.std.specs.Prelude.{◌≡◌, ◌+◌, ◌<◌, ◌++◌, ℕ, List, [], Ok, true, false, is_ok, IfErr, OnErr, OnOk, if◌then◌else◌};
 ghost use Rattle.hpb_rules.specs.Machine.{Machine};
-ghost use Rattle.hpb_disk.specs.Asked.{Asks};
-ghost use Rattle.hpb_disk.specs.Asked.Asked.{syncs};
 ghost use Rattle.hpb_disk.specs.Images.{LeavesOnly};
-ghost use Rattle.hpb_journal.specs.Places.{writes_body, opens_frame};
-ghost use Rattle.hpb_journal.specs.Shapes.{shape_of};
-ghost use Rattle.hpb_progress.specs.Keeping.{Inside, Keeps, StandsBetween, StandsEither};
-ghost use Rattle.hpb_progress.specs.Steps.{turned, acknowledged};
+ghost use Rattle.hpb_engine.specs.Keeping.{Keeps, StandsEither};
+ghost use Rattle.hpb_engine.specs.Moves.{turned, acknowledged};
 ghost use Rattle.hpb_engine.specs.Asking.{turn_asks};
-ghost use Rattle.hpb_engine.specs.Steps.{KeepsOn, LeavesBetween, TellsFault, TurnLeads, acknowledged_by, leaving_with, step_of, turn_by, turn_calls};
+ghost use Rattle.hpb_engine.specs.Steps.{Called, OnDevice, TurnLeads, acknowledged_by, leaving_with, outcome_of, step_of, turn_by, turn_calls};
 
+use crate::calls::{sync, tell};
 use crate::engine::Engine;
+use crate::laws_below;
 use crate::step::{Fault, Step, Turned};
 use hpb_disk::Disk;
 use hpb_journal::Frames;
-use hpb_progress::laws_below;
 use hpb_rules::{Answers, MOST_COMMANDS};
 use std::mem;
 
@@ -28,28 +24,18 @@ impl<D: Disk + Drop> Engine<D> {
         requires works { self.old.failed ≡ false }
         ensures ok { OnOk result (self.new.progress ≡ turned self.old.progress 1) }
         ensures err { OnErr result (self.new.progress ≡ self.old.progress) }
-        ensures keeps { KeepsOn D.seen D.may_leave self.old.disk self.new.disk self.old.progress self.new.progress self.old.failed self.new.failed }
-        ensures since { LeavesBetween D.seen D.may_leave D.moment D.left_since self.old.disk self.new.disk self.old.progress self.new.progress self.old.failed }
-        ensures moment { D.moment self.new.disk ≡ D.moment self.old.disk + 1 }
-        ensures cause { TellsFault result (D.failures self.old.disk) (D.failures self.new.disk) self.new.failed }
-        ensures asked { Asks result (writes_body (shape_of self.old.progress.ring.frames) self.old.progress.commit.batch ∷ []) (D.asked self.old.disk) (D.asked self.new.disk) }
+        ensures fault { IfErr result (λ fault. fault ≡ Fault.Device) }
+        ensures called { Called D.seen D.may_leave D.moment D.left_since D.failures D.asked self.old.disk self.new.disk self.old.progress self.new.progress self.old.failed self.new.failed (outcome_of result) (λ history. history) (turn_calls self.old.failed self.old.progress) (turn_asks self.old.progress) }
     {
         laws_below();
         let progress = &self.progress;
-        match progress
+        let done = progress
             .ring
             .frames
-            .write_body(&mut self.disk, &progress.commit.batch)
-        {
-            Ok(()) => {
-                self.progress.commit.turns = 1;
-                Ok(())
-            }
-            Err(_) => {
-                self.failed = true;
-                Err(Fault::Device)
-            }
-        }
+            .write_body(&mut self.disk, &progress.commit.batch);
+        tell(done, &mut self.failed)?;
+        self.progress.commit.turns = 1;
+        Ok(())
     }
 
     /// The body is on the device.
@@ -59,23 +45,13 @@ impl<D: Disk + Drop> Engine<D> {
         requires works { self.old.failed ≡ false }
         ensures ok { OnOk result (self.new.progress ≡ turned self.old.progress 2) }
         ensures err { OnErr result (self.new.progress ≡ self.old.progress) }
-        ensures keeps { KeepsOn D.seen D.may_leave self.old.disk self.new.disk self.old.progress self.new.progress self.old.failed self.new.failed }
-        ensures since { LeavesBetween D.seen D.may_leave D.moment D.left_since self.old.disk self.new.disk self.old.progress self.new.progress self.old.failed }
-        ensures moment { D.moment self.new.disk ≡ D.moment self.old.disk + 1 }
-        ensures cause { TellsFault result (D.failures self.old.disk) (D.failures self.new.disk) self.new.failed }
-        ensures asked { Asks result (syncs ∷ []) (D.asked self.old.disk) (D.asked self.new.disk) }
+        ensures fault { IfErr result (λ fault. fault ≡ Fault.Device) }
+        ensures called { Called D.seen D.may_leave D.moment D.left_since D.failures D.asked self.old.disk self.new.disk self.old.progress self.new.progress self.old.failed self.new.failed (outcome_of result) (λ history. history) (turn_calls self.old.failed self.old.progress) (turn_asks self.old.progress) }
     {
         laws_below();
-        match self.disk.sync() {
-            Ok(()) => {
-                self.progress.commit.turns = 2;
-                Ok(())
-            }
-            Err(_) => {
-                self.failed = true;
-                Err(Fault::Device)
-            }
-        }
+        sync(&mut self.disk, &mut self.failed)?;
+        self.progress.commit.turns = 2;
+        Ok(())
     }
 
     /// Writes the gate. From here on the batch has landed, whether the call worked or not.
@@ -84,22 +60,14 @@ impl<D: Disk + Drop> Engine<D> {
         requires turns { self.old.progress.commit.turns ≡ 2 }
         requires works { self.old.failed ≡ false }
         ensures progress { self.new.progress ≡ turned self.old.progress 3 }
-        ensures keeps { KeepsOn D.seen D.may_leave self.old.disk self.new.disk self.old.progress self.new.progress self.old.failed self.new.failed }
-        ensures since { LeavesBetween D.seen D.may_leave D.moment D.left_since self.old.disk self.new.disk self.old.progress self.new.progress self.old.failed }
-        ensures moment { D.moment self.new.disk ≡ D.moment self.old.disk + 1 }
-        ensures cause { TellsFault result (D.failures self.old.disk) (D.failures self.new.disk) self.new.failed }
-        ensures asked { Asks result (opens_frame (shape_of self.old.progress.ring.frames) self.old.progress.ring.next ∷ []) (D.asked self.old.disk) (D.asked self.new.disk) }
+        ensures fault { IfErr result (λ fault. fault ≡ Fault.Device) }
+        ensures called { Called D.seen D.may_leave D.moment D.left_since D.failures D.asked self.old.disk self.new.disk self.old.progress self.new.progress self.old.failed self.new.failed (outcome_of result) (λ history. history) (turn_calls self.old.failed self.old.progress) (turn_asks self.old.progress) }
     {
         laws_below();
         self.progress.commit.turns = 3;
         let ring = &self.progress.ring;
-        match ring.frames.open_frame(&mut self.disk, ring.next) {
-            Ok(()) => Ok(()),
-            Err(_) => {
-                self.failed = true;
-                Err(Fault::Device)
-            }
-        }
+        let done = ring.frames.open_frame(&mut self.disk, ring.next);
+        tell(done, &mut self.failed)
     }
 
     /// The gate is on the device: the batch is acknowledged, and its answers leave.
@@ -112,34 +80,21 @@ impl<D: Disk + Drop> Engine<D> {
         ensures answers { OnOk result (leaving.new ≡ self.old.progress.commit.answers) }
         ensures err { OnErr result (self.new.progress ≡ self.old.progress) }
         ensures silent { OnErr result (leaving.new ≡ []) }
-        ensures keeps { (history : List Command) → Inside D.seen D.may_leave self.old.disk self.old.progress self.old.failed history
-            → MatchResult result
-            (λ _. Inside D.seen D.may_leave self.new.disk self.new.progress self.new.failed (history ++ self.old.progress.commit.batch.commands))
-            (λ _. Inside D.seen D.may_leave self.new.disk self.new.progress self.new.failed history) }
-        ensures since { LeavesBetween D.seen D.may_leave D.moment D.left_since self.old.disk self.new.disk self.old.progress self.new.progress self.old.failed }
-        ensures moment { D.moment self.new.disk ≡ D.moment self.old.disk + 1 }
-        ensures cause { TellsFault result (D.failures self.old.disk) (D.failures self.new.disk) self.new.failed }
-        ensures asked { Asks result (syncs ∷ []) (D.asked self.old.disk) (D.asked self.new.disk) }
+        ensures fault { IfErr result (λ fault. fault ≡ Fault.Device) }
+        ensures called { Called D.seen D.may_leave D.moment D.left_since D.failures D.asked self.old.disk self.new.disk self.old.progress self.new.progress self.old.failed self.new.failed (outcome_of result) (λ history. if is_ok result then history ++ self.old.progress.commit.batch.commands else history) (turn_calls self.old.failed self.old.progress) (turn_asks self.old.progress) }
     {
         laws_below();
-        match self.disk.sync() {
-            Ok(()) => {
-                let count = self.progress.committed.count();
-                prove!(count <= MOST_COMMANDS);
-                self.progress.ring.next += 1;
-                self.progress
-                    .committed
-                    .copy_from(&self.progress.commit.working);
-                self.progress.commit.busy = false;
-                self.progress.commit.turns = 0;
-                mem::swap(leaving, &mut self.progress.commit.answers);
-                Ok(())
-            }
-            Err(_) => {
-                self.failed = true;
-                Err(Fault::Device)
-            }
-        }
+        sync(&mut self.disk, &mut self.failed)?;
+        let count = self.progress.committed.count();
+        prove!(count <= MOST_COMMANDS);
+        self.progress.ring.next += 1;
+        self.progress
+            .committed
+            .copy_from(&self.progress.commit.working);
+        self.progress.commit.busy = false;
+        self.progress.commit.turns = 0;
+        mem::swap(leaving, &mut self.progress.commit.answers);
+        Ok(())
     }
 
     /// One turn, by the parts of the device.
@@ -148,18 +103,9 @@ impl<D: Disk + Drop> Engine<D> {
         ensures leads { TurnLeads self.old.failed (step_of result leaving.new) self.old.progress self.new.progress }
         ensures leaving { leaving.new ≡ leaving_with (step_of result leaving.new) }
         ensures rules { self.new.progress.committed.rules ≡ self.old.progress.committed.rules }
-        ensures keeps { (history : List Command) → Inside D.seen D.may_leave self.old.disk self.old.progress self.old.failed history
-            → Inside D.seen D.may_leave self.new.disk self.new.progress self.new.failed (acknowledged_by (step_of result leaving.new) self.old.progress history) }
-        ensures since { LeavesBetween D.seen D.may_leave D.moment D.left_since self.old.disk self.new.disk self.old.progress self.new.progress self.old.failed }
-        ensures calls { D.moment self.new.disk ≡ D.moment self.old.disk + turn_calls self.old.failed self.old.progress }
-        ensures asked { self.old.failed ≡ false → Asks result (turn_asks self.old.progress) (D.asked self.old.disk) (D.asked self.new.disk) }
-        ensures cause { result ≡ Err Fault.Device → D.failures self.old.disk < D.failures self.new.disk }
-        ensures counted { OnOk result (D.failures self.new.disk ≡ D.failures self.old.disk) }
-        // A turn with nothing in flight has no call, nor one after a fault.
+        // A turn with nothing in flight has no call.
         ensures idle { result ≡ Ok Turned.Idle → self.new.disk ≡ self.old.disk }
-        ensures stays { result ≡ Err Fault.Failed → self.new.disk ≡ self.old.disk }
-        ensures works { OnOk result (self.new.failed ≡ false) }
-        ensures fails { OnErr result (self.new.failed ≡ true) }
+        ensures called { Called D.seen D.may_leave D.moment D.left_since D.failures D.asked self.old.disk self.new.disk self.old.progress self.new.progress self.old.failed self.new.failed (outcome_of result) (acknowledged_by (step_of result leaving.new) self.old.progress) (turn_calls self.old.failed self.old.progress) (turn_asks self.old.progress) }
     {
         laws_below();
         if self.failed {
@@ -169,22 +115,22 @@ impl<D: Disk + Drop> Engine<D> {
             return Ok(Turned::Idle);
         }
         match self.progress.commit.turns {
-            0 => match self.write_body() {
-                Ok(()) => Ok(Turned::Went),
-                Err(fault) => Err(fault),
-            },
-            1 => match self.sync_body() {
-                Ok(()) => Ok(Turned::Went),
-                Err(fault) => Err(fault),
-            },
-            2 => match self.write_gate() {
-                Ok(()) => Ok(Turned::Went),
-                Err(fault) => Err(fault),
-            },
-            _ => match self.sync_gate(leaving) {
-                Ok(()) => Ok(Turned::Done),
-                Err(fault) => Err(fault),
-            },
+            0 => {
+                self.write_body()?;
+                Ok(Turned::Went)
+            }
+            1 => {
+                self.sync_body()?;
+                Ok(Turned::Went)
+            }
+            2 => {
+                self.write_gate()?;
+                Ok(Turned::Went)
+            }
+            _ => {
+                self.sync_gate(leaving)?;
+                Ok(Turned::Done)
+            }
         }
     }
 
@@ -203,16 +149,10 @@ impl<D: Disk + Drop> Engine<D> {
         // It is idle with nothing in flight, and done on the fourth turn, and on no other.
         ensures leads { TurnLeads self.old.failed (step_of result leaving.new) self.old.progress self.new.progress }
         ensures rules { self.new.progress.committed.rules ≡ self.old.progress.committed.rules }
-        ensures calls { D.moment self.new.disk ≡ D.moment self.old.disk + turn_calls self.old.failed self.old.progress }
-        ensures asked { self.old.failed ≡ false → Asks result (turn_asks self.old.progress) (D.asked self.old.disk) (D.asked self.new.disk) }
-        // 91 comes only where the device failed in this call, and 93 exactly after a 91.
-        ensures cause { result ≡ Err Fault.Device → D.failures self.old.disk < D.failures self.new.disk }
-        ensures counted { OnOk result (D.failures self.new.disk ≡ D.failures self.old.disk) }
-        // A turn with nothing in flight has no call, nor one after a fault.
+        // At most one call of the device, known beforehand, and how its failure is told.
+        ensures device { OnDevice D.moment D.failures D.asked self.old.disk self.new.disk self.old.failed self.new.failed result (turn_calls self.old.failed self.old.progress) (turn_asks self.old.progress) }
+        // A turn with nothing in flight has no call.
         ensures idle { result ≡ Ok Turned.Idle → self.new.disk ≡ self.old.disk }
-        ensures stays { result ≡ Err Fault.Failed → self.new.disk ≡ self.old.disk }
-        ensures works { OnOk result (self.new.failed ≡ false) }
-        ensures fails { OnErr result (self.new.failed ≡ true) }
     {
         laws_below();
         self.turn(leaving)
@@ -238,24 +178,16 @@ impl<D: Disk + Drop> Engine<D> {
         // It is idle with nothing in flight, and done on the fourth turn, and on no other.
         ensures leads { TurnLeads self.old.failed result self.old.progress self.new.progress }
         ensures rules { self.new.progress.committed.rules ≡ self.old.progress.committed.rules }
-        ensures calls { D.moment self.new.disk ≡ D.moment self.old.disk + turn_calls self.old.failed self.old.progress }
-        // It asks the device for the one call of this turn, whether that succeeds or not.
-        ensures asked { self.old.failed ≡ false → Asks result (turn_asks self.old.progress) (D.asked self.old.disk) (D.asked self.new.disk) }
-        // 91 comes only where the device failed in this call, and 93 exactly after a 91.
-        ensures cause { result ≡ Err Fault.Device → D.failures self.old.disk < D.failures self.new.disk }
-        ensures counted { OnOk result (D.failures self.new.disk ≡ D.failures self.old.disk) }
-        // A turn with nothing in flight has no call, nor one after a fault.
+        // At most one call of the device, known beforehand, and how its failure is told.
+        ensures device { OnDevice D.moment D.failures D.asked self.old.disk self.new.disk self.old.failed self.new.failed result (turn_calls self.old.failed self.old.progress) (turn_asks self.old.progress) }
+        // A turn with nothing in flight has no call.
         ensures idle { result ≡ Ok Step.Idle → self.new.disk ≡ self.old.disk }
-        ensures stays { result ≡ Err Fault.Failed → self.new.disk ≡ self.old.disk }
-        ensures works { OnOk result (self.new.failed ≡ false) }
-        ensures fails { OnErr result (self.new.failed ≡ true) }
     {
         let mut leaving = Answers::new();
-        match self.make_turn(&mut leaving) {
-            Ok(Turned::Idle) => Ok(Step::Idle),
-            Ok(Turned::Went) => Ok(Step::Went),
-            Ok(Turned::Done) => Ok(Step::Done(leaving)),
-            Err(fault) => Err(fault),
+        match self.make_turn(&mut leaving)? {
+            Turned::Idle => Ok(Step::Idle),
+            Turned::Went => Ok(Step::Went),
+            Turned::Done => Ok(Step::Done(leaving)),
         }
     }
 }

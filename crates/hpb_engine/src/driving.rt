@@ -2,7 +2,7 @@
 ghost use Rattle.std.specs.Prelude.{◌≡◌, ◌+◌, ◌*◌, ◌≤◌, ◌++◌, List, [], length, vec_len, vec_capacity, IfOk, IfErr, OnErr};
 ghost use Rattle.hpb_rules.specs.declared.limits.TheConstants.{MOST_LETTERS};
 ghost use Rattle.hpb_rules.specs.Machine.{Machine};
-ghost use Rattle.hpb_progress.specs.Keeping.{Keeps};
+ghost use Rattle.hpb_engine.specs.Keeping.{Keeps};
 ghost use Rattle.hpb_engine.specs.Runs.{HasFailed, Ran, Took, fault_in};
 
 use crate::engine::Engine;

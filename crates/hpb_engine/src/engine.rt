@@ -3,12 +3,12 @@ ghost use Rattle.std.specs.Prelude.{◌≡◌, List, ℕ, length};
 ghost use Rattle.hpb_rules.specs.declared.command.Command.{Command};
 ghost use Rattle.hpb_rules.specs.Machine.{at_rest};
 ghost use Rattle.hpb_image.specs.Standing.{Stands};
-ghost use Rattle.hpb_progress.specs.Keeping.{Keeps};
-ghost use Rattle.hpb_progress.specs.Numbers.{IsSafe, layout_of};
+ghost use Rattle.hpb_engine.specs.Keeping.{Keeps};
+ghost use Rattle.hpb_engine.specs.Numbers.{IsSafe, layout_of};
 
+use crate::Progress;
 use hpb_auction::Auction;
 use hpb_disk::Disk;
-use hpb_progress::Progress;
 
 /// An auction on a device: what is acknowledged, a batch in flight or none, and a checkpoint on its way or none.
 #[derive(Drop)]

@@ -5,12 +5,15 @@
 #![tactic(auto)]
 
 mod begun;
+mod calls;
 mod checkpointing;
 mod committing;
 mod driving;
 mod engine;
 mod event;
+mod laws;
 mod offering;
+mod progress;
 mod retiring;
 mod snapshot;
 mod starting;
@@ -21,4 +24,6 @@ pub use begun::{Begun, Weight};
 pub use driving::{Driven, Run, drive};
 pub use engine::Engine;
 pub use event::Event;
+pub use laws::laws_below;
+pub use progress::{Checkpoint, Commit, Progress, Retirement, Ring};
 pub use step::{Fault, Part, Rest, Step};

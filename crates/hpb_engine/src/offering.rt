@@ -4,18 +4,18 @@ ghost use Rattle.hpb_rules.specs.declared.command.Command.{Command};
 ghost use Rattle.hpb_rules.specs.Letters.{judged, new_commands};
 ghost use Rattle.hpb_rules.specs.Machine.{Machine};
 ghost use Rattle.hpb_rules.specs.Values.{value_after};
-ghost use Rattle.hpb_progress.specs.Keeping.{Inside, Keeps};
-ghost use Rattle.hpb_progress.specs.Steps.{begun};
-ghost use Rattle.hpb_letters.specs.Judging.{judged_in};
+ghost use Rattle.hpb_engine.specs.Keeping.{Inside, Keeps};
+ghost use Rattle.hpb_engine.specs.Moves.{begun};
+ghost use Rattle.hpb_rules.specs.Judging.{judged_in};
 ghost use Rattle.hpb_engine.specs.Offers.{AreJudged, AreOld, HandsBack, StaysUnlessInFlight, Weighs, begun_of, leaving_at, offer_by, weight_of};
 
 use crate::begun::{Begun, Weight};
 use crate::engine::Engine;
+use crate::laws_below;
+use hpb_auction::{accepts_any, judge_letters};
 use hpb_codec::Batch;
 use hpb_disk::Disk;
-use hpb_letters::{accepts_any, judge_letters, judged_is_shown};
-use hpb_progress::laws_below;
-use hpb_rules::{Answers, Letters, MOST_COMMANDS};
+use hpb_rules::{Answers, Letters, MOST_COMMANDS, judged_is_shown};
 
 impl<D: Disk + Drop> Engine<D> {
     /// What would become of letters, were they offered now. Nothing changes, and the device has no call.

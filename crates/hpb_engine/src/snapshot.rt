@@ -3,7 +3,7 @@ ghost use Rattle.std.specs.Prelude.{◌≡◌, ◌≤◌, List, length};
 ghost use Rattle.hpb_rules.specs.declared.command.Command.{Command};
 ghost use Rattle.hpb_rules.specs.AuctionValue.{Shows};
 ghost use Rattle.hpb_codec.specs.declared.state.TheConstants.{STATE_SIZE};
-ghost use Rattle.hpb_progress.specs.Facts.{IsSnapshot};
+ghost use Rattle.hpb_engine.specs.Facts.{IsSnapshot};
 
 use hpb_auction::Auction;
 use hpb_codec::encode_state;

@@ -3,16 +3,16 @@ ghost use Rattle.std.specs.Prelude.{◌≡◌, ◌+◌, List, ℕ, None, false, 
 ghost use Rattle.hpb_rules.specs.declared.command.Command.{Command};
 ghost use Rattle.hpb_rules.specs.Machine.{at_rest};
 ghost use Rattle.hpb_image.specs.Standing.{Stands};
-ghost use Rattle.hpb_progress.specs.Keeping.{Keeps};
+ghost use Rattle.hpb_engine.specs.Keeping.{Keeps};
 ghost use Rattle.hpb_codec.specs.declared.state.TheConstants.{STATE_SIZE};
-ghost use Rattle.hpb_progress.specs.Starting.{IsFresh};
+ghost use Rattle.hpb_engine.specs.Starting.{IsFresh};
 ghost use Rattle.hpb_engine.specs.Starts.{IsStarted};
 
 use crate::engine::Engine;
+use crate::{Checkpoint, Commit, Progress, Retirement, Ring, laws_below};
 use hpb_auction::Auction;
 use hpb_codec::{Batch, STATE_SIZE};
 use hpb_disk::Disk;
-use hpb_progress::{Checkpoint, Commit, Progress, Retirement, Ring, laws_below};
 use hpb_recover::{Opened, Plan};
 use hpb_rules::{Answers, Commands};
 use std::alloc::Global;

@@ -1,18 +1,30 @@
-//! Makes a call that takes memory, at a size of its definition, and again where memory was refused; or runs a script as
-//! `hpb` does, or with a word the lines of a small auction, and ends by a status for each fault.
-//! `examples/refuse-memory` refuses each request for memory in turn, and sees by it that none is told for another.
+//! Makes a call that takes memory, and again where memory was refused; or runs a script as `hpb` does, or with a word the
+//! lines of a small auction, and ends by a status for each fault.
+//!
+//! `examples/refuse-memory` and `examples/refuse-calls` refuse each request for memory in turn, and see by it that none is
+//! told for another.
 #![tactic(auto)]
 
 mod auctions;
+mod calls;
 mod definitions;
+mod engines;
+mod files;
+mod formats;
+mod houses;
+mod memories;
+mod openings;
 mod scripts;
+mod sessions;
+mod starts;
 mod texts;
 
+use crate::calls::tried;
 use crate::scripts::{lines_answered, script_answered};
-use anyhow::{Result, bail};
+use anyhow::Result;
 use hpb_server::Fault;
-use hpb_tried::{Tried, tell};
 use std::process::ExitCode;
+use std::sync::Wait;
 
 const WELL: u8 = 0;
 
@@ -28,7 +40,7 @@ const NOT_TRIED: u8 = 4;
 fn main(rt: HostRuntime) -> ExitCode {
     ExitCode::from(match words(&rt) {
         Err(fault) => status(Err(fault)),
-        Ok(words) => asked(&rt, words.as_slice()),
+        Ok(words) => asked(&rt, &rt, words.as_slice()),
     })
 }
 
@@ -43,15 +55,24 @@ fn words(rt: &HostRuntime) -> Result<Vec<String>, Fault> {
     }
 }
 
-/// Does what the words ask for, and gives the status.
-fn asked(rt: &HostRuntime, words: &[String]) -> u8 {
+/// Does what the words ask for, and gives the status: a script without a word, lines with one; with more the call of this
+/// name, under a definition of so many nodes, over a device of this layout (1 where none is named).
+fn asked<W: Wait>(rt: &HostRuntime, waits: &W, words: &[String]) -> u8 {
     match (words.get(1), words.get(2)) {
         (None, _) => status(script_answered(rt)),
         (Some(_), None) => status(lines_answered(rt)),
-        (Some(call), Some(nodes)) => match tried(rt, call.as_str(), nodes.as_str()) {
-            Ok(()) => WELL,
-            Err(_) => NOT_TRIED,
-        },
+        (Some(call), Some(nodes)) => {
+            let layout = words.get(3).map_or("1", String::as_str);
+            made(tried(rt, waits, call.as_str(), nodes.as_str(), layout))
+        }
+    }
+}
+
+/// The status of a call that was made, whatever came of it.
+fn made(tried: Result<()>) -> u8 {
+    match tried {
+        Ok(()) => WELL,
+        Err(_) => NOT_TRIED,
     }
 }
 
@@ -62,31 +83,5 @@ fn status(answered: Result<(), Fault>) -> u8 {
         Err(Fault::Memory) => NO_MEMORY,
         Err(Fault::Reader) => READER_FAILED,
         Err(Fault::Writer) => WRITER_FAILED,
-    }
-}
-
-/// Makes the call of this name, and writes what came of it.
-fn tried(rt: &HostRuntime, call: &str, nodes: &str) -> Result<()> {
-    let nodes = nodes.parse::<u64>()?;
-    let tried = made(rt, call, nodes)?;
-    tell(rt, &tried)?;
-    Ok(())
-}
-
-/// Makes the call of this name.
-fn made(rt: &HostRuntime, call: &str, nodes: u64) -> Result<Tried> {
-    match call {
-        "check" => definitions::check(rt, nodes),
-        "copy" => definitions::copy(rt, nodes),
-        "read_definition" => definitions::read(rt),
-        "decode_head" => definitions::decode(rt, nodes),
-        "Auction::new" => auctions::new(rt, nodes),
-        "Auction::copy" => auctions::copy(rt, nodes),
-        "run_commands" => auctions::run(rt, nodes),
-        "ResponseText::new" => texts::new(rt),
-        "render" => texts::render(rt, nodes),
-        "run_script" => scripts::run(rt),
-        "serve" => scripts::serve(rt, nodes),
-        _ => bail!("no such call"),
     }
 }

@@ -36,10 +36,7 @@ fn close_if_open<D: Disk>(disk: &mut D, at: usize) -> Result<(), DiskFailed>
     if !gate_is_open(disk, at)? {
         return Ok(());
     }
-    match close_gate(disk, at, true) {
-        Ok(()) => Ok(()),
-        Err(failed) => Err(failed),
-    }
+    close_gate(disk, at, true)
 }
 
 /// Closes the gate of a batch's frame, if it reads open.
@@ -60,10 +57,7 @@ fn close_frame_if_open<D: Disk, F: Frames>(
     if matches!(frames.read_frame(disk, index, definition)?, Frame::Closed) {
         return Ok(());
     }
-    match frames.close_frame(disk, index, true) {
-        Ok(()) => Ok(()),
-        Err(failed) => Err(failed),
-    }
+    frames.close_frame(disk, index, true)
 }
 
 /// Closes the gates of all frames that read open.
@@ -100,10 +94,7 @@ fn close_head_and_slots<D: Disk>(disk: &mut D) -> Result<(), DiskFailed>
     elsewhere_stays();
     close_if_open(disk, HEAD_GATE)?;
     close_if_open(disk, FIRST_GATE)?;
-    match close_if_open(disk, SECOND_GATE) {
-        Ok(()) => Ok(()),
-        Err(failed) => Err(failed),
-    }
+    close_if_open(disk, SECOND_GATE)
 }
 
 /// Closes all gates that read open, and syncs.
@@ -123,8 +114,5 @@ pub(crate) fn close_all<D: Disk, F: Frames>(
     frames.laws();
     close_head_and_slots(disk)?;
     close_frames(disk, frames, definition)?;
-    match disk.sync() {
-        Ok(()) => Ok(()),
-        Err(failed) => Err(failed),
-    }
+    disk.sync()
 }

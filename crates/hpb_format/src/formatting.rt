@@ -40,10 +40,8 @@ fn is_headed<D: Disk>(disk: &mut D) -> Result<bool, DiskFailed>
         return Ok(false);
     }
     let mut magic = [0; MAGIC_BYTES];
-    match disk.read_into(HEAD_AT, &mut magic) {
-        Ok(()) => Ok(has_magic(&magic)),
-        Err(failed) => Err(failed),
-    }
+    disk.read_into(HEAD_AT, &mut magic)?;
+    Ok(has_magic(&magic))
 }
 
 /// The frames of a journal of this shape, if it may have it and a device of this length has room for just these.
@@ -74,10 +72,7 @@ fn settle_and_read<D: Disk>(disk: &mut D) -> Result<bool, DiskFailed>
     ensures asked { Asks result (syncs ∷ []) (D.asked disk.old) (D.asked disk.new) }
 {
     disk.sync()?;
-    match is_headed(disk) {
-        Ok(headed) => Ok(headed),
-        Err(failed) => Err(failed),
-    }
+    is_headed(disk)
 }
 
 /// Formats a device of the length that these frames want.

@@ -42,10 +42,7 @@ fn write_head<D: Disk>(disk: &mut D, head: &[u8]) -> Result<(), DiskFailed>
     elsewhere_stays();
     put_is_read();
     put_is_torn();
-    match disk.write_at(HEAD_AT, head) {
-        Ok(()) => Ok(()),
-        Err(failed) => Err(failed),
-    }
+    disk.write_at(HEAD_AT, head)
 }
 
 /// Writes the body of the first slot.
@@ -87,10 +84,7 @@ fn write_all<D: Disk, F: Frames>(
     chunks_are_whole();
     write_head(disk, head)?;
     write_state(disk, state)?;
-    match disk.sync() {
-        Ok(()) => Ok(()),
-        Err(failed) => Err(failed),
-    }
+    disk.sync()
 }
 
 /// Opens the first slot of a device that is written, and syncs.
@@ -106,10 +100,7 @@ fn open_first<D: Disk, F: Frames>(disk: &mut D, frames: &F) -> Result<(), DiskFa
 {
     frames.laws();
     open_slot(disk, Slot::First)?;
-    match disk.sync() {
-        Ok(()) => Ok(()),
-        Err(failed) => Err(failed),
-    }
+    disk.sync()
 }
 
 /// Writes all but the head's gate of a device whose gates are all closed, and syncs.
@@ -131,10 +122,7 @@ fn write_behind<D: Disk, F: Frames>(
 {
     frames.laws();
     write_all(disk, frames, &new.head, &new.state)?;
-    match open_first(disk, frames) {
-        Ok(()) => Ok(()),
-        Err(failed) => Err(failed),
-    }
+    open_first(disk, frames)
 }
 
 /// Opens the head of a device on which all else stands, and syncs.
@@ -154,10 +142,7 @@ fn open_head<D: Disk, F: Frames>(disk: &mut D, frames: &F) -> Result<(), DiskFai
     put_is_torn();
     open_or_closed();
     open_gate(disk, HEAD_GATE)?;
-    match disk.sync() {
-        Ok(()) => Ok(()),
-        Err(failed) => Err(failed),
-    }
+    disk.sync()
 }
 
 /// Makes a new device of one that isn't headed and has nothing pending: closes all gates that read open, writes what stands
@@ -184,8 +169,5 @@ pub(crate) fn write_new<D: Disk, F: Frames>(
     open_or_closed();
     close_all(disk, frames, definition)?;
     write_behind(disk, frames, new)?;
-    match open_head(disk, frames) {
-        Ok(()) => Ok(()),
-        Err(failed) => Err(failed),
-    }
+    open_head(disk, frames)
 }

@@ -1,5 +1,5 @@
 -- What is so of a keeper stays so at each step.
-use Rattle.std.proofs.Common.{◌≡◌, ℕ, suc, ◌<◌, ◌==◌, Bool, true, false, None, Option, Some, List, [], ◌∷◌, ◌++◌, Ok, Err, Result, refl, sym, ap, ◌∙◌, subst, arith}
+use Rattle.std.proofs.Common.{◌≡◌, ℕ, suc, ◌+◌, ◌<◌, ◌==◌, Bool, true, false, None, Option, Some, List, [], ◌∷◌, ◌++◌, Ok, Err, Result, refl, sym, ap, ◌∙◌, subst, arith}
 use Rattle.std.specs.Prelude.{if◌then◌else◌}
 use Rattle.std.proofs.lemmas.List.{append-nil}
 use Rattle.std.proofs.lemmas.Bool.Decides.{nat_tests}
@@ -12,22 +12,24 @@ use Rattle.hpb_rules.specs.Letters.{judged, new_commands}
 use Rattle.hpb_rules.specs.Machine.{Machine, Effect, Flight, at_rest, in_flight, landed, offered, take_letters, turn, turned as turn_of}
 use Rattle.hpb_rules.specs.Tree.{Rules}
 use Rattle.hpb_rules.specs.Values.{value_after}
-use Rattle.hpb_letters.specs.Judging.{judged_in}
-use Rattle.hpb_letters.specs.Laws.{JudgedIsShown}
+use Rattle.hpb_rules.specs.Judging.{judged_in, value_by, letters_of}
+use Rattle.hpb_rules.specs.LetterLaws.{JudgedIsShown}
 use Rattle.hpb_image.specs.Standing.{Stands}
-use Rattle.hpb_progress.specs.declared.progress.Commit.{Commit}
-use Rattle.hpb_progress.specs.declared.progress.Progress.{Progress}
-use Rattle.hpb_progress.specs.Keeping.{Keeps, flight_of, machine_of}
-use Rattle.hpb_progress.specs.Steps.{begun, turned, acknowledged}
+use Rattle.hpb_engine.specs.declared.progress.Commit.{Commit}
+use Rattle.hpb_engine.specs.declared.progress.Progress.{Progress}
+use Rattle.hpb_engine.specs.Keeping.{Keeps, flight_of, machine_of}
+use Rattle.hpb_engine.specs.Moves.{begun, turned, acknowledged}
 use Rattle.hpb_engine.specs.declared.step.Fault.{Fault}
 use Rattle.hpb_engine.specs.declared.step.Fault.TheVariants as faults
 use Rattle.hpb_engine.specs.declared.step.Step.{Step}
 use Rattle.hpb_engine.specs.declared.step.Step.TheVariants as steps
 use Rattle.hpb_engine.specs.Offers.{AreOld}
 use Rattle.hpb_engine.specs.Steps.{TurnLeads, turn_by}
-use Rattle.hpb_board.specs.Publication.{Publishing, joined, published, value_by}
-use Rattle.hpb_house.specs.Keepers.{Keeping, IsKept, letters_of, pending_of, history_by, machine_by}
-use Rattle.hpb_house.proofs.Leading.{new_lead, lead_rules, lead_one, history_one, judged_letters}
+use Rattle.hpb_board.specs.Publication.{Publishing, published}
+use Rattle.hpb_rules.specs.Fronts.{joined}
+use Rattle.hpb_house.specs.Keepers.{Keeping, IsKept, pending_of, history_by, machine_by}
+use Rattle.hpb_house.proofs.Leading.{lead_one, history_one, judged_letters}
+use Rattle.hpb_rules.proofs.Judged.{new_after, rules_by}
 
 -- ---- machines
 same_machine : (m : Machine) (history : List Command) (flight : Option Flight) → m.acknowledged ≡ history → m.flight ≡ flight → m ≡ record { acknowledged = history; flight = flight }
@@ -95,15 +97,21 @@ went_acknowledged s history busy early =
     ap (λ (m : Machine). (turn true m).machine.acknowledged) (same_machine (machine_of s history) history (Some flight) refl (busy_flight s.commit busy))
     ∙ early_acknowledged history flight not_last
 
+-- what is committed is the same, and so is what is in flight but for its turns
+abbrev pub AreAlike : (s t : Progress) → Type 0
+AreAlike s t = (t.committed ≡ s.committed) × (t.commit.busy ≡ s.commit.busy) × (t.commit.answers ≡ s.commit.answers) × (t.commit.working ≡ s.commit.working)
+
+alike : (s : Progress) {t : Progress} → t ≡ s → AreAlike s t
+alike s e = (ap (λ (p : Progress). p.committed) e, ap (λ (p : Progress). p.commit.busy) e, ap (λ (p : Progress). p.commit.answers) e, ap (λ (p : Progress). p.commit.working) e)
+
 -- a turn whose call fails changes the number of turns alone
-device_same : (s t : Progress) → (s.commit.turns ≡ 2 → t ≡ turned s 3) → ((s.commit.turns ≡ 2 → ⊥) → t ≡ s) → (b : Bool) → (s.commit.turns == 2) ≡ b
-    → (t.committed ≡ s.committed) × (t.commit.busy ≡ s.commit.busy) × (t.commit.answers ≡ s.commit.answers) × (t.commit.working ≡ s.commit.working)
-device_same s t third other true is =
-    let e : t ≡ turned s 3 = third (grind (arith, nat_tests, is)) in
-    (ap (λ (p : Progress). p.committed) e, ap (λ (p : Progress). p.commit.busy) e, ap (λ (p : Progress). p.commit.answers) e, ap (λ (p : Progress). p.commit.working) e)
-device_same s t third other false is =
-    let e : t ≡ s = other (λ two. absurd (grind (arith, nat_tests, is, two))) in
-    (ap (λ (p : Progress). p.committed) e, ap (λ (p : Progress). p.commit.busy) e, ap (λ (p : Progress). p.commit.answers) e, ap (λ (p : Progress). p.commit.working) e)
+device_alike : (s t : Progress) → (s.commit.turns ≡ 2 → t ≡ turned s 3) → ((s.commit.turns ≡ 2 → ⊥) → t ≡ s) → (b : Bool) → (s.commit.turns == 2) ≡ b → AreAlike s t
+device_alike s t third other true is = alike (turned s 3) (third (grind (arith, nat_tests, is)))
+device_alike s t third other false is = alike s (other (λ two. absurd (grind (arith, nat_tests, is, two))))
+
+-- nothing is told of a batch in flight where there is none
+idle : {A : Type 0} {busy : Bool} → busy ≡ false → busy ≡ true → A
+idle free now = absurd (cc (free, now))
 
 -- a step that isn't the last one of a commit
 abbrev pub IsNotDone : Result Step Fault → Type 0
@@ -123,7 +131,7 @@ module _ {D : Type 0} (seen : D → List ℕ) (may_leave : D → List ℕ → Ty
 
   -- the definition of what is committed is that of what was opened
   ruled : (k : Keeping D) → published k.board ≡ k.progress.committed → k.progress.committed.rules ≡ k.board.opened.rules
-  ruled k shown = ap (λ (value : AuctionValue). value.rules) (sym shown) ∙ lead_rules k.board.opened (joined k.board.list)
+  ruled k shown = ap (λ (value : AuctionValue). value.rules) (sym shown) ∙ rules_by k.board.opened (joined k.board.list)
 
   -- letters are answered by the committed auction as they are after the acknowledged commands
   answered_so : JudgedIsShown → (k : Keeping D) → published k.board ≡ k.progress.committed → (history : List Command) → Shows k.progress.committed history → (letters : List Letter)
@@ -131,16 +139,15 @@ module _ {D : Type 0} (seen : D → List ℕ) (may_leave : D → List ℕ → Ty
   answered_so law k shown history shows letters = law k.progress.committed history letters shows ∙ ap (λ (rules : Rules). judged rules history letters) (ruled k shown)
 
   -- what is published and what is in flight stay, and the machine acknowledges nothing
-  pub quiet_kept : {k k' : Keeping D} → IsKept seen may_leave k → k'.image ≡ k.image → k'.board ≡ k.board → k'.progress.committed ≡ k.progress.committed
-      → k'.progress.commit.busy ≡ k.progress.commit.busy → k'.progress.commit.answers ≡ k.progress.commit.answers → k'.progress.commit.working ≡ k.progress.commit.working
+  pub quiet_kept : {k k' : Keeping D} → IsKept seen may_leave k → k'.image ≡ k.image → k'.board ≡ k.board → AreAlike k.progress k'.progress
       → ((history : List Command) → Keeps seen may_leave k.disk k.progress k.failed (machine_by k history)
       → (m : Machine) × (m.acknowledged ≡ (machine_by k history).acknowledged) × Keeps seen may_leave k'.disk k'.progress k'.failed m)
       → IsKept seen may_leave k'
-  quiet_kept {k} {k'} is image board committed busy answers working moves = record {
-    shown = ap published board ∙ (is.shown ∙ sym committed);
-    prepared = ap (λ (b : Publishing). b.pending) board ∙ (is.prepared ∙ same (sym busy) (sym answers));
-    judged = λ now. answers ∙ (is.judged (sym busy ∙ now) ∙ both (sym committed) (sym answers));
-    working = λ now. working ∙ (is.working (sym busy ∙ now) ∙ led (sym committed) (sym answers));
+  quiet_kept {k} {k'} is image board are moves = record {
+    shown = ap published board ∙ (is.shown ∙ sym are.0);
+    prepared = ap (λ (b : Publishing). b.pending) board ∙ (is.prepared ∙ same (sym are.1) (sym are.2));
+    judged = λ now. are.2 ∙ (is.judged (sym are.1 ∙ now) ∙ both (sym are.0) (sym are.2));
+    working = λ now. are.3 ∙ (is.working (sym are.1 ∙ now) ∙ led (sym are.0) (sym are.2));
     keeps = λ history stands.
         let old = is.keeps history (subst (Stands history) image stands) in
         let moved = moves history old in
@@ -163,15 +170,12 @@ module _ {D : Type 0} (seen : D → List ℕ) (may_leave : D → List ℕ → Ty
   started_kept {k} opened list pending free keeps = record {
     shown = ap (λ (l : List (List Letter)). value_by k.board.opened (joined l)) list ∙ opened;
     prepared = pending ∙ sym (free_pending k.progress.commit free);
-    judged = λ busy. absurd (never (sym free ∙ busy));
-    working = λ busy. absurd (never (sym free ∙ busy));
+    judged = λ busy. idle free busy;
+    working = λ busy. idle free busy;
     keeps = λ history stands.
         let e : history ≡ acknowledged_by k history = sym (ap (λ (l : List (List Letter)). history_by k.board.opened.rules history (joined l)) list ∙ append-nil history) in
         kept_as k (at_rest history) (acknowledged_by k history) (keeps history stands) e;
   }
-    where
-      never : false ≡ true → ⊥
-      never e = cc e
 
   -- letters are put in flight
   pub begun_kept : {k k' : Keeping D} (letters : List Letter) → IsKept seen may_leave k → k'.image ≡ k.image
@@ -190,7 +194,7 @@ module _ {D : Type 0} (seen : D → List ℕ) (may_leave : D → List ℕ → Ty
         shown = ap (λ (v : AuctionValue). value_by v (joined k'.board.list)) opened ∙ (ap (λ (l : List (List Letter)). value_by k.board.opened (joined l)) list ∙ (is.shown ∙ sym committed));
         prepared = pending ∙ sym (busy_pending k'.progress.commit busy ∙ ap (λ (l : List Letter). l ∷ []) own);
         judged = λ now. answers ∙ (ap (λ (v : AuctionValue). judged_in v letters) (sym committed) ∙ ap (judged_in k'.progress.committed) (sym own));
-        working = λ now. working ∙ (new_lead k.progress.committed letters ∙ (ap (λ (v : AuctionValue). value_by v letters) (sym committed) ∙ ap (value_by k'.progress.committed) (sym own)));
+        working = λ now. working ∙ (new_after k.progress.committed letters ∙ (ap (λ (v : AuctionValue). value_by v letters) (sym committed) ∙ ap (value_by k'.progress.committed) (sym own)));
         keeps = λ history stands.
             let old = is.keeps history (subst (Stands history) image stands) in
             let m = machine_by k history in
@@ -201,6 +205,29 @@ module _ {D : Type 0} (seen : D → List ℕ) (may_leave : D → List ℕ → Ty
             kept_as k' (take_letters k.progress.committed.rules m letters).machine (acknowledged_by k' history) (keeps m old) e;
       }
 
+  -- one batch more is published, and nothing is in flight
+  grown_kept : JudgedJoin → {k k' : Keeping D} (letters : List Letter) → IsKept seen may_leave k → k'.image ≡ k.image
+      → k'.board.opened ≡ k.board.opened → k'.board.list ≡ k.board.list ++ letters ∷ [] → k'.board.pending ≡ [] → k'.progress.commit.busy ≡ false
+      → value_by k.progress.committed letters ≡ k'.progress.committed
+      → ((history : List Command) → Keeps seen may_leave k.disk k.progress k.failed (machine_by k history)
+      → (m : Machine) × (m.acknowledged ≡ acknowledged_by k history ++ new_commands (judged k.board.opened.rules (acknowledged_by k history) letters))
+      × Keeps seen may_leave k'.disk k'.progress k'.failed m)
+      → IsKept seen may_leave k'
+  grown_kept join {k} {k'} letters is image opened list pending free leads moves = record {
+    shown = ap (λ (v : AuctionValue). value_by v (joined k'.board.list)) opened
+        ∙ (ap (λ (l : List (List Letter)). value_by k.board.opened (joined l)) list
+        ∙ (lead_one k.board.opened k.board.list letters ∙ (ap (λ (v : AuctionValue). value_by v letters) is.shown ∙ leads)));
+    prepared = pending ∙ sym (free_pending k'.progress.commit free);
+    judged = λ busy. idle free busy;
+    working = λ busy. idle free busy;
+    keeps = λ history stands.
+        let moved = moves history (is.keeps history (subst (Stands history) image stands)) in
+        let e : acknowledged_by k' history ≡ acknowledged_by k history ++ new_commands (judged k.board.opened.rules (acknowledged_by k history) letters) =
+        ap (λ (v : AuctionValue). history_by v.rules history (joined k'.board.list)) opened
+        ∙ (ap (λ (l : List (List Letter)). history_by k.board.opened.rules history (joined l)) list ∙ history_one join k.board.opened.rules history k.board.list letters) in
+        kept_as k' moved.0 (acknowledged_by k' history) moved.2 (moved.1 ∙ sym e);
+  }
+
   -- letters of which none is new are answered at once
   pub answered_kept : JudgedIsShown → JudgedJoin → {k k' : Keeping D} (letters : List Letter) → IsKept seen may_leave k → k'.image ≡ k.image
       → k'.board.opened ≡ k.board.opened → k'.board.list ≡ k.board.list ++ letters ∷ [] → k'.board.pending ≡ []
@@ -209,31 +236,17 @@ module _ {D : Type 0} (seen : D → List ℕ) (may_leave : D → List ℕ → Ty
       → Keeps seen may_leave k'.disk k'.progress k'.failed (take_letters k.progress.committed.rules machine letters).machine)
       → IsKept seen may_leave k'
   answered_kept shown_law join {k} {k'} letters is image opened list pending same free old keeps =
-      let committed : k.progress.committed ≡ k'.progress.committed = ap (λ (s : Progress). s.committed) (sym same) in
-      let stays : value_by k.progress.committed letters ≡ k.progress.committed = sym (new_lead k.progress.committed letters) ∙ ap (value_after k.progress.committed) old in
-      record {
-        shown = ap (λ (v : AuctionValue). value_by v (joined k'.board.list)) opened
-            ∙ (ap (λ (l : List (List Letter)). value_by k.board.opened (joined l)) list
-            ∙ (lead_one k.board.opened k.board.list letters ∙ (ap (λ (v : AuctionValue). value_by v letters) is.shown ∙ (stays ∙ committed))));
-        prepared = pending ∙ sym (free_pending k'.progress.commit free);
-        judged = λ busy. absurd (never (sym free ∙ busy));
-        working = λ busy. absurd (never (sym free ∙ busy));
-        keeps = λ history stands.
-            let before = is.keeps history (subst (Stands history) image stands) in
-            let none : new_commands (judged k.board.opened.rules (acknowledged_by k history) letters) ≡ [] =
-            ap new_commands (sym (answered_so shown_law k is.shown (acknowledged_by k history) before.shows letters)) ∙ old in
-            let e : acknowledged_by k history ≡ acknowledged_by k' history = sym (
-            ap (λ (v : AuctionValue). history_by v.rules history (joined k'.board.list)) opened
-            ∙ (ap (λ (l : List (List Letter)). history_by k.board.opened.rules history (joined l)) list
-            ∙ (history_one join k.board.opened.rules history k.board.list letters
-            ∙ (ap (λ (commands : List Command). acknowledged_by k history ++ commands) none ∙ append-nil (acknowledged_by k history))))) in
-            let m = machine_by k history in
-            kept_as k' (take_letters k.progress.committed.rules m letters).machine (acknowledged_by k' history) (keeps m before)
-            (taken_acknowledged k.progress.committed.rules m letters ∙ e);
-      }
-    where
-      never : false ≡ true → ⊥
-      never e = cc e
+      let stays : value_by k.progress.committed letters ≡ k.progress.committed = sym (new_after k.progress.committed letters) ∙ ap (value_after k.progress.committed) old in
+      grown_kept join letters is image opened list pending free (stays ∙ ap (λ (s : Progress). s.committed) (sym same))
+      (λ history before.
+      let m = machine_by k history in
+      let none : new_commands (judged k.board.opened.rules (acknowledged_by k history) letters) ≡ [] =
+      ap new_commands (sym (answered_so shown_law k is.shown (acknowledged_by k history) before.shows letters)) ∙ old in (
+        (take_letters k.progress.committed.rules m letters).machine,
+        taken_acknowledged k.progress.committed.rules m letters
+            ∙ sym (ap (λ (commands : List Command). acknowledged_by k history ++ commands) none ∙ append-nil (acknowledged_by k history)),
+        keeps m before,
+      ))
 
   -- the batch in flight is acknowledged
   pub done_kept : JudgedIsShown → JudgedJoin → {k k' : Keeping D} → IsKept seen may_leave k → k'.image ≡ k.image
@@ -244,36 +257,18 @@ module _ {D : Type 0} (seen : D → List ℕ) (may_leave : D → List ℕ → Ty
   done_kept shown_law join {k} {k'} is image opened list pending busy turns next keeps =
       let letters = letters_of k.progress.commit.answers in
       let grown : k'.board.list ≡ k.board.list ++ letters ∷ [] = list ∙ ap (λ (l : List (List Letter)). k.board.list ++ l) (is.prepared ∙ busy_pending k.progress.commit busy) in
-      let free : k'.progress.commit.busy ≡ false = ap (λ (s : Progress). s.commit.busy) next in
-      record {
-        shown = ap (λ (v : AuctionValue). value_by v (joined k'.board.list)) opened
-            ∙ (ap (λ (l : List (List Letter)). value_by k.board.opened (joined l)) grown
-            ∙ (lead_one k.board.opened k.board.list letters ∙ (ap (λ (v : AuctionValue). value_by v letters) is.shown
-            ∙ (sym (is.working busy) ∙ sym (ap (λ (s : Progress). s.committed) next)))));
-        prepared = pending ∙ sym (free_pending k'.progress.commit free);
-        judged = λ now. absurd (never (sym free ∙ now));
-        working = λ now. absurd (never (sym free ∙ now));
-        keeps = λ history stands.
-            let before = is.keeps history (subst (Stands history) image stands) in
-            let m = machine_by k history in
-            let flight : Flight = record { answers = k.progress.commit.answers; turns = k.progress.commit.turns } in
-            let at : m ≡ record { acknowledged = acknowledged_by k history; flight = Some flight } =
-            same_machine m (acknowledged_by k history) (Some flight) refl (busy_flight k.progress.commit busy) in
-            let is_last : (flight.turns == landed) ≡ true = grind (arith, nat_tests, turns) in
-            let gives : (turn true m).machine.acknowledged ≡ acknowledged_by k history ++ new_commands k.progress.commit.answers =
-            ap (λ (n : Machine). (turn true n).machine.acknowledged) at ∙ last_acknowledged (acknowledged_by k history) flight is_last in
-            let so : k.progress.commit.answers ≡ judged k.board.opened.rules (acknowledged_by k history) letters =
-            is.judged busy ∙ answered_so shown_law k is.shown (acknowledged_by k history) before.shows letters in
-            let e : acknowledged_by k' history ≡ acknowledged_by k history ++ new_commands k.progress.commit.answers =
-            ap (λ (v : AuctionValue). history_by v.rules history (joined k'.board.list)) opened
-            ∙ (ap (λ (l : List (List Letter)). history_by k.board.opened.rules history (joined l)) grown
-            ∙ (history_one join k.board.opened.rules history k.board.list letters
-            ∙ ap (λ (answers : List Answer). acknowledged_by k history ++ new_commands answers) (sym so))) in
-            kept_as k' (turn true m).machine (acknowledged_by k' history) (keeps m before) (gives ∙ sym e);
-      }
-    where
-      never : false ≡ true → ⊥
-      never e = cc e
+      grown_kept join letters is image opened grown pending (ap (λ (s : Progress). s.commit.busy) next) (sym (is.working busy) ∙ sym (ap (λ (s : Progress). s.committed) next))
+      (λ history before.
+      let m = machine_by k history in
+      let flight : Flight = record { answers = k.progress.commit.answers; turns = k.progress.commit.turns } in
+      let at : m ≡ record { acknowledged = acknowledged_by k history; flight = Some flight } =
+      same_machine m (acknowledged_by k history) (Some flight) refl (busy_flight k.progress.commit busy) in
+      let is_last : (flight.turns == landed) ≡ true = grind (arith, nat_tests, turns) in
+      let gives : (turn true m).machine.acknowledged ≡ acknowledged_by k history ++ new_commands k.progress.commit.answers =
+      ap (λ (n : Machine). (turn true n).machine.acknowledged) at ∙ last_acknowledged (acknowledged_by k history) flight is_last in
+      let so : k.progress.commit.answers ≡ judged k.board.opened.rules (acknowledged_by k history) letters =
+      is.judged busy ∙ answered_so shown_law k is.shown (acknowledged_by k history) before.shows letters in
+      ((turn true m).machine, gives ∙ ap (λ (answers : List Answer). acknowledged_by k history ++ new_commands answers) so, keeps m before))
 
   -- a turn that isn't the last one
   pub turned_kept : {k k' : Keeping D} (result : Result Step Fault) → IsNotDone result → IsKept seen may_leave k → k'.image ≡ k.image → k'.board ≡ k.board
@@ -281,25 +276,14 @@ module _ {D : Type 0} (seen : D → List ℕ) (may_leave : D → List ℕ → Ty
       → ((machine : Machine) → Keeps seen may_leave k.disk k.progress k.failed machine → Keeps seen may_leave k'.disk k'.progress k'.failed (turn_by result machine).machine)
       → IsKept seen may_leave k'
   turned_kept {k} {k'} (Ok steps.Idle) not is image board leads keeps =
-      quiet_kept is image board (at leads.2 (λ s. s.committed)) (at leads.2 (λ s. s.commit.busy)) (at leads.2 (λ s. s.commit.answers)) (at leads.2 (λ s. s.commit.working))
+      quiet_kept is image board (alike k.progress leads.2)
       (λ history old. ((turn true (machine_by k history)).machine, idle_acknowledged k.progress (acknowledged_by k history) leads.1, keeps (machine_by k history) old))
-    where
-      at : {A : Type 0} {s t : Progress} → t ≡ s → (f : Progress → A) → f t ≡ f s
-      at e f = ap f e
   turned_kept {k} {k'} (Ok steps.Went) not is image board leads keeps =
-      quiet_kept is image board (at leads.3 (λ s. s.committed)) (at leads.3 (λ s. s.commit.busy)) (at leads.3 (λ s. s.commit.answers)) (at leads.3 (λ s. s.commit.working))
+      quiet_kept is image board (alike (turned k.progress (k.progress.commit.turns + 1)) leads.3)
       (λ history old. ((turn true (machine_by k history)).machine, went_acknowledged k.progress (acknowledged_by k history) leads.1 leads.2, keeps (machine_by k history) old))
-    where
-      at : {A : Type 0} {s t : Progress} → t ≡ s → (f : Progress → A) → f t ≡ f s
-      at e f = ap f e
   turned_kept (Ok (steps.Done answers)) not is image board leads keeps = absurd not
   turned_kept {k} {k'} (Err faults.Device) not is image board leads keeps =
-      let same = device_same k.progress k'.progress leads.2 leads.3 (k.progress.commit.turns == 2) refl in
-      quiet_kept is image board same.0 same.1 same.2 same.3
+      quiet_kept is image board (device_alike k.progress k'.progress leads.2 leads.3 (k.progress.commit.turns == 2) refl)
       (λ history old. ((turn false (machine_by k history)).machine, failed_acknowledged (machine_by k history), keeps (machine_by k history) old))
   turned_kept {k} {k'} (Err faults.Failed) not is image board leads keeps =
-      quiet_kept is image board (at leads.1 (λ s. s.committed)) (at leads.1 (λ s. s.commit.busy)) (at leads.1 (λ s. s.commit.answers)) (at leads.1 (λ s. s.commit.working))
-      (λ history old. (machine_by k history, refl, keeps (machine_by k history) old))
-    where
-      at : {A : Type 0} {s t : Progress} → t ≡ s → (f : Progress → A) → f t ≡ f s
-      at e f = ap f e
+      quiet_kept is image board (alike k.progress leads.1) (λ history old. (machine_by k history, refl, keeps (machine_by k history) old))

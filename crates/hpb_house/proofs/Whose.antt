@@ -4,7 +4,7 @@ use Rattle.std.specs.List.{All, range_with_len}
 use Rattle.std.proofs.lemmas.List.{get_or-map, length-map}
 use Rattle.std.proofs.lemmas.List.FromFn.{get_or-range_with_len, length-range_with_len}
 use Rattle.hpb_board.specs.Publication.{Viewing}
-use Rattle.hpb_closing.specs.Reports.{AreApart}
+use Rattle.hpb_house.specs.Reports.{AreApart}
 use Rattle.hpb_house.specs.Boards.{SameBoard}
 use Rattle.hpb_house.specs.Clients.{AreReportsOf, IsReportOf}
 use Rattle.hpb_house.specs.Starts.{AreBegun, AreOneByOne}

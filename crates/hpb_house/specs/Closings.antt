@@ -1,6 +1,6 @@
 -- What a closed house leaves.
 -- Source: this project's own.
-use Rattle.std.specs.Prelude.{◌≡◌, ◌⊎◌, ℕ, false, List, [], ◌∷◌, ◌++◌, All, Option, Some, None, length}
+use Rattle.std.specs.Prelude.{◌≡◌, ◌≢◌, ◌⊎◌, ℕ, Bool, false, List, [], ◌∷◌, ◌++◌, All, Option, Some, None}
 use mathlib.Core.List.{IsPrefix}
 use Rattle.logbook.specs.declared.tokens.Seen.{Seen}
 use Rattle.hpb_rules.specs.declared.command.Command.{Command}
@@ -9,14 +9,15 @@ use Rattle.hpb_rules.specs.declared.letter.Letter.{Letter}
 use Rattle.hpb_rules.specs.AuctionValue.{AuctionValue, Shows}
 use Rattle.hpb_rules.specs.Letters.{new_commands}
 use Rattle.hpb_image.specs.Standing.{Stands}
-use Rattle.hpb_letters.specs.Judging.{judged_in}
-use Rattle.hpb_board.specs.Publication.{joined, value_by}
+use Rattle.hpb_rules.specs.Judging.{judged_in, value_by, letters_of}
+use Rattle.hpb_rules.specs.Fronts.{joined}
 use Rattle.hpb_rings.specs.declared.report.Report.{Report}
-use Rattle.hpb_closing.specs.Histories.{history_in, history_of}
-use Rattle.hpb_closing.specs.Reports.{total}
+use Rattle.hpb_board.specs.Publication.{auction_of}
+use Rattle.hpb_house.specs.Histories.{history_in}
+use Rattle.hpb_house.specs.Keepers.{IsTold}
+use Rattle.hpb_house.specs.Reports.{Agree, AreCounts, TakenOnce}
 use Rattle.hpb_house.specs.declared.closing.CloseFault.{CloseFault}
 use Rattle.hpb_house.specs.declared.closing.Closing.{Closing}
-use Rattle.hpb_house.specs.Keepers.{letters_of}
 
 -- **What a closed house leaves.** A device that was opened with some bytes keeps, for each history that these stood for, that history and then some
 -- commands, which the committed auction shows. What is read of it now, and whatever a crash may leave of it, stands for these, or for these and then
@@ -56,16 +57,31 @@ pub record IsListed {A P : Type 0} (opened auction : AuctionValue) (in_flight : 
   pub followed : All (λ r. r.viewer.book ≡ whole.book) reports
   pub entered : All (λ r. IsPrefix r.viewer.list whole.log) reports
 
--- What a house leaves is what its reports show: the commands of the published list are the history of each report, and there are as many as newly accepted answers that were taken. With no report there are none. Besides them the device may keep those of the batch in flight, which there is only where a call of the device has failed.
-pub record LeavesShown {D : Type 0} (seen : D → List ℕ) (may_leave : D → List ℕ → Type 0) (image : List ℕ) (opened : AuctionValue) (closing : Closing D) (reports : List Report) : Type 0 where
-  pub leaves : Leaves seen may_leave image closing.disk closing.auction (history_in opened closing.published.log) (commands_of closing.in_flight)
-  pub rest : closing.has_failed ≡ false → closing.in_flight ≡ None
-  pub shown : All (λ r. history_of r.viewer ≡ history_in opened closing.published.log) reports
-  pub counted : total reports ≡ length (history_in opened closing.published.log)
-  pub listed : IsListed opened closing.auction closing.in_flight closing.published closing.whole reports
+-- What a house hands back, however it is closed.
+pub record GivesBack {D A P : Type 0} (seen : D → List ℕ) (may_leave : D → List ℕ → Type 0) (fails : D → ℕ) (image : List ℕ) (failures : ℕ) (opened : AuctionValue) (disk : D) (auction : AuctionValue) (has_failed : Bool) (in_flight : Option (List Answer)) (published whole : Seen (List Letter) A P) (reports : List Report) : Type 0 where
+  -- The device keeps each history that it stood for when it was opened, and then the commands of the published list. It may keep those of the batch in flight besides, and nothing else.
+  pub leaves : Leaves seen may_leave image disk auction (history_in opened published.log) (commands_of in_flight)
+  -- That list, the batch in flight, and all that each report has entered are on one list.
+  pub listed : IsListed opened auction in_flight published whole reports
+  -- Whether a call of the device has failed since it was opened is told, exactly.
+  pub told : IsTold has_failed failures (fails disk)
 
--- What a house leaves isn't what its reports show. The device keeps the commands of the published list, and then may keep those of the batch in flight.
-pub record LeavesUnsettled {D : Type 0} (seen : D → List ℕ) (may_leave : D → List ℕ → Type 0) (image : List ℕ) (opened : AuctionValue) (fault : CloseFault D) (reports : List Report) : Type 0 where
-  pub leaves : Leaves seen may_leave image fault.disk fault.auction (history_in opened fault.published.log) (commands_of fault.in_flight)
-  pub counted : fault.counts.committed ≡ length (history_in opened fault.published.log)
-  pub listed : IsListed opened fault.auction fault.in_flight fault.published fault.whole reports
+-- What is so where a house closes without a fault. With no report the device keeps what it stood for.
+pub record Closed {D : Type 0} (seen : D → List ℕ) (may_leave : D → List ℕ → Type 0) (fails : D → ℕ) (image : List ℕ) (failures : ℕ) (opened : AuctionValue) (closing : Closing D) (reports : List Report) : Type 0 where
+  -- All reports show the committed auction, and have one history, that of the published list.
+  pub agree : Agree opened closing.auction closing.published.log reports
+  -- The answers newly accepted are its commands, each once.
+  pub once : TakenOnce reports
+  -- Nothing is in flight, unless a call of the device has failed.
+  pub rest : closing.has_failed ≡ false → closing.in_flight ≡ None
+  -- The device keeps what the reports show, and what may be in flight.
+  pub back : GivesBack seen may_leave fails image failures opened closing.disk closing.auction closing.has_failed closing.in_flight closing.published closing.whole reports
+
+-- What is so where a house is refused with 96.
+pub record Unsettled {D : Type 0} (seen : D → List ℕ) (may_leave : D → List ℕ → Type 0) (fails : D → ℕ) (image : List ℕ) (failures : ℕ) (opened : AuctionValue) (fault : CloseFault D) (reports : List Report) : Type 0 where
+  -- The two numbers that are told are those of the reports and of the published list.
+  pub counts : AreCounts opened fault.auction fault.published.log reports fault.counts
+  -- With nothing in flight, and each report of the committed auction, they differ.
+  pub only : (fault.has_failed ≡ false → fault.in_flight ≡ None) → All (λ r. auction_of r.viewer ≡ fault.auction) reports → fault.counts.accepted ≢ fault.counts.committed
+  -- The device keeps what was committed, and what may be in flight.
+  pub back : GivesBack seen may_leave fails image failures opened fault.disk fault.auction fault.has_failed fault.in_flight fault.published fault.whole reports

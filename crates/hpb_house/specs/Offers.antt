@@ -4,7 +4,7 @@ use Rattle.std.specs.Prelude.{◌≡◌, ◌⊎◌, List, [], ◌∷◌, ◌++�
 use Rattle.hpb_rules.specs.declared.letter.Letter.{Letter}
 use Rattle.hpb_rules.specs.Machine.{Machine, take_letters}
 use Rattle.hpb_rules.specs.Tree.{Rules}
-use Rattle.hpb_letters.specs.Judging.{judged_in}
+use Rattle.hpb_rules.specs.Judging.{judged_in}
 use Rattle.hpb_engine.specs.declared.begun.Weight.TheVariants as weights
 use Rattle.hpb_engine.specs.declared.step.Fault.{Fault}
 use Rattle.hpb_engine.specs.declared.step.Step.{Step}

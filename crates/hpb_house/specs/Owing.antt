@@ -3,7 +3,7 @@
 use Rattle.std.specs.Prelude.{◌≡◌, ℕ, List, ◌++◌}
 use Rattle.hpb_rules.specs.declared.command.Command.{Command}
 use Rattle.hpb_rules.specs.declared.letter.Letter.{Letter}
-use Rattle.hpb_board.specs.Publication.{joined}
+use Rattle.hpb_rules.specs.Fronts.{joined}
 use Rattle.hpb_rings.specs.Gathering.{at_seat, of_seat}
 
 -- **What is owed of letters that came.** All that came of each seat is on the list, in order and once, and then what is held.

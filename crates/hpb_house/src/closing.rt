@@ -1,26 +1,22 @@
 //! Closing a house.
-ghost use Rattle.std.specs.Prelude.{◌≡◌, ◌≢◌, ◌-◌, ◌^◌, ◌++◌, [], true, false, List, None, All, IfOk, IfErr, IsPermutation, MatchResult, OnOk, flat_map, length, map, min};
-ghost use Rattle.hpb_rules.specs.declared.command.Command.{Command};
+ghost use Rattle.std.specs.Prelude.{◌≡◌, ◌≢◌, [], false, None, All, IfOk, IfErr, MatchResult, OnOk};
 ghost use Rattle.hpb_rules.specs.declared.refusal.Refusal.TheVariants as refusals;
-ghost use Rattle.hpb_rules.specs.AuctionValue.{Shows};
-ghost use Rattle.hpb_rules.specs.Letters.{new_commands};
-ghost use Rattle.hpb_board.specs.Publication.{answers_of, auction_of};
-ghost use Rattle.hpb_closing.specs.Histories.{history_in, history_of};
-ghost use Rattle.hpb_closing.specs.Reports.{AreApart, OnlyGrew, accepted_by, book_of, opened_of, said, total};
+ghost use Rattle.hpb_board.specs.Publication.{auction_of};
+ghost use Rattle.hpb_house.specs.Boards.{SameBoard};
+ghost use Rattle.hpb_house.specs.Reports.{Agree, AreCounts, Viewed};
 ghost use Rattle.hpb_house.specs.Clients.{AreReportsOf};
-ghost use Rattle.hpb_house.specs.Closings.{LeavesShown, LeavesUnsettled};
-ghost use Rattle.hpb_house.specs.Keepers.{IsTold};
+ghost use Rattle.hpb_house.specs.Closings.{Closed, GivesBack, Unsettled};
+ghost use Rattle.hpb_house.specs.Keepers.{in_flight_of};
 
 use crate::house::House;
 use crate::keeper::{Keeper, Remains};
 use crate::naming::Naming;
+use crate::{Counts, compare, count, view_each, whole_trail};
 use hpb_auction::Auction;
 use hpb_board::{Trail, Viewer};
-use hpb_closing::{Counts, compare, count, whole_trail};
 use hpb_disk::Disk;
-use hpb_letters::judged_is_shown;
 use hpb_rings::Report;
-use hpb_rules::{Answers, Refusal};
+use hpb_rules::{Answers, Refusal, judged_is_shown};
 use std::sync::Wait;
 
 /// What a house leaves.
@@ -81,66 +77,59 @@ impl<D: Disk + Drop, W: Wait + Drop, J: Naming> House<D, W, J> {
     pub fn close(self, reports: &mut [Report]) -> Result<Closing<D>, CloseFault<D>>
         requires clients { AreReportsOf J.clients reports.old }
         // What was sent and taken stays as it was told, and each list that was seen begins the one that is seen now.
-        ensures said { map said reports.new ≡ map said reports.old }
-        ensures book { map book_of reports.new ≡ map book_of reports.old }
-        ensures opened { map opened_of reports.new ≡ map opened_of reports.old }
-        ensures later { OnlyGrew reports.old reports.new }
-        // All show the committed auction.
-        ensures shown { IfOk result (λ closing. All (λ r. auction_of r.viewer ≡ closing.auction) reports.new) }
-        // All have one history, which goes on from what was opened.
-        ensures history { OnOk result (All (λ r. All (λ s. history_of r.viewer ≡ history_of s.viewer) reports.new) reports.new) }
-        ensures continued { IfOk result (λ closing. (front : List Command) → Shows self.opened front → All (λ r. Shows closing.auction (front ++ history_of r.viewer)) reports.new) }
-        // The answers newly accepted are its commands, each once.
-        ensures counted { OnOk result (All (λ r. total reports.new ≡ length (history_of r.viewer)) reports.new) }
-        ensures taken { OnOk result (All (λ r. accepted_by r ≡ new_commands (answers_of r.seat r.viewer)) reports.new) }
-        ensures once { OnOk result (All (λ r. IsPermutation (flat_map accepted_by reports.new) (history_of r.viewer)) reports.new) }
-        ensures numbers { IfOk result (λ closing. total reports.new ≡ closing.auction.count - self.opened.count) }
-        // The device keeps each history that it stood for when it was opened, and then the reports' one history; where
-        // a call of it failed it may keep the batch in flight, too, and nothing else.
-        ensures kept { IfOk result (λ closing. LeavesShown D.seen D.may_leave J.image self.opened closing reports.new) }
-        // At 96 too it keeps these, and then the commands committed since, which are those of the house's list.
-        ensures left { IfErr result (λ fault. LeavesUnsettled D.seen D.may_leave J.image self.opened fault reports.new) }
+        ensures viewed { Viewed reports.old reports.new }
+        // All reports show the committed auction, and have one history, whose commands are those of their newly accepted
+        // answers, each once. The device keeps what it stood for and then that history; where a call of it failed it may
+        // keep the batch in flight, too, and nothing else.
+        ensures closed { IfOk result (λ closing. Closed D.seen D.may_leave D.failures J.image J.failures self.opened closing reports.new) }
+        // At 96 too it keeps what it stood for, and then the commands committed since.
+        ensures unsettled { IfErr result (λ fault. Unsettled D.seen D.may_leave D.failures J.image J.failures self.opened fault reports.new) }
+        // The list that is handed back is the house's.
         ensures list { MatchResult result (λ closing. closing.whole.book ≡ self.book) (λ fault. fault.whole.book ≡ self.book) }
-        // What is told of failed calls is so of the device.
-        ensures told { MatchResult result (λ closing. IsTold closing.has_failed J.failures (D.failures closing.disk)) (λ fault. IsTold fault.has_failed J.failures (D.failures fault.disk)) }
-        // The numbers that are told.
-        ensures accepted { IfErr result (λ fault. fault.counts.accepted ≡ min (total reports.new) (2 ^ 64 - 1)) }
-        ensures committed { IfErr result (λ fault. fault.counts.committed ≡ fault.auction.count - self.opened.count) }
-        // With nothing in flight, and each report of the committed auction, they differ.
-        ensures only { IfErr result (λ fault. (fault.has_failed ≡ false → fault.in_flight ≡ None) → All (λ r. auction_of r.viewer ≡ fault.auction) reports.new → fault.counts.accepted ≢ fault.counts.committed) }
     {
         let House { keeper, eye, .. } = self;
         let keeper = keeper.into_inner().keeper();
-        keeper.facts();
-        judged_is_shown();
-        let has_failed = keeper.has_failed();
         let settled = settle(reports, &keeper, &eye);
-        let published = keeper.trail();
-        let whole = whole_trail(reports, &keeper.front().trail);
-        let Remains {
-            disk,
-            committed: auction,
-            in_flight,
-        } = keeper.finish();
+        let closing = leave(keeper, reports);
         match settled {
-            Ok(()) => Ok(Closing {
-                disk,
-                auction,
-                has_failed,
-                in_flight,
-                published,
-                whole,
-            }),
+            Ok(()) => Ok(closing),
             Err(counts) => Err(CloseFault {
-                disk,
-                auction,
-                has_failed,
-                in_flight,
-                published,
-                whole,
+                disk: closing.disk,
+                auction: closing.auction,
+                has_failed: closing.has_failed,
+                in_flight: closing.in_flight,
+                published: closing.published,
+                whole: closing.whole,
                 counts,
             }),
         }
+    }
+}
+
+/// What a keeper leaves at its end, with a list that goes on to all that these reports have entered.
+fn leave<D: Disk + Drop, W: Wait + Drop>(keeper: Keeper<D, W>, reports: &[Report]) -> Closing<D>
+    requires { All (λ r. r.viewer.book ≡ keeper.board.book) reports.now }
+    ensures back { GivesBack D.seen D.may_leave D.failures keeper.image keeper.before keeper.board.opened result.disk result.auction result.has_failed result.in_flight result.published result.whole reports.now }
+    ensures list { (result.published.log ≡ keeper.board.list) × (result.whole.book ≡ keeper.board.book) }
+    ensures same { (result.auction ≡ keeper.progress.committed) × (result.has_failed ≡ keeper.failed) × (result.in_flight ≡ in_flight_of keeper.progress.commit) }
+{
+    keeper.facts();
+    judged_is_shown();
+    let has_failed = keeper.has_failed();
+    let published = keeper.trail();
+    let whole = whole_trail(reports, &keeper.front().trail);
+    let Remains {
+        disk,
+        committed: auction,
+        in_flight,
+    } = keeper.finish();
+    Closing {
+        disk,
+        auction,
+        has_failed,
+        in_flight,
+        published,
+        whole,
     }
 }
 
@@ -150,38 +139,20 @@ fn settle<D: Disk + Drop, W: Wait + Drop>(
     keeper: &Keeper<D, W>,
     eye: &Viewer,
 ) -> Result<(), Counts>
-    requires book { All (λ r. r.viewer.book ≡ eye.now.book) reports.old }
-    requires opened { All (λ r. r.viewer.opened ≡ eye.now.opened) reports.old }
+    requires board { All (λ r. SameBoard eye.now r.viewer) reports.old }
     requires fresh { eye.now.list ≡ [] }
-    requires board { (keeper.now.board.book ≡ eye.now.book) × (keeper.now.board.opened ≡ eye.now.opened) }
-    ensures said { map said reports.new ≡ map said reports.old }
-    ensures book { map book_of reports.new ≡ map book_of reports.old }
-    ensures opened { map opened_of reports.new ≡ map opened_of reports.old }
-    ensures later { OnlyGrew reports.old reports.new }
-    ensures rest { OnOk result (keeper.now.failed ≡ false → keeper.now.progress.commit.busy ≡ false) }
-    ensures shown { OnOk result (All (λ r. auction_of r.viewer ≡ keeper.now.progress.committed) reports.new) }
-    ensures history { OnOk result (All (λ r. All (λ s. history_of r.viewer ≡ history_of s.viewer) reports.new) reports.new) }
-    ensures whole { OnOk result (All (λ r. history_of r.viewer ≡ history_in eye.now.opened keeper.now.board.list) reports.new) }
-    ensures continued { OnOk result ((front : List Command) → Shows eye.now.opened front → All (λ r. Shows keeper.now.progress.committed (front ++ history_of r.viewer)) reports.new) }
-    ensures counted { OnOk result (All (λ r. total reports.new ≡ length (history_of r.viewer)) reports.new) }
-    ensures summed { OnOk result (total reports.new ≡ length (history_in eye.now.opened keeper.now.board.list)) }
-    ensures taken { OnOk result (AreApart reports.old → All (λ r. accepted_by r ≡ new_commands (answers_of r.seat r.viewer)) reports.new) }
-    ensures once { OnOk result (AreApart reports.old → All (λ r. IsPermutation (flat_map accepted_by reports.new) (history_of r.viewer)) reports.new) }
-    ensures numbers { OnOk result (total reports.new ≡ keeper.now.progress.committed.count - eye.now.opened.count) }
-    ensures accepted { IfErr result (λ counts. counts.accepted ≡ min (total reports.new) (2 ^ 64 - 1)) }
-    ensures committed { IfErr result (λ counts. counts.committed ≡ keeper.now.progress.committed.count - eye.now.opened.count) }
-    ensures since { IfErr result (λ counts. counts.committed ≡ length (history_in eye.now.opened keeper.now.board.list)) }
-    ensures only { IfErr result (λ counts. (keeper.now.failed ≡ false → keeper.now.progress.commit.busy ≡ false) → All (λ r. auction_of r.viewer ≡ keeper.now.progress.committed) reports.new → counts.accepted ≢ counts.committed) }
+    requires keeper { (keeper.now.board.book ≡ eye.now.book) × (keeper.now.board.opened ≡ eye.now.opened) }
+    ensures viewed { Viewed reports.old reports.new }
+    ensures rest { OnOk result (keeper.now.failed ≡ false → in_flight_of keeper.now.progress.commit ≡ None) }
+    ensures agree { OnOk result (Agree eye.now.opened keeper.now.progress.committed keeper.now.board.list reports.new) }
+    ensures counts { IfErr result (AreCounts eye.now.opened keeper.now.progress.committed keeper.now.board.list reports.new) }
+    ensures only { IfErr result (λ counts. (keeper.now.failed ≡ false → in_flight_of keeper.now.progress.commit ≡ None) → All (λ r. auction_of r.viewer ≡ keeper.now.progress.committed) reports.new → counts.accepted ≢ counts.committed) }
 {
     keeper.facts();
-    let shown = keeper.trail();
     let opened = eye.auction().count();
-    let compared = compare(reports, keeper.committed(), &shown, eye, opened);
-    match compared {
-        Ok(()) if keeper.is_committing() && !keeper.has_failed() => {
-            Err(count(reports, keeper.committed(), opened))
-        }
-        Ok(()) => Ok(()),
-        Err(counts) => Err(counts),
+    if keeper.is_committing() && !keeper.has_failed() {
+        view_each(reports);
+        return Err(count(reports, keeper.committed(), opened));
     }
+    compare(reports, keeper.committed(), &keeper.trail(), eye, opened)
 }

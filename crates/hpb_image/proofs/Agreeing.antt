@@ -7,7 +7,8 @@ use Rattle.hpb_rules.specs.AuctionValue.{AuctionValue}
 use Rattle.hpb_rules.specs.AcceptedRuns.{AllAccepted}
 use Rattle.hpb_rules.specs.Saved.{restored}
 use Rattle.hpb_disk.specs.Images.{part}
-use Rattle.hpb_journal.specs.Frames.{Kept, joined}
+use Rattle.hpb_journal.specs.Frames.{Kept}
+use Rattle.hpb_rules.specs.Fronts.{joined}
 use Rattle.hpb_journal.specs.Journals.{IsJournal, ShapesAreJournal}
 use Rattle.hpb_slots.specs.Newest.{IsNewest}
 use Rattle.hpb_slots.specs.Laws.{NewestIsOne}
@@ -15,10 +16,6 @@ use Rattle.hpb_codec.specs.declared.head.Head.{Head}
 use Rattle.hpb_codec.specs.Laws.{HeadsAreOne}
 use Rattle.hpb_image.specs.Heads.{layout_of}
 use Rattle.hpb_image.specs.Readings.{Found, Reaches, HasLater, layout_in, checkpoint, next_index}
-
-pub joined_both : (batches others : List (List Command)) → joined (batches ++ others) ≡ joined batches ++ joined others
-joined_both [] others = refl
-joined_both (commands ∷ batches) others = ap (λ (l : List Command). commands ++ l) (joined_both batches others) ∙ sym (append_assoc commands (joined batches) (joined others))
 
 -- Two readings agree on all but how far they went.
 module _ (heads : HeadsAreOne) (newest : NewestIsOne) (shapes : ShapesAreJournal) (f g : Found) (image : List ℕ) (one : Reaches f image) (other : Reaches g image) where

@@ -6,7 +6,9 @@ use Rattle.hpb_rules.specs.AcceptedRuns.{AllAccepted}
 use Rattle.hpb_rules.proofs.RunLaws.{accepted_join, accepted_are_counted}
 use Rattle.hpb_disk.specs.Images.{part}
 use Rattle.hpb_slots.specs.Laws.{NewestIsOne}
-use Rattle.hpb_journal.specs.Frames.{IsOwn, IsFrame, Kept, joined}
+use Rattle.hpb_journal.specs.Frames.{IsOwn, IsFrame, Kept}
+use Rattle.hpb_rules.specs.Fronts.{joined}
+use Rattle.hpb_rules.proofs.Judged.{joined_append}
 use Rattle.hpb_journal.specs.Journals.{IsJournal, ShapesAreJournal}
 use Rattle.hpb_image.specs.declared.flaw.Flaw.{Flaw}
 use Rattle.hpb_image.specs.declared.flaw.Flaw.TheVariants.{Unformatted, Layout, Checkpoint, Frame}
@@ -18,7 +20,7 @@ use Rattle.hpb_slots.specs.Newest.{IsWithout}
 use Rattle.hpb_image.specs.Readings.{Found, Reaches, Reads, layout_in, checkpoint, next_index, last_value}
 use Rattle.hpb_image.specs.Flaws.{HasFlaw, IsDamaged}
 use Rattle.hpb_image.specs.Laws.{FlawIsOne, ReadIsFlawless}
-use Rattle.hpb_image.proofs.Agreeing.{joined_both, heads_agree, covered_agrees, counts_agree, kept_here, accepted_here, is_front}
+use Rattle.hpb_image.proofs.Agreeing.{heads_agree, covered_agrees, counts_agree, kept_here, accepted_here, is_front}
 
 module _ (heads : HeadsAreOne) (newest : NewestIsOne) (shapes : ShapesAreJournal) (f g : Found) (image : List ℕ) (reads : Reads f image) (damaged : IsDamaged g image) where
   a : Reaches f image
@@ -48,7 +50,7 @@ module _ (heads : HeadsAreOne) (newest : NewestIsOne) (shapes : ShapesAreJournal
       let kept : Kept (layout_in g) g.head.definition g.covered (suc g.saved.count) (g.batches ++ commands ∷ rest) image =
       subst (λ (l : List (List Command)). Kept (layout_in g) g.head.definition g.covered (suc g.saved.count) l image) is (kept_here heads newest shapes g f image b a) in
       let all : AllAccepted (checkpoint g) (joined g.batches ++ (commands ++ joined rest)) =
-      subst (AllAccepted (checkpoint g)) (ap joined is ∙ joined_both g.batches (commands ∷ rest)) (accepted_here heads newest shapes g f image b a) in
+      subst (AllAccepted (checkpoint g)) (ap joined is ∙ joined_append g.batches (commands ∷ rest)) (accepted_here heads newest shapes g f image b a) in
       let behind : AllAccepted (last_value g) (commands ++ joined rest) = ((accepted_join (checkpoint g) (joined g.batches) (commands ++ joined rest)).0.0 all).1 in
       let number : suc g.saved.count + length (joined g.batches) ≡ suc (last_value g).count = omega (arith, (accepted_are_counted (checkpoint g) (joined g.batches) b.accepted).0) in
       let frame = (journal.cut g.head.definition g.covered (suc g.saved.count) g.batches (commands ∷ rest) image kept).1.0 in

@@ -6,7 +6,9 @@ use Rattle.hpb_rules.specs.Answer.{IsHistory}
 use Rattle.hpb_rules.specs.AuctionValue.{AuctionValue, Shows}
 use Rattle.hpb_rules.proofs.RunLaws.{rest_is_accepted, rest_is_shown}
 use Rattle.hpb_slots.specs.Laws.{NewestIsOne}
-use Rattle.hpb_journal.specs.Frames.{Kept, joined}
+use Rattle.hpb_journal.specs.Frames.{Kept}
+use Rattle.hpb_rules.specs.Fronts.{joined}
+use Rattle.hpb_rules.proofs.Judged.{shown_count}
 use Rattle.hpb_journal.specs.Journals.{ShapesAreJournal}
 use Rattle.hpb_codec.specs.Laws.{HeadsAreOne}
 use Rattle.hpb_image.specs.Heads.{layout_of}
@@ -14,9 +16,6 @@ use Rattle.hpb_image.specs.Standing.{Stands}
 use Rattle.hpb_image.specs.Readings.{Found, Reads, layout_in, checkpoint, last_value}
 use Rattle.hpb_image.specs.Laws.{ReadIsShown, StandsIsRead, StandsForOne, IsTold}
 use Rattle.hpb_image.proofs.Reading.{reading_is_one}
-
-shown_count : (value : AuctionValue) (history : List Command) → Shows value history → value.count ≡ length history
-shown_count value history shows = ap (λ (v : AuctionValue). v.count) shows.1 ∙ length-reverse history
 
 module _ (history : List Command) (image : List ℕ) (stands : Stands history image) where
   abbrev pub found : Found

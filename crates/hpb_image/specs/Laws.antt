@@ -2,7 +2,7 @@
 use Rattle.std.specs.Prelude.{◌≡◌, ◌↔◌, ℕ, List, ◌++◌}
 use Rattle.hpb_rules.specs.declared.command.Command.{Command}
 use Rattle.hpb_rules.specs.AuctionValue.{AuctionValue, Shows}
-use Rattle.hpb_journal.specs.Frames.{joined}
+use Rattle.hpb_rules.specs.Fronts.{joined}
 use Rattle.hpb_image.specs.declared.flaw.Flaw.{Flaw}
 use Rattle.hpb_image.specs.Standing.{Stands}
 use Rattle.hpb_image.specs.Readings.{Found, Reads, checkpoint, last_value}

@@ -7,7 +7,8 @@ use Rattle.hpb_rules.specs.Values.{value_after}
 use Rattle.hpb_rules.specs.AcceptedRuns.{AllAccepted}
 use Rattle.hpb_rules.specs.Saved.{restored}
 use Rattle.hpb_journal.specs.Layouts.{Layout}
-use Rattle.hpb_journal.specs.Frames.{IsOwn, Kept, joined}
+use Rattle.hpb_journal.specs.Frames.{IsOwn, Kept}
+use Rattle.hpb_rules.specs.Fronts.{joined}
 use Rattle.hpb_slots.specs.declared.slot.Slot.{Slot}
 use Rattle.hpb_slots.specs.Newest.{IsNewest}
 use Rattle.hpb_codec.specs.declared.head.Head.{Head}

@@ -6,7 +6,8 @@ use Rattle.hpb_rules.specs.declared.saved.Saved.{Saved}
 use Rattle.hpb_rules.specs.Answer.{IsHistory}
 use Rattle.hpb_rules.specs.AuctionValue.{Shows}
 use Rattle.hpb_rules.specs.Saved.{restored}
-use Rattle.hpb_journal.specs.Frames.{IsOwn, Kept, joined}
+use Rattle.hpb_journal.specs.Frames.{IsOwn, Kept}
+use Rattle.hpb_rules.specs.Fronts.{joined}
 use Rattle.hpb_slots.specs.declared.slot.Slot.{Slot}
 use Rattle.hpb_slots.specs.Newest.{IsNewest}
 use Rattle.hpb_codec.specs.declared.head.Head.{Head}

@@ -1,20 +1,16 @@
 -- What a journal contains, whatever its layout.
-use Rattle.std.proofs.Common.{◌≡◌, ◌≢◌, ◌⊎◌, inl, inr, ⊎_elim, ℕ, suc, ◌+◌, ◌*◌, ◌/◌, ◌%◌, ◌<◌, ◌≤◌, ◌↔◌, List, [], ◌∷◌, ◌++◌, length, refl, sym, ◌∙◌, ap, subst, arith, length-append}
+use Rattle.std.proofs.Common.{◌≡◌, ◌≢◌, ◌⊎◌, inl, inr, ℕ, suc, ◌+◌, ◌*◌, ◌/◌, ◌%◌, ◌<◌, ◌≤◌, ◌↔◌, List, [], ◌∷◌, ◌++◌, length, refl, sym, ◌∙◌, ap, subst, arith, length-append}
 use Rattle.std.proofs.lemmas.Bool.{cases_lt, cases_eq}
 use Rattle.std.proofs.Math.Nat.{mul-le-mul_left, add-mod_right}
 use Rattle.hpb_rules.specs.Tree.{Rules}
 use Rattle.hpb_rules.specs.declared.command.Command.{Command}
 use Rattle.hpb_codec.specs.declared.batch.Batch.{Batch}
-use Rattle.hpb_disk.specs.Gates.{open_byte}
 use Rattle.hpb_journal.specs.Layouts.{Layout, IsLayout, AreApart, SameFrame}
-use Rattle.hpb_journal.specs.Frames.{IsOpen, IsClosed, IsOwn, IsFrame, Kept, batch_at, joined}
+use Rattle.hpb_journal.specs.Frames.{IsOpen, IsClosed, IsOwn, IsFrame, Kept, batch_at}
+use Rattle.hpb_rules.specs.Fronts.{joined}
+use Rattle.hpb_disk.proofs.GateBytes.{is_open_byte}
 use Rattle.hpb_journal.specs.Changes.{ChangesBody}
 use Rattle.hpb_journal.specs.Laws.{ShowsTheSame}
-
-is_open_byte : (bytes : List ℕ) → (bytes ≡ open_byte) ⊎ (bytes ≢ open_byte)
-is_open_byte [] = inr (λ is. absurd (cc))
-is_open_byte (byte ∷ []) = ⊎_elim (λ is. inl (ap (λ (n : ℕ). n ∷ []) is)) (λ other. inr (λ is. other (cc))) (cases_eq byte 165)
-is_open_byte (byte ∷ next ∷ bytes) = inr (λ is. absurd (cc))
 
 -- Two indexes that are less than the modulus apart differ modulo it.
 differ : (count b other : ℕ) → 0 < count → b < other → other < b + count → b % count ≢ other % count
@@ -48,7 +44,7 @@ module _ (layout : Layout) (rules : Rules) where
 
   pub kept_goes_on : (index first : ℕ) (batches : List (List Command)) (commands : List Command) (image : List ℕ) → Kept layout rules index first batches image
       → IsFrame layout rules (index + length batches) (first + length (joined batches)) commands image → Kept layout rules index first (batches ++ commands ∷ []) image
-  kept_goes_on index first [] commands image kept frame = (frame_at (index + length {A = List Command} []) index (first + length (joined [])) first commands image (omega arith) (omega arith) frame, tt)
+  kept_goes_on index first [] commands image kept frame = (frame_at (index + length {A = List Command} []) index (first + length (joined {A = Command} [])) first commands image (omega arith) (omega arith) frame, tt)
   kept_goes_on index first (some ∷ batches) commands image kept frame = (
     kept.0,
     kept_goes_on (suc index) (first + length some) batches commands image kept.1
@@ -62,7 +58,7 @@ module _ (layout : Layout) (rules : Rules) where
 
   pub kept_is_cut : (index first : ℕ) (batches others : List (List Command)) (image : List ℕ) → Kept layout rules index first (batches ++ others) image
       → Kept layout rules index first batches image × Kept layout rules (index + length batches) (first + length (joined batches)) others image
-  kept_is_cut index first [] others image kept = (tt, kept_at index (index + length {A = List Command} []) first (first + length (joined [])) others image (omega arith) (omega arith) kept)
+  kept_is_cut index first [] others image kept = (tt, kept_at index (index + length {A = List Command} []) first (first + length (joined {A = Command} [])) others image (omega arith) (omega arith) kept)
   kept_is_cut index first (some ∷ batches) others image kept =
       let behind = kept_is_cut (suc index) (first + length some) batches others image kept.1 in (
         (kept.0, behind.0),

@@ -3,20 +3,13 @@ use Rattle.std.proofs.Common.{◌≡◌, ◌⊎◌, inl, inr, ℕ, ◌+◌, ◌*
 use Rattle.std.proofs.Math.Nat.{mul-le-mul_left}
 use Rattle.std.proofs.lemmas.Bool.{cases_lt}
 use Rattle.hpb_rules.specs.Tree.{Rules}
+use Rattle.hpb_disk.proofs.Regions.{elapses_within}
 use Rattle.hpb_codec.specs.declared.batch.Batch.{Batch}
 use Rattle.hpb_disk.specs.Images.{part, put, Torn, TornFrom, Within, Elapses}
 use Rattle.hpb_disk.specs.Laws.{ElsewhereStays, PutIsRead, PutIsTorn}
 use Rattle.hpb_journal.specs.Changes.{ChangesBody, ChangesGate, TornBody, TornGate}
 use Rattle.hpb_journal.specs.Layouts.{Layout}
 use Rattle.hpb_journal.specs.Strides.{frame_at, strided}
-
--- A call leaves images of a greater set too.
-elapses_within : (before now : ℕ) (past since : ℕ → List ℕ → Type 0) (during images : List ℕ → Type 0) → Within during images → Elapses before now past since during → Elapses before now past since images
-elapses_within before now past since during images within time = record {
-  next = time.next;
-  nothing_else = λ moment image le left. elim (time.nothing_else moment image le left) [ inl was ↦ inl was | inr in_call ↦ inr (within image in_call) ];
-  keeps = time.keeps;
-}
 
 -- A frame before another ends where that begins, or before it.
 ends_before : (stride m n : ℕ) → m < n → stride * m + stride ≤ stride * n

@@ -1,8 +1,8 @@
 -- What the frames of an image say.
-use Rattle.std.specs.Prelude.{◌≡◌, ◌≢◌, ℕ, suc, ◌+◌, List, [], ◌∷◌, ◌++◌, None, length, ◌<◌}
+use Rattle.std.specs.Prelude.{◌≡◌, ◌≢◌, ℕ, suc, ◌+◌, List, [], ◌∷◌, None, length, ◌<◌}
 use Rattle.std.specs.List.{AllByRecursion}
 use Rattle.hpb_rules.specs.Tree.{Rules}
-use Rattle.hpb_codec.specs.Records.{HasTicket}
+use Rattle.hpb_rules.specs.Rounds.{HasTicket}
 use Rattle.hpb_rules.specs.Answer.{unknown}
 use Rattle.hpb_rules.specs.declared.command.Command.{Command}
 use Rattle.hpb_codec.specs.declared.batch.Batch.{Batch}
@@ -53,11 +53,6 @@ abbrev pub Kept : Layout → Rules → ℕ → ℕ → List (List Command) → L
 Kept layout rules index first [] image = Unit {0}
 Kept layout rules index first (commands ∷ batches) image =
     IsFrame layout rules index first commands image × Kept layout rules (suc index) (first + length commands) batches image
-
--- The commands of these batches, in order.
-abbrev pub joined : List (List Command) → List Command
-joined [] = []
-joined (commands ∷ batches) = commands ++ joined batches
 
 -- What a reader is told of a frame.
 abbrev pub IsRead : Layout → Rules → ℕ → List ℕ → Frame → Type 0

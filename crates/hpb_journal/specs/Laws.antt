@@ -3,7 +3,8 @@ use Rattle.std.specs.Prelude.{◌≡◌, ◌⊎◌, ◌↔◌, ℕ, ◌+◌, ◌
 use Rattle.hpb_rules.specs.Tree.{Rules}
 use Rattle.hpb_rules.specs.declared.command.Command.{Command}
 use Rattle.hpb_journal.specs.Layouts.{Layout, AreApart, SameFrame}
-use Rattle.hpb_journal.specs.Frames.{IsOpen, IsClosed, IsOwn, IsFrame, Kept, joined}
+use Rattle.hpb_journal.specs.Frames.{IsOpen, IsClosed, IsOwn, IsFrame, Kept}
+use Rattle.hpb_rules.specs.Fronts.{joined}
 use Rattle.hpb_journal.specs.Changes.{ChangesBody}
 
 -- Both images contain the same batches, and the same frames are open with their index.

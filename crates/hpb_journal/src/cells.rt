@@ -71,10 +71,7 @@ pub fn write_cells<D: Disk>(disk: &mut D, at: usize, batch: &Batch) -> Result<()
     let mut body = [0; CELLS_SIZE];
     let size = encode_cells(batch, &mut body);
     put_is_read();
-    match disk.write_at(at, &body[..size]) {
-        Ok(()) => Ok(()),
-        Err(failed) => Err(failed),
-    }
+    disk.write_at(at, &body[..size])
 }
 
 impl Frames for CellFrames {
@@ -96,19 +93,13 @@ impl Frames for CellFrames {
     fn write_body<D: Disk>(&self, disk: &mut D, batch: &Batch) -> Result<(), DiskFailed> {
         elsewhere_stays();
         put_is_torn();
-        match write_cells(disk, self.place(batch.index) + BODY_AT, batch) {
-            Ok(()) => Ok(()),
-            Err(failed) => Err(failed),
-        }
+        write_cells(disk, self.place(batch.index) + BODY_AT, batch)
     }
 
     fn open_frame<D: Disk>(&self, disk: &mut D, index: u64) -> Result<(), DiskFailed> {
         elsewhere_stays();
         put_is_torn();
-        match open_gate(disk, self.place(index)) {
-            Ok(()) => Ok(()),
-            Err(failed) => Err(failed),
-        }
+        open_gate(disk, self.place(index))
     }
 
     fn close_frame<D: Disk>(
@@ -119,10 +110,7 @@ impl Frames for CellFrames {
     ) -> Result<(), DiskFailed> {
         elsewhere_stays();
         put_is_torn();
-        match close_gate(disk, self.place(index), may_be_open) {
-            Ok(()) => Ok(()),
-            Err(failed) => Err(failed),
-        }
+        close_gate(disk, self.place(index), may_be_open)
     }
 
     fn read_frame<D: Disk>(
@@ -132,10 +120,8 @@ impl Frames for CellFrames {
         definition: &Definition,
     ) -> Result<Frame, DiskFailed> {
         let mut cells = [0; CELL_FRAME_BYTES];
-        match disk.read_into(self.place(index), &mut cells) {
-            Ok(()) => Ok(in_cells(&cells, index, definition)),
-            Err(failed) => Err(failed),
-        }
+        disk.read_into(self.place(index), &mut cells)?;
+        Ok(in_cells(&cells, index, definition))
     }
 
     fn laws(&self) {

@@ -64,19 +64,13 @@ impl Frames for PageFrames {
         elsewhere_stays();
         put_is_read();
         put_is_torn();
-        match disk.write_at(self.page(batch.index) + BODY_AT, &body) {
-            Ok(()) => Ok(()),
-            Err(failed) => Err(failed),
-        }
+        disk.write_at(self.page(batch.index) + BODY_AT, &body)
     }
 
     fn open_frame<D: Disk>(&self, disk: &mut D, index: u64) -> Result<(), DiskFailed> {
         elsewhere_stays();
         put_is_torn();
-        match open_gate(disk, self.page(index)) {
-            Ok(()) => Ok(()),
-            Err(failed) => Err(failed),
-        }
+        open_gate(disk, self.page(index))
     }
 
     fn close_frame<D: Disk>(
@@ -87,10 +81,7 @@ impl Frames for PageFrames {
     ) -> Result<(), DiskFailed> {
         elsewhere_stays();
         put_is_torn();
-        match close_gate(disk, self.page(index), may_be_open) {
-            Ok(()) => Ok(()),
-            Err(failed) => Err(failed),
-        }
+        close_gate(disk, self.page(index), may_be_open)
     }
 
     fn read_frame<D: Disk>(
@@ -100,10 +91,8 @@ impl Frames for PageFrames {
         definition: &Definition,
     ) -> Result<Frame, DiskFailed> {
         let mut page = [0; PAGE_BYTES];
-        match disk.read_into(self.page(index), &mut page) {
-            Ok(()) => Ok(frame_in(&page, index, definition)),
-            Err(failed) => Err(failed),
-        }
+        disk.read_into(self.page(index), &mut page)?;
+        Ok(frame_in(&page, index, definition))
     }
 
     fn laws(&self) {

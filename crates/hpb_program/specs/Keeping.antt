@@ -8,7 +8,7 @@ use Rattle.hpb_disk.specs.FileDisks.{file_failures, file_left, file_seen}
 use Rattle.hpb_image.specs.Flaws.{HasFlaw}
 use Rattle.hpb_image.specs.Readings.{last_value, Found, Reads}
 use Rattle.hpb_image.specs.Standing.{Stands}
-use Rattle.hpb_progress.specs.declared.progress.Progress.{Progress}
+use Rattle.hpb_engine.specs.declared.progress.Progress.{Progress}
 use Rattle.hpb_recover.specs.declared.cause.Cause.TheVariants as opening
 use Rattle.hpb_run.specs.Device.{at_start, never_over, rules_at, IsAt, RepliesAt, ShowsAt, State}
 use Rattle.hpb_server.specs.declared.fault.Fault.{Fault}

@@ -5,7 +5,7 @@ ghost use Rattle.hpb_rules.specs.declared.limits.TheConstants.{MOST_LETTERS, MOS
 ghost use Rattle.hpb_rules.specs.Machine.{at_rest};
 ghost use Rattle.hpb_image.specs.Readings.{last_value, Found, Reads};
 ghost use Rattle.hpb_image.specs.Standing.{Stands};
-ghost use Rattle.hpb_progress.specs.Keeping.{Keeps};
+ghost use Rattle.hpb_engine.specs.Keeping.{Keeps};
 ghost use Rattle.hpb_program.specs.Doubts.{TellsKept};
 ghost use Rattle.hpb_program.specs.Keeping.{IsNotOpened, IsRun, RunsFile, TellsRunning};
 ghost use Rattle.hpb_run.specs.Device.{IsAt, RepliesAt, ShowsAt, State, at_start, never_over, rules_at};

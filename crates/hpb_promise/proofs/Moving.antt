@@ -20,8 +20,8 @@ use Rattle.hpb_engine.specs.declared.event.Event.{Event}
 use Rattle.hpb_engine.specs.declared.event.Event.TheVariants as events
 use Rattle.hpb_engine.specs.declared.step.Fault.{Fault}
 use Rattle.hpb_engine.specs.declared.step.Fault.TheVariants as faults
-use Rattle.hpb_progress.specs.declared.progress.Progress.{Progress}
-use Rattle.hpb_progress.specs.Numbers.{end_of, may_be_open}
+use Rattle.hpb_engine.specs.declared.progress.Progress.{Progress}
+use Rattle.hpb_engine.specs.Numbers.{end_of, may_be_open}
 use Rattle.hpb_engine.specs.Checkpoints.{CheckpointLeads, checkpoint_calls, step_calls}
 use Rattle.hpb_engine.specs.Steps.{turn_calls}
 use Rattle.hpb_engine.specs.Runs.{Drove, Follows, Holds, Mark, Ran, StandsAtOne}

@@ -18,7 +18,7 @@ use Rattle.hpb_engine.specs.declared.event.Event.TheVariants as events
 use Rattle.hpb_engine.specs.declared.step.Fault.{Fault}
 use Rattle.hpb_engine.specs.Runs.{Mark, Ran}
 use Rattle.hpb_engine.specs.Starts.{IsStarted}
-use Rattle.hpb_progress.specs.declared.progress.Progress.{Progress}
+use Rattle.hpb_engine.specs.declared.progress.Progress.{Progress}
 use Rattle.hpb_recover.specs.declared.plan.Plan.{Plan}
 
 -- **The points of a run.** What a caller is told of a run who knows nothing of an engine's insides. A run has a point at its start and one after each

@@ -1,13 +1,14 @@
 -- The head of an image by its bytes.
 use Rattle.std.proofs.Common.{◌≡◌, ℕ, ◌%◌, ◌++◌, List, take, drop, length, sym, ◌∙◌, ap, subst, arith}
 use Rattle.std.proofs.lemmas.List.{take-take, take_at}
+use Rattle.std.specs.Prelude.{Result, Ok, Err, IfErr}
 use Rattle.hpb_disk.specs.Images.{part}
 use Rattle.hpb_codec.specs.Heads.{SpellsHead, magic}
 use Rattle.hpb_codec.specs.Numbers.{before}
 use Rattle.hpb_codec.specs.declared.head.Head.{Head}
 use Rattle.hpb_image.specs.Heads.{IsFormatted, IsLaidOut, layout_of}
 use Rattle.hpb_recover.specs.Beginnings.{Begins}
-use Rattle.hpb_recover.specs.Causes.{IsCauseAt}
+use Rattle.hpb_recover.specs.Causes.{IsCauseAt, LooksFormatted}
 use Rattle.hpb_recover.specs.declared.cause.Cause.{Cause}
 use Rattle.hpb_recover.specs.declared.cause.Cause.TheVariants.{Flawed, Memory, Device}
 
@@ -23,6 +24,9 @@ module _ (bytes : List ℕ) (len : ℕ) (image : List ℕ) (begins : Begins byte
     headed = record { gate = begins.gate; known = sym (front bytes image begins.head) ∙ known };
   }
 
+  pub looks_formatted : LooksFormatted image
+  looks_formatted = record { whole = subst (λ (n : ℕ). n % 4096 ≡ 0) (sym begins.size) begins.whole; least = omega (arith, begins.least, begins.size); gate = begins.gate }
+
   pub not_formatted : (before 8 bytes ≡ magic → ⊥) → IsFormatted image → ⊥
   not_formatted other formatted = other (front bytes image begins.head ∙ formatted.headed.known)
 
@@ -33,10 +37,11 @@ module _ (bytes : List ℕ) (len : ℕ) (image : List ℕ) (begins : Begins byte
   spelled_here head laid = subst (λ (l : List ℕ). SpellsHead l head) (sym begins.head) laid.spelled
 
 -- No device is spoken of where no call can fail.
-pub cause_at : (image : List ℕ) (failures later : ℕ) (cause : Cause) → IsCauseAt image 0 0 cause → IsCauseAt image failures later cause
-cause_at image failures later (Flawed flaw) is = is
-cause_at image failures later Memory is = tt
-cause_at image failures later Device is = absurd (omega (arith, is))
+pub cause_at : {T : Type 0} (image : List ℕ) (failures later : ℕ) (result : Result T Cause) → IfErr result (IsCauseAt image 0 0) → IfErr result (IsCauseAt image failures later)
+cause_at image failures later (Ok value) is = tt
+cause_at image failures later (Err (Flawed flaw)) is = is
+cause_at image failures later (Err Memory) is = tt
+cause_at image failures later (Err Device) is = absurd (omega (arith, is))
 
 -- What was read into all of a buffer is what the buffer then has.
 pub buffer_read : (out items image : List ℕ) (len n : ℕ) → length out ≡ len → n ≡ 12272 → out ≡ part 16 n image → take len (out ++ drop (length out) items) ≡ part 16 12272 image

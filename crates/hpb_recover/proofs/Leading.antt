@@ -10,7 +10,8 @@ use Rattle.hpb_rules.proofs.RunLaws.{accepted_join, accepted_are_counted}
 use Rattle.hpb_codec.specs.declared.batch.Batch.{Batch}
 use Rattle.hpb_journal.specs.Layouts.{Layout, IsLayout}
 use Rattle.hpb_journal.specs.Laws.{KeptGoesOn}
-use Rattle.hpb_journal.specs.Frames.{IsFrame, IsOwn, batch_at, joined}
+use Rattle.hpb_journal.specs.Frames.{IsFrame, IsOwn, batch_at}
+use Rattle.hpb_rules.specs.Fronts.{joined}
 use Rattle.hpb_recover.specs.Replaying.{GoesOn, HasStopped, Leads}
 
 joined_more : (batches : List (List Command)) (commands : List Command) → joined (batches ++ commands ∷ []) ≡ joined batches ++ commands

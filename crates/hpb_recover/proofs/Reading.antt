@@ -1,6 +1,6 @@
 -- What a device was asked for, where it is only read.
 use Rattle.std.proofs.Common.{◌≡◌, ◌∙◌, ℕ, List, ◌∷◌, sym, ap, arith}
-use Rattle.std.specs.Prelude.{Result, Ok, Err, IsErrAnd}
+use Rattle.std.specs.Prelude.{Result, Ok, Err, IfErr, IsErrAnd}
 use Rattle.hpb_disk.specs.Asked.{Asked}
 use Rattle.hpb_disk.specs.Asked.Asked.{fails}
 use Rattle.hpb_recover.specs.declared.cause.Cause.{Cause}
@@ -18,10 +18,11 @@ memory_refused (Ok value) old new bad is = absurd bad
 memory_refused (Err cause) old new told is = is ∙ ap (λ (c : Cause). ended_by c old) (sym told)
 
 -- What bytes say of themselves is no failure of the device.
-pub read_as : (image : List ℕ) (cause : Cause) (old new : List Asked) → IsCauseAt image 0 0 cause → new ≡ old → new ≡ ended_by cause old
-read_as image (Flawed flaw) old new is same = same
-read_as image Memory old new is same = same
-read_as image Device old new is same = absurd (omega (arith, is))
+pub read_as : {T : Type 0} (image : List ℕ) (result : Result T Cause) (old new : List Asked) → IfErr result (IsCauseAt image 0 0) → new ≡ old → OnlyReads result old new
+read_as image (Ok value) old new is same = same
+read_as image (Err (Flawed flaw)) old new is same = same
+read_as image (Err Memory) old new is same = same
+read_as image (Err Device) old new is same = absurd (omega (arith, is))
 
 -- After reads that didn't fail.
 pub ended_later : (cause : Cause) (old middle new : List Asked) → middle ≡ old → new ≡ ended_by cause middle → new ≡ ended_by cause old

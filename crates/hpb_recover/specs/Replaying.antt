@@ -6,7 +6,8 @@ use Rattle.hpb_rules.specs.AuctionValue.{AuctionValue}
 use Rattle.hpb_rules.specs.Values.{value_after}
 use Rattle.hpb_rules.specs.AcceptedRuns.{AllAccepted}
 use Rattle.hpb_journal.specs.Layouts.{Layout}
-use Rattle.hpb_journal.specs.Frames.{IsFrame, IsOpen, IsOwn, Kept, joined}
+use Rattle.hpb_journal.specs.Frames.{IsFrame, IsOpen, IsOwn, Kept}
+use Rattle.hpb_rules.specs.Fronts.{joined}
 
 -- A batch goes on with a value where it is numbered on and each of its commands is newly accepted.
 abbrev pub GoesOn : AuctionValue → ℕ → List Command → Type 0

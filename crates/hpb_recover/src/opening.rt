@@ -32,10 +32,7 @@ fn settle<D: Disk>(disk: &mut D) -> Result<(), DiskFailed>
     ensures cause { CountsFailure result (D.failures disk.old) (D.failures disk.new) }
     ensures asked { Asks result (syncs ∷ []) (D.asked disk.old) (D.asked disk.new) }
 {
-    match disk.sync() {
-        Ok(()) => Ok(()),
-        Err(failed) => Err(failed),
-    }
+    disk.sync()
 }
 
 /// What all of a device says.

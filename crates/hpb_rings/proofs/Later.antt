@@ -7,21 +7,15 @@ use Rattle.hpb_rules.specs.declared.letter.Answer.{Answer}
 use Rattle.hpb_rules.specs.declared.letter.Letter.{Letter}
 use Rattle.hpb_rules.specs.AuctionValue.{AuctionValue}
 use Rattle.hpb_rules.specs.Values.{next_value}
-use Rattle.hpb_letters.specs.Judging.{answer_in, judged_in}
-use Rattle.hpb_board.specs.Publication.{joined, value_by, answers_to, answers_of, Viewing}
-
-joined-append : (xs ys : List (List Letter)) → joined (xs ++ ys) ≡ joined xs ++ joined ys
-joined-append [] ys = refl
-joined-append (x ∷ xs) ys = ap (λ (l : List Letter). x ++ l) (joined-append xs ys) ∙ sym (append_assoc x (joined xs) (joined ys))
-
-judged-append : (value : AuctionValue) (xs ys : List Letter) → judged_in value (xs ++ ys) ≡ judged_in value xs ++ judged_in (value_by value xs) ys
-judged-append value [] ys = refl
-judged-append value (x ∷ xs) ys = ap (λ (l : List Answer). answer_in value x ∷ l) (judged-append (next_value value x.command) xs ys)
+use Rattle.hpb_rules.specs.Judging.{answer_in, judged_in, value_by}
+use Rattle.hpb_board.specs.Publication.{answers_to, answers_of, Viewing}
+use Rattle.hpb_rules.specs.Fronts.{joined}
+use Rattle.hpb_rules.proofs.Judged.{joined_append, judged_join}
 
 answers-append : (seat : ℕ) (value : AuctionValue) (xs ys : List (List Letter)) → answers_to seat value (joined (xs ++ ys)) ≡ answers_to seat value (joined xs) ++ answers_to seat (value_by value (joined xs)) (joined ys)
 answers-append seat value xs ys =
-    ap (answers_to seat value) (joined-append xs ys)
-    ∙ (ap (filter (λ (a : Answer). a.letter.seat == seat)) (judged-append value (joined xs) (joined ys))
+    ap (answers_to seat value) (joined_append xs ys)
+    ∙ (ap (filter (λ (a : Answer). a.letter.seat == seat)) (judged_join value (joined xs) (joined ys))
     ∙ filter-append (λ (a : Answer). a.letter.seat == seat) (judged_in value (joined xs)) (judged_in (value_by value (joined xs)) (joined ys)))
 
 -- a seat's answers begin those of a later view

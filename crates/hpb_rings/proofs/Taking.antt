@@ -11,7 +11,8 @@ use Rattle.hpb_board.specs.Publication.{recent}
 use Rattle.hpb_rings.specs.declared.waiting.Waiting.{Waiting}
 use Rattle.hpb_rings.specs.declared.slip.Slip.{Slip}
 use Rattle.hpb_rings.specs.declared.slip.Slip.TheVariants.{Letter as Post, End}
-use Rattle.hpb_rings.specs.Taking.{letters_of, posted, slips, newly}
+use Rattle.hpb_rings.specs.Taking.{posted, slips, newly}
+use Rattle.hpb_rules.specs.Judging.{letters_of}
 
 is_recent : (ans : List Answer) (n : ℕ) (a : Answer) (b : Bool) → (if b then slice_get ans n else None) ≡ Some a → slice_get ans n ≡ Some a
 is_recent ans n a true h = h

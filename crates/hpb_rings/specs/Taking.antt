@@ -11,10 +11,6 @@ use Rattle.hpb_rings.specs.declared.slip.Slip.TheVariants.{Letter as Post}
 -- **Posting and taking.** A client has letters that wait, the oldest first, each with the mark that the client had at its post. An answer may be
 -- taken where it is for the oldest of them, and no fewer commands were accepted before it than that mark says.
 --
--- The letters that answers are for.
-abbrev pub letters_of : List Answer → List Letter
-letters_of answers = map (λ (answered : Answer). answered.letter) answers
-
 -- The letters that wait.
 abbrev pub posted : List Waiting → List Letter
 posted waiting = map (λ (one : Waiting). one.letter) waiting

@@ -4,7 +4,8 @@ ghost use mathlib.Core.List.{IsPrefix};
 ghost use Rattle.rtrb.specs.Ring.{SameProducer, sent, received, known_free};
 ghost use Rattle.hpb_board.specs.Publication.{recent, answers_of, auction_of};
 ghost use Rattle.hpb_rings.specs.Marks.{greatest};
-ghost use Rattle.hpb_rings.specs.Taking.{letters_of, posted, slips, newly, IsForOldest};
+ghost use Rattle.hpb_rings.specs.Taking.{posted, slips, newly, IsForOldest};
+ghost use Rattle.hpb_rules.specs.Judging.{letters_of};
 ghost use Rattle.hpb_rings.specs.declared.slip.Slip.TheVariants.{End};
 
 use crate::report::Report;

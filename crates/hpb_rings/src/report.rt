@@ -4,7 +4,8 @@ ghost use mathlib.Core.List.{IsPrefix};
 ghost use Rattle.rtrb.specs.Ring.{sent};
 ghost use Rattle.hpb_board.specs.Publication.{answers_of};
 ghost use Rattle.hpb_rings.specs.Slips.{ends};
-ghost use Rattle.hpb_rings.specs.Taking.{letters_of, slips, newly};
+ghost use Rattle.hpb_rings.specs.Taking.{slips, newly};
+ghost use Rattle.hpb_rules.specs.Judging.{letters_of};
 ghost use Rattle.hpb_rings.specs.declared.slip.Slip.TheVariants.{End};
 
 use crate::slip::Slip;

@@ -1,5 +1,5 @@
 -- Lists and their fronts: steps that other crates' proofs cite too.
-use Rattle.std.proofs.Common.{◌≡◌, ◌⊎◌, inl, inr, ℕ, zero, suc, List, [], ◌∷◌, ◌++◌, get_or, replicate, take, drop, reverse, Some, length, refl, ap, ◌∙◌, arith, append_assoc}
+use Rattle.std.proofs.Common.{◌≡◌, ◌⊎◌, inl, inr, ℕ, zero, suc, Bool, true, false, ◌||◌, List, [], ◌∷◌, ◌++◌, get_or, replicate, take, drop, reverse, Some, length, refl, ap, ◌∙◌, arith, append_assoc}
 use Rattle.std.specs.Prelude.{slice_get, All}
 use Rattle.std.proofs.lemmas.List.{take-append-le, reverse-append}
 use Rattle.hpb_rules.specs.Fronts.{IsFront}
@@ -55,3 +55,16 @@ split_at (z ∷ xs) (suc i) x e = ap (λ ys. z ∷ ys) (split_at xs i x e)
 
 pub reverse_seam : {A : Type 0} (xs ys : List A) (y : A) → reverse (xs ++ y ∷ ys) ≡ reverse ys ++ y ∷ reverse xs
 reverse_seam xs ys y = reverse-append xs (y ∷ ys) ∙ ap (λ zs. zs ++ reverse xs) (reverse-append (y ∷ []) ys) ∙ append_assoc (reverse ys) (y ∷ []) (reverse xs)
+
+pub one_of : {A : Type 0} (P : A → Type 0) (x : A) → P x → All P (x ∷ [])
+one_of P x h zero d lt = h
+one_of P x h (suc i) d lt = absurd (omega arith)
+
+pub take_front : {A : Type 0} (n : ℕ) (xs : List A) → IsFront (take n xs) xs
+take_front zero xs = (xs, refl)
+take_front (suc n) [] = ([], refl)
+take_front (suc n) (x ∷ xs) = let rest = take_front n xs in (rest.0, ap (λ ys. x ∷ ys) rest.1)
+
+pub or_false : (b : Bool) → (b || false) ≡ b
+or_false true = refl
+or_false false = refl

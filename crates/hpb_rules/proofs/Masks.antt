@@ -1,11 +1,11 @@
 -- Flags and the number that they are together: steps that other crates' proofs cite too.
-use Rattle.std.proofs.Common.{◌≡◌, ℕ, zero, suc, ◌+◌, ◌*◌, ◌/◌, ◌%◌, ◌^◌, ◌<◌, ◌≤◌, Bool, true, false, cond, eqb, List, [], ◌∷◌, map, get_or, refl, sym, ap, subst, ◌∙◌, arith}
+use Rattle.std.proofs.Common.{◌≡◌, ℕ, zero, suc, ◌+◌, ◌*◌, ◌/◌, ◌%◌, ◌^◌, ◌<◌, ◌≤◌, Bool, true, false, cond, eqb, ltb, ⊎_elim, List, [], ◌∷◌, map, get_or, refl, sym, ap, subst, ◌∙◌, arith}
 use Rattle.std.specs.Prelude.{◌==◌}
 use Rattle.std.specs.Int.{bit_at}
 use Rattle.std.specs.List.{range_with_len}
 use Rattle.std.proofs.Math.Pow.{pow-lt}
 use Rattle.std.proofs.Math.Nat.{mod-eq_of_lt, div-one}
-use Rattle.std.proofs.lemmas.Bool.{false_from_ne_true}
+use Rattle.std.proofs.lemmas.Bool.{cases_lt, false_from_ne_true, le-ltb, lt-ltb}
 use Rattle.std.proofs.lemmas.Nat.{mod-pow-add, shr-shr, pow_pos, shr_below, div-add-mod', mod_below}
 use Rattle.std.proofs.lemmas.Nat.Bits.{bit_at_lowest, bit_at-suc, bit_at-zero}
 use Rattle.hpb_rules.specs.Saved.{mask_of, has_bit}
@@ -84,3 +84,13 @@ mask_is m k within =
 -- a number without a bit is 0
 pub no_bits : (m : ℕ) → ((n : ℕ) → has_bit m n ≡ true → ⊥) → m ≡ 0
 no_bits m none = sym (mask_is m 0 (λ n e. absurd (none n e))) ∙ no_flags
+
+-- ---- the test of a place, once that place is looked at
+pub ltb_same : (n i : ℕ) → n ≡ i → ltb n (i + 1) ≡ true
+ltb_same n i e = lt-ltb n (i + 1) (omega arith)
+
+pub ltb_other : (n i : ℕ) → (n ≡ i → ⊥) → ltb n (i + 1) ≡ ltb n i
+ltb_other n i other = ⊎_elim
+    (λ less. lt-ltb n (i + 1) (omega arith) ∙ sym (lt-ltb n i less))
+    (λ no. ⊎_elim (λ above. le-ltb n (i + 1) (omega arith) ∙ sym (le-ltb n i no)) (λ le. absurd (other (omega arith))) (cases_lt i n))
+    (cases_lt n i)

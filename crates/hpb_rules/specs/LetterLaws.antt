@@ -5,6 +5,8 @@ use Rattle.hpb_rules.specs.declared.letter.Answer.{Answer}
 use Rattle.hpb_rules.specs.declared.letter.Letter.{Letter}
 use Rattle.hpb_rules.specs.Tree.{Rules}
 use Rattle.hpb_rules.specs.Answer.{answer, is_reply_new, history_after, replies_from, past_from}
+use Rattle.hpb_rules.specs.AuctionValue.{AuctionValue, Shows}
+use Rattle.hpb_rules.specs.Judging.{judged_in}
 use Rattle.hpb_rules.specs.Letters.{Fits, judged, new_commands}
 
 -- The history after a command is the history with the command at its end where it is newly accepted, and else the history as it was.
@@ -26,3 +28,8 @@ abbrev pub JudgedIsAnswered : Type 0
 JudgedIsAnswered = (rules : Rules) (history : List Command) (letters : List Letter)
     → (map (λ (answered : Answer). answered.reply) (judged rules history letters) ≡ replies_from rules (reverse history) (map (λ (letter : Letter). letter.command) letters))
     × (reverse (history ++ new_commands (judged rules history letters)) ≡ past_from rules (reverse history) (map (λ (letter : Letter). letter.command) letters))
+
+-- A value answers letters as each history that it shows does.
+abbrev pub JudgedIsShown : Type 0
+JudgedIsShown = (value : AuctionValue) (history : List Command) (letters : List Letter) → Shows value history
+    → judged_in value letters ≡ judged value.rules history letters

@@ -23,6 +23,7 @@ pub mod ProperValues
 pub mod Saved
 pub mod SavedLaws
 pub mod Letters
+pub mod Judging
 pub mod LetterLaws
 pub mod Machine
 pub mod Refusals

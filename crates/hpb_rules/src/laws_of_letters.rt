@@ -1,4 +1,4 @@
-ghost use Rattle.hpb_rules.specs.LetterLaws.{HistoryAfterAppends, FitsGrow, JudgedJoin, JudgedIsAnswered};
+ghost use Rattle.hpb_rules.specs.LetterLaws.{HistoryAfterAppends, FitsGrow, JudgedJoin, JudgedIsAnswered, JudgedIsShown};
 
 /// The history after a command is the history with it at the end where it is newly accepted, and else as it was.
 pub fn history_after_appends()
@@ -19,4 +19,9 @@ pub fn judged_join()
 /// is the history after these commands.
 pub fn judged_is_answered()
     ensures { JudgedIsAnswered }
+{}
+
+/// An auction's value answers letters as each history that it shows does.
+pub fn judged_is_shown()
+    ensures { JudgedIsShown }
 {}

@@ -1,9 +1,10 @@
 -- What commands that are asked together are replied.
-use Rattle.std.proofs.Common.{◌≡◌, inl, inr, suc, ◌<◌, ◌≤◌, List, [], ◌∷◌, ◌++◌, length, map, reverse, refl, sym, ◌∙◌, ap, arith}
+use Rattle.std.proofs.Common.{◌≡◌, inl, inr, ℕ, suc, ◌<◌, ◌≤◌, List, [], ◌∷◌, ◌++◌, length, map, reverse, refl, sym, ◌∙◌, ap, arith}
 use Rattle.std.proofs.lemmas.List.{reverse-reverse}
 use Rattle.hpb_rules.specs.declared.command.Command.{Command}
 use Rattle.hpb_rules.specs.declared.letter.Letter.{Letter}
 use Rattle.hpb_rules.specs.declared.limits.TheConstants.{MOST_LETTERS}
+use Rattle.hpb_rules.specs.declared.refusal.Refusal.{Refusal}
 use Rattle.hpb_rules.specs.declared.refusal.Refusal.TheVariants as refusals
 use Rattle.hpb_rules.specs.declared.reply.Reply.TheVariants as replies
 use Rattle.hpb_rules.specs.Answer.{after, answer_after, history_after, past_from, replies_from}
@@ -66,56 +67,38 @@ all_by_rules state past (command ∷ commands) at_work is =
       refl,
     )
 
+-- One is refused, and then all behind it.
+refused_more : (state next last : State) (command : Command) (commands : List Command) (refusal : Refusal) → RepliesAt state command (replies.Refused refusal) next
+    → AsksAll RepliesAt never_over next commands (refused (length commands) refusal) last → AsksAll RepliesAt never_over state (command ∷ commands) (refused (suc (length commands)) refusal) last
+refused_more state next last command commands refusal one rest = inr (refl, replies.Refused refusal, refused (length commands) refusal, next, one, rest, refl)
+
 -- All are refused by 93, from the first 93 on.
 all_failed : (state : State) (commands : List Command)
     → AsksAll RepliesAt never_over (record state { phase = failed }) commands (refused (length commands) refusals.Failed) (record state { phase = failed })
 all_failed state [] = (refl, refl)
-all_failed state (command ∷ commands) = inr (
-  refl,
-  replies.Refused refusals.Failed,
-  refused (length commands) refusals.Failed,
-  record state { phase = failed },
-  inr (inr (refl, refl, refl)),
-  all_failed state commands,
-  refl,
-)
+all_failed state (command ∷ commands) =
+    let next : State = record state { phase = failed } in refused_more next next next command commands refusals.Failed (inr (inr (refl, refl, refl))) (all_failed state commands)
 
 pub some_failed : (state : State) (commands : List Command) → 0 < length commands → left_of state.phase ≡ 0
     → AsksAll RepliesAt never_over state commands (refused (length commands) refusals.Failed) (record state { phase = failed })
 some_failed state [] some none = absurd (omega (arith, some))
-some_failed state (command ∷ commands) some none = inr (
-  refl,
-  replies.Refused refusals.Failed,
-  refused (length commands) refusals.Failed,
-  record state { phase = failed },
-  inr (inr (none, refl, refl)),
-  all_failed state commands,
-  refl,
-)
+some_failed state (command ∷ commands) some none =
+    let next : State = record state { phase = failed } in refused_more state next next command commands refusals.Failed (inr (inr (none, refl, refl))) (all_failed state commands)
 
 -- All are refused by 91, from the first 91 on, as many as are left.
+abbrev failing_at : State → ℕ → State
+failing_at state left = record state { phase = failing left }
+
 all_failing : (state : State) (commands : List Command)
-    → AsksAll RepliesAt never_over (record state { phase = failing (length commands) }) commands (refused (length commands) refusals.Device) (record state { phase = failing 0 })
+    → AsksAll RepliesAt never_over (failing_at state (length commands)) commands (refused (length commands) refusals.Device) (failing_at state 0)
 all_failing state [] = (refl, refl)
-all_failing state (command ∷ commands) = inr (
-  refl,
-  replies.Refused refusals.Device,
-  refused (length commands) refusals.Device,
-  record state { phase = failing (length commands) },
-  inr (inl (length commands, inr refl, refl, refl)),
-  all_failing state commands,
-  refl,
-)
+all_failing state (command ∷ commands) =
+    let left : ℕ = length commands in
+    refused_more (failing_at state (suc left)) (failing_at state left) (failing_at state 0) command commands refusals.Device (inr (inl (left, inr refl, refl, refl))) (all_failing state commands)
 
 pub some_failing : (state : State) (commands : List Command) → state.phase ≡ works → 0 < length commands → length commands ≤ MOST_LETTERS
     → AsksAll RepliesAt never_over state commands (refused (length commands) refusals.Device) (record state { phase = failing 0 })
 some_failing state [] at_work some most = absurd (omega (arith, some))
-some_failing state (command ∷ commands) at_work some most = inr (
-  refl,
-  replies.Refused refusals.Device,
-  refused (length commands) refusals.Device,
-  record state { phase = failing (length commands) },
-  inr (inl (length commands, inl (at_work, omega (arith, most)), refl, refl)),
-  all_failing state commands,
-  refl,
-)
+some_failing state (command ∷ commands) at_work some most =
+    let left : ℕ = length commands in
+    refused_more state (failing_at state left) (failing_at state 0) command commands refusals.Device (inr (inl (left, inl (at_work, omega (arith, most)), refl, refl))) (all_failing state commands)

@@ -5,3 +5,7 @@ mod Requests
 mod DeviceTexts
 pub mod DeviceSessions
 pub mod SessionRuns
+mod Driving
+mod Checkpoints
+mod Commits
+mod Runs

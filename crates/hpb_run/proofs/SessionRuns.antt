@@ -6,7 +6,7 @@ use Rattle.hpb_rules.specs.declared.command.Command.{Command}
 use Rattle.hpb_rules.specs.declared.limits.TheConstants.{MOST_LETTERS}
 use Rattle.hpb_rules.specs.AuctionValue.{Shows}
 use Rattle.hpb_rules.specs.Tree.{Rules}
-use Rattle.hpb_progress.specs.declared.progress.Progress.{Progress}
+use Rattle.hpb_engine.specs.declared.progress.Progress.{Progress}
 use Rattle.hpb_server.specs.declared.fault.Fault.{Fault}
 use Rattle.hpb_server.specs.ScriptLaws.{WritesText}
 use Rattle.hpb_server.specs.Serving.{Serves}

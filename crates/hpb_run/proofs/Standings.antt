@@ -1,5 +1,6 @@
 -- Where an engine stands after what a desk has it do.
-use Rattle.std.proofs.Common.{◌≡◌, ◌≢◌, ◌⊎◌, inl, inr, ℕ, suc, ◌<◌, ◌≤◌, nat_lt, Bool, true, false, ◌&&◌, if◌then◌else◌, Option, Some, None, Result, Ok, Err, OnOk, List, ◌++◌, length, map, reverse, refl, sym, ◌∙◌, ap, subst, arith}
+use Rattle.std.proofs.Common.{◌≡◌, ◌≢◌, ◌⊎◌, inl, inr, ℕ, ◌<◌, ◌≤◌, Bool, true, false, Option, Some, None, List, ◌++◌, length, map, reverse, refl, sym, ◌∙◌, ap, subst, arith}
+use Rattle.std.proofs.lemmas.Bool.Decides.{nat_tests}
 use Rattle.hpb_rules.specs.declared.command.Command.{Command}
 use Rattle.hpb_rules.specs.declared.letter.Answer.{Answer}
 use Rattle.hpb_rules.specs.declared.letter.Letter.{Letter}
@@ -11,17 +12,17 @@ use Rattle.hpb_rules.specs.LetterLaws.{JudgedIsAnswered}
 use Rattle.hpb_rules.specs.Letters.{judged, new_commands}
 use Rattle.hpb_rules.specs.Machine.{Machine, at_rest}
 use Rattle.hpb_rules.specs.Tree.{Rules}
-use Rattle.hpb_progress.specs.declared.progress.Progress.{Progress}
-use Rattle.hpb_progress.specs.Keeping.{Keeps}
+use Rattle.hpb_engine.specs.declared.progress.Progress.{Progress}
+use Rattle.hpb_engine.specs.Keeping.{Keeps}
 use Rattle.hpb_engine.specs.declared.step.Fault.{Fault}
 use Rattle.hpb_engine.specs.declared.step.Fault.TheVariants as faults
 use Rattle.hpb_engine.specs.Runs.{HasFailed}
 use Rattle.hpb_engine.specs.Steps.{refusal_of}
-use Rattle.hpb_batches.specs.Batches.{IsStill, KeepsEnded, StaysRefused}
-use Rattle.hpb_server.specs.Desk.{AsksAll, LooksStay}
-use Rattle.hpb_run.specs.Device.{Phase, RepliesAt, ShowsAt, State, at_start, failed, failing, never_over, works}
-use Rattle.hpb_batches.specs.Takes.{CheckpointTakes}
-use Rattle.hpb_run.specs.Standing.{AreAlike, HasAsked, IsCovered, StandsAt, commits_after, letter_of, most_counted, refused, reply_of}
+use Rattle.hpb_run.specs.Batches.{IsStill, KeepsEnded, StaysRefused, TellsFailures}
+use Rattle.hpb_server.specs.Desk.{LooksStay}
+use Rattle.hpb_run.specs.Device.{Phase, ShowsAt, State, at_start, failed, failing, left_of, works}
+use Rattle.hpb_run.specs.Takes.{CheckpointTakes}
+use Rattle.hpb_run.specs.Standing.{AreAlike, HasAsked, IsCovered, StandsAt, commits_after, letter_of, refused, reply_of}
 use Rattle.hpb_run.proofs.Asked.{all_by_rules, answered_state, judged_counted, judged_history, judged_replies, some_failed, some_failing}
 
 -- An engine that has not failed stands where all was answered by the rules.
@@ -42,17 +43,52 @@ covered_by s t before after off None whole told_off = inr (whole refl)
 covered_by s t before after off (Some fault) whole told_off = inl (told_off fault refl)
 
 -- One commit is counted at most where counting began anew.
-pub counts_anew : {A E : Type 0} (result : Result A E) (commits now before after : ℕ) → commits ≡ 0 → OnOk result (now ≡ commits_after commits before after) → OnOk result (now ≤ 1)
-counts_anew (Ok told) commits now before after zero is = subst (λ (n : ℕ). n ≤ 1) (sym is) (by (nat_lt before after && nat_lt commits most_counted))
-  where
-    by : (counts : Bool) → (if counts then suc commits else commits) ≤ 1
-    by true = omega (arith, zero)
-    by false = omega (arith, zero)
-counts_anew (Err error) commits now before after zero is = is
+pub counted_anew : (commits now before after : ℕ) → commits ≡ 0 → now ≡ commits_after commits before after → now ≤ 1
+counted_anew commits now before after zero is = grind (arith, nat_tests)
 
 module _ {D : Type 0} (seen : D → List ℕ) (may_leave : D → List ℕ → Type 0) (failures : D → ℕ) where
   abbrev Stands : D → Progress → Bool → State → Type 0
   Stands = StandsAt seen may_leave failures
+
+  -- An engine with nothing in flight stands where all was answered by the rules.
+  rest_stands : (disk : D) (s : Progress) (off : Bool) (state : State) → state.phase ≡ works → Keeps seen may_leave disk s off (at_rest state.history) → s.committed.rules ≡ state.rules
+      → (off ≡ true → (state.had_failed ≡ true) ⊎ (state.failures < failures disk)) → state.failures ≤ failures disk → Stands disk s off state
+  rest_stands disk s off state at_work keeps rules cause counted = (
+    record {
+      machine = at_rest state.history;
+      keeps = keeps;
+      rules = rules;
+      acknowledged = refl;
+      rests = λ is. refl;
+      stopped = λ stops. absurd (stops at_work);
+      cause = cause;
+      answered = ap left_of at_work;
+    },
+    counted,
+  )
+
+  -- One that has failed stands where commands were refused.
+  failed_stands : (disk : D) (s : Progress) (off : Bool) (state : State) → state.phase ≢ works → left_of state.phase ≡ 0 → off ≡ true → (machine : Machine) → Keeps seen may_leave disk s off machine
+      → s.committed.rules ≡ state.rules → machine.acknowledged ≡ state.history → (state.had_failed ≡ true) ⊎ (state.failures < failures disk) → state.failures ≤ failures disk → Stands disk s off state
+  failed_stands disk s off state stops none is machine keeps rules acknowledged cause counted = (
+    record {
+      machine = machine;
+      keeps = keeps;
+      rules = rules;
+      acknowledged = acknowledged;
+      rests = λ at_work. absurd (stops at_work);
+      stopped = λ phase. is;
+      cause = λ failed. cause;
+      answered = none;
+    },
+    counted,
+  )
+
+  -- Commands of which each was refused by 93 have their replies.
+  all_failed : (disk : D) (s : Progress) (off : Bool) (state : State) (commands : List Command) (told : List Reply) → 0 < length commands → left_of state.phase ≡ 0
+      → told ≡ refused (length commands) refusals.Failed → Stands disk s off (record state { phase = failed }) → HasAsked seen may_leave failures disk s off state commands told
+  all_failed disk s off state commands told some none are stands =
+      (record state { phase = failed }, rw are (some_failed state commands some none), stands, refl)
 
   module _ (old : D) (s : Progress) (off : Bool) (state : State) (stands : StandsAt seen may_leave failures old s off state) where
     pub phase_is : off ≡ false → state.phase ≡ works
@@ -75,70 +111,35 @@ module _ {D : Type 0} (seen : D → List ℕ) (may_leave : D → List ℕ → Ty
     pub failed_told : off ≡ true → (commands : List Command) (told : List Reply) → 0 < length commands → told ≡ refused (length commands) refusals.Failed
         → HasAsked seen may_leave failures old s off state commands told
     failed_told is commands told some are =
-        let next : State = record state { phase = failed } in (
-          next,
-          subst (λ (l : List Reply). AsksAll RepliesAt never_over state commands l next) (sym are) (some_failed state commands some stands.0.answered),
-          (
-            record {
-              machine = stands.0.machine;
-              keeps = stands.0.keeps;
-              rules = stands.0.rules;
-              acknowledged = stands.0.acknowledged;
-              rests = λ at_work. absurd (cc);
-              stopped = λ stops. is;
-              cause = stands.0.cause;
-              answered = refl;
-            },
-            stands.1,
-          ),
-          refl,
-        )
+        all_failed old s off state commands told some stands.0.answered are
+        (failed_stands old s off (record state { phase = failed }) (λ at_work. absurd (cc)) refl is stands.0.machine stands.0.keeps stands.0.rules stands.0.acknowledged (stands.0.cause is) stands.1)
 
     module _ (on : off ≡ false) (new : D) (t : Progress) (after : Bool) where
       -- After a checkpoint it stands where it stood.
       pub rested : (fault : Option Fault) → Keeps seen may_leave new t after (at_rest state.history) → t.committed ≡ s.committed → (fault ≡ None → off ≡ false → after ≡ false)
-          → HasFailed fault (failures old) (failures new) → StandsAt seen may_leave failures new t after state
-      rested fault keeps committed work has = (
-        record {
-          machine = at_rest state.history;
-          keeps = keeps;
-          rules = ap (λ (value : AuctionValue). value.rules) committed ∙ stands.0.rules;
-          acknowledged = refl;
-          rests = λ at_work. refl;
-          stopped = λ stops. absurd (stops (phase_is on));
-          cause = λ is. inr (risen fault work has is);
-          answered = stands.0.answered;
-        },
-        omega (arith, stands.1, failures_grow fault (failures old) (failures new) has),
-      )
+          → HasFailed fault (failures old) (failures new) → Stands new t after state
+      rested fault keeps committed work has =
+          rest_stands new t after state (phase_is on) keeps (ap (λ (value : AuctionValue). value.rules) committed ∙ stands.0.rules) (λ is. inr (risen fault work has is))
+          (omega (arith, stands.1, failures_grow fault (failures old) (failures new) has))
         where
           risen : (told : Option Fault) → (told ≡ None → off ≡ false → after ≡ false) → HasFailed told (failures old) (failures new) → after ≡ true → state.failures < failures new
           risen None working counts is = absurd (let no = working refl on in cc)
           risen (Some fault) working counts is = omega (arith, counts.1, stands.1)
 
       -- So it does where memory was refused.
-      pub refused_stands : Keeps seen may_leave new t after (at_rest state.history) → StaysRefused (failures old) (failures new) s t off after → StandsAt seen may_leave failures new t after state
-      refused_stands keeps stays = (
-        record {
-          machine = at_rest state.history;
-          keeps = keeps;
-          rules = ap (λ (value : AuctionValue). value.rules) stays.0 ∙ stands.0.rules;
-          acknowledged = refl;
-          rests = λ at_work. refl;
-          stopped = λ stops. absurd (stops (phase_is on));
-          cause = λ is. absurd (let no = stays.2 is in cc);
-          answered = stands.0.answered;
-        },
-        omega (arith, stands.1, stays.1),
-      )
+      pub refused_stands : Keeps seen may_leave new t after (at_rest state.history) → StaysRefused (failures old) (failures new) s t off after → Stands new t after state
+      refused_stands keeps stays =
+          rest_stands new t after state (phase_is on) keeps (ap (λ (value : AuctionValue). value.rules) stays.0 ∙ stands.0.rules) (λ is. absurd (let no = stays.2 is in cc)) (omega (arith, stands.1, stays.1))
 
       module _ (law : JudgedIsAnswered) (commands : List Command) (letters : List Letter) (are : letters ≡ map letter_of commands) (some : 0 < length commands) (most : length commands ≤ MOST_LETTERS)
           (answers : List Answer) (told : List Reply) where
         abbrev Ended : Rules → Option Fault → Type 0
         Ended rules fault = KeepsEnded seen may_leave new t after rules state.history letters answers fault
 
-        all_answered : Ended state.rules None → failures new ≡ failures old → (length answers ≤ MOST_LETTERS → told ≡ map reply_of answers)
-            → HasAsked seen may_leave failures new t after state commands told
+        abbrev Asked : Type 0
+        Asked = HasAsked seen may_leave failures new t after state commands told
+
+        all_answered : Ended state.rules None → failures new ≡ failures old → (length answers ≤ MOST_LETTERS → told ≡ map reply_of answers) → Asked
         all_answered ended well told_are =
             let past : List Command = reverse state.history in
             let next : State = answered_state state past commands in
@@ -146,112 +147,52 @@ module _ {D : Type 0} (seen : D → List ℕ) (may_leave : D → List ℕ → Ty
             let counted : length answers ≡ length commands = ap length ended.2.1 ∙ judged_counted law state.rules state.history commands letters are in
             let replied = told_are (omega (arith, counted, most)) ∙ ap (map reply_of) ended.2.1 ∙ judged_replies law state.rules state.history commands letters are in (
               next,
-              subst (λ (l : List Reply). AsksAll RepliesAt never_over state commands l next) (sym replied) (all_by_rules state past commands (phase_is on) refl),
-              (
-                record {
-                  machine = ended.0;
-                  keeps = ended.1;
-                  rules = ended.3;
-                  acknowledged = ap (λ (machine : Machine). machine.acknowledged) ended.2.2 ∙ came;
-                  rests = λ at_work. ended.2.2 ∙ ap at_rest came;
-                  stopped = λ stops. absurd (stops (phase_is on));
-                  cause = λ is. absurd (let no = ended.2.0 in cc);
-                  answered = stands.0.answered;
-                },
-                omega (arith, stands.1, well),
-              ),
+              rw replied (all_by_rules state past commands (phase_is on) refl),
+              rest_stands new t after next (phase_is on) (subst (Keeps seen may_leave new t after) (ended.2.2 ∙ ap at_rest came) ended.1) ended.3
+                  (λ is. absurd (let no = ended.2.0 in cc)) (omega (arith, stands.1, well)),
               refl,
             )
 
-        none_taken : Ended state.rules (Some faults.Failed) → failures old < failures new → told ≡ refused (length commands) refusals.Failed
-            → HasAsked seen may_leave failures new t after state commands told
+        none_taken : Ended state.rules (Some faults.Failed) → failures old < failures new → told ≡ refused (length commands) refusals.Failed → Asked
         none_taken ended rose told_are =
-            let next : State = record state { phase = failed } in (
-              next,
-              subst (λ (l : List Reply). AsksAll RepliesAt never_over state commands l next) (sym told_are) (some_failed state commands some stands.0.answered),
-              (
-                record {
-                  machine = ended.0;
-                  keeps = ended.1;
-                  rules = ended.3;
-                  acknowledged = ap (λ (machine : Machine). machine.acknowledged) ended.2.1;
-                  rests = λ at_work. absurd (cc);
-                  stopped = λ stops. ended.2.0;
-                  cause = λ is. inr (omega (arith, stands.1, rose));
-                  answered = refl;
-                },
-                omega (arith, stands.1, rose),
-              ),
-              refl,
-            )
+            all_failed new t after state commands told some stands.0.answered told_are
+            (failed_stands new t after (record state { phase = failed }) (λ at_work. absurd (cc)) refl ended.2.0 ended.0 ended.1 ended.3 (ap (λ (machine : Machine). machine.acknowledged) ended.2.1)
+            (inr (omega (arith, stands.1, rose))) (omega (arith, stands.1, rose)))
 
-        none_acknowledged : Ended state.rules (Some faults.Device) → failures old < failures new → told ≡ refused (length commands) refusals.Device
-            → HasAsked seen may_leave failures new t after state commands told
+        none_acknowledged : Ended state.rules (Some faults.Device) → failures old < failures new → told ≡ refused (length commands) refusals.Device → Asked
         none_acknowledged ended rose told_are =
             let next : State = record state { phase = failing 0 } in (
               next,
-              subst (λ (l : List Reply). AsksAll RepliesAt never_over state commands l next) (sym told_are) (some_failing state commands (phase_is on) some most),
-              (
-                record {
-                  machine = ended.0;
-                  keeps = ended.1;
-                  rules = ended.3;
-                  acknowledged = ap (λ (machine : Machine). machine.acknowledged) ended.2.2;
-                  rests = λ at_work. absurd (cc);
-                  stopped = λ stops. ended.2.0;
-                  cause = λ is. inr (omega (arith, stands.1, rose));
-                  answered = refl;
-                },
-                omega (arith, stands.1, rose),
-              ),
+              rw told_are (some_failing state commands (phase_is on) some most),
+              failed_stands new t after next (λ at_work. absurd (cc)) refl ended.2.0 ended.0 ended.1 ended.3 (ap (λ (machine : Machine). machine.acknowledged) ended.2.2)
+                  (inr (omega (arith, stands.1, rose))) (omega (arith, stands.1, rose)),
               refl,
             )
 
-        -- Commands that were committed together, or were not, have their replies.
-        pub batch_told : (fault : Option Fault) → Ended s.committed.rules fault → (fault ≡ None → failures new ≡ failures old) → (fault ≡ Some faults.Device → failures old < failures new)
+        -- Commands that were committed together, or were not, have their replies; where the device has failed they have one refusal.
+        pub batch_told : (fault : Option Fault) → Ended s.committed.rules fault → TellsFailures fault (failures old) (failures new)
             → (fault ≡ Some faults.Failed → (off ≡ true) ⊎ (failures old < failures new)) → (fault ≡ None → length answers ≤ MOST_LETTERS → told ≡ map reply_of answers)
-            → ((why : Fault) → fault ≡ Some why → told ≡ refused (length commands) (refusal_of why)) → HasAsked seen may_leave failures new t after state commands told
-        batch_told fault ended well ill earlier answered stopped = by fault (subst (λ (rules : Rules). Ended rules fault) stands.0.rules ended) well ill earlier answered stopped
-          where
-            by : (fault : Option Fault) → Ended state.rules fault → (fault ≡ None → failures new ≡ failures old) → (fault ≡ Some faults.Device → failures old < failures new)
-                → (fault ≡ Some faults.Failed → (off ≡ true) ⊎ (failures old < failures new)) → (fault ≡ None → length answers ≤ MOST_LETTERS → told ≡ map reply_of answers)
-                → ((why : Fault) → fault ≡ Some why → told ≡ refused (length commands) (refusal_of why)) → HasAsked seen may_leave failures new t after state commands told
-            by None ended well ill earlier answered stopped = all_answered ended (well refl) (answered refl)
-            by (Some faults.Device) ended well ill earlier answered stopped = none_acknowledged ended (ill refl) (stopped faults.Device refl)
-            by (Some faults.Failed) ended well ill earlier answered stopped = elim (earlier refl) [ inl is ↦ absurd (cc) | inr rose ↦ none_taken ended rose (stopped faults.Failed refl) ]
-
-        -- Where the device failed they have one refusal.
-        pub alike_told : (fault : Option Fault) → Ended s.committed.rules fault → ((why : Fault) → fault ≡ Some why → told ≡ refused (length commands) (refusal_of why))
-            → after ≡ true → AreAlike seen may_leave new t after state (length commands) told
-        alike_told None ended stopped is = absurd (let no = ended.2.0 in cc)
-        alike_told (Some faults.Device) ended stopped is = inl (stopped faults.Device refl)
-        alike_told (Some faults.Failed) ended stopped is =
-            inr (stopped faults.Failed refl, λ at_work. subst (λ (machine : Machine). Keeps seen may_leave new t after machine) ended.2.1 ended.1)
+            → ((why : Fault) → fault ≡ Some why → told ≡ refused (length commands) (refusal_of why))
+            → Asked × (after ≡ true → AreAlike seen may_leave new t after state (length commands) told)
+        batch_told None ended cause earlier answered stopped = (all_answered (rw (sym stands.0.rules) ended) cause (answered refl), λ is. absurd (let no = ended.2.0 in cc))
+        batch_told (Some faults.Device) ended cause earlier answered stopped =
+            (none_acknowledged (rw (sym stands.0.rules) ended) cause (stopped faults.Device refl), λ is. inl (stopped faults.Device refl))
+        batch_told (Some faults.Failed) ended cause earlier answered stopped = elim (earlier refl) [
+          | inl is ↦ absurd (cc)
+          | inr rose ↦ (
+            none_taken (rw (sym stands.0.rules) ended) rose (stopped faults.Failed refl),
+            λ is. inr (stopped faults.Failed refl, λ at_work. subst (Keeps seen may_leave new t after) ended.2.1 ended.1),
+          )
+        ]
 
   -- An engine with nothing in flight stands at the start.
   pub starts : (disk : D) (s : Progress) (off : Bool) (history : List Command) → Keeps seen may_leave disk s off (at_rest history)
-      → StandsAt seen may_leave failures disk s off (at_start s.committed.rules history (failures disk) off)
-  starts disk s off history keeps = (
-    record {
-      machine = at_rest history;
-      keeps = keeps;
-      rules = refl;
-      acknowledged = refl;
-      rests = λ at_work. refl;
-      stopped = λ stops. absurd (stops refl);
-      cause = λ is. inl is;
-      answered = refl;
-    },
-    omega arith,
-  )
+      → Stands disk s off (at_start s.committed.rules history (failures disk) off)
+  starts disk s off history keeps = rest_stands disk s off (at_start s.committed.rules history (failures disk) off) refl keeps refl (λ is. inl is) (omega arith)
 
   -- So one stands that is as it was.
-  pub still_stands : (old new : D) (s t : Progress) (off after : Bool) (state : State) → IsStill old new s t off after
-      → StandsAt seen may_leave failures old s off state → StandsAt seen may_leave failures new t after state
-  still_stands old new s t off after state still stands =
-      subst (λ (b : Bool). StandsAt seen may_leave failures new t b state) (sym still.2)
-      (subst (λ (p : Progress). StandsAt seen may_leave failures new p off state) (sym still.1)
-      (subst (λ (d : D). StandsAt seen may_leave failures d s off state) (sym still.0) stands))
+  pub still_stands : (old new : D) (s t : Progress) (off after : Bool) (state : State) → IsStill old new s t off after → Stands old s off state → Stands new t after state
+  still_stands old new s t off after state still stands = rw (still.0, still.1, still.2) stands
 
 -- a look leaves the state as it is
 pub looks_stay : LooksStay ShowsAt

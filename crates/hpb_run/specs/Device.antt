@@ -9,8 +9,8 @@ use Rattle.hpb_rules.specs.Answer.{answer, history_after}
 use Rattle.hpb_rules.specs.AuctionValue.{AuctionValue, Shows}
 use Rattle.hpb_rules.specs.Machine.{Machine, at_rest}
 use Rattle.hpb_rules.specs.Tree.{Rules}
-use Rattle.hpb_progress.specs.declared.progress.Progress.{Progress}
-use Rattle.hpb_progress.specs.Keeping.{Keeps}
+use Rattle.hpb_engine.specs.declared.progress.Progress.{Progress}
+use Rattle.hpb_engine.specs.Keeping.{Keeps}
 
 -- **Replies.**
 --

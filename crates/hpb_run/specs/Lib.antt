@@ -3,3 +3,5 @@ pub mod DeviceLaws
 pub mod Running
 pub mod Standing
 pub mod Telling
+pub mod Batches
+pub mod Takes

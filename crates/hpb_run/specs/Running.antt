@@ -2,7 +2,7 @@
 use Rattle.std.specs.Prelude.{ℕ, Bool, List, Result, ⊤}
 use Rattle.hpb_rules.specs.declared.command.Command.{Command}
 use Rattle.hpb_rules.specs.Tree.{Rules}
-use Rattle.hpb_progress.specs.declared.progress.Progress.{Progress}
+use Rattle.hpb_engine.specs.declared.progress.Progress.{Progress}
 use Rattle.hpb_server.specs.declared.fault.Fault.{Fault}
 use Rattle.hpb_server.specs.Streams.{Streams}
 use Rattle.hpb_run.specs.Device.{State, IsAt, at_start}

@@ -9,9 +9,9 @@ use Rattle.hpb_rules.specs.declared.reply.Reply.{Reply}
 use Rattle.hpb_rules.specs.declared.reply.Reply.TheVariants as replies
 use Rattle.hpb_rules.specs.Machine.{at_rest}
 use Rattle.hpb_rules.specs.Tree.{Rules}
-use Rattle.hpb_progress.specs.declared.progress.Progress.{Progress}
-use Rattle.hpb_progress.specs.Keeping.{Keeps}
-use Rattle.hpb_batches.specs.Takes.{CheckpointTakes}
+use Rattle.hpb_engine.specs.declared.progress.Progress.{Progress}
+use Rattle.hpb_engine.specs.Keeping.{Keeps}
+use Rattle.hpb_run.specs.Takes.{CheckpointTakes}
 use Rattle.hpb_server.specs.Desk.{AsksAll}
 use Rattle.hpb_run.specs.Device.{IsAt, RepliesAt, State, never_over, works}
 

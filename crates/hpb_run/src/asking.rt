@@ -1,12 +1,12 @@
 //! What a desk has its engine do.
 ghost use Rattle.std.specs.Prelude.{◌≡◌, ◌<◌, ◌≤◌, true, length, IfOk, OnErr, OnOk};
 ghost use Rattle.hpb_rules.specs.declared.limits.TheConstants.{MOST_LETTERS};
-ghost use Rattle.hpb_batches.specs.Takes.{IsBetween};
+ghost use Rattle.hpb_run.specs.Takes.{IsBetween};
 ghost use Rattle.hpb_run.specs.Device.{State};
 ghost use Rattle.hpb_run.specs.Standing.{AreAlike, HasAsked, IsCovered, StandsAt};
 
 use crate::replies::{all_refused, letters_of, replies_to};
-use hpb_batches::{commit_letters, make_checkpoint};
+use crate::{commit_letters, make_checkpoint};
 use hpb_disk::Disk;
 use hpb_engine::Engine;
 use hpb_rules::{Commands, Refusal, Replies, judged_is_answered};
@@ -34,10 +34,8 @@ pub(crate) fn ask_engine<D: Disk + Drop>(
     if engine.failed {
         return Ok(all_refused(count, Refusal::Failed));
     }
-    match commit_letters(alloc, engine, letters_of(commands)) {
-        Ok(ended) => Ok(replies_to(ended.fault, ended.answers.as_slice(), count)),
-        Err(error) => Err(error),
-    }
+    let ended = commit_letters(alloc, engine, letters_of(commands))?;
+    Ok(replies_to(ended.fault, ended.answers.as_slice(), count))
 }
 
 /// Makes a whole checkpoint, unless the device has failed.
@@ -53,8 +51,6 @@ pub(crate) fn rest_engine<D: Disk + Drop>(
     if engine.failed {
         return Ok(());
     }
-    match make_checkpoint(alloc, engine) {
-        Ok(_) => Ok(()),
-        Err(error) => Err(error),
-    }
+    make_checkpoint(alloc, engine)?;
+    Ok(())
 }

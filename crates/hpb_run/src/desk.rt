@@ -3,10 +3,10 @@ ghost use Rattle.std.specs.Prelude.{◌≡◌, ◌<◌, ◌≤◌, List, true, f
 ghost use Rattle.hpb_rules.specs.declared.command.Command.{Command};
 ghost use Rattle.hpb_rules.specs.declared.limits.TheConstants.{MOST_LETTERS};
 ghost use Rattle.hpb_rules.specs.Machine.{at_rest};
-ghost use Rattle.hpb_progress.specs.Keeping.{Keeps};
+ghost use Rattle.hpb_engine.specs.Keeping.{Keeps};
 ghost use Rattle.hpb_server.specs.Desk.{AsksAll, HasPlaces, seen};
 ghost use Rattle.hpb_run.specs.Device.{RepliesAt, ShowsAt, State, at_start, never_over};
-ghost use Rattle.hpb_batches.specs.Takes.{IsBetween};
+ghost use Rattle.hpb_run.specs.Takes.{IsBetween};
 ghost use Rattle.hpb_run.specs.Standing.{AreAlike, DeskStands, IsCovered, commits_after, is_due};
 
 use crate::asking::{ask_engine, rest_engine};
@@ -98,7 +98,8 @@ impl<D: Disk + Drop> DeviceDesk<D> {
         Ok(())
     }
 
-    /// Asks for commands together, after the checkpoint that is due, and counts their commit.
+    /// Asks for commands together, after the checkpoint that is due, and counts their commit, if it is one: where more
+    /// commands are accepted than before.
     ///
     /// 90 where memory is refused: none is asked.
     pub fn ask_together(
@@ -125,38 +126,12 @@ impl<D: Disk + Drop> DeviceDesk<D> {
             → OnErr result (DeskStands D.seen D.may_leave D.failures self.new.engine.disk self.new.engine.progress self.new.engine.failed self.new.definition state) }
         ensures definition { self.new.definition ≡ self.old.definition }
     {
-        match self.make_due_checkpoint(alloc) {
-            Ok(()) => self.ask_now(alloc, commands),
-            Err(error) => Err(error),
-        }
-    }
-
-    /// Asks for commands together, and counts their commit, if it is one: where more commands are accepted than before.
-    fn ask_now(&mut self, alloc: Global, commands: &Commands) -> Result<Replies, AllocError>
-        requires some { 0 < length commands.now }
-        requires most { length commands.now ≤ MOST_LETTERS }
-        ensures counted { OnOk result (self.new.commits ≡ commits_after self.old.commits self.old.engine.progress.committed.count self.new.engine.progress.committed.count) }
-        ensures pace { (self.new.batch ≡ self.old.batch) × (self.new.every ≡ self.old.every) }
-        ensures asked { (state : State) → DeskStands D.seen D.may_leave D.failures self.old.engine.disk self.old.engine.progress self.old.engine.failed self.old.definition state
-            → IfOk result (λ replies. (next : State) × AsksAll RepliesAt never_over state commands.now replies next
-            × DeskStands D.seen D.may_leave D.failures self.new.engine.disk self.new.engine.progress self.new.engine.failed self.new.definition next) }
-        // Where the device fails, or had failed, they have one refusal; and 93 where it had worked says that none of
-        // them is kept.
-        ensures alike { (state : State) → DeskStands D.seen D.may_leave D.failures self.old.engine.disk self.old.engine.progress self.old.engine.failed self.old.definition state
-            → self.new.engine.failed ≡ true → IfOk result (AreAlike D.seen D.may_leave self.new.engine.disk self.new.engine.progress self.new.engine.failed state (length commands.now)) }
-        ensures kept { (state : State) → DeskStands D.seen D.may_leave D.failures self.old.engine.disk self.old.engine.progress self.old.engine.failed self.old.definition state
-            → OnErr result (DeskStands D.seen D.may_leave D.failures self.new.engine.disk self.new.engine.progress self.new.engine.failed self.new.definition state) }
-        ensures definition { self.new.definition ≡ self.old.definition }
-    {
+        self.make_due_checkpoint(alloc)?;
         let before = self.engine.committed().count();
-        match ask_engine(alloc, &mut self.engine, commands) {
-            Ok(replies) => {
-                let after = self.engine.committed().count();
-                self.commits = count_commit(self.commits, before, after);
-                Ok(replies)
-            }
-            Err(error) => Err(error),
-        }
+        let replies = ask_engine(alloc, &mut self.engine, commands)?;
+        let after = self.engine.committed().count();
+        self.commits = count_commit(self.commits, before, after);
+        Ok(replies)
     }
 
     /// The auction after the acknowledged commands, where it has the places that lines are read by.

@@ -1,6 +1,6 @@
 -- Reports that say the same.
 use Rattle.std.proofs.Common.{◌≡◌, ◌∙◌, List, [], ◌∷◌, map, refl, sym, ap}
-use Rattle.hpb_closing.specs.Reports.{Said, said}
+use Rattle.hpb_house.specs.Reports.{Said, said}
 use Rattle.hpb_rings.specs.declared.report.Report.{Report}
 
 seats_said : (reports : List Report) → map (λ (it : Said). it.seat) (map said reports) ≡ map (λ (report : Report). report.seat) reports

@@ -7,11 +7,11 @@ use Rattle.hpb_house.specs.Clients.{IsReportOf}
 use Rattle.hpb_house.specs.declared.keeper.Halt.{Halt}
 use Rattle.hpb_rings.specs.declared.client.Client.{Client}
 use Rattle.hpb_rings.specs.declared.report.Report.{Report}
-use Rattle.hpb_sessions.specs.Ends.{EndsBy, IsEndOf}
-use Rattle.hpb_sessions.specs.Sessions.{Follows}
-use Rattle.hpb_sessions.specs.declared.stop.Stop.{Stop}
-use Rattle.hpb_sessions.specs.declared.end.SessionEnd.{SessionEnd}
-use Rattle.hpb_sessions.specs.declared.end.SessionEnd.TheVariants.{Finished, Left}
+use Rattle.hpb_serve.specs.Ends.{EndsBy, IsEndOf}
+use Rattle.hpb_serve.specs.Sessions.{Follows}
+use Rattle.hpb_serve.specs.declared.stop.Stop.{Stop}
+use Rattle.hpb_serve.specs.declared.end.SessionEnd.{SessionEnd}
+use Rattle.hpb_serve.specs.declared.end.SessionEnd.TheVariants.{Finished, Left}
 use Rattle.hpb_serve.specs.Ended.{EndsWith, IsLeft, IsOutOfOrder}
 
 -- a client is left only out of order

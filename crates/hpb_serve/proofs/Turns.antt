@@ -6,10 +6,7 @@ use Rattle.std.proofs.lemmas.List.{append-nil, append_assoc, map-append}
 use Rattle.std.specs.Option.{is_some}
 use Rattle.std.proofs.lemmas.List.Elements.{All-append, Contains-append_right}
 use Rattle.hpb_house.specs.Starts.{AreOneByOne}
-
-one_of : {A : Type 0} (P : A → Type 0) (x : A) → P x → All P (x ∷ [])
-one_of P x h zero d lt = h
-one_of P x h (suc i) d lt = absurd (omega arith)
+use Rattle.hpb_rules.proofs.Lists.{one_of}
 
 -- what is so of each element and of one more is so of the list with that one
 pub all_and_one : {A : Type 0} (P : A → Type 0) (xs : List A) (x : A) → All P xs → P x → All P (xs ++ x ∷ [])

@@ -3,13 +3,9 @@ use Rattle.std.proofs.Common.{◌≡◌, ℕ, zero, suc, List, [], ◌∷◌, ta
 use Rattle.std.specs.Bool.{⊤}
 use Rattle.std.specs.Io.KnownBytes.{Appends}
 use Rattle.hpb_rules.specs.Fronts.{IsFront}
+use Rattle.hpb_rules.proofs.Lists.{take_front}
 use Rattle.hpb_serve.specs.Announcing.{Announces}
 use Rattle.hpb_serve.specs.declared.fault.ServeFault.TheVariants.{Writer}
-
-take_front : {A : Type 0} (n : ℕ) (xs : List A) → IsFront (take n xs) xs
-take_front zero xs = (xs, refl)
-take_front (suc n) [] = ([], refl)
-take_front (suc n) (x ∷ xs) = let rest = take_front n xs in (rest.0, ap (λ ys. x ∷ ys) rest.1)
 
 -- a front of the line was written where the writer failed
 pub stopped : (D : Type 0) (old new : Option (List ℕ)) (bytes line : List ℕ) → bytes ≡ line → (n : ℕ) × Appends old new (take n bytes) → Announces {A = ⊤} {D = D} line old new (Err Writer)

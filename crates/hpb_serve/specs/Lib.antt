@@ -2,3 +2,8 @@ pub mod Announcing
 pub mod Ended
 pub mod Faults
 pub mod Limits
+pub mod Stops
+pub mod Sessions
+pub mod InFlight
+pub mod Telling
+pub mod Ends

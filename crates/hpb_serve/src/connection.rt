@@ -3,9 +3,9 @@ ghost use Rattle.std.specs.Prelude.{◌≡◌, ◌<◌, ◌≤◌, ◌/◌, []};
 ghost use Rattle.hpb_serve.specs.Ended.{EndsWith};
 
 use crate::looking::Looking;
+use crate::{SessionEnd, finish_client, run_session};
 use hpb_house::Halt;
 use hpb_rings::Client;
-use hpb_sessions::{SessionEnd, finish_client, run_session};
 use std::alloc::Global;
 use std::net::{Shutdown, TcpStream};
 use std::sync::Wait;

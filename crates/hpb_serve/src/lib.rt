@@ -2,16 +2,25 @@
 #![tactic(auto)]
 
 mod announcing;
+mod asking;
 mod connection;
+mod desk;
+mod end;
 mod ends;
 mod fault;
 mod laws;
 mod looking;
 mod serving;
+mod session;
+mod stop;
 mod threads;
 mod watching;
 
+pub use desk::HouseDesk;
+pub use end::{Session, SessionEnd};
 pub use fault::{Differing, ServeFault};
 pub use laws::limits_are;
 pub use serving::{Served, serve_opened, serve_watched};
+pub use session::{finish_client, run_session};
+pub use stop::Stop;
 pub use watching::{Unwatched, Watch};

@@ -1,6 +1,6 @@
 -- A result that is an error.
-use Rattle.std.specs.Prelude.{Result, Ok, Err, OnOk}
-use Rattle.std.specs.Result.{IsErrAnd}
+use Rattle.std.specs.Prelude.{◌≡◌, true, false, Result, Ok, Err, OnOk}
+use Rattle.std.specs.Result.{IsErr, IsErrAnd}
 
 -- what holds in any case
 pub ok_case : {T E : Type 0} {P : Type 0} (r : Result T E) → P → OnOk r P
@@ -16,3 +16,7 @@ err_case P (Err error) bad h = h error bad
 pub err_only : {T E : Type 0} (P : Type 0) (Q : E → Type 0) (r : Result T E) → IsErrAnd r Q → OnOk r P
 err_only P Q (Ok done) bad = absurd bad
 err_only P Q (Err error) bad = tt
+
+pub err_alone : {T E : Type 0} (P : Type 0) (r : Result T E) → IsErr r → OnOk r P
+err_alone P (Ok done) bad = absurd (let no : false ≡ true = bad in cc)
+err_alone P (Err error) bad = tt

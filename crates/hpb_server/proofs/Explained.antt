@@ -2,7 +2,7 @@
 use Rattle.std.proofs.Common.{ℕ, Bool, true, false, List, [], ◌∷◌, ◌++◌, Option, refl, sym, subst, append-nil}
 use Rattle.std.specs.Io.KnownBytes.{Appends}
 use Rattle.std.specs.List.{concat}
-use Rattle.std.proofs.KnownBytes.{Appends-nil, Appends-trans, Keeps-refl}
+use Rattle.std.proofs.KnownBytes.{Appends-nil, Appends-trans, Keeps-refl, Keeps-trans}
 use Rattle.std.proofs.lemmas.List.Elements.{All-append, All-cons, All-nil}
 use Rattle.std.proofs.lemmas.List.Folds.{concat-append}
 use Rattle.hpb_rules.specs.declared.command.Command.{Command}
@@ -28,7 +28,7 @@ explained_one a b value command refusal says = (
 )
 
 -- more was told
-pub explained_more : (a b c : Option (List ℕ)) → Explains a b → Explains b c → Explains a c
+explained_more : (a b c : Option (List ℕ)) → Explains a b → Explains b c → Explains a c
 explained_more a b c first second = (
   first.0 ++ second.0,
   All-append IsOfSentence first.0 second.0 first.1 second.1,
@@ -39,6 +39,11 @@ explained_more a b c first second = (
 pub explained_at_none : (is_terminal : Bool) (a : Option (List ℕ)) → ExplainsAt is_terminal a a
 explained_at_none true a = explained_none a
 explained_at_none false a = Keeps-refl a
+
+-- more was told
+pub explained_at_more : (is_terminal : Bool) (a b c : Option (List ℕ)) → ExplainsAt is_terminal a b → ExplainsAt is_terminal b c → ExplainsAt is_terminal a c
+explained_at_more true a b c first second = explained_more a b c first second
+explained_at_more false a b c first second = Keeps-trans a b c first second
 
 -- a definition was accepted, and nothing else is said
 pub accepted_only : (is_terminal : Bool) (a b : Option (List ℕ)) → Says a b (accepted_text is_terminal) → SaysAccepted is_terminal a b

@@ -8,6 +8,7 @@ mod Standing
 mod Definitions
 mod WholeLines
 mod Queues
+mod Questions
 mod Sessions
 mod Chunks
 mod Going

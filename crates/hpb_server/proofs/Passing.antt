@@ -84,9 +84,12 @@ pub all_sent : (old new : Option (List ℕ)) (output left : List ℕ) (r : Resul
 all_sent old new output left r s empty = sent_passes 0 false old new r refl s empty
 
 -- memory is refused for a line
+pub line_cut : (old new : Option (List ℕ)) {bytes output : List ℕ} (answer left : List ℕ) (r : Result ⊤ Fault) → output ≡ bytes → PassesLine old new (output ++ lines_of (answer ∷ [])) left r → PassesLine old new (bytes ++ line_of answer) left r
+line_cut old new {bytes = bytes} answer left r e p =
+    subst (λ (all : List ℕ). PassesLine old new all left r) (ap (λ xs. xs ++ lines_of (answer ∷ [])) e ∙ ap (λ xs. bytes ++ xs) (append-nil (line_of answer))) p
+
 pub line_refused : (old new : Option (List ℕ)) {bytes output : List ℕ} (answer left : List ℕ) (r : Result ⊤ Fault) → IsErrAnd r (λ e. e ≡ Memory) → output ≡ bytes → Appends old new output → PassesLine old new (bytes ++ line_of answer) left r
-line_refused old new {bytes = bytes} {output = output} answer left r bad e s =
-    subst (λ (all : List ℕ). PassesLine old new (bytes ++ all) left r) (append-nil (line_of answer)) (lines_refused 1 false old new (answer ∷ []) left r bad (omega arith) (λ none. absurd (cc)) e s)
+line_refused old new answer left r bad e s = line_cut old new answer left r e (lines_refused 1 false old new (answer ∷ []) left r bad (omega arith) (λ none. absurd (cc)) refl s)
 
 -- ---- answers that came together
 pub lines_append : (xs ys : List (List ℕ)) → lines_of (xs ++ ys) ≡ lines_of xs ++ lines_of ys

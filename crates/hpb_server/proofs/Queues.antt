@@ -1,14 +1,16 @@
 -- Lines whose commands wait to be asked, and what is answered to them line by line.
-use Rattle.std.proofs.Common.{◌≡◌, ℕ, ◌≤◌, Bool, true, false, List, [], ◌∷◌, ◌++◌, length, take, Option, refl, sym, ap, ◌∙◌, subst, arith, append_assoc, append-nil, inl, inr}
+use Rattle.std.proofs.Common.{◌≡◌, ℕ, ◌<◌, ◌≤◌, Bool, true, false, List, [], ◌∷◌, ◌++◌, length, take, Option, refl, sym, ap, ◌∙◌, subst, arith, append_assoc, append-nil, inl, inr}
 use Rattle.std.specs.Prelude.{Result, Ok, Err, OnOk, ⊤}
-use Rattle.std.specs.Result.{IsErrAnd}
+use Rattle.std.specs.Result.{IsErrAnd, IsOk}
 use Rattle.std.specs.Io.KnownBytes.{Appends}
 use Rattle.std.proofs.KnownBytes.{Appends-nil, Appends-trans}
+use Rattle.std.proofs.lemmas.List.{map-append}
 use Rattle.std.proofs.lemmas.List.Elements.{All-append}
 use Rattle.hpb_rules.specs.declared.refusal.Refusal.{Refusal}
 use Rattle.hpb_rules.specs.declared.command.Command.{Command}
 use Rattle.hpb_rules.specs.declared.reply.Reply.{Reply}
 use Rattle.hpb_rules.specs.declared.request.Request.{Request}
+use Rattle.hpb_rules.specs.declared.request.Request.TheVariants as requests
 use Rattle.hpb_rules.specs.Tree.{Rules}
 use Rattle.hpb_rules.specs.AuctionValue.{AuctionValue}
 use Rattle.hpb_rules.specs.Lines.{request_of, is_line_feed}
@@ -22,10 +24,10 @@ use Rattle.hpb_server.specs.Desk.{AsksAll}
 use Rattle.hpb_server.specs.Fault.{lines_of}
 use Rattle.hpb_server.specs.Reading.{Pending, HasNoEnd, TakesToEnd, TakesAll}
 use Rattle.hpb_server.specs.Serving.{AnswersRequest}
-use Rattle.hpb_server.specs.Session.{asked_for, replies_text, AnswersRequests, Broken, Leads, Passes, PassesRequests, Proceeds, Session}
+use Rattle.hpb_server.specs.Session.{asked_for, replies_text, AnswersRequests, Broken, Leads, Passes, PassesLine, PassesRequests, Proceeds, Session}
 use Rattle.hpb_server.proofs.Definitions.{take-take-append}
 use Rattle.hpb_server.proofs.Errors.{err_case, err_only, ok_case}
-use Rattle.hpb_server.proofs.Passing.{first_fails, lines_append, passes_first}
+use Rattle.hpb_server.proofs.Passing.{first_fails, lines_append, passes_first, passes_weaker}
 use Rattle.hpb_server.proofs.WholeLines.{leads_none, leads_append, leads_line, leads_over}
 
 -- each line spells its request
@@ -50,11 +52,26 @@ spell_split rules (line ∷ lines) (request ∷ requests) others s =
     let t = spell_split rules lines requests others s.2 in
     (line ∷ t.0, t.1, ap (λ xs. line ∷ xs) t.2, (s.0, s.1, t.3), t.4)
 
+-- one command more waits
+pub waits_more_in : (old new : List Command) (command : Command) {E : Type 0} (r : Result ⊤ E) → IsOk r → OnOk r (new ≡ old ++ command ∷ []) → asked_for old ++ Ok (requests.Command command) ∷ [] ≡ asked_for new
+waits_more_in old new command (Ok done) room pushed = sym (ap asked_for pushed ∙ map-append _ old (command ∷ []))
+waits_more_in old new command (Err error) room pushed = absurd (let no : false ≡ true = room in cc)
+
 -- ---- what is written before requests are asked
-module _ {State : Type 0} (rules : State → Rules) (over : State → Bool) (asks : State → Command → Reply → State → Type 0) (looks : State → Option AuctionValue → State → Type 0) (most : ℕ) (takes_memory : Bool) {state : State} {asked : List (Result Request Refusal)} {old now : Option (List ℕ)} {bytes : List ℕ} (output : List ℕ) where
-  pub sent_first : {next : State} {new : Option (List ℕ)} {left : List ℕ} {queue : List Command} (r : Result ⊤ Fault) → Passes 0 false old now bytes output (Ok tt)
+module _ {State : Type 0} (rules : State → Rules) (over : State → Bool) (asks : State → Command → Reply → State → Type 0) (looks : State → Option AuctionValue → State → Type 0) (most : ℕ) (takes_memory : Bool) {state : State} {asked : List (Result Request Refusal)} {old now : Option (List ℕ)} {bytes : List ℕ} where
+  -- nothing is asked
+  pub none_asked : {left : List ℕ} {queue : List Command} (r : Result ⊤ Fault) → Passes most takes_memory old now (bytes ++ []) left r → OnOk r (asked ≡ asked_for queue)
+      → PassesRequests rules over asks looks most takes_memory state asked state old now bytes left queue r
+  none_asked r p waits = record { answered = []; waiting = asked; text = []; parts = refl; answers = (refl, refl); passes = p; queued = waits }
+
+  -- since the writer failed
+  pub not_asked : (output : List ℕ) {left : List ℕ} {queue : List Command} (fault : Fault) (r : Result ⊤ Fault) → IsErrAnd r (λ e. e ≡ fault) → Passes 0 false old now bytes output (Err fault)
+      → PassesRequests rules over asks looks most takes_memory state asked state old now bytes left queue r
+  not_asked output {left = left} fault r bad p = none_asked r (first_fails most takes_memory old now bytes output left fault r bad p) (err_only _ _ r bad)
+
+  pub sent_first : (output : List ℕ) {next : State} {new : Option (List ℕ)} {left : List ℕ} {queue : List Command} (r : Result ⊤ Fault) → Passes 0 false old now bytes output (Ok tt)
       → PassesRequests rules over asks looks most takes_memory state asked next now new output left queue r → PassesRequests rules over asks looks most takes_memory state asked next old new bytes left queue r
-  sent_first {new = new} {left = left} r first p = record {
+  sent_first output {new = new} {left = left} r first p = record {
     answered = p.answered;
     waiting = p.waiting;
     text = p.text;
@@ -62,19 +79,6 @@ module _ {State : Type 0} (rules : State → Rules) (over : State → Bool) (ask
     answers = p.answers;
     passes = passes_first most takes_memory old now new bytes output p.text left r first p.passes;
     queued = p.queued;
-  }
-
-  -- the writer failed, and nothing is asked
-  pub not_asked : {left : List ℕ} {queue : List Command} (fault : Fault) (r : Result ⊤ Fault) → IsErrAnd r (λ e. e ≡ fault) → Passes 0 false old now bytes output (Err fault)
-      → PassesRequests rules over asks looks most takes_memory state asked state old now bytes left queue r
-  not_asked {left = left} fault r bad p = record {
-    answered = [];
-    waiting = asked;
-    text = [];
-    parts = refl;
-    answers = (refl, refl);
-    passes = first_fails most takes_memory old now bytes output left fault r bad p;
-    queued = err_only _ _ r bad;
   }
 
 -- ---- requests that are answered one after another
@@ -109,6 +113,20 @@ module _ {State : Type 0} (rules : State → Rules) (over : State → Bool) (ask
   -- one more is answered
   pub request_answered : (a b : State) (request : Result Request Refusal) (answer : List ℕ) → over a ≡ false → rules b ≡ rules a → AnswersRequest rules over asks looks a request answer b → Answers a (request ∷ []) (line_of answer) b
   request_answered a b request answer goes stays h = inr (goes, answer, [], b, stays, h, (refl, refl), sym (append-nil (line_of answer)))
+
+  -- a command that is asked by itself is passed
+  pub command_passed : (most : ℕ) (takes_memory : Bool) (a b : State) (command : Command) (reply : Reply) → 0 < most → over a ≡ false → rules b ≡ rules a → asks a command reply b
+      → {writer_old writer_new : Option (List ℕ)} (output left : List ℕ) (r : Result ⊤ Fault) → PassesLine writer_old writer_new (output ++ line_of (reply_text reply)) left r
+      → PassesRequests rules over asks looks most takes_memory a (Ok (requests.Command command) ∷ []) b writer_old writer_new output left [] r
+  command_passed most takes_memory a b command reply some goes stays asked output left r p = record {
+    answered = Ok (requests.Command command) ∷ [];
+    waiting = [];
+    text = line_of (reply_text reply);
+    parts = refl;
+    answers = request_answered a b (Ok (requests.Command command)) (reply_text reply) goes stays (reply, asked, refl);
+    passes = passes_weaker takes_memory _ _ _ _ r (omega (arith, some)) p;
+    queued = ok_case r refl;
+  }
 
   -- commands that are asked together are answered one after another
   pub queue_answered : ((old new : State) (command : Command) (reply : Reply) → asks old command reply new → rules new ≡ rules old)

@@ -15,18 +15,17 @@ use Rattle.hpb_rules.specs.Lines.{request_of, is_line_feed}
 use Rattle.hpb_rules.specs.Rendering.{reply_text}
 use Rattle.hpb_rules.specs.Text.{line_of, lines_text, unfinished_text, state_after, next_past, past_after}
 use Rattle.hpb_rules.specs.ValueText.{shown_in, node_shown_in, bidder_shown_in, response_in, value_after_request, lines_in}
-use Rattle.hpb_rules.proofs.Lists.{front_trans}
+use Rattle.hpb_rules.proofs.Lists.{front_trans, or_false}
 use Rattle.hpb_rules.proofs.TextLaws.{lines_text_grows}
 use Rattle.hpb_rules.proofs.RunLaws.{next_is_shown, text_is_shown}
 use Rattle.hpb_server.specs.declared.input.TheConstants.{LINE_FEED}
-use Rattle.hpb_server.specs.AuctionDesk.{next_rules}
+use Rattle.hpb_rules.proofs.Judged.{next_rules}
 use Rattle.hpb_server.specs.Desk.{rules_in, never_over, one_asked, no_memory, IsItself, Moves, RepliesIn, ShowsItself}
 use Rattle.hpb_server.specs.declared.fault.Fault.{Fault}
 use Rattle.hpb_server.specs.declared.fault.Fault.TheVariants.{Memory, Reader, Writer}
 use Rattle.hpb_server.specs.Fault.{lines_of, IsLeft, IsLeftOfScript}
 use Rattle.hpb_server.specs.Serving.{AreLines, shown_by, AnswersRequest, AnswersLines, Serves}
 use Rattle.hpb_server.specs.Streams.{Streams}
-use Rattle.hpb_server.proofs.WholeLines.{or_false}
 use Rattle.hpb_server.specs.ScriptLaws.{InputIsText, ServesText, SessionIsText}
 
 -- ---- one request

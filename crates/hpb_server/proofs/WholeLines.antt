@@ -10,6 +10,7 @@ use Rattle.hpb_rules.specs.AuctionValue.{AuctionValue}
 use Rattle.hpb_rules.specs.Text.{line_of, unfinished_text}
 use Rattle.hpb_rules.specs.Lines.{is_line_feed}
 use Rattle.hpb_rules.proofs.TextLaws.{IsFilled, filled, split_filled}
+use Rattle.hpb_rules.proofs.Lists.{or_false}
 use Rattle.hpb_server.specs.declared.input.TheConstants.{LINE_FEED}
 use Rattle.hpb_server.specs.Fault.{lines_of}
 use Rattle.hpb_server.specs.Reading.{HasNoEnd}
@@ -36,10 +37,6 @@ lines_whole (line ∷ lines) = whole_append (line_of line) (lines_of lines) (lin
 or_true : (b : Bool) → (b || true) ≡ true
 or_true true = refl
 or_true false = refl
-
-pub or_false : (b : Bool) → (b || false) ≡ b
-or_false true = refl
-or_false false = refl
 
 -- ---- answers
 module _ {State : Type 0} (rules : State → Rules) (over : State → Bool) (asks : State → Command → Reply → State → Type 0) (looks : State → Option AuctionValue → State → Type 0) where

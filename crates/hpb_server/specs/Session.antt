@@ -11,13 +11,14 @@ use Rattle.hpb_rules.specs.declared.request.Request.{Request}
 use Rattle.hpb_rules.specs.declared.request.Request.TheVariants as requests
 use Rattle.hpb_rules.specs.Rendering.{reply_text}
 use Rattle.hpb_rules.specs.Text.{line_of, unfinished_text}
+use Rattle.hpb_rules.specs.ValueText.{shown_in, node_shown_in, bidder_shown_in}
 use Rattle.hpb_wire.specs.Responses.{Adds}
 use Rattle.hpb_server.specs.declared.fault.Fault.{Fault}
 use Rattle.hpb_server.specs.declared.fault.Fault.TheVariants.{Reader}
 use Rattle.hpb_server.specs.Fault.{IsLeft, lines_of}
 use Rattle.hpb_server.specs.declared.line.TheConstants.{KEPT_BYTES}
 use Rattle.hpb_server.specs.Reading.{HasNoEnd}
-use Rattle.hpb_server.specs.Serving.{AreLines, AnswersLook, AnswersRequest, AnswersInput}
+use Rattle.hpb_server.specs.Serving.{AreLines, AnswersRequest, AnswersInput}
 
 -- A front of the bytes was written, and the rest is left; or a front was written, as much as the fault leaves.
 abbrev pub Passes : (most : ℕ) (takes_memory : Bool) (writer_old writer_new : Option (List ℕ)) (bytes left : List ℕ) → Result ⊤ Fault → Type 0
@@ -45,9 +46,12 @@ abbrev pub IsQuestion : Result Request Refusal → Type 0
 IsQuestion (Ok (requests.Command command)) = ⊥
 IsQuestion other = Unit {0}
 
--- A question was answered by what the desk shows, and the answer was added, or nothing where memory was refused.
-abbrev pub AddsLook : {State E : Type 0} (looks : State → Option AuctionValue → State → Type 0) (how : AuctionValue → List ℕ) (old new : State) (output_old output_new : List ℕ) → Result ⊤ E → Type 0
-AddsLook looks how old new output_old output_new result = (answer : List ℕ) × AnswersLook looks how old answer new × Adds output_old output_new answer result
+-- What a question is answered by an auction.
+abbrev pub view_in : Request → AuctionValue → List ℕ
+view_in (requests.Command command) value = []
+view_in requests.Show value = shown_in value
+view_in (requests.Node place) value = node_shown_in value place
+view_in (requests.Who from) value = bidder_shown_in value from
 
 module _ {State : Type 0} (rules : State → Rules) (over : State → Bool) (asks : State → Command → Reply → State → Type 0) (looks : State → Option AuctionValue → State → Type 0) where
   -- A request, or a line that is refused, was answered, and its answer was added, or nothing where memory was refused.

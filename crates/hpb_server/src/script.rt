@@ -13,7 +13,6 @@ use crate::input::Input;
 use crate::output::Output;
 use crate::serving::{answer_lines, serve};
 use crate::telling::{greet, tell_reason};
-use crate::terminal::answer_at_terminal;
 use hpb_auction::Auction;
 use hpb_define::{DefineCause, read_definition};
 use hpb_rules::{MOST_READ_BYTES, Refusal};
@@ -107,10 +106,16 @@ fn answer_script<R: Read, W: Write, E: Write>(
     ensures explained { ExplainsAt is_terminal (E.contents errors.old) (E.contents errors.new) }
 {
     let mut desk = ScriptDesk::new(Auction::new(alloc, definition)?);
-    if is_terminal {
-        return answer_at_terminal(alloc, reader, writer, errors, &mut desk, input, output);
-    }
-    answer_lines(alloc, reader, writer, &mut desk, input, output)
+    answer_lines(
+        alloc,
+        reader,
+        writer,
+        errors,
+        is_terminal,
+        &mut desk,
+        input,
+        output,
+    )
 }
 
 /// Writes the line of a refused definition, and nothing where memory was refused.

@@ -1,28 +1,33 @@
-ghost use Rattle.std.specs.Prelude.{◌≡◌, ◌<◌, ◌≤◌, ℕ, true, false, List, [], ◌∷◌, ◌++◌, take, None, Ok, IfOk, IfSome, OnOk, length};
+ghost use Rattle.std.specs.Prelude.{◌≡◌, ◌<◌, ◌≤◌, ℕ, Bool, true, false, List, [], ◌∷◌, ◌++◌, take, None, Ok, IfOk, IfSome, OnOk, length};
+ghost use Rattle.std.specs.Result.{IsErr};
 ghost use Rattle.hpb_rules.specs.declared.command.Command.{Command};
+ghost use Rattle.hpb_rules.specs.declared.reply.Reply.{Reply as Answered};
 ghost use Rattle.hpb_rules.specs.Lines.{request_of};
 ghost use Rattle.hpb_rules.specs.Text.{line_of};
-ghost use Rattle.hpb_rules.specs.ValueText.{shown_in, node_shown_in, bidder_shown_in};
 ghost use Rattle.hpb_rules.specs.declared.request.Request.TheVariants as requests;
 ghost use Rattle.hpb_wire.specs.Requests.{IsRequestOf};
-ghost use Rattle.hpb_wire.specs.Responses.{Adds};
-ghost use Rattle.hpb_server.specs.Desk.{Moves};
+ghost use Rattle.hpb_wire.specs.Responses.{Adds, text_of};
+ghost use Rattle.hpb_server.specs.Desk.{LooksStay, Moves};
+ghost use Rattle.hpb_server.specs.Fault.{lines_of};
 ghost use Rattle.hpb_server.specs.DeskLaws.{GoesOn};
 ghost use Rattle.hpb_server.specs.Reading.{size_of, FindsEnd, HasNoEnd};
 ghost use Rattle.hpb_server.specs.Serving.{Serves};
 ghost use Rattle.hpb_server.specs.Streams.{streams};
-ghost use Rattle.hpb_server.specs.Session.{asked_for, replies_text, AddsAnswer, AddsLook, Ends, IsQuestion, Passes, PassesLine, PassesRequests, Proceeds};
+ghost use Rattle.hpb_server.specs.Telling.{ExplainsAt, TellsReply};
+ghost use Rattle.hpb_server.specs.Session.{asked_for, replies_text, view_in, AddsAnswer, Ends, IsQuestion, Passes, PassesLine, PassesRequests, Proceeds};
 
 use crate::desk::Desk;
 use crate::fault::Fault;
 use crate::input::Input;
 use crate::line::{KEPT_BYTES, Line};
 use crate::output::Output;
-use hpb_rules::{BidderId, Command, Commands, MOST_READ_BYTES, NodeId, Refusal, Replies, Request};
+use crate::telling::explain;
+use hpb_auction::Auction;
+use hpb_rules::{Command, Commands, MOST_READ_BYTES, Refusal, Replies, Request};
 use hpb_tree::Definition;
-use hpb_wire::{FrontRequest, parse_front, parse_line};
+use hpb_wire::{FrontRequest, Response, node, parse_front, parse_line, show, who};
 use std::alloc::{AllocError, Global};
-use std::io::{Read, Write};
+use std::io::{Read, Write, sink};
 
 /// Answers each line of the reader by one line on the writer, to the end of the reader. What has been answered is
 /// written and flushed before more is read. Where to ask the desk takes a wait (`Desk::waits_when_asked`) it is written
@@ -51,28 +56,69 @@ pub fn serve<R: Read, W: Write, D: Desk>(
     ensures told { (state : D.State) → D.is_at desk.old state → (told : List Command) → D.tells state told
         → (next : D.State) × D.is_at desk.new next × GoesOn told (D.tells next) }
 {
-    let mut input = Input::new(alloc, MOST_READ_BYTES)?;
-    let mut output = Output::new(alloc)?;
-    answer_lines(alloc, reader, writer, desk, &mut input, &mut output)
+    serve_lines(alloc, reader, writer, &mut sink(), false, desk)
 }
 
-/// Answers what is unread of the input, and all that comes after it.
-pub(crate) fn answer_lines<R: Read, W: Write, D: Desk>(
+/// Answers each line of the reader, as `serve` does, and at a terminal as `serve_at_terminal` does.
+pub(crate) fn serve_lines<R: Read, W: Write, E: Write, D: Desk>(
     alloc: Global,
     reader: &mut R,
     writer: &mut W,
+    errors: &mut E,
+    is_terminal: bool,
+    desk: &mut D,
+) -> Result<(), Fault>
+    requires stays { is_terminal ≡ true → LooksStay D.looks }
+    ensures served { Moves D.is_at desk.old desk.new (λ state next. Serves D.rules_at D.over_at D.asks D.looks D.most D.takes_memory [] MOST_READ_BYTES
+        (streams (R.remaining reader.old) (W.contents writer.old)) (streams (R.remaining reader.new) (W.contents writer.new)) state next result) }
+    ensures rules { D.rules desk.new ≡ D.rules desk.old }
+    ensures explained { ExplainsAt is_terminal (E.contents errors.old) (E.contents errors.new) }
+{
+    let mut input = Input::new(alloc, MOST_READ_BYTES)?;
+    let mut output = Output::new(alloc)?;
+    answer_lines(
+        alloc,
+        reader,
+        writer,
+        errors,
+        is_terminal,
+        desk,
+        &mut input,
+        &mut output,
+    )
+}
+
+/// Answers what is unread of the input, and all that comes after it. At a terminal each command is asked by itself, and
+/// the errors are told what would do in place of one that is refused.
+pub(crate) fn answer_lines<R: Read, W: Write, E: Write, D: Desk>(
+    alloc: Global,
+    reader: &mut R,
+    writer: &mut W,
+    errors: &mut E,
+    is_terminal: bool,
     desk: &mut D,
     input: &mut Input,
     output: &mut Output,
 ) -> Result<(), Fault>
-    requires { output.old ≡ [] }
+    requires sent { output.old ≡ [] }
+    requires stays { is_terminal ≡ true → LooksStay D.looks }
     ensures served { Moves D.is_at desk.old desk.new (λ state next. Serves D.rules_at D.over_at D.asks D.looks D.most D.takes_memory input.old.unread input.old.budget
         (streams (R.remaining reader.old) (W.contents writer.old)) (streams (R.remaining reader.new) (W.contents writer.new)) state next result) }
     ensures rules { D.rules desk.new ≡ D.rules desk.old }
+    ensures explained { ExplainsAt is_terminal (E.contents errors.old) (E.contents errors.new) }
 {
     let mut line = Line::new();
     'chunks: loop {
-        answer_unread(alloc, writer, desk, input, &mut line, output)?;
+        answer_unread(
+            alloc,
+            writer,
+            errors,
+            is_terminal,
+            desk,
+            input,
+            &mut line,
+            output,
+        )?;
         output.send(writer)?;
         desk.rest(alloc)?;
         if desk.is_over() {
@@ -86,11 +132,7 @@ pub(crate) fn answer_lines<R: Read, W: Write, D: Desk>(
 }
 
 /// Answers a last line without its end, where it has a byte.
-pub(crate) fn end_lines<W: Write>(
-    writer: &mut W,
-    line: &Line,
-    output: &mut Output,
-) -> Result<(), Fault>
+fn end_lines<W: Write>(writer: &mut W, line: &Line, output: &mut Output) -> Result<(), Fault>
     requires { output.old ≡ [] }
     ensures { Ends (W.contents writer.old) (W.contents writer.new) line.now result }
 {
@@ -102,14 +144,17 @@ pub(crate) fn end_lines<W: Write>(
 }
 
 /// Answers the lines that end in what is unread. The start of one more stands in `line` afterwards.
-fn answer_unread<W: Write, D: Desk>(
+fn answer_unread<W: Write, E: Write, D: Desk>(
     alloc: Global,
     writer: &mut W,
+    errors: &mut E,
+    is_terminal: bool,
     desk: &mut D,
     input: &mut Input,
     line: &mut Line,
     output: &mut Output,
 ) -> Result<(), Fault>
+    requires stays { is_terminal ≡ true → LooksStay D.looks }
     ensures lines { Moves D.is_at desk.old desk.new (λ state next. (partial : List ℕ) → HasNoEnd partial → line.old ≡ take KEPT_BYTES partial
         → Proceeds D.rules_at D.over_at D.asks D.looks D.most D.takes_memory (partial ++ input.old.unread) state next
         (W.contents writer.old) (W.contents writer.new) output.old
@@ -117,6 +162,7 @@ fn answer_unread<W: Write, D: Desk>(
     ensures rules { D.rules desk.new ≡ D.rules desk.old }
     ensures taken { OnOk result (D.over desk.new ≡ false → input.new.unread ≡ []) }
     ensures read { OnOk result (input.new.budget ≡ input.old.budget) }
+    ensures explained { ExplainsAt is_terminal (E.contents errors.old) (E.contents errors.new) }
 {
     let mut queue = Commands::new();
     'lines: while !desk.is_over() {
@@ -124,7 +170,16 @@ fn answer_unread<W: Write, D: Desk>(
             input.keep_rest(line);
             return ask_queue(alloc, writer, desk, &mut queue, output);
         };
-        pass_request(alloc, writer, desk, next.request, &mut queue, output)?;
+        pass_request(
+            alloc,
+            writer,
+            errors,
+            is_terminal,
+            desk,
+            next.request,
+            &mut queue,
+            output,
+        )?;
         input.skip_line(next.size);
         line.clear();
     }
@@ -134,7 +189,7 @@ fn answer_unread<W: Write, D: Desk>(
 /// What the next line asks for, where its end was read. What is kept of its start stands in `line`. A desk is the
 /// `Caller` of `parse_front`.
 #[inline(always)]
-pub(crate) fn next_request<Caller>(
+fn next_request<Caller>(
     input: &Input,
     line: &mut Line,
     definition: &Definition,
@@ -167,53 +222,78 @@ fn parse_part(part: &[u8], line: &mut Line, definition: &Definition) -> Result<R
     parse_line(line.as_slice(), definition)
 }
 
-/// Passes what a line asks for: a command to the queue, and any other to its answer, once all that waits is asked.
+/// Passes what a line asks for: a command to the queue or to the desk, and any other to its answer, once all that waits
+/// is asked.
 #[inline(always)]
-fn pass_request<W: Write, D: Desk>(
+#[tactic(auto, using(crate::proofs::Explained::explained_at_none))]
+fn pass_request<W: Write, E: Write, D: Desk>(
     alloc: Global,
     writer: &mut W,
+    errors: &mut E,
+    is_terminal: bool,
     desk: &mut D,
     request: Result<Request, Refusal>,
     queue: &mut Commands,
     output: &mut Output,
 ) -> Result<(), Fault>
     requires goes_on { D.over desk.old ≡ false }
+    requires stays { is_terminal ≡ true → LooksStay D.looks }
     requires room { length queue.old < D.most }
+    requires none { is_terminal ≡ true → queue.old ≡ [] }
     requires known { IfOk request (IsRequestOf (D.rules desk.old)) }
     ensures passed { Moves D.is_at desk.old desk.new (λ state next. PassesRequests D.rules_at D.over_at D.asks D.looks D.most D.takes_memory state
         (asked_for queue.old ++ request ∷ []) next
         (W.contents writer.old) (W.contents writer.new) output.old output.new queue.new result) }
     ensures rules { D.rules desk.new ≡ D.rules desk.old }
     ensures room { OnOk result (length queue.new < D.most) }
+    ensures none { is_terminal ≡ true → OnOk result (queue.new ≡ []) }
     ensures over { OnOk result (D.over desk.new ≡ true → queue.new ≡ []) }
+    ensures explained { ExplainsAt is_terminal (E.contents errors.old) (E.contents errors.new) }
 {
     match request {
-        Ok(Request::Command(command)) => enqueue(alloc, writer, desk, command, queue, output),
+        Ok(Request::Command(command)) => pass_command(
+            alloc,
+            writer,
+            errors,
+            is_terminal,
+            desk,
+            command,
+            queue,
+            output,
+        ),
         question => pass_question(alloc, writer, desk, question, queue, output),
     }
 }
 
-/// Puts a command into the queue, and asks for all that waits once it is as much as is asked together.
+/// Asks for a command by itself, at a terminal and where the desk takes one at a time. Else it is put into the queue,
+/// and all that waits is asked for once it is as much as is asked together.
 #[inline(always)]
-fn enqueue<W: Write, D: Desk>(
+#[tactic(auto, using(crate::proofs::Explained::explained_at_none))]
+fn pass_command<W: Write, E: Write, D: Desk>(
     alloc: Global,
     writer: &mut W,
+    errors: &mut E,
+    is_terminal: bool,
     desk: &mut D,
     command: Command,
     queue: &mut Commands,
     output: &mut Output,
 ) -> Result<(), Fault>
     requires goes_on { D.over desk.old ≡ false }
+    requires stays { is_terminal ≡ true → LooksStay D.looks }
     requires room { length queue.old < D.most }
+    requires none { is_terminal ≡ true → queue.old ≡ [] }
     ensures passed { Moves D.is_at desk.old desk.new (λ state next. PassesRequests D.rules_at D.over_at D.asks D.looks D.most D.takes_memory state
         (asked_for queue.old ++ Ok (requests.Command command) ∷ []) next
         (W.contents writer.old) (W.contents writer.new) output.old output.new queue.new result) }
     ensures rules { D.rules desk.new ≡ D.rules desk.old }
     ensures room { OnOk result (length queue.new < D.most) }
+    ensures none { is_terminal ≡ true → OnOk result (queue.new ≡ []) }
     ensures over { OnOk result (D.over desk.new ≡ true → queue.new ≡ []) }
+    ensures explained { ExplainsAt is_terminal (E.contents errors.old) (E.contents errors.new) }
 {
-    if queue.len() == 0 && desk.most_asked() == 1 {
-        return ask_alone(alloc, writer, desk, &command, output);
+    if queue.len() == 0 && (is_terminal || desk.most_asked() == 1) {
+        return ask_alone(alloc, writer, errors, is_terminal, desk, &command, output);
     }
     let _ = queue.push(command);
     if queue.len() < desk.most_asked() {
@@ -222,56 +302,70 @@ fn enqueue<W: Write, D: Desk>(
     ask_queue(alloc, writer, desk, queue, output)
 }
 
-/// Asks for one command by itself, and adds its answer. Where the desk waits, all that is answered leaves first.
+/// Asks for one command by itself, and adds its answer. At a terminal that is written, and what would do is told where
+/// it is a refusal. Where the desk waits, all that is answered leaves first.
 #[inline(always)]
-fn ask_alone<W: Write, D: Desk>(
+#[tactic(auto, using(crate::proofs::Explained::explained_at_none))]
+fn ask_alone<W: Write, E: Write, D: Desk>(
     alloc: Global,
     writer: &mut W,
+    errors: &mut E,
+    is_terminal: bool,
     desk: &mut D,
     command: &Command,
     output: &mut Output,
 ) -> Result<(), Fault>
     requires goes_on { D.over desk.old ≡ false }
+    requires stays { is_terminal ≡ true → LooksStay D.looks }
     ensures passed { Moves D.is_at desk.old desk.new (λ state next. PassesRequests D.rules_at D.over_at D.asks D.looks D.most D.takes_memory state
         (Ok (requests.Command command.now) ∷ []) next
         (W.contents writer.old) (W.contents writer.new) output.old output.new [] result) }
     ensures rules { D.rules desk.new ≡ D.rules desk.old }
+    ensures explained { ExplainsAt is_terminal (E.contents errors.old) (E.contents errors.new) }
 {
     send_first(writer, desk, output)?;
-    ask_alone_now(alloc, writer, desk, command, output)
+    ask_alone_now(alloc, writer, errors, is_terminal, desk, command, output)
 }
 
-/// Asks for one command by itself, and adds its answer. Where the desk waits, the output is empty.
+/// Asks for one command by itself, and adds its answer. At a terminal that is written, and what would do is told where
+/// it is a refusal. Where the desk waits, the output is empty.
 #[inline(always)]
-fn ask_alone_now<W: Write, D: Desk>(
+#[tactic(auto, using(crate::proofs::Explained::explained_at_none))]
+fn ask_alone_now<W: Write, E: Write, D: Desk>(
     alloc: Global,
     writer: &mut W,
+    errors: &mut E,
+    is_terminal: bool,
     desk: &mut D,
     command: &Command,
     output: &mut Output,
 ) -> Result<(), Fault>
     requires goes_on { D.over desk.old ≡ false }
+    requires stays { is_terminal ≡ true → LooksStay D.looks }
     requires sent { D.waits ≡ true → output.old ≡ [] }
     ensures passed { Moves D.is_at desk.old desk.new (λ state next. PassesRequests D.rules_at D.over_at D.asks D.looks D.most D.takes_memory state
         (Ok (requests.Command command.now) ∷ []) next
         (W.contents writer.old) (W.contents writer.new) output.old output.new [] result) }
     ensures rules { D.rules desk.new ≡ D.rules desk.old }
+    ensures explained { ExplainsAt is_terminal (E.contents errors.old) (E.contents errors.new) }
+    // Behind an answer that has left stands what would do, by what the desk then shows.
+    ensures told { is_terminal ≡ true → (state : D.State) → D.is_at desk.old state → OnOk result ((reply : Answered) × (next : D.State) × D.asks state command.now reply next
+        × TellsReply D.looks next command.now reply (E.contents errors.old) (E.contents errors.new)) }
 {
     match desk.ask_one(alloc, command) {
         Ok(reply) => {
             let added = output.reply(reply);
-            pass_added(writer, added, output)
+            pass_added(writer, is_terminal, added, output)?;
+            explain(alloc, is_terminal, desk, command, reply, errors);
+            Ok(())
         }
-        Err(error) => {
-            output.send(writer)?;
-            Err(error.into())
-        }
+        Err(error) => break_off(writer, error, output),
     }
 }
 
 /// Asks for all that waits, and answers what is no command, unless the session is over.
 #[inline(always)]
-pub(crate) fn pass_question<W: Write, D: Desk>(
+fn pass_question<W: Write, D: Desk>(
     alloc: Global,
     writer: &mut W,
     desk: &mut D,
@@ -293,7 +387,7 @@ pub(crate) fn pass_question<W: Write, D: Desk>(
         return Ok(());
     }
     let added = answer_question(desk, question, output);
-    pass_added(writer, added, output)
+    pass_added(writer, false, added, output)
 }
 
 /// Asks for all that waits, if anything does, and passes the replies.
@@ -362,21 +456,14 @@ fn ask_waiting_now<W: Write, D: Desk>(
             queue.clear();
             pass_replies(writer, &replies, output)
         }
-        Err(error) => {
-            output.send(writer)?;
-            Err(error.into())
-        }
+        Err(error) => break_off(writer, error, output),
     }
 }
 
 /// Writes all that is answered, where the desk waits.
 #[inline(always)]
 #[tactic(auto, using(crate::proofs::Passing::all_sent))]
-pub(crate) fn send_first<W: Write, D: Desk>(
-    writer: &mut W,
-    desk: &D,
-    output: &mut Output,
-) -> Result<(), Fault>
+fn send_first<W: Write, D: Desk>(writer: &mut W, desk: &D, output: &mut Output) -> Result<(), Fault>
     ensures passed { Passes 0 false (W.contents writer.old) (W.contents writer.new) output.old output.new result }
     ensures sent { D.waits ≡ true → output.new ≡ [] }
 {
@@ -397,16 +484,17 @@ fn pass_replies<W: Write>(
 {
     for reply in replies.as_slice() {
         let added = output.reply(*reply);
-        pass_added(writer, added, output)?;
+        pass_added(writer, false, added, output)?;
     }
     Ok(())
 }
 
-/// Goes on from an answer that was added, or was not. All that is answered is written where room for one answer
-/// more may be missing, and where memory is refused.
+/// Goes on from an answer that was added, or was not. All that is answered is written at once, where that is wanted,
+/// where room for one answer more may be missing, and where memory is refused.
 #[inline(always)]
 fn pass_added<W: Write>(
     writer: &mut W,
+    at_once: bool,
     added: Result<(), AllocError>,
     output: &mut Output,
 ) -> Result<(), Fault>
@@ -415,17 +503,28 @@ fn pass_added<W: Write>(
 {
     match added {
         Ok(()) => {
-            if output.is_nearly_full() {
+            if at_once || output.is_nearly_full() {
                 output.send(writer)
             } else {
                 Ok(())
             }
         }
-        Err(error) => {
-            output.send(writer)?;
-            Err(error.into())
-        }
+        Err(error) => break_off(writer, error, output),
     }
+}
+
+/// Ends a session to which memory was refused: all that is answered is written first.
+fn break_off<W: Write>(
+    writer: &mut W,
+    refused: AllocError,
+    output: &mut Output,
+) -> Result<(), Fault>
+    ensures passed { (most : ℕ) (takes_memory : Bool) (answers : List (List ℕ)) → length answers ≤ most → (answers ≡ [] → takes_memory ≡ true)
+        → Passes most takes_memory (W.contents writer.old) (W.contents writer.new) (output.old ++ lines_of answers) output.new result }
+    ensures failed { IsErr result }
+{
+    output.send(writer)?;
+    Err(refused.into())
 }
 
 /// Adds the answer to a question, or to a line that is refused.
@@ -447,7 +546,7 @@ fn answer_question<D: Desk>(
     }
 }
 
-/// Adds the answer to a question.
+/// Adds the answer to a question, by what the desk shows.
 #[inline(always)]
 fn answer_request<D: Desk>(
     desk: &mut D,
@@ -460,55 +559,23 @@ fn answer_request<D: Desk>(
         output.old output.new result) }
     ensures rules { D.rules desk.new ≡ D.rules desk.old }
 {
+    match desk.look() {
+        Some(auction) => output.add::<D>(&view_of(auction, request)),
+        None => output.refuse(Refusal::Failed),
+    }
+}
+
+/// What a question is answered by an auction as it stands.
+#[inline(always)]
+fn view_of(auction: &Auction, request: Request) -> Response<'_>
+    requires question { IsQuestion (Ok request) }
+    requires known { IsRequestOf auction.now.rules request }
+    ensures { text_of result ≡ view_in request auction.now }
+{
     match request {
         Request::Command(_) => unreachable!(),
-        Request::Show => answer_show(desk, output),
-        Request::Node(node) => answer_node(desk, node, output),
-        Request::Who(bidder) => answer_who(desk, bidder, output),
-    }
-}
-
-/// Adds the answer to `SHOW`.
-#[inline(always)]
-fn answer_show<D: Desk>(desk: &mut D, output: &mut Output) -> Result<(), AllocError>
-    ensures answer { Moves D.is_at desk.old desk.new (λ state next. AddsLook D.looks shown_in state next
-        output.old output.new result) }
-    ensures rules { D.rules desk.new ≡ D.rules desk.old }
-{
-    match desk.look() {
-        Some(auction) => output.add::<D>(&hpb_wire::show(auction)),
-        None => output.refuse(Refusal::Failed),
-    }
-}
-
-/// Adds the answer to `NODE`.
-#[inline(always)]
-fn answer_node<D: Desk>(desk: &mut D, node: NodeId, output: &mut Output) -> Result<(), AllocError>
-    requires { node < length (D.rules desk.old).nodes }
-    ensures answer { Moves D.is_at desk.old desk.new (λ state next. AddsLook D.looks (λ value. node_shown_in value node) state next
-        output.old output.new result) }
-    ensures rules { D.rules desk.new ≡ D.rules desk.old }
-{
-    match desk.look() {
-        Some(auction) => output.add::<D>(&hpb_wire::node(auction, node)),
-        None => output.refuse(Refusal::Failed),
-    }
-}
-
-/// Adds the answer to `WHO`.
-#[inline(always)]
-fn answer_who<D: Desk>(
-    desk: &mut D,
-    bidder: BidderId,
-    output: &mut Output,
-) -> Result<(), AllocError>
-    requires { bidder < length (D.rules desk.old).bidders }
-    ensures answer { Moves D.is_at desk.old desk.new (λ state next. AddsLook D.looks (λ value. bidder_shown_in value bidder) state next
-        output.old output.new result) }
-    ensures rules { D.rules desk.new ≡ D.rules desk.old }
-{
-    match desk.look() {
-        Some(auction) => output.add::<D>(&hpb_wire::who(auction, bidder)),
-        None => output.refuse(Refusal::Failed),
+        Request::Show => show(auction),
+        Request::Node(place) => node(auction, place),
+        Request::Who(bidder) => who(auction, bidder),
     }
 }

@@ -1,12 +1,15 @@
 //! What is said to people, beside the answers.
+ghost use Rattle.std.specs.Prelude.{◌≡◌, true};
 ghost use Rattle.hpb_define.specs.Fault.{refusal_of};
-ghost use Rattle.hpb_server.specs.Telling.{Says, TellsOf, accepted_text, sentence, told_line};
+ghost use Rattle.hpb_server.specs.Desk.{LooksStay};
+ghost use Rattle.hpb_server.specs.Telling.{Explains, ExplainsAt, Says, TellsOf, TellsReply, TellsShown, accepted_text, sentence, told_line};
 ghost use Rattle.hpb_terminal.specs.Reasons.{text_of};
 
+use crate::desk::Desk;
 use crate::output::send_bytes;
 use hpb_auction::Auction;
 use hpb_define::{DefineCause, DefineFault};
-use hpb_rules::{Command, Refusal};
+use hpb_rules::{Command, Refusal, Reply};
 use hpb_terminal::{Reason, reason_of};
 use std::alloc::Global;
 use std::fmt;
@@ -85,6 +88,50 @@ pub(crate) fn tell_reason<E: Write>(
     match format!(in alloc; "{}{more}", fault.said()) {
         Ok(reason) => tell_people(alloc, fault.refusal(), reason.as_str(), errors),
         Err(_) => tell_people(alloc, fault.refusal(), fault.said(), errors),
+    }
+}
+
+/// At a terminal, tells what would do in place of a command whose reply is a refusal.
+pub(crate) fn explain<E: Write, D: Desk>(
+    alloc: Global,
+    is_terminal: bool,
+    desk: &mut D,
+    command: &Command,
+    reply: Reply,
+    errors: &mut E,
+)
+    requires stays { is_terminal ≡ true → LooksStay D.looks }
+    ensures told { is_terminal ≡ true → (state : D.State) → D.is_at desk.old state → TellsReply D.looks state command.now reply (E.contents errors.old) (E.contents errors.new) }
+    ensures explained { ExplainsAt is_terminal (E.contents errors.old) (E.contents errors.new) }
+    ensures kept { (state : D.State) → D.is_at desk.old state → D.is_at desk.new state }
+    ensures rules { D.rules desk.new ≡ D.rules desk.old }
+{
+    if !is_terminal {
+        return;
+    }
+    match reply {
+        Reply::Ok(_) => {}
+        Reply::Refused(refusal) => explain_refusal(alloc, desk, command, refusal, errors),
+    }
+}
+
+/// Tells what would do in place of a refused command, by the auction that the desk shows.
+fn explain_refusal<E: Write, D: Desk>(
+    alloc: Global,
+    desk: &mut D,
+    command: &Command,
+    refusal: Refusal,
+    errors: &mut E,
+)
+    requires stays { LooksStay D.looks }
+    ensures told { (state : D.State) → D.is_at desk.old state → TellsShown D.looks state command.now refusal (E.contents errors.old) (E.contents errors.new) }
+    ensures explained { Explains (E.contents errors.old) (E.contents errors.new) }
+    ensures kept { (state : D.State) → D.is_at desk.old state → D.is_at desk.new state }
+    ensures rules { D.rules desk.new ≡ D.rules desk.old }
+{
+    match desk.look() {
+        Some(auction) => tell_refused(alloc, auction, command, refusal, errors),
+        None => {}
     }
 }
 

@@ -506,6 +506,8 @@ fn no_more_is_read_than_may_be(rt: HostRuntime) -> Result<(), Fail> {
             alloc,
             &mut reader,
             &mut written,
+            &mut io::sink(),
+            false,
             &mut desk,
             &mut input,
             &mut output,

@@ -8,9 +8,9 @@ use Rattle.hpb_house.specs.Starts.{AreBegun, IsBegun}
 use Rattle.hpb_house.specs.declared.keeper.Halt.{Halt}
 use Rattle.hpb_rings.specs.declared.client.Client.{Client}
 use Rattle.hpb_rings.specs.declared.report.Report.{Report}
-use Rattle.hpb_sessions.specs.Ends.{IsEndOf}
-use Rattle.hpb_sessions.specs.declared.end.SessionEnd.{SessionEnd}
-use Rattle.hpb_sessions.specs.declared.end.SessionEnd.TheVariants.{Finished}
+use Rattle.hpb_serve.specs.Ends.{IsEndOf}
+use Rattle.hpb_serve.specs.declared.end.SessionEnd.{SessionEnd}
+use Rattle.hpb_serve.specs.declared.end.SessionEnd.TheVariants.{Finished}
 
 -- there are as many clients as seats
 pub one_begun : (eye : Viewing) (clients : List (Client Halt)) (count : ℕ) → AreBegun eye clients count → length clients ≡ count

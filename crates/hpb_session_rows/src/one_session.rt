@@ -5,7 +5,7 @@ ghost use Rattle.hpb_house.specs.Clients.{AreReportsOf, IsReportOf};
 ghost use Rattle.hpb_house.specs.Namings.{IsOf};
 ghost use Rattle.hpb_house.specs.Starts.{AreBegun};
 ghost use Rattle.hpb_rings.specs.declared.report.Report.{Report};
-ghost use Rattle.hpb_sessions.specs.declared.end.SessionEnd.TheVariants.{Finished};
+ghost use Rattle.hpb_serve.specs.declared.end.SessionEnd.TheVariants.{Finished};
 
 use crate::devices::{faulty_opened, new_opened};
 use anyhow::{Result, bail};
@@ -14,8 +14,8 @@ use hpb_disk::Disk;
 use hpb_house::{Halt, House, Incoming, Naming, OpenGate, Ready, Started, Workers};
 use hpb_recover::Opened;
 use hpb_rings::Client;
+use hpb_serve::{Session, SessionEnd, run_session};
 use hpb_server::Fault;
-use hpb_sessions::{Session, SessionEnd, run_session};
 use std::alloc::{AllocError, Global};
 use std::io::Write;
 use std::marker::Brand;

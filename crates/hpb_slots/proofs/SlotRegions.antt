@@ -7,6 +7,7 @@ use Rattle.hpb_slots.specs.declared.slot.Slot.{Slot}
 use Rattle.hpb_slots.specs.declared.slot.Slot.TheVariants.{First, Second}
 use Rattle.hpb_slots.specs.Slots.{place_of, gate_at, chunk_at, piece_of}
 use Rattle.hpb_slots.specs.Changes.{ChangesGate, ChangesChunk, TornGate, TornChunk}
+use Rattle.hpb_disk.proofs.Regions.{elapses_within}
 
 -- There are two.
 pub two : (slot : Slot) → place_of slot ≤ 1
@@ -18,14 +19,6 @@ places_differ First First apart same = apart refl
 places_differ First Second apart same = absurd (omega (arith, same))
 places_differ Second First apart same = absurd (omega (arith, same))
 places_differ Second Second apart same = apart refl
-
--- A call leaves images of a greater set too.
-elapses_within : (before now : ℕ) (past since : ℕ → List ℕ → Type 0) (during images : List ℕ → Type 0) → Within during images → Elapses before now past since during → Elapses before now past since images
-elapses_within before now past since during images within time = record {
-  next = time.next;
-  nothing_else = λ moment image le left. elim (time.nothing_else moment image le left) [ inl was ↦ inl was | inr in_call ↦ inr (within image in_call) ];
-  keeps = time.keeps;
-}
 
 module _ (elsewhere : ElsewhereStays) (slot : Slot) where
   -- The places of two slots, and that they differ where the slots do.

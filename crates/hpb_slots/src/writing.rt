@@ -48,13 +48,10 @@ pub fn write_chunk<D: Disk>(
     elsewhere_stays();
     put_is_read();
     put_is_torn();
-    match disk.write_at(
+    disk.write_at(
         gate_offset(slot) + PAGE_BYTES + CHUNK_SIZE * i,
         chunk(body, i),
-    ) {
-        Ok(()) => Ok(()),
-        Err(failed) => Err(failed),
-    }
+    )
 }
 
 /// Opens the gate of a slot. It counts after the next sync; until then a crash may leave it open or closed.
@@ -71,10 +68,7 @@ pub fn open_slot<D: Disk>(disk: &mut D, slot: Slot) -> Result<(), DiskFailed>
 {
     elsewhere_stays();
     put_is_torn();
-    match open_gate(disk, gate_offset(slot)) {
-        Ok(()) => Ok(()),
-        Err(failed) => Err(failed),
-    }
+    open_gate(disk, gate_offset(slot))
 }
 
 /// Closes the gate of a slot, if it may be open. One that is closed in all that a crash may leave isn't written, as a torn
@@ -94,8 +88,5 @@ pub fn close_slot<D: Disk>(disk: &mut D, slot: Slot, may_be_open: bool) -> Resul
 {
     elsewhere_stays();
     put_is_torn();
-    match close_gate(disk, gate_offset(slot), may_be_open) {
-        Ok(()) => Ok(()),
-        Err(failed) => Err(failed),
-    }
+    close_gate(disk, gate_offset(slot), may_be_open)
 }

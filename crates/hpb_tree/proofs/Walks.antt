@@ -6,6 +6,7 @@ use Rattle.hpb_rules.specs.Tree.{Node, parent_of, at_parent, at_or_under, at_or_
 use Rattle.hpb_rules.specs.Prices.{of_parent}
 use Rattle.hpb_rules.proofs.Above.{parent_in}
 use Rattle.hpb_rules.proofs.Places.{none_at}
+use Rattle.hpb_rules.proofs.Lists.{or_false}
 
 -- each parent stands before its children
 pub record Ordered (nodes : List Node) : Type 0 where
@@ -67,17 +68,9 @@ module _ (nodes : List Node) (o : Ordered nodes) where
   under_enough zero (suc j) n m a b =
       let z : m ≡ 0 = omega arith in
       subst (λ x. eqb n x ≡ at_or_under_within nodes (suc j) n x) (sym z) (sym (ap (λ b. eqb n 0 || b) (not_above (parent_of nodes 0) refl (at_or_under_within nodes j n)) ∙ or_false (eqb n 0)))
-    where
-      or_false : (b : Bool) → (b || false) ≡ b
-      or_false true = refl
-      or_false false = refl
   under_enough (suc k) zero n m a b =
       let z : m ≡ 0 = omega arith in
       subst (λ x. at_or_under_within nodes (suc k) n x ≡ eqb n x) (sym z) (ap (λ b. eqb n 0 || b) (not_above (parent_of nodes 0) refl (at_or_under_within nodes k n)) ∙ or_false (eqb n 0))
-    where
-      or_false : (b : Bool) → (b || false) ≡ b
-      or_false true = refl
-      or_false false = refl
   under_enough (suc k) (suc j) n m a b = ap (λ x. eqb n m || x) (by (under_enough k j n) (parent_of nodes m) refl)
     where
       by : ((p : ℕ) → p ≤ k → p ≤ j → at_or_under_within nodes k n p ≡ at_or_under_within nodes j n p) → (c : Option ℕ) → parent_of nodes m ≡ c → at_parent c (at_or_under_within nodes k n) ≡ at_parent c (at_or_under_within nodes j n)

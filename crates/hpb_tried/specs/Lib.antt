@@ -1,3 +1,6 @@
 pub mod Drafts
 pub mod Sums
 pub mod Tries
+pub mod Bids
+pub mod Files
+pub mod FileSums

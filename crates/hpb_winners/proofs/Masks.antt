@@ -12,6 +12,7 @@ use Rattle.hpb_rules.specs.declared.limits.TheConstants.{MOST_NODES}
 use Rattle.hpb_rules.specs.Choices.{is_in}
 use Rattle.hpb_rules.specs.Saved.{has_bit}
 use Rattle.hpb_rules.proofs.Lists.{get_or-replicate_same}
+use Rattle.hpb_rules.proofs.Masks.{ltb_other, ltb_same}
 use Rattle.hpb_winners.specs.View.{AreBefore, is_ahead, is_free, or_top, wins_of}
 use Rattle.hpb_winners.proofs.Winning.{free_step}
 
@@ -40,15 +41,6 @@ flags_start test {flags = flags} all = record {
   count = ap length all ∙ length-replicate MOST_NODES false;
   marked = λ n. ap (λ fs. is_in fs n) all ∙ get_or-replicate_same MOST_NODES n false ∙ sym (ap (λ b. b && test n) (le-ltb n 0 (omega arith)));
 }
-
-ltb_same : (n i : ℕ) → n ≡ i → ltb n (i + 1) ≡ true
-ltb_same n i e = lt-ltb n (i + 1) (omega arith)
-
-ltb_other : (n i : ℕ) → (n ≡ i → ⊥) → ltb n (i + 1) ≡ ltb n i
-ltb_other n i other = ⊎_elim
-    (λ less. lt-ltb n (i + 1) (omega arith) ∙ sym (lt-ltb n i less))
-    (λ no. ⊎_elim (λ above. le-ltb n (i + 1) (omega arith) ∙ sym (le-ltb n i no)) (λ le. absurd (other (omega arith))) (cases_lt i n))
-    (cases_lt n i)
 
 module _ (test : ℕ → Bool) (i : ℕ) where
   -- the next place is marked where it passes

@@ -2,7 +2,8 @@ use Rattle.std.proofs.Common.{◌≡◌, ℕ, List, length, sym, ap, subst, ◌�
 use Rattle.std.specs.List.{flat_map, AllByRecursion}
 use Rattle.hpb_rules.specs.declared.command.Command.{Command}
 use Rattle.hpb_codec.specs.Numbers.{before, filled}
-use Rattle.hpb_codec.specs.Records.{record_of, HasRecord, HasTicket}
+use Rattle.hpb_codec.specs.Records.{record_of, HasRecord}
+use Rattle.hpb_rules.specs.Rounds.{HasTicket}
 use Rattle.hpb_codec.specs.Batches.{batch_fields}
 use Rattle.hpb_codec.proofs.Batches.{fields_written}
 use Rattle.hpb_codec.proofs.batch.encode_batch.Goals as goal

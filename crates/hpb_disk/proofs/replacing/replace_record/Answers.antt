@@ -1,39 +1,32 @@
 use Rattle.std.proofs.Common.{List, [], ◌∷◌, ◌+◌, ℕ, length, ◌∙◌, ap}
+use Rattle.std.proofs.lemmas.Result.{on_ok_weaker}
 use Rattle.hpb_disk.specs.Asked.Asked.{syncs, writes}
 use Rattle.hpb_disk.specs.Gates.{open_byte}
 use Rattle.hpb_disk.specs.Images.{put}
-use Rattle.hpb_disk.proofs.Replacements.{after_write, after_sync, after_gate, stands_after}
+use Rattle.hpb_disk.proofs.Replacements.{after_opening, after_sync, stands_after}
 use Rattle.hpb_disk.proofs.Turns.{and_then, at_first, at_last, at_later, breaks_with}
 use Rattle.hpb_disk.proofs.replacing.replace_record.Goals as goal
 
 pub returns-in_err-open_gate-clause-any_moment : goal.returns-in_err-open_gate-clause-any_moment
 returns-in_err-open_gate-clause-any_moment g c =
     let d = g.D.Disk in let write = c.in_ok-write_at.ensures in let sync = c.in_ok-sync.ensures in let gate = c.in_err-open_gate.ensures in
-    let first = after_write d.seen d.may_leave d.moment d.left_since c.args.bytes.now c.args.disk.now c.requires.room c.requires.closed c.requires.settled c.write_at.new.self write.time write.crash in
-    let second = after_sync d.seen d.may_leave d.moment d.left_since c.args.bytes.now c.args.disk.now c.requires.room c.requires.closed c.requires.settled c.write_at.new.self c.sync.new.self first sync.time sync.crash in
-    after_gate d.seen d.may_leave d.moment d.left_since c.args.bytes.now c.args.disk.now c.requires.room c.requires.closed c.requires.settled c.sync.new.self c.open_gate.new.disk second (λ image may. sync.durable image may ∙ write.written) gate.time gate.crash
+    after_opening d.seen d.may_leave d.moment d.left_since c.args.bytes.now c.args.disk.now c.requires.room c.requires.closed c.requires.settled c.write_at.new.self c.sync.new.self c.open_gate.new.disk
+    write.time write.crash write.written sync.time sync.crash sync.durable gate.time gate.crash
 
-pub returns-in-Err-clause-any_moment : goal.returns-in-Err-clause-any_moment
-returns-in-Err-clause-any_moment g c =
+pub returns-clause-any_moment : goal.returns-clause-any_moment
+returns-clause-any_moment g c =
     let d = g.D.Disk in let write = c.in_ok-write_at.ensures in let sync = c.in_ok-sync.ensures in let gate = c.in_ok-open_gate.ensures in
-    let first = after_write d.seen d.may_leave d.moment d.left_since c.args.bytes.now c.args.disk.now c.requires.room c.requires.closed c.requires.settled c.write_at.new.self write.time write.crash in
-    let second = after_sync d.seen d.may_leave d.moment d.left_since c.args.bytes.now c.args.disk.now c.requires.room c.requires.closed c.requires.settled c.write_at.new.self c.sync.new.self first sync.time sync.crash in
-    let third = after_gate d.seen d.may_leave d.moment d.left_since c.args.bytes.now c.args.disk.now c.requires.room c.requires.closed c.requires.settled c.sync.new.self c.open_gate.new.disk second (λ image may. sync.durable image may ∙ write.written) gate.time gate.crash in
-    after_sync d.seen d.may_leave d.moment d.left_since c.args.bytes.now c.args.disk.now c.requires.room c.requires.closed c.requires.settled c.open_gate.new.disk c.sync-2.new.self third c.in-Err.ensures.time c.in-Err.ensures.crash
+    let opened = after_opening d.seen d.may_leave d.moment d.left_since c.args.bytes.now c.args.disk.now c.requires.room c.requires.closed c.requires.settled c.write_at.new.self c.sync.new.self c.open_gate.new.disk
+    write.time write.crash write.written sync.time sync.crash sync.durable gate.time gate.crash in
+    after_sync d.seen d.may_leave d.moment d.left_since c.args.bytes.now c.args.disk.now c.requires.room c.requires.closed c.requires.settled c.open_gate.new.disk c.sync-2.new.self opened c.sync-2.ensures.time c.sync-2.ensures.crash
 
-pub returns-in-Ok-clause-any_moment : goal.returns-in-Ok-clause-any_moment
-returns-in-Ok-clause-any_moment g c =
-    let d = g.D.Disk in let write = c.in_ok-write_at.ensures in let sync = c.in_ok-sync.ensures in let gate = c.in_ok-open_gate.ensures in
-    let first = after_write d.seen d.may_leave d.moment d.left_since c.args.bytes.now c.args.disk.now c.requires.room c.requires.closed c.requires.settled c.write_at.new.self write.time write.crash in
-    let second = after_sync d.seen d.may_leave d.moment d.left_since c.args.bytes.now c.args.disk.now c.requires.room c.requires.closed c.requires.settled c.write_at.new.self c.sync.new.self first sync.time sync.crash in
-    let third = after_gate d.seen d.may_leave d.moment d.left_since c.args.bytes.now c.args.disk.now c.requires.room c.requires.closed c.requires.settled c.sync.new.self c.open_gate.new.disk second (λ image may. sync.durable image may ∙ write.written) gate.time gate.crash in
-    after_sync d.seen d.may_leave d.moment d.left_since c.args.bytes.now c.args.disk.now c.requires.room c.requires.closed c.requires.settled c.open_gate.new.disk c.sync-2.new.self third c.in-Ok.ensures.time c.in-Ok.ensures.crash
-
-pub returns-in-Ok-clause-kept : goal.returns-in-Ok-clause-kept
-returns-in-Ok-clause-kept g c =
+pub returns-clause-kept : goal.returns-clause-kept
+returns-clause-kept g c =
     let d = g.D.Disk in
-    stands_after d.seen d.may_leave d.moment d.left_since c.args.bytes.now c.args.disk.now c.requires.room c.requires.closed c.requires.settled c.sync-2.new.self (d.seen c.open_gate.new.disk) c.in-Ok.ensures.durable
-    (c.in_ok-open_gate.ensures.written ∙ ap (λ (image : List ℕ). put 0 open_byte image) (c.in_ok-sync.ensures.seen ∙ c.in_ok-write_at.ensures.written))
+    let is = c.in_ok-open_gate.ensures.written ∙ ap (λ (image : List ℕ). put 0 open_byte image) (c.in_ok-sync.ensures.seen ∙ c.in_ok-write_at.ensures.written) in
+    on_ok_weaker c.sync-2.result
+    (λ only. stands_after d.seen d.may_leave d.moment d.left_since c.args.bytes.now c.args.disk.now c.requires.room c.requires.closed c.requires.settled c.sync-2.new.self (d.seen c.open_gate.new.disk) only is)
+    c.sync-2.ensures.durable
 
 pub returns-in_err-write_at-clause-asked : goal.returns-in_err-write_at-clause-asked
 returns-in_err-write_at-clause-asked g c =

@@ -1,7 +1,7 @@
 use Rattle.std.proofs.Common.{◌≡◌, ℕ, List, length, drop, sym, ◌∙◌, ap, subst, arith}
 use Rattle.std.proofs.lemmas.List.{length-reverse, take_at}
 use Rattle.hpb_rules.specs.AuctionValue.{AuctionValue, Shows}
-use Rattle.hpb_progress.specs.Facts.{IsSnapshot}
+use Rattle.hpb_engine.specs.Facts.{IsSnapshot}
 use Rattle.hpb_engine.proofs.snapshot.take_snapshot.Goals as goal
 
 pub returns-clause-shows : goal.returns-clause-shows

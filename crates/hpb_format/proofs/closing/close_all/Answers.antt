@@ -1,8 +1,9 @@
 use Rattle.std.proofs.Common.{sym, ◌∙◌, subst, ap, length, List, [], ◌∷◌, ◌++◌, ℕ, arith}
+use Rattle.std.proofs.lemmas.Result.{on_ok_weaker}
 use Rattle.hpb_format.specs.Stages.{AreClosed}
 use Rattle.hpb_format.proofs.Closed.{all_closed, closes_on, quiet_closes}
 use Rattle.hpb_disk.specs.Asked.Asked.{syncs}
-use Rattle.hpb_disk.proofs.Turns.{and_then, at_first, at_last, at_later, breaks_with}
+use Rattle.hpb_disk.proofs.Turns.{and_then, at_first, at_last, at_later, breaks_with, in_turn, in_turn_on}
 use Rattle.hpb_format.proofs.Turns.{more_closings, widen}
 use Rattle.hpb_format.proofs.closing.close_all.Goals as goal
 
@@ -15,37 +16,26 @@ returns-in_err-close_frames-clause-any_moment g c =
 pub returns-in_err-close_frames-clause-cause : goal.returns-in_err-close_frames-clause-cause
 returns-in_err-close_frames-clause-cause g c = grind (arith, c.from_residual-in_err-close_frames, c.in_ok-close_head_and_slots.ensures.cause, c.in_err-close_frames.ensures.cause)
 
-pub returns-in-Ok-clause-closed : goal.returns-in-Ok-clause-closed
-returns-in-Ok-clause-closed g c =
+pub returns-clause-closed : goal.returns-clause-closed
+returns-clause-closed g c =
     let d = g.D.Disk in let layout = g.F.Frames.layout c.args.frames.now in
     let before = c.in_ok-close_head_and_slots.ensures in let frames = c.in_ok-close_frames.ensures in
-    subst (AreClosed layout) (sym c.in-Ok.ensures.seen)
-    (all_closed layout (d.seen c.close_head_and_slots.new.disk) (d.seen c.close_frames.new.disk) before.head before.slots frames.before frames.closed)
+    let closed = all_closed layout (d.seen c.close_head_and_slots.new.disk) (d.seen c.close_frames.new.disk) before.head before.slots frames.before frames.closed in
+    on_ok_weaker c.sync.result (λ durable. subst (AreClosed layout) (sym c.sync.ensures.seen) closed) c.sync.ensures.durable
 
-pub returns-in-Ok-clause-settled : goal.returns-in-Ok-clause-settled
-returns-in-Ok-clause-settled g c image left = c.in-Ok.ensures.durable image left ∙ sym c.in-Ok.ensures.seen
+pub returns-clause-settled : goal.returns-clause-settled
+returns-clause-settled g c = on_ok_weaker c.sync.result (λ durable image left. durable image left ∙ sym c.sync.ensures.seen) c.sync.ensures.durable
 
-pub returns-in-Ok-clause-size : goal.returns-in-Ok-clause-size
-returns-in-Ok-clause-size g c = ap (λ (l : List ℕ). length l) c.in-Ok.ensures.seen ∙ c.in_ok-close_frames.ensures.size ∙ c.in_ok-close_head_and_slots.ensures.size
+pub returns-clause-size : goal.returns-clause-size
+returns-clause-size g c = ap (λ (l : List ℕ). length l) c.sync.ensures.seen ∙ c.in_ok-close_frames.ensures.size ∙ c.in_ok-close_head_and_slots.ensures.size
 
-pub returns-in-Err-clause-size : goal.returns-in-Err-clause-size
-returns-in-Err-clause-size g c = ap (λ (l : List ℕ). length l) c.in-Err.ensures.seen ∙ c.in_ok-close_frames.ensures.size ∙ c.in_ok-close_head_and_slots.ensures.size
-
-pub returns-in-Ok-clause-any_moment : goal.returns-in-Ok-clause-any_moment
-returns-in-Ok-clause-any_moment g c =
-    let d = g.D.Disk in let sync = c.in-Ok.ensures in
+pub returns-clause-any_moment : goal.returns-clause-any_moment
+returns-clause-any_moment g c =
+    let d = g.D.Disk in
     closes_on d.seen d.may_leave d.moment d.left_since c.args.disk.now c.close_frames.new.disk c.sync.new.self
     (closes_on d.seen d.may_leave d.moment d.left_since c.args.disk.now c.close_head_and_slots.new.disk c.close_frames.new.disk
     c.in_ok-close_head_and_slots.ensures.any_moment c.in_ok-close_frames.ensures.any_moment)
-    (quiet_closes d.seen d.may_leave d.moment d.left_since c.close_frames.new.disk c.sync.new.self sync.time sync.crash)
-
-pub returns-in-Err-clause-any_moment : goal.returns-in-Err-clause-any_moment
-returns-in-Err-clause-any_moment g c =
-    let d = g.D.Disk in let sync = c.in-Err.ensures in
-    closes_on d.seen d.may_leave d.moment d.left_since c.args.disk.now c.close_frames.new.disk c.sync.new.self
-    (closes_on d.seen d.may_leave d.moment d.left_since c.args.disk.now c.close_head_and_slots.new.disk c.close_frames.new.disk
-    c.in_ok-close_head_and_slots.ensures.any_moment c.in_ok-close_frames.ensures.any_moment)
-    (quiet_closes d.seen d.may_leave d.moment d.left_since c.close_frames.new.disk c.sync.new.self sync.time sync.crash)
+    (quiet_closes d.seen d.may_leave d.moment d.left_since c.close_frames.new.disk c.sync.new.self c.sync.ensures.time c.sync.ensures.crash)
 
 pub returns-in_err-close_head_and_slots-clause-asked : goal.returns-in_err-close_head_and_slots-clause-asked
 returns-in_err-close_head_and_slots-clause-asked g c =
@@ -67,20 +57,11 @@ returns-in_err-close_frames-clause-asked g c =
           (at_first (two.0 ++ one.0) (syncs ∷ []) old new (at_later one.0 two.0 old middle new one.2 (at_last two.0 middle new two.2))),
     )
 
-pub returns-in-Ok-clause-asked : goal.returns-in-Ok-clause-asked
-returns-in-Ok-clause-asked g c =
+pub returns-clause-asked : goal.returns-clause-asked
+returns-clause-asked g c =
     let d = g.D.Disk in let journal = g.F.Frames.shape c.args.frames.now in let one = c.in_ok-close_head_and_slots.ensures.asked journal in let two = c.in_ok-close_frames.ensures.asked in
     let old = d.asked c.args.disk.now in let first = d.asked c.close_head_and_slots.new.disk in let second = d.asked c.close_frames.new.disk in let new = d.asked c.sync.new.self in (
       two.0 ++ one.0,
       more_closings journal 3 _ _ one.0 two.0 (omega arith) one.1 two.1,
-      and_then (two.0 ++ one.0) (syncs ∷ []) old second new (and_then one.0 two.0 old first second one.2 two.2) c.in-Ok.ensures.asked,
-    )
-
-pub returns-in-Err-clause-asked : goal.returns-in-Err-clause-asked
-returns-in-Err-clause-asked g c =
-    let d = g.D.Disk in let journal = g.F.Frames.shape c.args.frames.now in let one = c.in_ok-close_head_and_slots.ensures.asked journal in let two = c.in_ok-close_frames.ensures.asked in
-    let old = d.asked c.args.disk.now in let first = d.asked c.close_head_and_slots.new.disk in let second = d.asked c.close_frames.new.disk in let new = d.asked c.sync.new.self in (
-      two.0 ++ one.0,
-      more_closings journal 3 _ _ one.0 two.0 (omega arith) one.1 two.1,
-      at_later (two.0 ++ one.0) (syncs ∷ []) old second new (and_then one.0 two.0 old first second one.2 two.2) (at_last (syncs ∷ []) second new c.in-Err.ensures.asked),
+      in_turn_on c.sync.result (two.0 ++ one.0) (syncs ∷ []) old second new (and_then one.0 two.0 old first second one.2 two.2) (in_turn c.sync.result (syncs ∷ []) second new c.sync.ensures.asked),
     )

@@ -2,7 +2,7 @@ use Rattle.std.proofs.Common.{◌+◌, ◌++◌, ◌∙◌, arith}
 use Rattle.hpb_journal.specs.declared.limits.TheConstants.{JOURNAL_AT}
 use Rattle.hpb_format.proofs.Closed.{closes_on, one_more, same_before, all_frames}
 use Rattle.hpb_disk.proofs.Turns.{and_then, failed_with, fails_after}
-use Rattle.hpb_format.proofs.Turns.{more_closings, no_closings, widen}
+use Rattle.hpb_format.proofs.Turns.{more_closings, widen}
 use Rattle.hpb_format.proofs.closing.close_frames.Goals as goal
 
 pub returns-in_err-close_frame_if_open-clause-any_moment : goal.returns-in_err-close_frame_if_open-clause-any_moment

@@ -1,11 +1,18 @@
-use Rattle.std.proofs.Common.{◌∙◌, ap, sym}
+use Rattle.std.proofs.Common.{rules, ◌≡◌, ◌∙◌, ap, sym, arith}
+use Rattle.std.specs.Prelude.{◌-◌}
 use Rattle.hpb_rules.specs.AuctionValue.{AuctionValue}
-use Rattle.hpb_board.specs.Publication.{joined}
-use Rattle.hpb_house.proofs.Leading.{lead_rules}
+use Rattle.hpb_rules.specs.Fronts.{joined}
+use Rattle.hpb_rules.specs.Judging.{value_by}
+use Rattle.hpb_house.proofs.Histories.{list_counted}
 use Rattle.hpb_house.proofs.closing.settle.Goals as goal
 
-pub compare-compared-requires-clause-rules : goal.compare-compared-requires-clause-rules
-compare-compared-requires-clause-rules g c =
+-- the numbers where a batch is in flight
+pub returns-then-not-has_failed-clause-counts : goal.returns-then-not-has_failed-clause-counts
+returns-then-not-has_failed-clause-counts g c =
     let board = c.args.keeper.now.board in
-    ap (λ (value : AuctionValue). value.rules) (c.committed.ensures ∙ sym c.facts.ensures.shown)
-    ∙ lead_rules board.opened (joined board.list) ∙ ap (λ (value : AuctionValue). value.rules) c.requires.board.1
+    let opened = c.args.eye.now.opened in
+    let auction = c.args.keeper.now.progress.committed in
+    let leads : auction ≡ value_by opened (joined board.list) = sym c.facts.ensures.shown ∙ ap (λ (v : AuctionValue). value_by v (joined board.list)) c.requires.keeper.1 in
+    let long = list_counted opened auction board.list leads in
+    let committed : c.count.result.committed ≡ auction.count - opened.count = search rules in
+    record { accepted = c.count.ensures.accepted; committed = committed; since = omega (arith, long, committed) }

@@ -1,59 +1,48 @@
-use Rattle.std.proofs.Common.{ℕ, ◌∙◌, List, ◌∷◌, length, ap, subst, arith}
-use Rattle.hpb_disk.specs.Asked.Asked.{writes, fails}
+use Rattle.std.proofs.Common.{◌≡◌, ℕ, ◌≤◌, List, [], ◌∷◌, length, take, OnOk, subst, arith}
+use Rattle.std.proofs.lemmas.Result.{on_ok_weaker}
+use Rattle.hpb_codec.specs.Cells.{cells_of}
+use Rattle.hpb_disk.specs.Asked.{Asks}
+use Rattle.hpb_disk.specs.Asked.Asked.{writes}
 use Rattle.hpb_disk.specs.Images.{put, Elapses, TornFrom, Within}
 use Rattle.hpb_journal.proofs.CellBodies.{cells_are, cells_few, cells_say}
+use Rattle.hpb_journal.proofs.cells.write_cells.Given.{Over}
+use Rattle.hpb_journal.proofs.cells.write_cells.Goals.{After-write_at}
 use Rattle.hpb_journal.proofs.cells.write_cells.Goals as goal
 
-pub returns-in-Ok-clause-written : goal.returns-in-Ok-clause-written
-returns-in-Ok-clause-written g c =
+-- What is written are the cells of the batch.
+are : (g : Over) (c : After-write_at g) → take c.encode_cells-size.result c.encode_cells-size.new.out ≡ cells_of c.args.batch.now
+are g c = cells_are c.args.batch.now c.encode_cells-size.result c.encode_cells-size.new.out c.encode_cells-size.ensures.size c.encode_cells-size.ensures.inside c.encode_cells-size.auto.out c.encode_cells-size.ensures.written
+
+few : (g : Over) (c : After-write_at g) → length (cells_of c.args.batch.now) ≤ 1520
+few g c = cells_few c.args.batch.now c.encode_cells-size.result c.encode_cells-size.new.out c.encode_cells-size.ensures.size c.encode_cells-size.ensures.inside c.encode_cells-size.auto.out c.encode_cells-size.ensures.written
+
+written : (g : Over) (c : After-write_at g) → OnOk c.write_at.result (g.D.Disk.seen c.write_at.new.self ≡ put c.args.at (cells_of c.args.batch.now) (g.D.Disk.seen c.args.disk.now))
+written g c = subst (λ (bytes : List ℕ). OnOk c.write_at.result (g.D.Disk.seen c.write_at.new.self ≡ put c.args.at bytes (g.D.Disk.seen c.args.disk.now))) (are g c) c.write_at.ensures.written
+
+pub returns-clause-written : goal.returns-clause-written
+returns-clause-written g c = written g c
+
+pub returns-clause-says : goal.returns-clause-says
+returns-clause-says g c rules may =
     let d = g.D.Disk in
-    c.in-Ok.ensures.written ∙ ap (λ (bytes : List ℕ). put c.args.at bytes (d.seen c.args.disk.now)) (cells_are c.args.batch.now c.encode_cells-size.result c.encode_cells-size.new.out c.encode_cells-size.ensures.size c.encode_cells-size.ensures.inside c.encode_cells-size.auto.out c.encode_cells-size.ensures.written)
+    on_ok_weaker c.write_at.result
+    (λ put_there. cells_say c.args.batch.now c.encode_cells-size.result c.encode_cells-size.new.out c.encode_cells-size.ensures.size c.encode_cells-size.ensures.inside c.encode_cells-size.auto.out c.encode_cells-size.ensures.written
+    c.put_is_read.ensures c.args.at (d.seen c.args.disk.now) (d.seen c.write_at.new.self) (omega (arith, few g c, c.requires.room)) put_there rules (c.encode_cells-size.ensures.spelled rules may.some may.tickets may.known)) (written g c)
 
-pub returns-in-Ok-clause-says : goal.returns-in-Ok-clause-says
-returns-in-Ok-clause-says g c rules may =
+pub returns-clause-few : goal.returns-clause-few
+returns-clause-few g c = few g c
+
+pub returns-clause-crash : goal.returns-clause-crash
+returns-clause-crash g c =
     let d = g.D.Disk in
-    let few = cells_few c.args.batch.now c.encode_cells-size.result c.encode_cells-size.new.out c.encode_cells-size.ensures.size c.encode_cells-size.ensures.inside c.encode_cells-size.auto.out c.encode_cells-size.ensures.written in
-    cells_say c.args.batch.now c.encode_cells-size.result c.encode_cells-size.new.out c.encode_cells-size.ensures.size c.encode_cells-size.ensures.inside c.encode_cells-size.auto.out c.encode_cells-size.ensures.written
-    c.put_is_read.ensures c.args.at (d.seen c.args.disk.now) (d.seen c.write_at.new.self) (omega (arith, few, c.requires.room))
-    (c.in-Ok.ensures.written ∙ ap (λ (bytes : List ℕ). put c.args.at bytes (d.seen c.args.disk.now)) (cells_are c.args.batch.now c.encode_cells-size.result c.encode_cells-size.new.out c.encode_cells-size.ensures.size c.encode_cells-size.ensures.inside c.encode_cells-size.auto.out c.encode_cells-size.ensures.written))
-    rules (c.encode_cells-size.ensures.spelled rules may.some may.tickets may.known)
+    subst (λ (bytes : List ℕ). Within (d.may_leave c.write_at.new.self) (TornFrom c.args.at (length bytes) (d.may_leave c.args.disk.now))) (are g c) c.write_at.ensures.crash
 
-pub returns-in-Ok-clause-few : goal.returns-in-Ok-clause-few
-returns-in-Ok-clause-few g c = cells_few c.args.batch.now c.encode_cells-size.result c.encode_cells-size.new.out c.encode_cells-size.ensures.size c.encode_cells-size.ensures.inside c.encode_cells-size.auto.out c.encode_cells-size.ensures.written
-
-pub returns-in-Ok-clause-crash : goal.returns-in-Ok-clause-crash
-returns-in-Ok-clause-crash g c =
-    let d = g.D.Disk in
-    subst (λ (bytes : List ℕ). Within (d.may_leave c.write_at.new.self) (TornFrom c.args.at (length bytes) (d.may_leave c.args.disk.now)))
-    (cells_are c.args.batch.now c.encode_cells-size.result c.encode_cells-size.new.out c.encode_cells-size.ensures.size c.encode_cells-size.ensures.inside c.encode_cells-size.auto.out c.encode_cells-size.ensures.written) c.in-Ok.ensures.crash
-
-pub returns-in-Ok-clause-time : goal.returns-in-Ok-clause-time
-returns-in-Ok-clause-time g c =
-    let d = g.D.Disk in
-    subst (λ (bytes : List ℕ). Elapses (d.moment c.args.disk.now) (d.moment c.write_at.new.self) (d.left_since c.args.disk.now) (d.left_since c.write_at.new.self) (TornFrom c.args.at (length bytes) (d.may_leave c.args.disk.now)))
-    (cells_are c.args.batch.now c.encode_cells-size.result c.encode_cells-size.new.out c.encode_cells-size.ensures.size c.encode_cells-size.ensures.inside c.encode_cells-size.auto.out c.encode_cells-size.ensures.written) c.in-Ok.ensures.time
-
-pub returns-in-Err-clause-few : goal.returns-in-Err-clause-few
-returns-in-Err-clause-few g c = cells_few c.args.batch.now c.encode_cells-size.result c.encode_cells-size.new.out c.encode_cells-size.ensures.size c.encode_cells-size.ensures.inside c.encode_cells-size.auto.out c.encode_cells-size.ensures.written
-
-pub returns-in-Err-clause-crash : goal.returns-in-Err-clause-crash
-returns-in-Err-clause-crash g c =
-    let d = g.D.Disk in
-    subst (λ (bytes : List ℕ). Within (d.may_leave c.write_at.new.self) (TornFrom c.args.at (length bytes) (d.may_leave c.args.disk.now)))
-    (cells_are c.args.batch.now c.encode_cells-size.result c.encode_cells-size.new.out c.encode_cells-size.ensures.size c.encode_cells-size.ensures.inside c.encode_cells-size.auto.out c.encode_cells-size.ensures.written) c.in-Err.ensures.crash
-
-pub returns-in-Err-clause-time : goal.returns-in-Err-clause-time
-returns-in-Err-clause-time g c =
+pub returns-clause-time : goal.returns-clause-time
+returns-clause-time g c =
     let d = g.D.Disk in
     subst (λ (bytes : List ℕ). Elapses (d.moment c.args.disk.now) (d.moment c.write_at.new.self) (d.left_since c.args.disk.now) (d.left_since c.write_at.new.self) (TornFrom c.args.at (length bytes) (d.may_leave c.args.disk.now)))
-    (cells_are c.args.batch.now c.encode_cells-size.result c.encode_cells-size.new.out c.encode_cells-size.ensures.size c.encode_cells-size.ensures.inside c.encode_cells-size.auto.out c.encode_cells-size.ensures.written) c.in-Err.ensures.time
+    (are g c) c.write_at.ensures.time
 
-pub returns-in-Ok-clause-asked : goal.returns-in-Ok-clause-asked
-returns-in-Ok-clause-asked g c =
-    c.in-Ok.ensures.asked ∙ ap (λ (bytes : List ℕ). writes c.args.at bytes ∷ g.D.Disk.asked c.args.disk.now)
-    (cells_are c.args.batch.now c.encode_cells-size.result c.encode_cells-size.new.out c.encode_cells-size.ensures.size c.encode_cells-size.ensures.inside c.encode_cells-size.auto.out c.encode_cells-size.ensures.written)
-
-pub returns-in-Err-clause-asked : goal.returns-in-Err-clause-asked
-returns-in-Err-clause-asked g c =
-    c.in-Err.ensures.asked ∙ ap (λ (bytes : List ℕ). fails ∷ writes c.args.at bytes ∷ g.D.Disk.asked c.args.disk.now)
-    (cells_are c.args.batch.now c.encode_cells-size.result c.encode_cells-size.new.out c.encode_cells-size.ensures.size c.encode_cells-size.ensures.inside c.encode_cells-size.auto.out c.encode_cells-size.ensures.written)
+pub returns-clause-asked : goal.returns-clause-asked
+returns-clause-asked g c =
+    let d = g.D.Disk in subst (λ (bytes : List ℕ). Asks c.write_at.result (writes c.args.at bytes ∷ []) (d.asked c.args.disk.now) (d.asked c.write_at.new.self)) (are g c) c.write_at.ensures.asked

@@ -9,7 +9,17 @@ use Rattle.hpb_recover.specs.Quiet.{IsQuiet, reads_in}
 use Rattle.hpb_recover.proofs.Quietly.{at_most, begun_reads, all_reads, named_here}
 use Rattle.hpb_recover.proofs.Planning.{damaged, found, reads, is_plan_of, plan_of_one, cause_of_checkpoint, cause_of_journal}
 use Rattle.hpb_recover.proofs.Reading.{ended_later}
+use Rattle.hpb_recover.proofs.opening.read_plan.Given.{Over}
+use Rattle.hpb_recover.proofs.opening.read_plan.Goals.{After-read_journal}
 use Rattle.hpb_recover.proofs.opening.read_plan.Goals as goal
+
+-- The reads of head, checkpoint and journal.
+quiet_reads : (g : Over) (c : After-read_journal g) → IsQuiet g.D.Disk.seen g.D.Disk.may_leave g.D.Disk.moment g.D.Disk.left_since (reads_in (g.D.Disk.seen c.args.disk.now)) c.args.disk.now c.read_journal.new.disk
+quiet_reads g c =
+    let d = g.D.Disk in
+    all_reads d.seen d.may_leave d.moment d.left_since c.in_ok-head.head.journal c.args.disk.now c.read_head.new.disk c.read_checkpoint.new.disk c.read_journal.new.disk
+    (named_here c.layout_is_named.ensures c.in_ok-head.head (d.seen c.args.disk.now) c.in_ok-head.ensures.laid.spelled) c.in_ok-head.ensures.laid.size c.read_head.ensures.quiet c.read_checkpoint.ensures.quiet
+    (subst (λ (s : JournalShape). IsQuiet d.seen d.may_leave d.moment d.left_since s.frames c.read_checkpoint.new.disk c.read_journal.new.disk) c.new-frames.ensures c.read_journal.ensures.quiet)
 
 pub returns-in_err-head-clause-quiet : goal.returns-in_err-head-clause-quiet
 returns-in_err-head-clause-quiet g c =
@@ -33,11 +43,7 @@ returns-in-Err-clause-cause g c =
     cause_of_checkpoint head image c.in_ok-head.ensures.formatted c.in_ok-head.ensures.laid (d.failures c.args.disk.now) failures later c.in-Err.cause c.in_ok-head.ensures.works here
 
 pub returns-in-Err-read_journal-clause-quiet : goal.returns-in-Err-read_journal-clause-quiet
-returns-in-Err-read_journal-clause-quiet g c =
-    let d = g.D.Disk in
-    all_reads d.seen d.may_leave d.moment d.left_since c.in_ok-head.head.journal c.args.disk.now c.read_head.new.disk c.read_checkpoint.new.disk c.read_journal.new.disk
-    (named_here c.layout_is_named.ensures c.in_ok-head.head (d.seen c.args.disk.now) c.in_ok-head.ensures.laid.spelled) c.in_ok-head.ensures.laid.size c.read_head.ensures.quiet c.read_checkpoint.ensures.quiet
-    (subst (λ (s : JournalShape). IsQuiet d.seen d.may_leave d.moment d.left_since s.frames c.read_checkpoint.new.disk c.read_journal.new.disk) c.new-frames.ensures c.read_journal.ensures.quiet)
+returns-in-Err-read_journal-clause-quiet g c = quiet_reads g (goal.at.returns-in-Err-read_journal-clause-quiet g c).After-read_journal
 
 pub returns-in-Err-read_journal-clause-cause : goal.returns-in-Err-read_journal-clause-cause
 returns-in-Err-read_journal-clause-cause g c =
@@ -46,11 +52,7 @@ returns-in-Err-read_journal-clause-cause g c =
     (c.in-Ok.ensures.works ∙ c.in_ok-head.ensures.works) c.in-Err-read_journal.ensures.cause
 
 pub returns-in-Ok-None-clause-quiet : goal.returns-in-Ok-None-clause-quiet
-returns-in-Ok-None-clause-quiet g c =
-    let d = g.D.Disk in
-    all_reads d.seen d.may_leave d.moment d.left_since c.in_ok-head.head.journal c.args.disk.now c.read_head.new.disk c.read_checkpoint.new.disk c.read_journal.new.disk
-    (named_here c.layout_is_named.ensures c.in_ok-head.head (d.seen c.args.disk.now) c.in_ok-head.ensures.laid.spelled) c.in_ok-head.ensures.laid.size c.read_head.ensures.quiet c.read_checkpoint.ensures.quiet
-    (subst (λ (s : JournalShape). IsQuiet d.seen d.may_leave d.moment d.left_since s.frames c.read_checkpoint.new.disk c.read_journal.new.disk) c.new-frames.ensures c.read_journal.ensures.quiet)
+returns-in-Ok-None-clause-quiet g c = quiet_reads g (goal.at.returns-in-Ok-None-clause-quiet g c).After-read_journal
 
 pub returns-in-Ok-None-clause-cause : goal.returns-in-Ok-None-clause-cause
 returns-in-Ok-None-clause-cause g c =
@@ -117,11 +119,7 @@ returns-clause-plan g c =
     }
 
 pub returns-clause-quiet : goal.returns-clause-quiet
-returns-clause-quiet g c =
-    let d = g.D.Disk in
-    all_reads d.seen d.may_leave d.moment d.left_since c.in_ok-head.head.journal c.args.disk.now c.read_head.new.disk c.read_checkpoint.new.disk c.read_journal.new.disk
-    (named_here c.layout_is_named.ensures c.in_ok-head.head (d.seen c.args.disk.now) c.in_ok-head.ensures.laid.spelled) c.in_ok-head.ensures.laid.size c.read_head.ensures.quiet c.read_checkpoint.ensures.quiet
-    (subst (λ (s : JournalShape). IsQuiet d.seen d.may_leave d.moment d.left_since s.frames c.read_checkpoint.new.disk c.read_journal.new.disk) c.new-frames.ensures c.read_journal.ensures.quiet)
+returns-clause-quiet g c = quiet_reads g (goal.at.returns-clause-quiet g c).After-read_journal
 
 pub returns-in-Err-clause-asked : goal.returns-in-Err-clause-asked
 returns-in-Err-clause-asked g c =

@@ -5,29 +5,28 @@ use Rattle.hpb_run.proofs.asking.rest_engine.Goals as goal
 pub returns-then-engine-clause-whole : goal.returns-then-engine-clause-whole
 returns-then-engine-clause-whole g c state stands between = inl c.if-engine.true
 
-pub returns-in-Ok-clause-whole : goal.returns-in-Ok-clause-whole
-returns-in-Ok-clause-whole g c state stands between =
+pub returns-clause-whole : goal.returns-clause-whole
+returns-clause-whole g c state stands between =
     let d = g.D.Disk in
     let old = c.args.engine.now in
     let new = c.make_checkpoint.new.engine in
-    let made = c.in-Ok.ensures in
-    let keeps = keeps_rest d.seen d.may_leave d.failures old.disk old.progress old.failed state stands c.if-engine.false in
-    covered_by old.progress new.progress (d.moment old.disk) (d.moment new.disk) new.failed c.in-Ok.field-0
-    (made.whole state.history keeps between c.if-engine.false) (made.failed state.history keeps)
+    let on = c.if-engine.false in
+    let made = (c.in_ok-make_checkpoint.ensures.made state.history (keeps_rest d.seen d.may_leave d.failures old.disk old.progress old.failed state stands on)).1 in
+    covered_by old.progress new.progress (d.moment old.disk) (d.moment new.disk) new.failed c.in_ok-make_checkpoint.field-0 (made.whole between on) made.fails
 
-pub returns-in-Ok-clause-stands : goal.returns-in-Ok-clause-stands
-returns-in-Ok-clause-stands g c = λ state stands.
+pub returns-clause-stands : goal.returns-clause-stands
+returns-clause-stands g c state stands =
     let d = g.D.Disk in
     let old = c.args.engine.now in
     let new = c.make_checkpoint.new.engine in
-    let made = c.in-Ok.ensures in
-    let keeps = keeps_rest d.seen d.may_leave d.failures old.disk old.progress old.failed state stands c.if-engine.false in
-    rested d.seen d.may_leave d.failures old.disk old.progress old.failed state stands c.if-engine.false new.disk new.progress new.failed c.in-Ok.field-0
-    (made.keeps state.history keeps) (made.committed state.history keeps) (made.works state.history keeps) made.cause
+    let on = c.if-engine.false in
+    let came = c.in_ok-make_checkpoint.ensures.made state.history (keeps_rest d.seen d.may_leave d.failures old.disk old.progress old.failed state stands on) in
+    rested d.seen d.may_leave d.failures old.disk old.progress old.failed state stands on new.disk new.progress new.failed c.in_ok-make_checkpoint.field-0
+    came.0 came.1.committed came.1.works c.in_ok-make_checkpoint.ensures.cause
 
-pub returns-in-Err-clause-stands : goal.returns-in-Err-clause-stands
-returns-in-Err-clause-stands g c = λ state stands.
+pub returns-in_err-make_checkpoint-clause-stands : goal.returns-in_err-make_checkpoint-clause-stands
+returns-in_err-make_checkpoint-clause-stands g c state stands =
     let d = g.D.Disk in
     let old = c.args.engine.now in
     let new = c.make_checkpoint.new.engine in
-    still_stands d.seen d.may_leave d.failures old.disk new.disk old.progress new.progress old.failed new.failed state c.in-Err.ensures.stays stands
+    still_stands d.seen d.may_leave d.failures old.disk new.disk old.progress new.progress old.failed new.failed state c.in_err-make_checkpoint.ensures.stays stands

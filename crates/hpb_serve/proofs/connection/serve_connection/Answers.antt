@@ -1,6 +1,6 @@
 use Rattle.std.proofs.Common.{sym, subst}
 use Rattle.hpb_board.specs.Publication.{Viewing}
-use Rattle.hpb_sessions.specs.Sessions.{Follows}
+use Rattle.hpb_serve.specs.Sessions.{Follows}
 use Rattle.hpb_serve.proofs.Seats.{left_by, stays}
 use Rattle.hpb_serve.proofs.connection.serve_connection.Goals as goal
 

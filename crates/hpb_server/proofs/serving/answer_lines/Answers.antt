@@ -4,6 +4,7 @@ use Rattle.hpb_server.specs.declared.fault.Fault.{Fault}
 use Rattle.hpb_server.specs.declared.fault.Fault.TheVariants.{Writer}
 use Rattle.hpb_server.specs.Streams.{streams}
 use Rattle.hpb_server.proofs.Errors.{err_case}
+use Rattle.hpb_server.proofs.Explained.{explained_at_more, explained_at_none}
 use Rattle.hpb_server.proofs.Chunks.{comes_begins, comes_stopped, comes_session, comes_refused, comes_sent, comes_unread, comes_over, comes_more, comes_ended}
 use Rattle.hpb_server.proofs.Passing.{writer_read}
 use Rattle.hpb_server.proofs.Sessions.{session_broken, session_more, session_cut}
@@ -13,7 +14,7 @@ as_writer : {T : Type 0} {fault : Fault} (r : Result T Fault) → IsErrAnd r (λ
 as_writer r bad is = err_case (λ x. IsErrAnd x (λ e. e ≡ Writer)) r bad (λ e same. same ∙ is)
 
 pub chunks-init : goal.chunks-init
-chunks-init g c = (refl, λ state at. (state, comes_begins c.new-line.ensures c.requires, at))
+chunks-init g c = (refl, λ state at. (state, comes_begins c.new-line.ensures c.requires.sent, at), explained_at_none c.args.is_terminal _)
 
 pub chunks-preserved : goal.chunks-preserved
 chunks-preserved g c =
@@ -29,6 +30,7 @@ chunks-preserved g c =
             comes_more came.1 t (g.W.Write.contents c.send.new.writer) c.in_ok-send.ensures.bytes c.send.ensures.empty (g.R.Read.remaining c.fill.new.reader) (answered.taken goes) answered.read filled.0 filled.2,
             c.rest.ensures.kept next.0 next.2,
           ),
+      explained_at_more c.args.is_terminal _ _ _ c.chunks.invariant.2 c.answer_unread.ensures.explained,
     )
 
 pub returns-in_err-answer_unread-clause-served : goal.returns-in_err-answer_unread-clause-served
@@ -101,3 +103,21 @@ returns-clause-served g c = λ state at.
           (streams (g.R.Read.remaining c.fill.new.reader) (g.W.Write.contents c.end_lines.new.writer)) (answered.taken goes) ended.0 ended.1 g.met.D.Desk.most_is_some.0 c.end_lines.result c.end_lines.ensures,
       rested,
     )
+
+pub returns-in_err-answer_unread-clause-explained : goal.returns-in_err-answer_unread-clause-explained
+returns-in_err-answer_unread-clause-explained g c = explained_at_more c.args.is_terminal _ _ _ c.chunks.invariant.2 c.answer_unread.ensures.explained
+
+pub returns-in_err-send-clause-explained : goal.returns-in_err-send-clause-explained
+returns-in_err-send-clause-explained g c = explained_at_more c.args.is_terminal _ _ _ c.chunks.invariant.2 c.answer_unread.ensures.explained
+
+pub returns-in_err-rest-clause-explained : goal.returns-in_err-rest-clause-explained
+returns-in_err-rest-clause-explained g c = explained_at_more c.args.is_terminal _ _ _ c.chunks.invariant.2 c.answer_unread.ensures.explained
+
+pub returns-then-is_over-clause-explained : goal.returns-then-is_over-clause-explained
+returns-then-is_over-clause-explained g c = explained_at_more c.args.is_terminal _ _ _ c.chunks.invariant.2 c.answer_unread.ensures.explained
+
+pub returns-in_err-fill-clause-explained : goal.returns-in_err-fill-clause-explained
+returns-in_err-fill-clause-explained g c = explained_at_more c.args.is_terminal _ _ _ c.chunks.invariant.2 c.answer_unread.ensures.explained
+
+pub returns-clause-explained : goal.returns-clause-explained
+returns-clause-explained g c = explained_at_more c.args.is_terminal _ _ _ c.chunks.invariant.2 c.answer_unread.ensures.explained

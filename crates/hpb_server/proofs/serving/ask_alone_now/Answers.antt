@@ -1,59 +1,40 @@
-use Rattle.std.proofs.Common.{[], ◌∷◌, refl, ◌∙◌, arith}
+use Rattle.std.proofs.Common.{[], ◌∙◌, arith}
 use Rattle.std.specs.Prelude.{Ok, Err}
 use Rattle.hpb_rules.specs.Rendering.{reply_text}
-use Rattle.hpb_rules.specs.Text.{line_of}
-use Rattle.hpb_rules.specs.declared.request.Request.TheVariants as requests
-use Rattle.hpb_server.proofs.Errors.{err_only, ok_case}
-use Rattle.hpb_server.proofs.Passing.{front_passes, lines_refused, passes_weaker}
-use Rattle.hpb_server.proofs.Queues.{request_answered}
+use Rattle.hpb_server.proofs.Errors.{err_alone}
+use Rattle.hpb_server.proofs.Queues.{command_passed, none_asked, passes_fewer}
 use Rattle.hpb_server.proofs.serving.ask_alone_now.Goals as goal
 
-pub returns-in-Ok-clause-passed : goal.returns-in-Ok-clause-passed
-returns-in-Ok-clause-passed g c = λ state at.
-    let request = Ok (requests.Command c.args.command.now) in
+pub returns-in_err-pass_added-in-Ok-clause-passed : goal.returns-in_err-pass_added-in-Ok-clause-passed
+returns-in_err-pass_added-in-Ok-clause-passed g c = λ state at.
     let asked = c.in-Ok.ensures.asked state at in
-    let answer = reply_text c.in-Ok.reply in
-    let goes = g.met.D.Desk.over_is c.args.desk.now state at ∙ c.requires.goes_on in
-    let stays = g.met.D.Desk.rules_stay state asked.0 c.args.command.now c.in-Ok.reply asked.1 in (
+    let fault = c.in_err-pass_added-in-Ok.field-0.0 in (
       asked.0,
-      record {
-        answered = request ∷ [];
-        waiting = [];
-        text = line_of answer;
-        parts = refl;
-        answers = request_answered g.D.Desk.rules_at g.D.Desk.over_at g.D.Desk.asks g.D.Desk.looks state asked.0 request answer goes stays (c.in-Ok.reply, asked.1, refl);
-        passes = passes_weaker g.D.Desk.takes_memory _ _ _ _ c.pass_added.result (omega (arith, g.met.D.Desk.most_is_some.0)) (c.pass_added.ensures c.args.output.now answer c.reply-added.ensures);
-        queued = ok_case c.pass_added.result refl;
-      },
+      passes_fewer g.D.Desk.rules_at g.D.Desk.over_at g.D.Desk.asks g.D.Desk.looks g.D.Desk.most g.D.Desk.takes_memory [] fault c.from_residual.result c.from_residual.ensures.1
+          (command_passed g.D.Desk.rules_at g.D.Desk.over_at g.D.Desk.asks g.D.Desk.looks g.D.Desk.most g.D.Desk.takes_memory state asked.0 c.args.command.now c.in-Ok.reply g.met.D.Desk.most_is_some.0
+          (g.met.D.Desk.over_is c.args.desk.now state at ∙ c.requires.goes_on) (g.met.D.Desk.rules_stay state asked.0 c.args.command.now c.in-Ok.reply asked.1) asked.1
+          _ _ (Err fault) (c.in_err-pass_added-in-Ok.ensures c.args.output.now (reply_text c.in-Ok.reply) c.reply-added.ensures)),
       asked.2,
     )
 
-pub returns-in_err-send-in-Err-clause-passed : goal.returns-in_err-send-in-Err-clause-passed
-returns-in_err-send-in-Err-clause-passed g c = λ state at. (
-  state,
-  record {
-    answered = [];
-    waiting = Ok (requests.Command c.args.command.now) ∷ [];
-    text = [];
-    parts = refl;
-    answers = (refl, refl);
-    passes = front_passes g.D.Desk.most g.D.Desk.takes_memory _ _ [] c.send.new.self c.in_err-send-in-Err.field-0.0 c.from_residual.result c.from_residual.ensures.1 refl c.in_err-send-in-Err.ensures.bytes;
-    queued = err_only _ _ c.from_residual.result c.from_residual.ensures.1;
-  },
-  c.in-Err.ensures.kept state at,
-)
+pub returns-in_ok-pass_added-in-Ok-clause-passed : goal.returns-in_ok-pass_added-in-Ok-clause-passed
+returns-in_ok-pass_added-in-Ok-clause-passed g c = λ state at.
+    let asked = c.in-Ok.ensures.asked state at in (
+      asked.0,
+      command_passed g.D.Desk.rules_at g.D.Desk.over_at g.D.Desk.asks g.D.Desk.looks g.D.Desk.most g.D.Desk.takes_memory state asked.0 c.args.command.now c.in-Ok.reply g.met.D.Desk.most_is_some.0
+          (g.met.D.Desk.over_is c.args.desk.now state at ∙ c.requires.goes_on) (g.met.D.Desk.rules_stay state asked.0 c.args.command.now c.in-Ok.reply asked.1) asked.1
+          _ _ (Ok tt) (c.in_ok-pass_added-in-Ok.ensures c.args.output.now (reply_text c.in-Ok.reply) c.reply-added.ensures),
+      c.explain.ensures.kept asked.0 asked.2,
+    )
 
-pub returns-in_ok-send-in-Err-clause-passed : goal.returns-in_ok-send-in-Err-clause-passed
-returns-in_ok-send-in-Err-clause-passed g c = λ state at. (
+pub returns-in_ok-pass_added-in-Ok-clause-told : goal.returns-in_ok-pass_added-in-Ok-clause-told
+returns-in_ok-pass_added-in-Ok-clause-told g c = λ at_terminal state at.
+    let asked = c.in-Ok.ensures.asked state at in
+    (c.in-Ok.reply, asked.0, asked.1, c.explain.ensures.told at_terminal asked.0 asked.2)
+
+pub returns-in-Err-clause-passed : goal.returns-in-Err-clause-passed
+returns-in-Err-clause-passed g c = λ state at. (
   state,
-  record {
-    answered = [];
-    waiting = Ok (requests.Command c.args.command.now) ∷ [];
-    text = [];
-    parts = refl;
-    answers = (refl, refl);
-    passes = lines_refused g.D.Desk.most g.D.Desk.takes_memory _ _ [] c.send.new.self (Err c.into.result) c.into.ensures (omega arith) (λ none. c.in-Err.ensures.refused) refl c.in_ok-send-in-Err.ensures.bytes;
-    queued = tt;
-  },
+  none_asked g.D.Desk.rules_at g.D.Desk.over_at g.D.Desk.asks g.D.Desk.looks g.D.Desk.most g.D.Desk.takes_memory c.break_off.result (c.break_off.ensures.passed g.D.Desk.most g.D.Desk.takes_memory [] (omega arith) (λ none. c.in-Err.ensures.refused)) (err_alone _ c.break_off.result c.break_off.ensures.failed),
   c.in-Err.ensures.kept state at,
 )

@@ -1,9 +1,8 @@
 use Rattle.std.proofs.Common.{[], refl, sym, ap, arith, append-nil}
-use Rattle.std.specs.Prelude.{Err}
 use Rattle.hpb_server.specs.Session.{asked_for, replies_text}
 use Rattle.hpb_server.proofs.Errors.{ok_case}
-use Rattle.hpb_server.proofs.Passing.{front_passes, lines_refused, passes_weaker}
-use Rattle.hpb_server.proofs.Queues.{fewer_replies, queue_answered}
+use Rattle.hpb_server.proofs.Passing.{passes_weaker}
+use Rattle.hpb_server.proofs.Queues.{fewer_replies, none_asked, queue_answered}
 use Rattle.hpb_server.proofs.serving.ask_waiting_now.Goals as goal
 
 pub returns-in-Ok-clause-passed : goal.returns-in-Ok-clause-passed
@@ -25,32 +24,9 @@ returns-in-Ok-clause-passed g c = λ state at.
       asked.2,
     )
 
-pub returns-in_err-send-in-Err-clause-passed : goal.returns-in_err-send-in-Err-clause-passed
-returns-in_err-send-in-Err-clause-passed g c = λ state at. (
+pub returns-in-Err-clause-passed : goal.returns-in-Err-clause-passed
+returns-in-Err-clause-passed g c = λ state at. (
   state,
-  record {
-    answered = [];
-    waiting = asked_for c.args.queue.now;
-    text = [];
-    parts = refl;
-    answers = (refl, refl);
-    passes = front_passes g.D.Desk.most g.D.Desk.takes_memory _ _ [] c.send.new.self c.in_err-send-in-Err.field-0.0 c.from_residual.result c.from_residual.ensures.1 refl c.in_err-send-in-Err.ensures.bytes;
-    queued = ok_case c.from_residual.result refl;
-  },
-  c.in-Err.ensures.kept state at,
-)
-
-pub returns-in_ok-send-in-Err-clause-passed : goal.returns-in_ok-send-in-Err-clause-passed
-returns-in_ok-send-in-Err-clause-passed g c = λ state at. (
-  state,
-  record {
-    answered = [];
-    waiting = asked_for c.args.queue.now;
-    text = [];
-    parts = refl;
-    answers = (refl, refl);
-    passes = lines_refused g.D.Desk.most g.D.Desk.takes_memory _ _ [] c.send.new.self (Err c.into.result) c.into.ensures (omega arith) (λ none. c.in-Err.ensures.refused) refl c.in_ok-send-in-Err.ensures.bytes;
-    queued = tt;
-  },
+  none_asked g.D.Desk.rules_at g.D.Desk.over_at g.D.Desk.asks g.D.Desk.looks g.D.Desk.most g.D.Desk.takes_memory c.break_off.result (c.break_off.ensures.passed g.D.Desk.most g.D.Desk.takes_memory [] (omega arith) (λ none. c.in-Err.ensures.refused)) (ok_case c.break_off.result refl),
   c.in-Err.ensures.kept state at,
 )

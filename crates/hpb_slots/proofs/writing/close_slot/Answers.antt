@@ -1,34 +1,18 @@
 use Rattle.std.proofs.Common.{arith}
+use Rattle.std.proofs.lemmas.Result.{on_ok_weaker}
 use Rattle.hpb_slots.proofs.SlotRegions.{gate_rest, gate_crash, gate_time, two}
 use Rattle.hpb_slots.proofs.writing.close_slot.Goals as goal
 
-pub returns-in-Ok-clause-rest : goal.returns-in-Ok-clause-rest
-returns-in-Ok-clause-rest g c told =
+pub returns-clause-rest : goal.returns-clause-rest
+returns-clause-rest g c told =
     let d = g.D.Disk in
-    gate_rest c.elsewhere_stays.ensures c.put_is_torn.ensures c.args.slot c.gate_offset.result c.gate_offset.ensures 0 (d.seen c.args.disk.now) (d.seen c.close_gate.new.disk)
-    (omega (arith, c.gate_offset.ensures, c.requires.room, two c.args.slot)) (c.in-Ok.ensures.written told)
+    on_ok_weaker c.close_gate.result (gate_rest c.elsewhere_stays.ensures c.put_is_torn.ensures c.args.slot c.gate_offset.result c.gate_offset.ensures 0 (d.seen c.args.disk.now) (d.seen c.close_gate.new.disk) (omega (arith, c.gate_offset.ensures, c.requires.room, two c.args.slot))) (c.close_gate.ensures.written told)
 
-pub returns-in-Ok-clause-crash : goal.returns-in-Ok-clause-crash
-returns-in-Ok-clause-crash g c told =
-    let d = g.D.Disk in
-    gate_crash c.elsewhere_stays.ensures c.put_is_torn.ensures c.args.slot c.gate_offset.result c.gate_offset.ensures (d.may_leave c.args.disk.now) (d.may_leave c.close_gate.new.disk) (c.in-Ok.ensures.crash told)
+pub returns-clause-crash : goal.returns-clause-crash
+returns-clause-crash g c told = gate_crash c.elsewhere_stays.ensures c.put_is_torn.ensures c.args.slot c.gate_offset.result c.gate_offset.ensures _ _ (c.close_gate.ensures.crash told)
 
-pub returns-in-Ok-clause-time : goal.returns-in-Ok-clause-time
-returns-in-Ok-clause-time g c told =
-    let d = g.D.Disk in
-    gate_time c.elsewhere_stays.ensures c.put_is_torn.ensures c.args.slot c.gate_offset.result c.gate_offset.ensures
-    (d.moment c.args.disk.now) (d.moment c.close_gate.new.disk) (d.left_since c.args.disk.now) (d.left_since c.close_gate.new.disk) (d.may_leave c.args.disk.now) (c.in-Ok.ensures.time told)
-
-pub returns-in-Err-clause-crash : goal.returns-in-Err-clause-crash
-returns-in-Err-clause-crash g c told =
-    let d = g.D.Disk in
-    gate_crash c.elsewhere_stays.ensures c.put_is_torn.ensures c.args.slot c.gate_offset.result c.gate_offset.ensures (d.may_leave c.args.disk.now) (d.may_leave c.close_gate.new.disk) (c.in-Err.ensures.crash told)
-
-pub returns-in-Err-clause-time : goal.returns-in-Err-clause-time
-returns-in-Err-clause-time g c told =
-    let d = g.D.Disk in
-    gate_time c.elsewhere_stays.ensures c.put_is_torn.ensures c.args.slot c.gate_offset.result c.gate_offset.ensures
-    (d.moment c.args.disk.now) (d.moment c.close_gate.new.disk) (d.left_since c.args.disk.now) (d.left_since c.close_gate.new.disk) (d.may_leave c.args.disk.now) (c.in-Err.ensures.time told)
+pub returns-clause-time : goal.returns-clause-time
+returns-clause-time g c told = gate_time c.elsewhere_stays.ensures c.put_is_torn.ensures c.args.slot c.gate_offset.result c.gate_offset.ensures _ _ _ _ _ (c.close_gate.ensures.time told)
 
 pub close_gate-requires-clause-range : goal.close_gate-requires-clause-range
 close_gate-requires-clause-range g c = omega (arith, c.gate_offset.ensures, c.requires.room, two c.args.slot)

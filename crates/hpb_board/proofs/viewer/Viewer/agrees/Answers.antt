@@ -3,7 +3,7 @@ use Rattle.std.proofs.lemmas.Bool.Decides.{nat_tests}
 use mathlib.Core.List.{IsPrefix}
 use Rattle.hpb_rules.specs.declared.letter.Letter.{Letter}
 use Rattle.hpb_board.specs.Publication.{Viewing}
-use Rattle.hpb_board.proofs.Prefixes.{prefix_same}
+use Rattle.hpb_rules.proofs.Prefixes.{prefix_same}
 use Rattle.hpb_board.proofs.viewer.Viewer.agrees.Goals as goal
 
 pub returns : goal.returns

@@ -1,6 +1,7 @@
 use Rattle.std.proofs.Common.{◌<◌, ◌∙◌, ap, sym, subst, arith}
 use Rattle.left_right.specs.Sides.{view}
-use Rattle.hpb_board.specs.Publication.{Viewing, joined, answers_of, recent, IsRoomy}
+use Rattle.hpb_board.specs.Publication.{Viewing, answers_of, recent, IsRoomy}
+use Rattle.hpb_rules.specs.Fronts.{joined}
 use Rattle.hpb_board.specs.Rows.{told, blank}
 use Rattle.hpb_board.specs.Views.{opened_of}
 use Rattle.hpb_board.specs.declared.board.Shown.{Shown}

@@ -1,6 +1,7 @@
 use Rattle.std.proofs.Common.{◌≡◌, ◌∙◌, ap, subst}
 use Rattle.left_right.specs.Sides.{view}
-use Rattle.hpb_board.specs.Publication.{Viewing, auction_of, joined}
+use Rattle.hpb_board.specs.Publication.{Viewing, auction_of}
+use Rattle.hpb_rules.specs.Fronts.{joined}
 use Rattle.hpb_board.specs.Rows.{begun}
 use Rattle.hpb_board.specs.Views.{opened_of}
 use Rattle.hpb_board.specs.declared.board.Shown.{Shown}

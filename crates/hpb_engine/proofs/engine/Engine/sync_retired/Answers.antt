@@ -1,40 +1,17 @@
-use Rattle.hpb_progress.specs.Steps.{cleaned}
-use Rattle.hpb_progress.proofs.Calls.{synced, since_sync}
-use Rattle.hpb_progress.proofs.Retiring.{cleaned_fits, cleaned_synced, cleaned_reads}
-use Rattle.hpb_progress.proofs.Standing.{may_stand}
+use Rattle.std.proofs.Common.{refl}
+use Rattle.hpb_engine.proofs.DeviceCalls.{ended, synced, unsynced}
+use Rattle.hpb_engine.proofs.RetiredFrames.{cleaned_fits, cleaned_synced, cleaned_reads}
 use Rattle.hpb_engine.proofs.engine.Engine.sync_retired.Goals as goal
 
-pub returns-in-Ok-clause-keeps : goal.returns-in-Ok-clause-keeps
-returns-in-Ok-clause-keeps g c history inside =
-    let d = g.D.Disk in
-    let old = c.args.self.now in
-    let s = old.progress in
+pub returns-clause-called : goal.returns-clause-called
+returns-clause-called g c =
+    let s = c.args.self.now.progress in
     let laws = c.laws_below.ensures in
-    let stand = may_stand laws in
-    let stays = g.met.D.Disk.seen_may_stay old.disk in
-    rw c.end-end.ensures (synced stand d.seen d.may_leave d.moment d.left_since old.disk c.sync.new.self s old.failed history inside (cleaned s) (history) (λ k. k)
-    (λ k fits is. is)
+    rw c.end-end.ensures (synced laws (refl, refl) c.in_ok-sync.ensures (g.met.D.Disk.seen_may_stay _) c.requires.works (λ k. k) (λ k. refl)
     (λ k fits. cleaned_fits laws s k fits c.requires.done)
-    (λ k image fits facts reads. cleaned_synced laws s k fits c.requires.done image facts reads)
-    (λ k image fits facts reads. cleaned_reads laws s k fits c.requires.done image facts reads)
-    stays c.requires.works c.in-Ok.ensures.durable c.in-Ok.ensures.seen)
+    (λ k image fits. cleaned_synced laws s k fits c.requires.done image)
+    (λ k image fits. cleaned_reads laws s k fits c.requires.done image))
 
-pub returns-in-Ok-clause-since : goal.returns-in-Ok-clause-since
-returns-in-Ok-clause-since g c history inside =
-    let d = g.D.Disk in
-    let old = c.args.self.now in
-    let s = old.progress in
-    let laws = c.laws_below.ensures in
-    let stand = may_stand laws in
-    let stays = g.met.D.Disk.seen_may_stay old.disk in
-    since_sync stand d.seen d.may_leave d.moment d.left_since old.disk c.sync.new.self s old.failed history inside c.in-Ok.ensures.crash c.in-Ok.ensures.time (cleaned s)
-
-pub returns-in-Err-clause-since : goal.returns-in-Err-clause-since
-returns-in-Err-clause-since g c history inside =
-    let d = g.D.Disk in
-    let old = c.args.self.now in
-    let s = old.progress in
-    let laws = c.laws_below.ensures in
-    let stand = may_stand laws in
-    let stays = g.met.D.Disk.seen_may_stay old.disk in
-    since_sync stand d.seen d.may_leave d.moment d.left_since old.disk c.sync.new.self s old.failed history inside c.in-Err.ensures.crash c.in-Err.ensures.time s
+pub returns-in_err-sync-clause-called : goal.returns-in_err-sync-clause-called
+returns-in_err-sync-clause-called g c = let s = c.args.self.now.progress in
+    ended c.from_residual.result c.from_residual.ensures.1 (unsynced c.laws_below.ensures (refl, refl) c.in_err-sync.ensures)

@@ -1,7 +1,8 @@
 use Rattle.std.proofs.Common.{◌∙◌, ◌++◌, ap, sym, List}
 use Rattle.hpb_rules.specs.declared.letter.Answer.{Answer}
 use Rattle.hpb_board.specs.Publication.{answers_of}
-use Rattle.hpb_rings.specs.Taking.{letters_of, posted, slips, newly}
+use Rattle.hpb_rings.specs.Taking.{posted, slips, newly}
+use Rattle.hpb_rules.specs.Judging.{letters_of}
 use Rattle.hpb_rings.proofs.Later.{taken-later, longer-later}
 use Rattle.hpb_rings.proofs.client.Client.refresh.Goals as goal
 

@@ -1,21 +1,28 @@
-use Rattle.hpb_run.proofs.Standings.{counts_anew}
+use Rattle.std.proofs.Common.{◌∙◌, sym}
+use Rattle.std.proofs.lemmas.Result.{err_from_is_err_and}
+use Rattle.hpb_run.proofs.Standings.{counted_anew}
 use Rattle.hpb_run.proofs.desk.DeviceDesk.ask_together.Goals as goal
 
-pub returns-in-Ok-clause-asked : goal.returns-in-Ok-clause-asked
-returns-in-Ok-clause-asked g c state at = c.ask_now.ensures.asked state (c.make_due_checkpoint.ensures.kept state at)
+pub returns-clause-asked : goal.returns-clause-asked
+returns-clause-asked g c state at =
+    let rests = c.make_due_checkpoint.ensures.kept state at in
+    let asked = c.in_ok-replies.ensures.asked state rests.0 in
+    (asked.0, asked.1, (asked.2, rests.1 ∙ sym asked.3))
 
-pub returns-in-Ok-clause-kept : goal.returns-in-Ok-clause-kept
-returns-in-Ok-clause-kept g c state at = c.ask_now.ensures.kept state (c.make_due_checkpoint.ensures.kept state at)
+pub returns-clause-alike : goal.returns-clause-alike
+returns-clause-alike g c state at = c.in_ok-replies.ensures.alike state (c.make_due_checkpoint.ensures.kept state at).0
 
-pub returns-in-Ok-clause-alike : goal.returns-in-Ok-clause-alike
-returns-in-Ok-clause-alike g c state at = c.ask_now.ensures.alike state (c.make_due_checkpoint.ensures.kept state at)
+pub returns-in_err-replies-clause-kept : goal.returns-in_err-replies-clause-kept
+returns-in_err-replies-clause-kept g c state at =
+    let rests = c.make_due_checkpoint.ensures.kept state at in
+    let told = err_from_is_err_and c.from_residual-in_err-replies.result c.from_residual-in_err-replies.ensures.1 in
+    rw told.1 (c.in_err-replies.ensures.kept state rests.0, rests.1)
 
-pub returns-in-Ok-clause-counted : goal.returns-in-Ok-clause-counted
-returns-in-Ok-clause-counted g c not_due =
-    let same = c.make_due_checkpoint.ensures.none not_due in rw same.0 at (rw same.1 at c.ask_now.ensures.counted)
+pub returns-clause-counted : goal.returns-clause-counted
+returns-clause-counted g c not_due =
+    let same = c.make_due_checkpoint.ensures.none not_due in
+    rw (c.count-before.ensures.value, c.committed.ensures, c.count-after.ensures.value, c.committed-2.ensures, same.0, same.1) at c.count_commit-self.ensures
 
-pub returns-in-Ok-clause-anew : goal.returns-in-Ok-clause-anew
-returns-in-Ok-clause-anew g c due =
-    let new = c.ask_now.new.self in
-    let between = c.make_due_checkpoint.new.self in
-    counts_anew c.ask_now.result between.commits new.commits between.engine.progress.committed.count new.engine.progress.committed.count (c.in-Ok.ensures.due due) c.ask_now.ensures.counted
+pub returns-clause-anew : goal.returns-clause-anew
+returns-clause-anew g c due =
+    let zero = c.in_ok-make_due_checkpoint.ensures.due due in counted_anew _ _ _ _ zero c.count_commit-self.ensures

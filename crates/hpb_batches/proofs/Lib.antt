@@ -1,5 +1,0 @@
-mod Turns
-mod Commits
-mod Rooms
-mod Takings
-mod Runs

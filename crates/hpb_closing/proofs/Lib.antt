@@ -1,8 +1,0 @@
-mod Histories
-pub mod Lists
-mod Parts
-mod Prefixes
-mod Slices
-mod Together
-mod Totals
-mod Values

@@ -1,6 +1,0 @@
-use Rattle.std.proofs.Common.{◌≡◌, ◌-◌, ◌^◌, min, take}
-use Rattle.hpb_closing.specs.Reports.{total}
-use Rattle.hpb_closing.proofs.comparing.sum.Given as goal
-
-abbrev pub invariant-loop-i : goal.invariant-loop-i
-invariant-loop-i l = l.sum ≡ min (total (take l.i l.reports)) (2 ^ 64 - 1)

@@ -1,6 +1,0 @@
-use Rattle.std.proofs.Common.{rules}
-use Rattle.hpb_closing.proofs.Slices.{slices_same}
-use Rattle.hpb_closing.proofs.sameness.same_nodes.Goals as goal
-
-pub returns : goal.returns
-returns c = slices_same _ _ _ c.eq.ensures (λ a b. search rules)

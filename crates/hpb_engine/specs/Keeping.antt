@@ -1,0 +1,49 @@
+-- What is kept: the sentence that a caller has, and what it rests on.
+use Rattle.std.specs.Prelude.{◌≡◌, ◌⊎◌, ℕ, Bool, false, List, Option, Some, None, if◌then◌else◌}
+use Rattle.hpb_rules.specs.declared.command.Command.{Command}
+use Rattle.hpb_rules.specs.AuctionValue.{Shows}
+use Rattle.hpb_rules.specs.Machine.{Machine, Flight, MayStand}
+use Rattle.hpb_image.specs.Standing.{Stands}
+use Rattle.hpb_engine.specs.declared.progress.Commit.{Commit}
+use Rattle.hpb_engine.specs.declared.progress.Progress.{Progress}
+use Rattle.hpb_engine.specs.Cuts.{Cut, all}
+use Rattle.hpb_engine.specs.Facts.{Facts, Fits, Reads}
+
+-- **Keeps.**
+--
+-- The flight of the machine without a disk that a commit is.
+abbrev pub flight_of : Commit → Option Flight
+flight_of commit = if commit.busy then Some (record { answers = commit.answers; turns = commit.turns }) else None
+
+-- The machine with these acknowledged commands and what is in flight by a progress.
+abbrev pub machine_of : Progress → List Command → Machine
+machine_of s history = record { acknowledged = history; flight = flight_of s.commit }
+
+-- **Stands for.** An image stands for what a stop of a machine may leave: the acknowledged commands or, once a flight has landed, these with its
+-- commands. From one machine to the next it stands for what a stop of either may leave.
+abbrev pub StandsFor : Machine → List ℕ → Type 0
+StandsFor machine image = (history : List Command) × MayStand machine history × Stands history image
+
+-- What an image stands for that a crash may leave from one state of the machine without a disk to the next.
+abbrev pub StandsEither : Machine → Machine → List ℕ → Type 0
+StandsEither before after image = StandsFor before image ⊎ StandsFor after image
+
+-- The same by the progress.
+abbrev pub StandsBetween : Progress → Progress → List Command → List ℕ → Type 0
+StandsBetween s t history image = StandsEither (machine_of s history) (machine_of t history) image
+
+-- What the sentence rests on, in terms of the device's parts.
+pub record Inside {D : Type 0} (seen : D → List ℕ) (may_leave : D → List ℕ → Type 0) (disk : D) (s : Progress) (failed : Bool) (history : List Command) : Type 0 where
+  pub cut : Cut
+  pub whole : history ≡ all cut
+  pub fits : Fits s cut
+  pub images : (image : List ℕ) → may_leave disk image → Facts s cut image
+  pub reads : failed ≡ false → Reads s cut (seen disk)
+
+-- An engine keeps a machine, that without a disk, where what is committed shows its acknowledged commands, the same is in flight with as many turns,
+-- and every image that a crash now may leave stands for what a stop of the machine may leave.
+pub record Keeps {D : Type 0} (seen : D → List ℕ) (may_leave : D → List ℕ → Type 0) (disk : D) (s : Progress) (failed : Bool) (machine : Machine) : Type 0 where
+  pub shows : Shows s.committed machine.acknowledged
+  pub flight : machine.flight ≡ flight_of s.commit
+  pub images : (image : List ℕ) → may_leave disk image → StandsFor machine image
+  pub inside : Inside seen may_leave disk s failed machine.acknowledged

@@ -1,0 +1,34 @@
+//! One call of the device, and how its failure is told.
+ghost use Rattle.std.specs.Prelude.{◌≡◌, ◌∷◌, [], Err, IsOk, MatchResult, false, true};
+ghost use Rattle.hpb_engine.specs.Steps.{Synced};
+
+use crate::step::Fault;
+use hpb_disk::{Disk, DiskFailed};
+
+/// Tells whether a call was done: where it failed, the engine counts as failed from then on.
+pub(crate) fn tell(done: Result<(), DiskFailed>, failed: &mut bool) -> Result<(), Fault>
+    requires works { failed.old ≡ false }
+    ensures { MatchResult done (λ _. IsOk result × (failed.new ≡ false)) (λ _. (result ≡ Err Fault.Device) × (failed.new ≡ true)) }
+{
+    match done {
+        Ok(()) => Ok(()),
+        Err(_) => {
+            *failed = true;
+            Err(Fault::Device)
+        }
+    }
+}
+
+/// A sync.
+pub(crate) fn sync<D: Disk + Drop>(disk: &mut D, failed: &mut bool) -> Result<(), Fault>
+    requires works { failed.old ≡ false }
+    ensures { Synced D.seen D.may_leave D.moment D.left_since D.failures D.asked disk.old disk.new failed.new result }
+{
+    match disk.sync() {
+        Ok(()) => Ok(()),
+        Err(_) => {
+            *failed = true;
+            Err(Fault::Device)
+        }
+    }
+}

@@ -1,0 +1,44 @@
+//! The call that opens a device.
+ghost use Rattle.std.specs.Prelude.{◌≡◌, IfErr};
+ghost use Rattle.hpb_recover.specs.Causes.{refusal_of};
+ghost use Rattle.hpb_tried.specs.declared.came.Came.TheVariants.{Refused};
+
+use anyhow::Result;
+use hpb_disk::FileDisk;
+use hpb_recover::{OpenFault, Opened, open};
+use hpb_tried::{Came, Tried, begin, came_of, end, file_sum, formatted, is_sum, opened_sum};
+
+/// What came of a call that opens a device.
+fn came(rt: &HostRuntime, made: Result<Opened<FileDisk>, OpenFault<FileDisk>>) -> Came
+    ensures refused { IfErr made (λ fault. result ≡ Refused (refusal_of fault.cause)) }
+{
+    match made {
+        Ok(opened) => came_of(opened_sum(rt, &opened)),
+        Err(fault) => Came::Refused(fault.cause.refusal()),
+    }
+}
+
+/// `open`, of a new device of an auction of so many nodes.
+pub(crate) fn open_device(rt: &HostRuntime, nodes: u64, layout: u8) -> Result<Tried> {
+    let disk = formatted(rt, nodes, layout)?;
+    Ok(open_marked(rt, disk))
+}
+
+/// Opens a device between the marks. One that isn't opened is handed back, and opened once more.
+fn open_marked(rt: &HostRuntime, disk: FileDisk) -> Tried {
+    let given = file_sum(rt);
+    let _ = begin(rt);
+    let made = open(rt.alloc(), disk);
+    let _ = end(rt);
+    match made {
+        Ok(opened) => Tried::well(came_of(opened_sum(rt, &opened))),
+        Err(fault) => {
+            let OpenFault { disk, cause } = fault;
+            Tried {
+                first: Came::Refused(cause.refusal()),
+                is_same: is_sum(file_sum(rt), given),
+                again: came(rt, open(rt.alloc(), disk)),
+            }
+        }
+    }
+}

@@ -1,0 +1,20 @@
+-- The history that a viewer shows.
+-- Source: this project's own.
+use Rattle.std.specs.Prelude.{List}
+use Rattle.hpb_rules.specs.declared.command.Command.{Command}
+use Rattle.hpb_rules.specs.Letters.{new_commands}
+use Rattle.hpb_rules.specs.Judging.{judged_in}
+use Rattle.hpb_rules.specs.declared.letter.Letter.{Letter}
+use Rattle.hpb_rules.specs.AuctionValue.{AuctionValue}
+use Rattle.hpb_board.specs.Publication.{Viewing}
+use Rattle.hpb_rules.specs.Fronts.{joined}
+
+-- **The history that a viewer shows.** The commands that are newly accepted in its list, so those after what was opened.
+--
+-- The commands newly accepted after what was opened, among the letters of these batches.
+abbrev pub history_in : AuctionValue → List (List Letter) → List Command
+history_in opened list = new_commands (judged_in opened (joined list))
+
+-- The commands newly accepted after what was opened, among the letters that a viewer has entered.
+abbrev pub history_of : Viewing → List Command
+history_of viewing = history_in viewing.opened viewing.list

@@ -1,9 +1,0 @@
-pub mod Regions
-pub mod Calls
-pub mod Cutting
-pub mod Committing
-pub mod Shortening
-pub mod Checkpointing
-pub mod Retiring
-pub mod Standing
-pub mod Starting

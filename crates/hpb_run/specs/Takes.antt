@@ -1,0 +1,67 @@
+-- What a checkpoint and a batch take: calls of the device, and frames of the journal.
+use Rattle.std.specs.Prelude.{◌≡◌, ◌⊎◌, ℕ, ◌+◌, ◌<◌, ◌≤◌, Bool, true, false, List, Option, Some, None}
+use Rattle.hpb_rules.specs.declared.letter.Letter.{Letter}
+use Rattle.hpb_engine.specs.declared.progress.Progress.{Progress}
+use Rattle.hpb_engine.specs.declared.step.Fault.{Fault}
+use Rattle.hpb_engine.specs.declared.step.Fault.TheVariants as faults
+use Rattle.hpb_engine.specs.Checkpoints.{IsSettled, SameCore, steps_left}
+use Rattle.hpb_engine.specs.declared.begun.Weight.TheVariants as weights
+use Rattle.hpb_engine.specs.Offers.{AreOld, Weighs}
+use Rattle.hpb_run.specs.Batches.{HasRoom}
+
+-- **What it takes.** Between two checkpoints letters take a frame and four calls of the device, or nothing where none of them is new, and no step of a
+-- checkpoint is made. A whole checkpoint covers all that is committed and leaves all other frames clean, by a call for each step that was left at
+-- most. Only letters that find the journal full have one made first.
+--
+-- No checkpoint is on its way.
+pub record IsBetween (s : Progress) : Type 0 where
+  pub begun : s.checkpoint.steps ≡ 0
+  pub retiring : s.retirement.going ≡ false
+
+-- The journal has so many batches more. Nothing else of it has changed, and nothing of the checkpoints: none was made, begun or gone on with.
+pub record HasTaken (batches : ℕ) (s t : Progress) : Type 0 where
+  pub next : t.ring.next ≡ s.ring.next + batches
+  pub covered : t.ring.covered ≡ s.ring.covered
+  pub clean : t.ring.clean_end ≡ s.ring.clean_end
+  pub frames : t.ring.frames ≡ s.ring.frames
+  pub checkpoint : t.checkpoint ≡ s.checkpoint
+  pub retirement : t.retirement ≡ s.retirement
+
+-- Letters that find room: where none is new they take no call of the device, and else one frame and four calls. Where one of these four fails it is the last, and a device that had failed has none.
+abbrev pub BatchTakes : Option Fault → List Letter → (s t : Progress) (before after : ℕ) → Type 0
+BatchTakes None letters s t before after =
+    (AreOld s letters × HasTaken 0 s t × (after ≡ before)) ⊎ ((AreOld s letters → ⊥) × HasTaken 1 s t × (after ≡ before + 4))
+BatchTakes (Some faults.Device) letters s t before after = HasTaken 0 s t × (before < after) × (after ≤ before + 4)
+BatchTakes (Some faults.Failed) letters s t before after = HasTaken 0 s t × (after ≡ before)
+
+-- A whole checkpoint: the newest one covers all that is committed, and all other frames are clean. What is committed stays. It has a call for each step that was left, at most; and where all was covered and clean before, it has none and nothing changes.
+pub record CheckpointTakes (s t : Progress) (before after : ℕ) : Type 0 where
+  pub settled : IsSettled t
+  pub same : SameCore s t
+  pub least : before ≤ after
+  pub most : after ≤ before + steps_left s
+  pub none : IsSettled s → (t ≡ s) × (after ≡ before)
+
+-- Letters that find the journal full: a whole checkpoint comes first, and then they find room; or the device fails in that checkpoint, and no batch is taken.
+abbrev pub FullTakes : Option Fault → List Letter → (s t : Progress) (before after : ℕ) → Type 0
+FullTakes fault letters s t before after =
+    ((between : Progress) × (moment : ℕ) × CheckpointTakes s between before moment × BatchTakes fault letters between t moment after)
+    ⊎ ((fault ≡ Some faults.Failed) × SameCore s t × (before ≤ after) × (after ≤ before + steps_left s))
+
+-- **What a call makes.** What becomes of the engine by `make_checkpoint`: what is committed stays, and there is room for a batch, unless the device
+-- has failed. With a fault it has, and without one it has only where it had. Where no checkpoint is on its way and it works, one of all that is
+-- committed is made, whole, unless there is a fault; and with one too there is a call for each step that was left, at most.
+pub record MakesCheckpoint (s t : Progress) (before after : ℕ) (had_failed failed : Bool) (fault : Option Fault) : Type 0 where
+  pub committed : t.committed ≡ s.committed
+  pub room : (failed ≡ true) ⊎ HasRoom t
+  pub fails : (told : Fault) → fault ≡ Some told → failed ≡ true
+  pub works : fault ≡ None → had_failed ≡ false → failed ≡ false
+  pub whole : IsBetween s → had_failed ≡ false → fault ≡ None → CheckpointTakes s t before after
+  pub calls : IsBetween s → had_failed ≡ false → SameCore s t × (before ≤ after) × (after ≤ before + steps_left s)
+
+-- What letters take by `commit_letters`. Unless they find the journal full no checkpoint is made, begun or gone on with, and they take four calls of
+-- the device, or none where none of them is new; where they do, a whole checkpoint is made first. They are told 93 only where a call fails, or had.
+pub record LettersTake (letters : List Letter) (s t : Progress) (before after : ℕ) (had_failed : Bool) (failures_before failures_after : ℕ) (fault : Option Fault) : Type 0 where
+  pub found_room : (Weighs had_failed s letters weights.Full → ⊥) → BatchTakes fault letters s t before after
+  pub full : IsBetween s → Weighs had_failed s letters weights.Full → FullTakes fault letters s t before after
+  pub earlier : fault ≡ Some faults.Failed → (had_failed ≡ true) ⊎ (failures_before < failures_after)

@@ -1,0 +1,77 @@
+//! A session from its first line to the end of its client.
+ghost use Rattle.std.specs.Prelude.{◌≡◌, ◌⊎◌, List, [], true};
+ghost use Rattle.rtrb.specs.Ring.{SameProducer};
+ghost use Rattle.hpb_rules.specs.declared.command.Command.{Command};
+ghost use Rattle.hpb_rules.specs.declared.limits.TheConstants.{MOST_READ_BYTES};
+ghost use Rattle.hpb_rules.specs.AuctionValue.{Shows};
+ghost use Rattle.hpb_server.specs.DeskLaws.{GoesOn};
+ghost use Rattle.hpb_server.specs.Desk.{no_memory};
+ghost use Rattle.hpb_server.specs.Serving.{Serves};
+ghost use Rattle.hpb_server.specs.Streams.{streams};
+ghost use Rattle.hpb_serve.specs.Ends.{EndsAt, IsEndOf};
+ghost use Rattle.hpb_serve.specs.Sessions.{RepliesAt, ShowsAt, State, TellsAt, at_start, most_in_flight, over_at, rules_at, seen_by};
+
+use crate::desk::HouseDesk;
+use crate::end::{Session, SessionEnd};
+use crate::stop::Stop;
+use hpb_rings::{Client, Report};
+use hpb_server::serve;
+use std::alloc::Global;
+use std::io::{Read, Write};
+use std::sync::Wait;
+use std::thread;
+
+/// Answers each line of the reader by one line on the writer, as `serve` does, from the house of a client, and then
+/// finishes the client. After a 95 `order` the client is handed back in place of that. For each answer of the house it
+/// looks so many times, while other threads run, before it sleeps.
+///
+/// Commands that have come are posted together, up to 16. All that is answered is written and flushed before the next
+/// ones are posted, and before more is read.
+///
+/// The replies fit what the client's viewer shows at the end: each was judged after commands that stand at the front of
+/// that history, and after all that the session was told of before.
+pub fn run_session<M: Copy, R: Wait + Drop, I: Read, O: Write>(
+    rt: R,
+    alloc: Global,
+    reader: &mut I,
+    writer: &mut O,
+    client: Client<M>,
+    looks: u32,
+) -> Session<M>
+    requires idle { client.waiting.items ≡ [] }
+    ensures own { IsEndOf client result.end }
+    // Each line has the answer of a desk whose answers fit, and the session ends at the state where these lead. Where
+    // what was opened shows a history, what was told of last goes on from what the client's viewer showed at the start.
+    ensures served { (state : State) × Serves rules_at over_at RepliesAt ShowsAt most_in_flight no_memory [] MOST_READ_BYTES
+        (streams (I.remaining reader.old) (O.contents writer.old)) (streams (I.remaining reader.new) (O.contents writer.new))
+        (at_start client) state result.fault
+        × EndsAt result.end state
+        × ((opened : List Command) → Shows client.viewer.opened opened → GoesOn (seen_by opened client.viewer) (TellsAt state)) }
+{
+    let mut desk = HouseDesk::new(rt, client).looking(looks);
+    let fault = serve(alloc, reader, writer, &mut desk);
+    Session {
+        end: desk.finish(),
+        fault,
+    }
+}
+
+/// Finishes a client for which no letter is outstanding, or which is halted.
+pub fn finish_client<M: Copy, R: Wait + Drop>(rt: R, client: Client<M>) -> Report
+    requires ended { (client.waiting.items ≡ []) ⊎ (client.is_halted ≡ true) }
+    ensures seat { result.seat ≡ client.seat }
+    ensures viewer { result.viewer ≡ client.viewer }
+    ensures ring { SameProducer client.letters result.letters }
+    ensures taken { (result.taken ≡ client.taken) × (result.accepted ≡ client.accepted) }
+    ensures halted { result.is_halted ≡ client.is_halted }
+{
+    let mut client = client;
+    for _ in rt.forever() {
+        match client.finish() {
+            Ok(report) => return report,
+            Err(back) => client = back,
+        }
+        thread::yield_now();
+    }
+    unreachable!()
+}

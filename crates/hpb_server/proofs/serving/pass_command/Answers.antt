@@ -1,0 +1,13 @@
+use Rattle.std.proofs.Common.{[], append-nil, arith}
+use Rattle.std.specs.Prelude.{Ok}
+use Rattle.std.proofs.KnownBytes.{Appends-nil}
+use Rattle.hpb_server.proofs.Queues.{none_asked, waits_more_in}
+use Rattle.hpb_server.proofs.serving.pass_command.Goals as goal
+
+pub returns-then-len-most_asked-clause-passed : goal.returns-then-len-most_asked-clause-passed
+returns-then-len-most_asked-clause-passed g c = λ state at. (
+  state,
+  none_asked g.D.Desk.rules_at g.D.Desk.over_at g.D.Desk.asks g.D.Desk.looks g.D.Desk.most g.D.Desk.takes_memory (Ok tt) ([], Appends-nil _, append-nil c.args.output.now)
+      (waits_more_in c.args.queue.now c.push.new.self c.args.command c.push.result (c.push.ensures.room.1 (omega (arith, c.requires.room, g.met.D.Desk.most_is_some.1))) c.push.ensures.pushed),
+  at,
+)

@@ -1,6 +1,0 @@
-pub mod Seen
-pub mod Order
-pub mod Steps
-pub mod InFlight
-pub mod Lasting
-pub mod Posts

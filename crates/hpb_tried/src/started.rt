@@ -1,0 +1,151 @@
+//! What is opened of a file, an engine over it, and their sums.
+ghost use Rattle.std.specs.Prelude.{◌≡◌, ◌↔◌, ℕ, false, IfOk, IsTrue};
+ghost use Rattle.hpb_disk.specs.FileDisks.{file_seen};
+ghost use Rattle.hpb_disk.specs.Images.{Within};
+ghost use Rattle.hpb_tried.specs.Files.{IsFirst, IsNewOf};
+ghost use Rattle.hpb_tried.specs.FileSums.{IsGiven, told_by};
+
+use crate::files::{file_sum, formatted};
+use crate::{Came, sum_of, sum_of_auction};
+use anyhow::{Error, Result, bail};
+use hpb_auction::Auction;
+use hpb_codec::heads_are_one;
+use hpb_disk::{Disk, FileDisk};
+use hpb_engine::{Checkpoint, Commit, Engine, Progress, Retirement, Ring};
+use hpb_recover::{Opened, Plan, open};
+use hpb_rules::Refusal;
+use std::alloc::{AllocError, Global};
+
+/// Opens a device that is new.
+fn open_new<D: Disk + Drop>(alloc: Global, disk: D) -> Result<Opened<D>>
+    ensures device { (nodes layout : ℕ) → Within (D.may_leave disk) (IsNewOf nodes layout) → IfOk result (λ opened. IsNewOf nodes layout (D.seen opened.disk)) }
+    ensures auction { (nodes layout : ℕ) → Within (D.may_leave disk) (IsNewOf nodes layout) → IfOk result (λ opened. IsFirst nodes opened.plan.auction) }
+{
+    heads_are_one();
+    match open(alloc, disk) {
+        Ok(opened) => Ok(opened),
+        Err(fault) => Err(Error::from(fault.cause)),
+    }
+}
+
+/// A new file of an auction of so many nodes, opened.
+pub fn opened(rt: &HostRuntime, nodes: u64, layout: u8) -> Result<Opened<FileDisk>>
+    ensures device { IfOk result (λ opened. IsNewOf nodes layout (file_seen opened.disk)) }
+    ensures auction { IfOk result (λ opened. IsFirst nodes opened.plan.auction) }
+{
+    let disk = formatted(rt, nodes, layout)?;
+    open_new(rt.alloc(), disk)
+}
+
+/// An engine over such a file.
+pub fn engine(rt: &HostRuntime, nodes: u64, layout: u8) -> Result<Engine<FileDisk>>
+    ensures device { IfOk result (λ engine. IsNewOf nodes layout (file_seen engine.disk)) }
+    ensures auction { IfOk result (λ engine. IsFirst nodes engine.progress.committed) }
+    ensures works { IfOk result (λ engine. engine.failed ≡ false) }
+{
+    let opened = opened(rt, nodes, layout)?;
+    match Engine::start(rt.alloc(), opened) {
+        Ok(engine) => Ok(engine),
+        Err(_) => bail!("memory was refused"),
+    }
+}
+
+/// The sum of an auction, and of the file.
+pub fn auction_and_file_sum(rt: &HostRuntime, auction: &Auction) -> Option<u64> {
+    match (file_sum(rt), sum_of_auction(rt.alloc(), auction)) {
+        (Some(file), Ok(auction)) => Some(file ^ auction),
+        _ => None,
+    }
+}
+
+/// Where what was opened stands, beside its auction.
+fn plan_text(alloc: Global, plan: &Plan) -> Result<String, AllocError> {
+    let Plan {
+        frames,
+        slot,
+        other_open,
+        covered,
+        next,
+        clean_end,
+        gates,
+        ..
+    } = plan;
+    format!(in alloc; "{frames:?} {slot:?} {other_open} {covered} {next} {clean_end} {gates:?}")
+}
+
+/// The sum of an auction, of the file, and of a text.
+fn sum_with(rt: &HostRuntime, auction: &Auction, text: &Result<String, AllocError>) -> Option<u64> {
+    match (auction_and_file_sum(rt, auction), text) {
+        (Some(sum), Ok(text)) => Some(sum.wrapping_add(sum_of(text.as_bytes()))),
+        _ => None,
+    }
+}
+
+/// The sum of all that was opened, and of the file.
+pub fn opened_sum(rt: &HostRuntime, opened: &Opened<FileDisk>) -> Option<u64> {
+    sum_with(rt, opened.auction(), &plan_text(rt.alloc(), &opened.plan))
+}
+
+/// Where the journal of an engine stands.
+fn ring_text(alloc: Global, ring: &Ring) -> Result<String, AllocError> {
+    let Ring {
+        frames,
+        covered,
+        next,
+        clean_end,
+        opened_at,
+        gates,
+    } = ring;
+    format!(in alloc; "{frames:?} {covered} {next} {clean_end} {opened_at} {gates:?}")
+}
+
+/// Where the checkpoint of an engine and the retirement of frames stand.
+fn checkpoint_text(alloc: Global, progress: &Progress) -> Result<String, AllocError> {
+    let Checkpoint {
+        newest,
+        other_open,
+        steps,
+        covers,
+        body,
+    } = &progress.checkpoint;
+    let Retirement { going, upto } = &progress.retirement;
+    let body = sum_of(body);
+    format!(in alloc; "{newest:?} {other_open} {steps} {covers} {body} {going} {upto}")
+}
+
+/// Where an engine stands, beside the auction that it has committed.
+fn engine_text(alloc: Global, engine: &Engine<FileDisk>) -> Result<String, AllocError> {
+    let Engine {
+        progress,
+        failed,
+        ..
+    } = engine;
+    let Commit { busy, turns, .. } = &progress.commit;
+    let working = sum_of_auction(alloc, &progress.commit.working)?;
+    let ring = ring_text(alloc, &progress.ring)?;
+    let checkpoint = checkpoint_text(alloc, progress)?;
+    format!(in alloc; "{ring} {checkpoint} {busy} {turns} {working} {failed}")
+}
+
+/// The sum of an engine at rest, and of the file.
+pub fn engine_sum(rt: &HostRuntime, engine: &Engine<FileDisk>) -> Option<u64> {
+    sum_with(rt, engine.committed(), &engine_text(rt.alloc(), engine))
+}
+
+/// Whether a sum is the one that was given. There has to be one.
+pub fn is_sum(found: Option<u64>, given: Option<u64>) -> bool
+    ensures { IsTrue result ↔ IsGiven found given }
+{
+    found.is_some() && found == given
+}
+
+/// What came of a call that succeeded, by the sum of what it gave. Where there is none, the stream is said to be at
+/// fault, which no call here is told by.
+pub fn came_of(sum: Option<u64>) -> Came
+    ensures { result ≡ told_by sum }
+{
+    match sum {
+        Some(sum) => Came::Well(sum),
+        None => Came::Refused(Refusal::Stream),
+    }
+}

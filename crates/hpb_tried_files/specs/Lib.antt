@@ -1,3 +1,0 @@
-pub mod Bids
-pub mod Files
-pub mod Sums
