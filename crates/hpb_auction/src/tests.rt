@@ -1,5 +1,4 @@
-use crate::{Judged, accepts_any, judge_letters};
-use hpb_auction::Auction;
+use crate::{Auction, Judged, accepts_any, judge_letters};
 use hpb_rules::{Answer, BidderId, Command, Letter, Letters, NodeId, Refusal, Reply};
 use hpb_tree::{BidderDraft, Definition, Draft, NodeDraft, TermsDraft};
 use std::alloc::{AllocError, Global};
