@@ -118,8 +118,11 @@ class Hpb:
 
     def __init__(self, program, file, sessions):
         self.port = free_port()
-        words = [program, "serve", "--file", file, "--port", str(self.port), "--sessions", str(sessions)]
+        words = self.words(program, file, str(self.port), str(sessions))
         self.process = subprocess.Popen(words, stdin=subprocess.DEVNULL, stdout=subprocess.PIPE, stderr=subprocess.PIPE, text=True)
+
+    def words(self, program, file, port, sessions):
+        return [program, "serve", "--file", file, "--port", port, "--sessions", sessions]
 
     def listens(self):
         """Waits for its first line. `False` where it was killed before."""
@@ -142,6 +145,17 @@ class Hpb:
             return ""
         self.process.kill()
         return "".join(self.process.communicate())
+
+
+class Bare(Hpb):
+    """A server in C of one thread that makes the same calls of the device, and knows no rules."""
+
+    def __init__(self, program, file, sessions, journal):
+        self.journal = journal
+        super().__init__(program, file, sessions)
+
+    def words(self, program, file, port, sessions):
+        return [program, file, str(self.journal), port, sessions]
 
 
 class Redis:
@@ -229,7 +243,7 @@ class Load:
     def __init__(self, given, folder, pipeline=1):
         self.given, self.folder, self.pipeline = given, folder, pipeline
         self.auction = Auction(given.levels, given.bidders)
-        self.load, self.calls = build("load", folder), build("device", folder)
+        self.load, self.calls, self.bare = build("load", folder), build("device", folder), build("bare", folder)
 
     def new_folder(self):
         path = os.path.join(self.folder, "data")
@@ -253,21 +267,30 @@ class Load:
             figures.take_cost(before, after)
         return figures
 
-    def new_file(self):
+    def new_file(self, layout=None):
+        """In the layout that is measured, if no other is named."""
         file = os.path.join(self.new_folder(), "auction")
-        format_file(self.given.program, self.auction, file, self.given.journal, self.given.layout)
+        format_file(self.given.program, self.auction, file, self.given.journal, layout or self.given.layout)
         return file
 
     def serve(self, sessions):
         """hpb with a new file, that can be connected to."""
-        server = Hpb(self.given.program, self.new_file(), sessions)
+        return self.listening(Hpb(self.given.program, self.new_file(), sessions))
+
+    def listening(self, server):
         if not server.listens():
             raise Fails(f"serve ended: {server.stop()}")
         return server
 
     def of_hpb(self, sessions, flood="none"):
         """Beside these sessions one more floods it, or is silent."""
-        server = self.serve(sessions if flood == "none" else sessions + 1)
+        return self.of_lines(self.serve(sessions if flood == "none" else sessions + 1), sessions, flood)
+
+    def of_bare(self, sessions):
+        """What the sockets and the calls of the device allow to one thread, in pages."""
+        return self.of_lines(self.listening(Bare(self.bare, self.new_file(layout=1), sessions, self.given.journal)), sessions)
+
+    def of_lines(self, server, sessions, flood="none"):
         try:
             figures = self.measure("hpb", server.port, sessions, flood, server.process)
             server.end()

@@ -29,7 +29,7 @@
 enum { RULES = 2, LEAST_DESCRIPTOR = 200 };
 
 /* Kinds of calls, a bit each. */
-enum { WRITE = 1, SYNC = 2, READ = 4, OPEN = 8, LOCK = 16, ADVICE = 32, PORT = 64, THREAD = 128, ACCEPT = 256, WAKE = 512, REQUEST = 1024, RECEIVE = 2048, SEND = 4096, PROMPT = 8192 };
+enum { WRITE = 1, SYNC = 2, READ = 4, OPEN = 8, LOCK = 16, ADVICE = 32, PORT = 64, THREAD = 128, ACCEPT = 256, WAKE = 512, REQUEST = 1024, RECEIVE = 2048, SEND = 4096, PROMPT = 8192, TOP = 16384 };
 
 /* By whom: the thread whose first call of the file is a write of a batch commits, and any other one that isn't the first
    thread of the program makes checkpoints. */
@@ -169,7 +169,7 @@ READS_AT(pread64, off64_t)
 SYNCS(fsync)
 SYNCS(fdatasync)
 
-/* What is opened to see whether so many files may be open, or as a stream, isn't the auction's. */
+/* What is opened to see whether so many files may be open has a kind of its own, and a stream none. */
 #define OPENS(name) \
     int name(const char *path, int flags, ...) { \
         NEXT(name); \
@@ -177,7 +177,7 @@ SYNCS(fdatasync)
         va_start(more, flags); \
         int mode = flags & (O_CREAT | O_TMPFILE) ? va_arg(more, int) : 0; \
         va_end(more); \
-        if (strcmp(path, "/") && strcmp(path, "/dev/null") && fails(way_of(OPEN))) return -1; \
+        if (strcmp(path, "/dev/null") && fails(way_of(strcmp(path, "/") ? OPEN : TOP))) return -1; \
         return next(path, flags, mode); \
     }
 OPENS(open)

@@ -1,3 +1,4 @@
 pub mod Tables
 pub mod History
 pub mod Masks
+mod Entries

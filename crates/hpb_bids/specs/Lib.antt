@@ -1,3 +1,4 @@
 pub mod View
 pub mod Past
 pub mod Inside
+pub mod Entries

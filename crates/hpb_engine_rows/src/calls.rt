@@ -61,10 +61,7 @@ pub fn take_turn<D: Disk + Drop>(engine: &mut Engine<D>) -> (Result<Turn, Fault>
 
 /// A step of a checkpoint.
 pub fn take_step<D: Disk + Drop>(engine: &mut Engine<D>) -> Result<Rest, Fault> {
-    match engine.checkpoint_step() {
-        Ok(rest) => Ok(rest),
-        Err(fault) => Err(fault),
-    }
+    engine.checkpoint_step()
 }
 
 /// How many commands are committed.

@@ -3,6 +3,7 @@ ghost use Rattle.hpb_house.specs.Clients.{SameClient};
 
 use crate::devices::six_nodes_opened;
 use crate::harness::{Outcome, Session, run_in_memory};
+use crate::script::accepted_command;
 use crate::turns::{TURNS, ask, pause, post, take_within};
 use hpb_engine_rows::devices::count_on;
 use hpb_engine_rows::letters::Bidder::{W, X, Y, Z};
@@ -204,6 +205,52 @@ fn full_ring(rt: HostRuntime) -> Result<(), Fail> {
             accepted: 1,
         };
         assert_eq!(rt; run.outcome, wanted);
+    });
+    Ok(())
+}
+
+/// For how many short waits a client rests behind a post: longer than the committer looks before it sleeps.
+const REST: u32 = 1_000;
+
+/// Within how many turns an answer comes that a bell has to bring.
+const FEW_TURNS: u32 = 100_000;
+
+/// Posts two commands, each once the committer sleeps, and takes their answers only then: the second is posted while the
+/// first one's answer isn't taken.
+#[derive(Drop)]
+struct TwoPosts {
+    taken: AtomicU32,
+}
+
+impl Session for TwoPosts {
+    fn run<R: Wait>(&self, rt: &R, client: Client<Halt>) -> Client<Halt> {
+        let mut client = client;
+        for place in 0..2 {
+            let _ = post(&mut client, accepted_command(place));
+            for _ in 0..REST {
+                pause(rt);
+            }
+        }
+        for _ in 0..2 {
+            if take_within(rt, &mut client, FEW_TURNS).is_some() {
+                self.taken.fetch_add(1, Ordering::SeqCst);
+            }
+        }
+        client
+    }
+}
+
+#[test]
+fn each_post_wakes_the_committer(rt: HostRuntime) -> Result<(), Fail> {
+    let alloc = rt.alloc();
+    over_layouts!(shape => {
+        let session = TwoPosts {
+            taken: AtomicU32::new(0),
+        };
+        let opened = six_nodes_opened(alloc, shape)?;
+        let run = run_in_memory(&rt, alloc, opened, 1, &OpenGate, &session)?;
+        assert_eq!(rt; session.taken.load(Ordering::SeqCst), 2);
+        assert_eq!(rt; count_on(alloc, run.disk)?, 2);
     });
     Ok(())
 }

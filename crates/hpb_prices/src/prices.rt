@@ -1,7 +1,8 @@
 ghost use Rattle.std.specs.Prelude.{◌≡◌, IfOk, slice_index};
 ghost use Rattle.hpb_winners.specs.View.{no_bid};
 ghost use Rattle.hpb_prices.specs.Along.{WasPriced};
-ghost use Rattle.hpb_prices.specs.View.{HasMinima, HasPrices};
+ghost use Rattle.hpb_prices.specs.Inside.{prices_view, IsKept};
+ghost use Rattle.hpb_prices.specs.View.{PricesView, HasMinima, HasPrices};
 
 use crate::minimum::set_first_minima;
 use hpb_money::{Dollars, Shares};
@@ -21,11 +22,7 @@ pub struct Prices {
 }
 
 impl Model for Prices {
-    ghost use Rattle.hpb_prices.specs.View.{PricesView};
-
     ghost Value = { PricesView };
-
-    ghost use Rattle.hpb_prices.specs.Inside.{prices_view, IsKept};
 
     ghost view = { prices_view };
 

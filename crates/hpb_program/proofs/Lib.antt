@@ -1,11 +1,8 @@
-mod Asking
 mod Crossing
 mod Cutting
 mod Doubting
 mod Ends
 mod Kept
 mod Lines
-mod Options
 mod Served
 mod Taking
-mod ValueTexts

@@ -4,11 +4,11 @@ use Rattle.std.specs.Io.KnownBytes.{Keeps}
 use Rattle.hpb_server.specs.declared.fault.Fault.{Fault}
 use Rattle.hpb_server.specs.declared.script.ScriptEnd.{ScriptEnd}
 use Rattle.hpb_server.specs.declared.script.ScriptEnd.TheVariants as ends
-use Rattle.hpb_program.specs.declared.status.TheConstants.{WELL, ILL, WRONG_WORDS}
-use Rattle.hpb_program.specs.declared.words.Job.{Job}
-use Rattle.hpb_program.specs.declared.words.Job.TheVariants.{Script, Format, Check, Run, Serve}
-use Rattle.hpb_program.specs.declared.words.WordsFault.{WordsFault}
-use Rattle.hpb_program.specs.declared.words.WordsFault.TheVariants.{Memory, Refused}
+use Rattle.hpb_words.specs.declared.status.TheConstants.{WELL, ILL, WRONG_WORDS}
+use Rattle.hpb_words.specs.declared.words.Job.{Job}
+use Rattle.hpb_words.specs.declared.words.Job.TheVariants.{Script, Format, Check, Run, Serve}
+use Rattle.hpb_words.specs.declared.words.WordsFault.{WordsFault}
+use Rattle.hpb_words.specs.declared.words.WordsFault.TheVariants.{Memory, Refused}
 use Rattle.hpb_program.specs.declared.job_fault.JobFault.{JobFault}
 use Rattle.hpb_program.specs.declared.job_fault.JobFault.TheVariants as faults
 use Rattle.hpb_program.specs.declared.run_end.RunEnd.{RunEnd}
@@ -17,14 +17,14 @@ use Rattle.hpb_program.specs.Doubts.{TellsServing}
 use Rattle.hpb_program.specs.Keeping.{RunsFile}
 use Rattle.hpb_program.specs.Serving.{ServesFile}
 use Rattle.hpb_program.specs.Telling.{IsTaken, TellsLine, TellsUnled}
-use Rattle.hpb_program.specs.Words.{AsksFor, HasFile}
+use Rattle.hpb_words.specs.Hints.{hint_text}
+use Rattle.hpb_words.specs.Words.{AsksFor, HasFile, HasStatus}
 use Rattle.hpb_program.specs.Jobs.{refusal_of, Checks, Formats}
 use Rattle.hpb_server.specs.Fault as sessions
 use Rattle.hpb_server.specs.Script.{RunsScript}
 use Rattle.hpb_server.specs.Streams.{Streams}
 use Rattle.hpb_server.specs.Telling.{Says, SaysOfScript, TellsOf}
 use Rattle.hpb_rules.specs.declared.refusal.Refusal.TheVariants as refusals
-use Rattle.hpb_program.specs.declared.hints.TheConstants.{SCRIPT_HINT, FORMAT_HINT, RUN_HINT}
 
 -- The status by the end of a script.
 abbrev pub status_of_script : Result ScriptEnd Fault → ℕ
@@ -36,11 +36,6 @@ status_of_script (Err fault) = ILL
 abbrev pub status_of_fault : WordsFault → ℕ
 status_of_fault Memory = ILL
 status_of_fault (Refused text status) = status
-
--- Words are wrong, or they ask for help.
-abbrev pub HasStatus : WordsFault → Type 0
-HasStatus Memory = Unit {0}
-HasStatus (Refused text status) = (status ≡ WELL) ⊎ (status ≡ WRONG_WORDS)
 
 -- What is said of words that ask for no job.
 abbrev pub SaysFault : (errors_old errors_new : Option (List ℕ)) → WordsFault → Type 0
@@ -71,15 +66,6 @@ TellsEnd cut old new errors_old errors_new (Err fault) status = TellsFault cut o
 abbrev pub TellsScript : (errors_old errors_new : Option (List ℕ)) → Result ScriptEnd Fault → Type 0
 TellsScript errors_old errors_new (Ok end) = Keeps errors_old errors_new
 TellsScript errors_old errors_new (Err fault) = TellsOf errors_old errors_new (sessions.refusal_of fault)
-
--- What a terminal is told to type for a job.
-abbrev pub hint_text : (is_terminal : Bool) → Job → List ℕ
-hint_text false job = []
-hint_text true Script = SCRIPT_HINT.now
-hint_text true (Format file journal) = FORMAT_HINT.now
-hint_text true (Check file) = []
-hint_text true (Run file batch every) = RUN_HINT.now
-hint_text true (Serve file port sessions) = []
 
 -- What the errors are told of a run or of serving that had begun, and its status: by what ended it, and whether a call of the disk had failed.
 abbrev pub TellsEnded : (errors_old errors_new : Option (List ℕ)) → Result ⊤ Fault → Bool → ℕ → Type 0

@@ -1,76 +1,19 @@
 //! What people are told of how a job ended ill: why, and what to do. Each text of that kind stands here.
 
-use crate::escaped::{Escaped, Pasted};
 use crate::job_fault::JobFault;
 use crate::known::{Known, SeenFile, SeenHead, journal_fitting, journal_near, pages_for};
 use crate::noted::Failures;
 use crate::run_end::RunEnd;
-use crate::words::Job;
-use hpb_codec::{JournalLayout, JournalShape};
+use hpb_codec::JournalLayout;
 use hpb_disk::FileFault;
 use hpb_format::FormatCause;
 use hpb_image::{Flaw, LEAST_PAGES, PAGE_BYTES};
 use hpb_recover::Cause;
 use hpb_rules::Refusal;
 use hpb_server::Fault;
+use hpb_words::{CheckCommand, Escaped, Job, JobCommand, JournalOptions, Pasted};
 use std::io::ErrorKind;
 use std::{fmt, io};
-
-/// A job's command, whole: it can be pasted.
-#[derive(Clone, Copy)]
-struct Command<'a>(Job<'a>);
-
-impl fmt::Display for Command<'_> {
-    fn fmt<W: fmt::Write>(&self, f: &mut fmt::Formatter<W>) -> fmt::Result {
-        match self.0 {
-            Job::Script => write!(f, "`hpb < SCRIPT`"),
-            Job::Format { file, journal } => {
-                let (file, shown) = (Pasted(file), Journal(journal));
-                write!(f, "`hpb format --file {file} {shown} < definition.json`")
-            }
-            Job::Check { file } => write!(f, "{}", Look(file)),
-            Job::Run { file, batch, every } => {
-                let file = Pasted(file);
-                write!(f, "`hpb run --file {file} --batch {batch} --every {every}`")
-            }
-            Job::Serve {
-                file,
-                port,
-                sessions,
-            } => {
-                let file = Pasted(file);
-                write!(
-                    f,
-                    "`hpb serve --file {file} --port {port} --sessions {sessions}`"
-                )
-            }
-        }
-    }
-}
-
-/// The command that shows what a file keeps.
-#[derive(Clone, Copy)]
-struct Look<'a>(&'a str);
-
-impl fmt::Display for Look<'_> {
-    fn fmt<W: fmt::Write>(&self, f: &mut fmt::Formatter<W>) -> fmt::Result {
-        write!(f, "`hpb check --file {}`", Pasted(self.0))
-    }
-}
-
-/// The options that ask for a journal.
-#[derive(Clone, Copy)]
-struct Journal(JournalShape);
-
-impl fmt::Display for Journal {
-    fn fmt<W: fmt::Write>(&self, f: &mut fmt::Formatter<W>) -> fmt::Result {
-        let frames = self.0.frames;
-        match self.0.layout {
-            JournalLayout::Pages => write!(f, "--journal {frames}"),
-            JournalLayout::Cells => write!(f, "--journal {frames} --layout 2"),
-        }
-    }
-}
 
 /// What is said of a job on a file that was not done: why, and what to do.
 #[derive(Clone, Copy)]
@@ -127,7 +70,7 @@ fn advise_of_differing<W: fmt::Write>(
     known: Known<'_>,
     what: &str,
 ) -> fmt::Result {
-    let (file, look) = (Escaped(known.file()), Look(known.file()));
+    let (file, look) = (Escaped(known.file()), CheckCommand(known.file()));
     write!(
         f,
         "{what}, which is a fault of hpb: see what {file} keeps by {look}, and hold it against what was answered"
@@ -157,7 +100,7 @@ fn advise_of_journal<W: fmt::Write>(f: &mut fmt::Formatter<W>, job: Job<'_>) -> 
         JournalLayout::Pages => "from 4 to 1,024 frames",
         JournalLayout::Cells => "from 16 to 1,024 frames, in eights",
     };
-    let (asked, other, pages) = (Journal(asked), Journal(near), pages_for(near));
+    let (asked, other, pages) = (JournalOptions(asked), JournalOptions(near), pages_for(near));
     write!(
         f,
         "{asked} can't be: such a journal has {range}. {other} can, and makes a file of {pages} pages"
@@ -225,7 +168,7 @@ fn advise_of_format<W: fmt::Write>(
     known: Known<'_>,
     cause: FormatCause,
 ) -> fmt::Result {
-    let (file, look) = (Escaped(known.file()), Look(known.file()));
+    let (file, look) = (Escaped(known.file()), CheckCommand(known.file()));
     match cause {
         FormatCause::Length => advise_of_length(f, known),
         FormatCause::Formatted => write!(
@@ -249,9 +192,9 @@ fn advise_of_length<W: fmt::Write>(f: &mut fmt::Formatter<W>, known: Known<'_>) 
             "{file} is there and has another length than this journal wants: name a file that isn't there"
         );
     };
-    let (options, wanted, length) = (Journal(asked), pages_for(asked), Length(seen.bytes));
+    let (options, wanted, length) = (JournalOptions(asked), pages_for(asked), Length(seen.bytes));
     if seen.head != SeenHead::Closed {
-        let look = Look(known.file());
+        let look = CheckCommand(known.file());
         return write!(
             f,
             "{file} keeps an auction already, and nothing was changed: it has {length}, and {options} wants {wanted}. See it by {look}, or name another file"
@@ -263,7 +206,7 @@ fn advise_of_length<W: fmt::Write>(f: &mut fmt::Formatter<W>, known: Known<'_>) 
     )?;
     match journal_fitting(seen.bytes, asked.layout) {
         Some(journal) => {
-            let fitting = Journal(journal);
+            let fitting = JournalOptions(journal);
             write!(f, "give {fitting}, or name a file that isn't there")
         }
         None => write!(f, "name a file that isn't there"),
@@ -358,7 +301,7 @@ fn advise_of_layout<W: fmt::Write>(f: &mut fmt::Formatter<W>, known: Known<'_>) 
             "the head of {file} is damaged, and the file has {length}: leave it as it is, and take your newest copy"
         );
     };
-    let (options, wanted) = (Journal(journal), pages_for(journal));
+    let (options, wanted) = (JournalOptions(journal), pages_for(journal));
     let whole = wanted.saturating_mul(PAGE_BYTES as u64);
     write!(
         f,
@@ -370,7 +313,7 @@ fn advise_of_layout<W: fmt::Write>(f: &mut fmt::Formatter<W>, known: Known<'_>) 
             "it was cut. Leave it as it is, and take your newest copy"
         );
     }
-    let (name, look) = (Pasted(known.file()), Look(known.file()));
+    let (name, look) = (Pasted(known.file()), CheckCommand(known.file()));
     write!(
         f,
         "it was made longer. Copy it, cut it by `truncate -s {whole} {name}`, and see it by {look}; if it is refused still, take your newest copy"
@@ -406,7 +349,7 @@ fn advise_of_disk<W: fmt::Write>(
     known: Known<'_>,
     end: RunEnd,
 ) -> fmt::Result {
-    let (file, command) = (Escaped(known.file()), Command(known.job));
+    let (file, command) = (Escaped(known.file()), JobCommand(known.job));
     write!(f, "the disk of {file} failed")?;
     if let Some(code) = end.code {
         write!(f, ": {}", io::Error::from_raw_os_error(code))?;
@@ -440,10 +383,10 @@ fn advise_of_fault<W: fmt::Write>(
             failures: known.failures
         }
     )?;
-    let command = Command(known.job);
+    let command = JobCommand(known.job);
     match known.job {
         Job::Serve { file, .. } => {
-            let (file, look) = (Escaped(file), Look(file));
+            let (file, look) = (Escaped(file), CheckCommand(file));
             write!(
                 f,
                 ". All sessions have ended, and all that was answered by OK is kept. See {file} by {look}"

@@ -28,10 +28,8 @@ pub(crate) fn run_check<H: Files<File = File>, W: Write, E: Write>(
     ensures checks { Checks (W.contents output.old.stream) (W.contents output.new.stream) (E.contents errors.old) (E.contents errors.new) result }
     ensures cut { IsCutBy (is_cut output.new) result }
 {
-    match FileDisk::open_to_read(rt, alloc, file) {
-        Ok(disk) => check_device(alloc, disk, output, errors),
-        Err(fault) => Err(JobFault::from(fault)),
-    }
+    let disk = FileDisk::open_to_read(rt, alloc, file)?;
+    check_device(alloc, disk, output, errors)
 }
 
 /// Writes the lines of the auction that a device keeps: what `SHOW` is answered, and for each node, in the order of the
@@ -48,14 +46,8 @@ pub fn check_device<D: Disk + Drop, W: Write, E: Write>(
     ensures cut { IsCutBy (is_cut output.new) result }
     ensures told { TellsKept (D.seen disk) (E.contents errors.old) (E.contents errors.new) result }
 {
-    let opened = match open_kept(alloc, disk, errors) {
-        Ok(opened) => opened,
-        Err(fault) => return Err(fault),
-    };
-    let text = match lines_of(alloc, opened.auction()) {
-        Ok(text) => text,
-        Err(_) => return Err(JobFault::Memory),
-    };
+    let opened = open_kept(alloc, disk, errors)?;
+    let text = lines_of(alloc, opened.auction())?;
     match output.send(text.as_bytes()) {
         Ok(()) => Ok(()),
         Err(_) => Err(JobFault::Writer),

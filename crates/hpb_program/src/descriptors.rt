@@ -38,10 +38,7 @@ pub(crate) fn look_for_descriptors<R: Files<File = File>>(
     ensures fault { IfErr result IsOfDescriptors }
 {
     let wanted = BESIDE_SESSIONS + u32::from(sessions);
-    let mut held = match Vec::with_capacity(alloc, wanted as usize) {
-        Ok(held) => held,
-        Err(_) => return Err(JobFault::Memory),
-    };
+    let mut held = Vec::with_capacity(alloc, wanted as usize)?;
     for at in 0..wanted {
         let opened = File::open(rt, TOP);
         match opened {

@@ -37,11 +37,8 @@ pub(crate) fn run_file<H: Files<File = File>, R: Read, W: Write, E: Write>(
 ) -> Result<RunEnd, JobFault>
     ensures runs { RunsFile is_terminal (streams (R.remaining input.old) (W.contents output.old)) (streams (R.remaining input.new) (W.contents output.new)) (E.contents errors.old) (E.contents errors.new) result }
 {
-    let disk = match FileDisk::open(rt, alloc, file) {
-        Ok(disk) => disk,
-        Err(fault) => return Err(JobFault::from(fault)),
-    };
-    match run_kept(
+    let disk = FileDisk::open(rt, alloc, file)?;
+    let ran = run_kept(
         alloc,
         disk,
         batch as usize,
@@ -50,17 +47,13 @@ pub(crate) fn run_file<H: Files<File = File>, R: Read, W: Write, E: Write>(
         output,
         errors,
         is_terminal,
-    ) {
-        Ok(ran) => {
-            let Ran { engine, end } = ran;
-            Ok(RunEnd {
-                end,
-                failed: engine.failed,
-                code: engine.disk.code(),
-            })
-        }
-        Err(fault) => Err(fault),
-    }
+    )?;
+    let Ran { engine, end } = ran;
+    Ok(RunEnd {
+        end,
+        failed: engine.failed,
+        code: engine.disk.code(),
+    })
 }
 
 /// Answers the lines of the input by the auction that a device keeps, and keeps it there: as many commands as have
@@ -84,19 +77,17 @@ pub fn run_kept<D: Disk + Drop, R: Read, W: Write, E: Write>(
     ensures nothing { OnErr result (AreKept (streams (R.remaining input.old) (W.contents output.old)) (streams (R.remaining input.new) (W.contents output.new))) }
     ensures told { TellsRunning is_terminal (D.seen disk) (E.contents errors.old) (E.contents errors.new) result }
 {
-    match start_engine(alloc, disk, errors) {
-        Ok(engine) => Ok(run_engine(
-            alloc,
-            engine,
-            batch,
-            every,
-            input,
-            output,
-            errors,
-            is_terminal,
-        )),
-        Err(fault) => Err(fault),
-    }
+    let engine = start_engine(alloc, disk, errors)?;
+    Ok(run_engine(
+        alloc,
+        engine,
+        batch,
+        every,
+        input,
+        output,
+        errors,
+        is_terminal,
+    ))
 }
 
 /// Answers the lines of the input by the auction that an engine keeps.
@@ -138,10 +129,7 @@ fn start_engine<D: Disk + Drop, E: Write>(
     ensures fault { IfErr result (IsNotOpened (D.seen disk)) }
     ensures told { TellsKept (D.seen disk) (E.contents errors.old) (E.contents errors.new) result }
 {
-    let opened = match open_kept(alloc, disk, errors) {
-        Ok(opened) => opened,
-        Err(fault) => return Err(fault),
-    };
+    let opened = open_kept(alloc, disk, errors)?;
     match Engine::start(alloc, opened) {
         Ok(engine) => Ok(engine),
         Err(_) => Err(JobFault::Memory),

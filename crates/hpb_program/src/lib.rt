@@ -1,12 +1,10 @@
-//! The program: its words, what they ask for, and its status.
+//! The program: the jobs that its words ask for, what is told of them, and its status.
 #![tactic(auto)]
 
 mod advice;
 mod checking;
 mod descriptors;
-mod escaped;
 mod formatting;
-mod hints;
 mod job_fault;
 mod keeping;
 mod known;
@@ -20,16 +18,14 @@ mod run_end;
 mod running;
 mod serving;
 mod stack;
-mod status;
 mod streams;
 mod telling;
-mod values;
-mod words;
 
 pub use checking::check_device;
+pub use hpb_words::{Job, WordsFault, read_words, words_ask_for};
 pub use job_fault::JobFault;
 pub use keeping::run_kept;
-pub use laws::{limits_are, words_ask_for};
+pub use laws::limits_are;
 pub use noted::Noted;
 pub use run_end::RunEnd;
 pub use running::{program, refuse_streams, refuse_words};
@@ -37,7 +33,6 @@ pub use serving::{FileEnd, ServeEnd, serve_kept};
 pub use stack::hold_stack;
 pub use streams::hold_streams;
 pub use telling::answer_memory;
-pub use words::{Job, WordsFault, read_words};
 
 #[cfg(test)]
 mod tests;

@@ -1,8 +1,8 @@
 //! What people are told while an auction is served, by the descriptor of standard errors: the errors that the program
 //! was handed are written by the thread that has them alone.
 
-use crate::escaped::{Escaped, Pasted};
 use hpb_rules::Refusal;
+use hpb_words::{Escaped, Pasted};
 use std::alloc::Global;
 use std::{fmt, io};
 

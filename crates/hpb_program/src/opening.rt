@@ -44,14 +44,9 @@ pub(crate) fn open_kept<D: Disk + Drop, E: Write>(
         Ok(opened) => opened,
         Err(fault) => return Err(JobFault::from(fault.cause)),
     };
-    let Looked { opened, doubts } = match look(alloc, opened) {
-        Ok(looked) => looked,
-        Err(fault) => return Err(fault),
-    };
-    let line = match line_of_doubts(alloc, opened.plan.auction.count(), &doubts) {
-        Ok(line) => line,
-        Err(_) => return Err(JobFault::Memory),
-    };
+    let looked = look(alloc, opened)?;
+    let Looked { opened, doubts } = looked;
+    let line = line_of_doubts(alloc, opened.plan.auction.count(), &doubts)?;
     say(line.as_bytes(), errors);
     Ok(opened)
 }

@@ -190,23 +190,15 @@ fn serve_device<
     ensures told { TellsKept (D.seen disk) (E.contents errors.old) (E.contents errors.new) result }
     ensures serves { ServesUnsaid D.seen D.may_leave D.failures disk sessions port (W.contents output.old) (W.contents output.new) result }
 {
-    let opened = match open_kept(alloc, disk, errors) {
-        Ok(opened) => opened,
-        Err(fault) => return Err(fault),
-    };
+    let opened = open_kept(alloc, disk, errors)?;
     // The room of the last line is taken first: a disk that failed is told of even where memory is then refused.
-    let room = match String::with_capacity(alloc, CLOSED_BYTES) {
-        Ok(room) => room,
-        Err(_) => return Err(JobFault::Memory),
-    };
+    let room = String::with_capacity(alloc, CLOSED_BYTES)?;
     let listener = match listen(rt, port) {
         Ok(listener) => listener,
         Err(error) => return Err(JobFault::Port { port, error }),
     };
-    match serve_watched(rt, alloc, opened, listener, port, sessions, output, watch) {
-        Ok(served) => Ok(Unsaid { served, room }),
-        Err(fault) => Err(JobFault::from(fault)),
-    }
+    let served = serve_watched(rt, alloc, opened, listener, port, sessions, output, watch)?;
+    Ok(Unsaid { served, room })
 }
 
 /// A port of 127.0.0.1 that can be connected to.

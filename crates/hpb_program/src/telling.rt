@@ -5,12 +5,14 @@ ghost use Rattle.hpb_program.specs.Program.{AnswersJob};
 ghost use Rattle.hpb_program.specs.Telling.{is_cut, TellsLine};
 ghost use Rattle.hpb_rules.specs.declared.refusal.Refusal.TheVariants as refusals;
 ghost use Rattle.hpb_server.specs.Telling.{Says, TellsOf, told_line};
+ghost use Rattle.hpb_words.specs.Hints.{hint_text};
 
 use crate::job_fault::JobFault;
 use crate::noted::Noted;
 use crate::refusal_lines::refusal_line;
 use hpb_rules::Refusal;
 use hpb_server::{say, tell_people};
+use hpb_words::{Job, hint_for};
 use std::alloc::Global;
 use std::fmt;
 use std::io::Write;
@@ -94,4 +96,13 @@ fn line_of_memory_told() -> &'static str
     ensures { result.now ≡ told_line refusals.Memory (codes "memory was refused") }
 {
     MEMORY_TOLD
+}
+
+/// Tells a terminal what a job reads, before it does.
+pub(crate) fn hint<E: Write>(job: Job<'_>, is_terminal: bool, errors: &mut E)
+    ensures { Says (E.contents errors.old) (E.contents errors.new) (hint_text is_terminal job.entry) }
+{
+    if is_terminal {
+        say(hint_for(job).as_bytes(), errors);
+    }
 }

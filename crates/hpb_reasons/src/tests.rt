@@ -68,7 +68,7 @@ static BYTES: [(&[u8], &str); 3] = [
 ];
 
 // Changes of the worked definition: what stands there instead, by which refusal it is refused, and why.
-static CHANGED: [(&str, &str, Refusal, &str); 74] = [
+static CHANGED: [(&str, &str, Refusal, &str); 75] = [
     (
         r#""percent":10"#,
         r#""percent":1E+1"#,
@@ -80,6 +80,13 @@ static CHANGED: [(&str, &str, Refusal, &str); 74] = [
         r#""percent":1e-1"#,
         Number,
         "percent: 1e-1 is no whole number in plain digits",
+    ),
+    // A number behind a text with an escaped quote, which doesn't end there.
+    (
+        r#""name":"x","units":10"#,
+        r#""name":"x\"","units":18446744073709551616"#,
+        Number,
+        "bidders[0].units: 18446744073709551616 is too large: it doesn't fit 64 bits",
     ),
     // Fields that are unknown.
     (

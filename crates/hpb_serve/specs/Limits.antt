@@ -5,7 +5,7 @@ use Rattle.hpb_serve.specs.declared.threads.TheConstants.{MISSED_PAUSE}
 
 -- Each limit of the code is the number that the documents name.
 pub record LimitsAre : Type 0 where
-  -- So many looks for more to read are shared by all sessions, and so many for answers.
+  -- So often a session looks for more to read, and so often for an answer.
   pub read_looks : READ_LOOKS ≡ 100
   pub answer_looks : ANSWER_LOOKS ≡ 400
   -- With more sessions than these none looks.

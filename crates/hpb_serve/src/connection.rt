@@ -1,5 +1,5 @@
 //! A session over a connection.
-ghost use Rattle.std.specs.Prelude.{◌≡◌, ◌<◌, ◌≤◌, ◌/◌, []};
+ghost use Rattle.std.specs.Prelude.{◌≡◌, ◌<◌, ◌≤◌, []};
 ghost use Rattle.hpb_serve.specs.Ended.{EndsWith};
 
 use crate::looking::Looking;
@@ -10,11 +10,10 @@ use std::alloc::Global;
 use std::net::{Shutdown, TcpStream};
 use std::sync::Wait;
 
-/// How often sessions look at their connections for more to read before they sleep until there is some: as many looks
-/// as this are shared by all.
+/// How often a session looks at its connection for more to read before it sleeps until there is some.
 const READ_LOOKS: u32 = 100;
 
-/// How often they look for an answer of the house before they sleep until one comes: so many are shared by all.
+/// How often it looks for an answer of the house before it sleeps until one comes.
 const ANSWER_LOOKS: u32 = 400;
 
 /// A client for which no letter is outstanding, and how many sessions there are.
@@ -35,17 +34,14 @@ impl Idle {
 }
 
 /// With more sessions than these none looks: each look would take a core from a thread that others wait for.
-const MOST_LOOKING: u32 = 8;
+const MOST_LOOKING: usize = 8;
 
-/// The part of so many looks that one of so many sessions has: none where there are many.
-fn share(looks: u32, sessions: usize) -> u32
-    ensures few { 0 < sessions → sessions ≤ MOST_LOOKING → result ≡ looks / sessions }
+/// So many looks, or none where there are many sessions.
+fn looks_among(looks: u32, sessions: usize) -> u32
+    ensures few { sessions ≤ MOST_LOOKING → result ≡ looks }
     ensures many { MOST_LOOKING < sessions → result ≡ 0 }
 {
-    match u32::try_from(sessions) {
-        Ok(sessions) if 0 < sessions && sessions <= MOST_LOOKING => looks / sessions,
-        _ => 0,
-    }
+    if sessions <= MOST_LOOKING { looks } else { 0 }
 }
 
 /// Runs a client's session over its connection, which is closed at the end. Without a connection the client is finished
@@ -68,9 +64,9 @@ pub(crate) fn serve_connection<R: Wait>(
     let Some(stream) = connection else {
         return SessionEnd::Finished(finish_client(rt, client));
     };
-    let mut reader = Looking::new(&stream, share(READ_LOOKS, sessions));
+    let mut reader = Looking::new(&stream, looks_among(READ_LOOKS, sessions));
     let mut writer = reader;
-    let looks = share(ANSWER_LOOKS, sessions);
+    let looks = looks_among(ANSWER_LOOKS, sessions);
     let session = run_session(rt, alloc, &mut reader, &mut writer, client, looks);
     // A connection that its other side has closed is shut down.
     let _ = stream.shutdown(Shutdown::Both);

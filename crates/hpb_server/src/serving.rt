@@ -266,7 +266,8 @@ fn pass_request<W: Write, E: Write, D: Desk>(
 }
 
 /// Asks for a command by itself, at a terminal and where the desk takes one at a time. Else it is put into the queue,
-/// and all that waits is asked for once it is as much as is asked together.
+/// and all that waits is asked for once it is as much as is asked together. Where the desk waits, all that is answered
+/// leaves first.
 #[inline(always)]
 #[tactic(auto, using(crate::proofs::Explained::explained_at_none))]
 fn pass_command<W: Write, E: Write, D: Desk>(
@@ -293,6 +294,7 @@ fn pass_command<W: Write, E: Write, D: Desk>(
     ensures explained { ExplainsAt is_terminal (E.contents errors.old) (E.contents errors.new) }
 {
     if queue.len() == 0 && (is_terminal || desk.most_asked() == 1) {
+        send_first(writer, desk, output)?;
         return ask_alone(alloc, writer, errors, is_terminal, desk, &command, output);
     }
     let _ = queue.push(command);
@@ -303,35 +305,10 @@ fn pass_command<W: Write, E: Write, D: Desk>(
 }
 
 /// Asks for one command by itself, and adds its answer. At a terminal that is written, and what would do is told where
-/// it is a refusal. Where the desk waits, all that is answered leaves first.
-#[inline(always)]
-#[tactic(auto, using(crate::proofs::Explained::explained_at_none))]
-fn ask_alone<W: Write, E: Write, D: Desk>(
-    alloc: Global,
-    writer: &mut W,
-    errors: &mut E,
-    is_terminal: bool,
-    desk: &mut D,
-    command: &Command,
-    output: &mut Output,
-) -> Result<(), Fault>
-    requires goes_on { D.over desk.old ≡ false }
-    requires stays { is_terminal ≡ true → LooksStay D.looks }
-    ensures passed { Moves D.is_at desk.old desk.new (λ state next. PassesRequests D.rules_at D.over_at D.asks D.looks D.most D.takes_memory state
-        (Ok (requests.Command command.now) ∷ []) next
-        (W.contents writer.old) (W.contents writer.new) output.old output.new [] result) }
-    ensures rules { D.rules desk.new ≡ D.rules desk.old }
-    ensures explained { ExplainsAt is_terminal (E.contents errors.old) (E.contents errors.new) }
-{
-    send_first(writer, desk, output)?;
-    ask_alone_now(alloc, writer, errors, is_terminal, desk, command, output)
-}
-
-/// Asks for one command by itself, and adds its answer. At a terminal that is written, and what would do is told where
 /// it is a refusal. Where the desk waits, the output is empty.
 #[inline(always)]
 #[tactic(auto, using(crate::proofs::Explained::explained_at_none))]
-fn ask_alone_now<W: Write, E: Write, D: Desk>(
+fn ask_alone<W: Write, E: Write, D: Desk>(
     alloc: Global,
     writer: &mut W,
     errors: &mut E,
@@ -390,7 +367,8 @@ fn pass_question<W: Write, D: Desk>(
     pass_added(writer, false, added, output)
 }
 
-/// Asks for all that waits, if anything does, and passes the replies.
+/// Asks for all that waits, if anything does, and passes the replies. Where the desk waits, all that is answered leaves
+/// first.
 #[inline(always)]
 fn ask_queue<W: Write, D: Desk>(
     alloc: Global,
@@ -409,33 +387,13 @@ fn ask_queue<W: Write, D: Desk>(
     if queue.len() == 0 {
         return Ok(());
     }
+    send_first(writer, desk, output)?;
     ask_waiting(alloc, writer, desk, queue, output)
 }
 
-/// Asks for all that waits, and passes the replies. Where the desk waits, all that is answered leaves first.
+/// Asks for all that waits, and passes the replies. Where the desk waits, the output is empty.
 #[inline(never)]
 fn ask_waiting<W: Write, D: Desk>(
-    alloc: Global,
-    writer: &mut W,
-    desk: &mut D,
-    queue: &mut Commands,
-    output: &mut Output,
-) -> Result<(), Fault>
-    requires some { 0 < length queue.old }
-    requires most { length queue.old ≤ D.most }
-    ensures passed { Moves D.is_at desk.old desk.new (λ state next. PassesRequests D.rules_at D.over_at D.asks D.looks D.most D.takes_memory state
-        (asked_for queue.old) next
-        (W.contents writer.old) (W.contents writer.new) output.old output.new queue.new result) }
-    ensures rules { D.rules desk.new ≡ D.rules desk.old }
-    ensures asked { OnOk result (queue.new ≡ []) }
-{
-    send_first(writer, desk, output)?;
-    ask_waiting_now(alloc, writer, desk, queue, output)
-}
-
-/// Asks for all that waits, and passes the replies. Where the desk waits, the output is empty.
-#[inline(always)]
-fn ask_waiting_now<W: Write, D: Desk>(
     alloc: Global,
     writer: &mut W,
     desk: &mut D,

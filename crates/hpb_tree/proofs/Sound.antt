@@ -56,6 +56,13 @@ module _ (nodes : List Node) (sound : AreSound nodes) where
   pub opening_within : (node n : ℕ) → n ≤ length nodes → sum_by (part_over nodes (λ l. at_or_under nodes node l) (opening_at nodes)) (range_with_len 0 n) ≤ MOST_LICENCES * MOST_LICENCE_OPENING
   opening_within node n h = omega (arith, sum_within (λ l. at_or_under nodes node l) (opening_at nodes) MOST_LICENCE_OPENING sound.openings n h)
 
+  -- so they have room for what one place more adds
+  pub units_room : (node n : ℕ) → n < length nodes → sum_by (part_over nodes (λ l. at_or_under nodes node l) (units_at nodes)) (range_with_len 0 n) + part_over nodes (λ l. at_or_under nodes node l) (units_at nodes) n ≤ MOST_LICENCES * MOST_LICENCE_UNITS
+  units_room node n h = omega (arith, units_more nodes node n, units_within node (n + 1) (omega arith))
+
+  pub opening_room : (node n : ℕ) → n < length nodes → sum_by (part_over nodes (λ l. at_or_under nodes node l) (opening_at nodes)) (range_with_len 0 n) + part_over nodes (λ l. at_or_under nodes node l) (opening_at nodes) n ≤ MOST_LICENCES * MOST_LICENCE_OPENING
+  opening_room node n h = omega (arith, opening_more nodes node n, opening_within node (n + 1) (omega arith))
+
   pub is_licence_at : (l : ℕ) → is_some (terms_of nodes l) ≡ true → cond {A = ℕ} (is_some (terms_of nodes l)) 1 0 ≡ 1
   is_licence_at l e = ap (λ b. cond {A = ℕ} b 1 0) e
 

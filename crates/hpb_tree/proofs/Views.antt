@@ -1,8 +1,8 @@
 -- The nodes of the code, as definitions see them.
-use Rattle.std.proofs.Common.{◌≡◌, ℕ, zero, suc, ◌+◌, ◌<◌, List, [], ◌∷◌, ◌++◌, take, length, get_or, inl, inr, ◌⊎◌, ⊎_elim, Option, Some, None, refl, sym, ap, ◌∙◌, subst, arith}
+use Rattle.std.proofs.Common.{◌≡◌, ℕ, zero, suc, ◌+◌, ◌<◌, List, [], ◌∷◌, ◌++◌, map, take, length, get_or, inl, inr, ◌⊎◌, ⊎_elim, Option, Some, None, refl, sym, ap, ◌∙◌, subst, arith}
 use Rattle.std.specs.Prelude.{IfSome, string_bytes, slice_get}
 use Rattle.std.proofs.lemmas.Option.{slice_get_read, get_or_from_slice_get}
-use Rattle.std.proofs.lemmas.List.{map_push, take_more, length-take-le}
+use Rattle.std.proofs.lemmas.List.{length-map, map_push, take_more, length-take-le}
 use Rattle.hpb_rules.specs.Tree.{Node, IsTree, parent_of, terms_of}
 use Rattle.hpb_rules.specs.Text.{node_name}
 use Rattle.hpb_tree.specs.Inside.{node_inside, nodes_inside, IsSummed}
@@ -12,41 +12,40 @@ pub length-nodes_inside : (ns : List TreeNode) → length (nodes_inside ns) ≡ 
 length-nodes_inside [] = refl
 length-nodes_inside (n ∷ ns) = ap suc (length-nodes_inside ns)
 
-pub parent_of-nodes_inside : (ns : List TreeNode) (i : ℕ) (d : TreeNode) → i < length ns → parent_of (nodes_inside ns) i ≡ (get_or ns i d).parent
-parent_of-nodes_inside [] i d h = absurd (omega arith)
-parent_of-nodes_inside (n ∷ ns) zero d h = refl
-parent_of-nodes_inside (n ∷ ns) (suc i) d h = parent_of-nodes_inside ns i d (omega arith)
+-- the node at a place has the parent, the terms and the name of that place
+node_seen : (ns : List TreeNode) (i : ℕ) (d : TreeNode) → i < length ns
+    → (parent_of (nodes_inside ns) i ≡ (get_or ns i d).parent) × (terms_of (nodes_inside ns) i ≡ (get_or ns i d).terms) × (node_name (nodes_inside ns) i ≡ string_bytes (get_or ns i d).name)
+node_seen [] i d h = absurd (omega arith)
+node_seen (n ∷ ns) zero d h = (refl, refl, refl)
+node_seen (n ∷ ns) (suc i) d h = node_seen ns i d (omega arith)
 
-pub terms_of-nodes_inside : (ns : List TreeNode) (i : ℕ) (d : TreeNode) → i < length ns → terms_of (nodes_inside ns) i ≡ (get_or ns i d).terms
-terms_of-nodes_inside [] i d h = absurd (omega arith)
-terms_of-nodes_inside (n ∷ ns) zero d h = refl
-terms_of-nodes_inside (n ∷ ns) (suc i) d h = terms_of-nodes_inside ns i d (omega arith)
+-- an item of a table was read, and the table stands for a list, which has an entry at the item's place
+pub record IsRead {A B : Type 0} (view : A → B) (items : List A) (entries : List B) (index place : ℕ) (item : A) : Type 0 where
+  pub seen : map view items ≡ entries
+  pub found : item ≡ get_or items index item
+  pub same : index ≡ place
+  pub within : place < length entries
 
-pub node_name-nodes_inside : (ns : List TreeNode) (i : ℕ) (d : TreeNode) → i < length ns → node_name (nodes_inside ns) i ≡ string_bytes (get_or ns i d).name
-node_name-nodes_inside [] i d h = absurd (omega arith)
-node_name-nodes_inside (n ∷ ns) zero d h = refl
-node_name-nodes_inside (n ∷ ns) (suc i) d h = node_name-nodes_inside ns i d (omega arith)
+pub read_inside : {A B : Type 0} {view : A → B} {items : List A} {entries : List B} {index place : ℕ} {item : A} → IsRead view items entries index place item → index < length items
+read_inside {view = view} {items = items} read = omega (arith, length-map items view, ap length read.seen, read.same, read.within)
 
 -- a node of the code was read at the place of a node
-pub record IsNodeRead (ns : List TreeNode) (nodes : List Node) (index node : ℕ) (n : TreeNode) : Type 0 where
-  pub seen : nodes_inside ns ≡ nodes
-  pub found : n ≡ get_or ns index n
-  pub same : index ≡ node
-  pub within : node < length nodes
+abbrev pub IsNodeRead : List TreeNode → List Node → ℕ → ℕ → TreeNode → Type 0
+IsNodeRead = IsRead node_inside
 
 -- what is read of it
 module _ {ns : List TreeNode} {nodes : List Node} {index node : ℕ} {n : TreeNode} (read : IsNodeRead ns nodes index node n) where
   inside : index < length ns
-  inside = omega (arith, length-nodes_inside ns, ap length read.seen, read.same, read.within)
+  inside = read_inside read
 
   pub name_at : string_bytes n.name ≡ node_name nodes node
-  name_at = ap (λ (m : TreeNode). string_bytes m.name) read.found ∙ sym (node_name-nodes_inside ns index n inside) ∙ ap (λ xs. node_name xs index) read.seen ∙ ap (node_name nodes) read.same
+  name_at = ap (λ (m : TreeNode). string_bytes m.name) read.found ∙ sym (node_seen ns index n inside).2 ∙ ap (λ xs. node_name xs index) read.seen ∙ ap (node_name nodes) read.same
 
   pub parent_at : n.parent ≡ parent_of nodes node
-  parent_at = ap (λ (m : TreeNode). m.parent) read.found ∙ sym (parent_of-nodes_inside ns index n inside) ∙ ap (λ xs. parent_of xs index) read.seen ∙ ap (parent_of nodes) read.same
+  parent_at = ap (λ (m : TreeNode). m.parent) read.found ∙ sym (node_seen ns index n inside).0 ∙ ap (λ xs. parent_of xs index) read.seen ∙ ap (parent_of nodes) read.same
 
   pub terms_at : n.terms ≡ terms_of nodes node
-  terms_at = ap (λ (m : TreeNode). m.terms) read.found ∙ sym (terms_of-nodes_inside ns index n inside) ∙ ap (λ xs. terms_of xs index) read.seen ∙ ap (terms_of nodes) read.same
+  terms_at = ap (λ (m : TreeNode). m.terms) read.found ∙ sym (node_seen ns index n inside).1 ∙ ap (λ xs. terms_of xs index) read.seen ∙ ap (terms_of nodes) read.same
 
   -- what is kept of it
   pub summed_at : ((j : ℕ) (m : TreeNode) → slice_get ns j ≡ Some m → IsSummed (nodes_inside ns) j m) → IsSummed nodes node n

@@ -1,10 +1,10 @@
 ghost use Rattle.std.specs.Prelude.{◌≡◌, ℕ, ◌<◌, ◌≤◌, ◌*◌, length, IfSome, Some, position, string_bytes, IfOk, All, slice_index_or};
 ghost use Rattle.std.specs.List.{range_with_len};
 ghost use Rattle.std.specs.Str.{bytes_eq};
-ghost use Rattle.hpb_rules.specs.Tree.{IsTree, parent_of, terms_of, places, units, opening};
+ghost use Rattle.hpb_rules.specs.Tree.{TreeRules, IsTree, parent_of, terms_of, places, units, opening};
 ghost use Rattle.hpb_rules.specs.Prices.{children_among};
 ghost use Rattle.hpb_rules.specs.Text.{node_name};
-ghost use Rattle.hpb_tree.specs.Inside.{AreCopies};
+ghost use Rattle.hpb_tree.specs.Inside.{tree_inside, IsChecked, AreCopies};
 ghost use Rattle.hpb_tree.specs.Licences.{IsMask, licence_count};
 
 use crate::named::place_named;
@@ -43,11 +43,7 @@ pub struct Tree {
 }
 
 impl Model for Tree {
-    ghost use Rattle.hpb_rules.specs.Tree.{TreeRules};
-
     ghost Value = { TreeRules };
-
-    ghost use Rattle.hpb_tree.specs.Inside.{tree_inside, IsChecked};
 
     ghost view = { tree_inside };
 

@@ -6,7 +6,8 @@ ghost use Rattle.hpb_tree.specs.Licences.{licence_count};
 ghost use Rattle.hpb_bids.specs.View.{BooksView, IsQuiet};
 ghost use Rattle.hpb_winners.specs.View.{OutcomeView};
 ghost use Rattle.hpb_units.specs.Activity.{activity_with, is_marked};
-ghost use Rattle.hpb_units.specs.Holdings.{holds, IsNothing, AreLicenceUnits, AreSummed, AreSmall, AreHoldings, HoldsMore};
+ghost use Rattle.hpb_units.specs.Holdings.{HoldingsView, holds, IsNothing, AreLicenceUnits, AreSummed, AreSmall, AreHoldings, HoldsMore};
+ghost use Rattle.hpb_units.specs.Inside.{holdings_view, IsKept};
 
 use crate::units::{licences_held, units_of};
 use hpb_bids::Books;
@@ -29,11 +30,7 @@ pub struct Holdings {
 }
 
 impl Model for Holdings {
-    ghost use Rattle.hpb_units.specs.Holdings.{HoldingsView};
-
     ghost Value = { HoldingsView };
-
-    ghost use Rattle.hpb_units.specs.Inside.{holdings_view, IsKept};
 
     ghost view = { holdings_view };
 

@@ -1,12 +1,13 @@
 -- The tables of the code.
-use Rattle.std.proofs.Common.{◌≡◌, ℕ, zero, suc, ◌<◌, ◌≤◌, List, [], ◌∷◌, length, get_or, set, replicate, ap, sym, ◌∙◌, subst, Option, arith}
+use Rattle.std.proofs.Common.{◌≡◌, ℕ, zero, suc, ◌<◌, ◌≤◌, Bool, true, not, ◌&&◌, List, [], ◌∷◌, length, get_or, set, replicate, ap, sym, ◌∙◌, subst, Option, Some, None, arith}
 use Rattle.std.proofs.lemmas.List.{length-replicate}
 use Rattle.hpb_rules.specs.declared.limits.TheConstants.{MOST_NODES}
 use Rattle.hpb_rules.proofs.Lists.{get_or-replicate_same}
 use Rattle.hpb_winners.specs.declared.outcome.TheConstants.{MOST_VALUE}
 use Rattle.hpb_winners.specs.declared.outcome.Outcome.TheInside.{Inside}
-use Rattle.hpb_winners.specs.View.{OutcomeView, AreBefore, wins_of}
-use Rattle.hpb_winners.specs.Inside.{IsKept}
+use Rattle.hpb_winners.specs.View.{OutcomeView, AreBefore, is_free, wins_of}
+use Rattle.hpb_winners.specs.Inside.{outcome_view, IsKept}
+use Rattle.hpb_winners.proofs.Winning.{free_under, free_top}
 
 -- what is read within a table does not depend on what stands past it
 pub within_read : {A : Type 0} (xs : List A) (n : ℕ) (x d : A) → n < length xs → x ≡ get_or xs n x → get_or xs n d ≡ x
@@ -43,3 +44,20 @@ same_kept one other p i v r k = record {
   most_value = λ n. omega (arith, ap (λ xs. get_or xs n 0) v, k.most_value n);
   most_revenue = omega (arith, r, k.most_revenue);
 }
+
+-- the parent of a node was read
+module _ (o : Inside) (kept : IsKept o) (now : OutcomeView) (seen : outcome_view o ≡ now) (place node : ℕ) (same : place ≡ node) (within : place < length o.parents.items) (read : Option ℕ) (found : read ≡ get_or o.parents.items place read) where
+  pub parent_read : get_or o.parents.items node None ≡ read
+  parent_read = ap (λ n. get_or o.parents.items n None) (sym same) ∙ within_read o.parents.items place read None within found
+
+  parent_seen : get_or now.parents node None ≡ read
+  parent_seen = ap (λ (v : OutcomeView). get_or v.parents node None) (sym seen) ∙ parent_read
+
+  before_seen : AreBefore now.parents
+  before_seen = subst (λ (v : OutcomeView). AreBefore v.parents) seen kept.before
+
+  pub free_by_parent : (test : ℕ → Bool) (parent : ℕ) → read ≡ Some parent → is_free now.parents test node ≡ (not (test parent) && is_free now.parents test parent)
+  free_by_parent test parent is = free_under now.parents before_seen test node (parent_seen ∙ is)
+
+  pub free_at_top : (test : ℕ → Bool) → read ≡ None → is_free now.parents test node ≡ true
+  free_at_top test is = free_top now.parents before_seen test node (parent_seen ∙ is)

@@ -1,7 +1,8 @@
 ghost use Rattle.std.specs.Prelude.{◌≡◌, ℕ, ◌+◌, ◌-◌, ◌<◌, ◌≤◌, IfOk, None, length, not, slice_index, slice_index_or, slice_set};
 ghost use Rattle.hpb_rules.specs.Choices.{is_in};
 ghost use Rattle.hpb_rules.specs.Saved.{has_bit};
-ghost use Rattle.hpb_winners.specs.View.{IsOutcome, no_bid, is_ahead, is_free, or_top, wins_of, AreParents, AreBefore};
+ghost use Rattle.hpb_winners.specs.Inside.{outcome_view, IsKept};
+ghost use Rattle.hpb_winners.specs.View.{OutcomeView, IsOutcome, no_bid, is_ahead, is_free, or_top, wins_of, AreParents, AreBefore};
 
 use crate::forming::Values;
 use hpb_rules::{MOST_AMOUNT, MOST_NODES, NodeId};
@@ -24,11 +25,7 @@ pub struct Outcome {
 }
 
 impl Model for Outcome {
-    ghost use Rattle.hpb_winners.specs.View.{OutcomeView};
-
     ghost Value = { OutcomeView };
-
-    ghost use Rattle.hpb_winners.specs.Inside.{outcome_view, IsKept};
 
     ghost view = { outcome_view };
 

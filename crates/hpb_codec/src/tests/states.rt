@@ -1,7 +1,8 @@
 use crate::tests::examples::{body_with, change, first_bid, scribbled, six_nodes, six_nodes_with};
 use crate::{CHUNK_SIZE, CHUNKS, STATE_SIZE, chunk, decode_state, encode_state, encode_state_1};
-use hpb_auction::Auction;
-use hpb_rules::{BidderId, Command, MOST_BIDDERS, MOST_NODES, Saved, SavedBidder, SavedNode};
+use hpb_rules::{
+    Accepted, BidderId, Command, MOST_BIDDERS, MOST_NODES, Offer, Saved, SavedBidder, SavedNode,
+};
 use hpb_tree::Definition;
 use std::alloc::Global;
 use std::process::Abort;
@@ -82,21 +83,28 @@ fn blank() -> Saved {
     }
 }
 
-/// The body of the auction of six nodes after commands.
-fn body_after(
-    alloc: Global,
-    definition: &Definition,
-    commands: &[Command],
-    index: u64,
-) -> Result<Vec<u8>, Fail> {
-    let mut auction = Auction::new(alloc, definition)?;
-    for command in commands {
-        auction.apply(command);
-    }
+/// What is saved of the auction of six nodes before the first command, where each bidder has so many waivers.
+fn beginning(waivers: u8) -> Saved {
     let mut saved = blank();
-    auction.save(&mut saved);
+    saved.round = 1;
+    saved.stage = 1;
+    saved.over = false;
+    for (place, units) in [10, 10, 40, 25].iter().enumerate() {
+        saved.bidders[place].eligibility = *units;
+        saved.bidders[place].waivers = waivers;
+    }
+    saved
+}
+
+/// The last command of a sender that was accepted under a number.
+fn accepted(command: Command, number: u32) -> Option<Accepted> {
+    Some(Accepted { command, number })
+}
+
+/// The body of what is saved.
+fn body_of(alloc: Global, saved: &Saved, index: u64) -> Result<Vec<u8>, Fail> {
     let mut bytes = scribbled(alloc, STATE_SIZE)?;
-    encode_state(&saved, index, &mut bytes);
+    encode_state(saved, index, &mut bytes);
     Ok(bytes)
 }
 
@@ -127,7 +135,7 @@ fn body_again(
 fn state_bytes_empty(rt: HostRuntime) -> Result<(), Fail> {
     let alloc = rt.alloc();
     let definition = six_nodes(alloc)?;
-    let bytes = body_after(alloc, &definition, &[], 0)?;
+    let bytes = body_of(alloc, &beginning(0), 0)?;
     assert!(rt; bytes == body_with(alloc, STATE_SIZE, &EMPTY)?);
     assert!(rt; body_again(alloc, &definition, &bytes, 0)? == bytes);
     Ok(())
@@ -141,7 +149,12 @@ fn waiver_state_bytes(rt: HostRuntime) -> Result<(), Fail> {
         bidder: BidderId::new(0),
         ticket: 1,
     };
-    let bytes = body_after(alloc, &definition, &[waiver], 1)?;
+    let mut saved = beginning(1);
+    saved.count = 1;
+    saved.bidders[0].waivers = 0;
+    saved.bidders[0].has_waived = true;
+    saved.bidders[0].last = accepted(waiver, 1);
+    let bytes = body_of(alloc, &saved, 1)?;
     assert!(rt; bytes == body_with(alloc, STATE_SIZE, &WAIVED)?);
     assert!(rt; body_again(alloc, &definition, &bytes, 1)? == bytes);
     Ok(())
@@ -179,14 +192,20 @@ fn formats_differ_in_one_byte(rt: HostRuntime) -> Result<(), Fail> {
 fn state_bytes_after_a_close(rt: HostRuntime) -> Result<(), Fail> {
     let alloc = rt.alloc();
     let definition = six_nodes(alloc)?;
-    let commands = [
-        first_bid(0, 2, 100),
-        first_bid(1, 3, 150),
-        first_bid(2, 0, 500),
-        first_bid(3, 4, 100),
-        Command::Close { ticket: 1 },
-    ];
-    let bytes = body_after(alloc, &definition, &commands, 1)?;
+    let mut saved = beginning(0);
+    saved.round = 2;
+    saved.count = 5;
+    for (place, (node, amount)) in [(2, 100), (3, 150), (0, 500), (4, 100)].iter().enumerate() {
+        let bidder = BidderId::new(place);
+        saved.nodes[*node].high = Some(Offer {
+            bidder,
+            amount: *amount,
+        });
+        let bid = first_bid(place, *node, *amount);
+        saved.bidders[place].last = accepted(bid, place as u32 + 1);
+    }
+    saved.auctioneer = accepted(Command::Close { ticket: 1 }, 5);
+    let bytes = body_of(alloc, &saved, 1)?;
     assert!(rt; bytes == body_with(alloc, STATE_SIZE, &AFTER_A_CLOSE)?);
     assert!(rt; body_again(alloc, &definition, &bytes, 1)? == bytes);
     Ok(())

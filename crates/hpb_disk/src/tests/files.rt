@@ -182,6 +182,12 @@ fn what_stands_beside_is_not_overwritten(rt: HostRuntime) -> Result<(), Fail> {
     fs::write(&rt, beside, b"wxyz".as_slice())?;
     assert!(rt; is_beside(FileDisk::make(&rt, alloc, path, 4)));
     assert_eq!(rt; fs::read(&rt, beside)?.as_slice(), b"wxyz".as_slice());
+    // One that has zeros for two pages, and then a byte that is none.
+    let mut long = vec![in alloc; 0; 8_193]?;
+    long[8_192] = b'w';
+    fs::write(&rt, beside, long.as_slice())?;
+    assert!(rt; is_beside(FileDisk::make(&rt, alloc, path, 4)));
+    assert_eq!(rt; fs::read(&rt, beside)?.as_slice(), long.as_slice());
     fs::remove_file(&rt, beside)?;
     // Another name of one that holds zeros, and then a link to it.
     fs::write(&rt, other, [0; 8].as_slice())?;

@@ -21,7 +21,7 @@ returns-in_err-batch-clause-only c batch begins =
 pub returns-then-is_same-clause-found : goal.returns-then-is_same-clause-found
 returns-then-is_same-clause-found c = record {
   is = c.in_ok-batch.ensures.found.is;
-  spelled = same_cells c.encode_cells-size.result c.encode_cells-size.new.out c.args.bytes.now c.in_ok-batch.batch c.encode_cells-size.ensures.size (c.is_same.ensures.0 c.if-is_same.true) c.encode_cells-size.ensures.written;
+  spelled = same_cells c.spread-size.result c.spread-size.new.out c.args.bytes.now c.in_ok-batch.batch c.spread-size.ensures.size (c.is_same.ensures.0 c.if-is_same.true) c.spread-size.ensures.written;
 }
 
 pub returns-then-is_same-clause-only : goal.returns-then-is_same-clause-only
@@ -33,5 +33,5 @@ pub returns-else-is_same-clause-only : goal.returns-else-is_same-clause-only
 returns-else-is_same-clause-only c batch begins =
     let count = count_found c.args.definition.now c.args.bytes.now batch begins c.front_u16-count.result.0 c.from-count.result _ c.front_bytes.ensures.rest c.front_u16-count.ensures.value (omega arith) in
     let same = some_same (c.in_ok-batch.ensures.only batch (body_found c.args.definition.now c.args.bytes.now batch begins c.from-count.result c.cells_behind.result _ count c.cells_behind.ensures.value c.gather.ensures)) in
-    let all = spelled_again c.args.definition.now c.encode_cells-size.result c.encode_cells-size.new.out c.args.bytes.now c.in_ok-batch.batch batch same c.encode_cells-size.ensures.size c.encode_cells-size.ensures.written begins in
+    let all = spelled_again c.args.definition.now c.spread-size.result c.spread-size.new.out c.args.bytes.now c.in_ok-batch.batch batch same c.spread-size.ensures.size c.spread-size.ensures.written begins in
     absurd (cc (subst IsTrue c.if-is_same.false (c.is_same.ensures.1 all)))

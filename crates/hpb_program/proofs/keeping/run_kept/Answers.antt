@@ -1,12 +1,20 @@
+use Rattle.std.proofs.lemmas.Result.{err_from_is_err_and}
 use Rattle.hpb_server.specs.Streams.{streams}
-use Rattle.hpb_program.proofs.Kept.{is_run}
+use Rattle.hpb_program.proofs.Kept.{are_kept, is_run}
 use Rattle.hpb_program.proofs.keeping.run_kept.Goals as goal
 
-pub returns-in-Ok-clause-run : goal.returns-in-Ok-clause-run
-returns-in-Ok-clause-run g c =
-    is_run g.D.Disk.seen g.D.Disk.may_leave g.D.Disk.failures c.args.disk (streams _ _) (streams _ _) c.in-Ok.engine.disk c.in-Ok.engine.progress c.in-Ok.engine.failed
+pub returns-clause-run : goal.returns-clause-run
+returns-clause-run g c =
+    let engine = c.in_ok-engine.engine in
+    is_run g.D.Disk.seen g.D.Disk.may_leave g.D.Disk.failures c.args.disk (streams _ _) (streams _ _) engine.disk engine.progress engine.failed
     c.run_engine.result.engine.disk c.run_engine.result.engine.progress c.run_engine.result.engine.failed c.run_engine.result.end
-    c.in-Ok.ensures.read c.in-Ok.ensures.keeps c.in-Ok.ensures.works c.in-Ok.ensures.counted c.run_engine.ensures.ran
+    c.in_ok-engine.ensures.read c.in_ok-engine.ensures.keeps c.in_ok-engine.ensures.works c.in_ok-engine.ensures.counted c.run_engine.ensures.ran
 
-pub returns-in-Ok-clause-told : goal.returns-in-Ok-clause-told
-returns-in-Ok-clause-told g c = (g.E.Write.contents c.start_engine.new.errors, c.in-Ok.ensures.told, c.run_engine.ensures.explained)
+pub returns-clause-told : goal.returns-clause-told
+returns-clause-told g c = (g.E.Write.contents c.start_engine.new.errors, c.in_ok-engine.ensures.told, c.run_engine.ensures.explained)
+
+pub returns-in_err-engine-clause-fault : goal.returns-in_err-engine-clause-fault
+returns-in_err-engine-clause-fault g c = let p = err_from_is_err_and c.from_residual.result c.from_residual.ensures.1 in rw (p.1, p.2) c.in_err-engine.ensures.fault
+
+pub returns-in_err-engine-clause-told : goal.returns-in_err-engine-clause-told
+returns-in_err-engine-clause-told g c = let p = err_from_is_err_and c.from_residual.result c.from_residual.ensures.1 in rw (p.1, p.2) c.in_err-engine.ensures.told

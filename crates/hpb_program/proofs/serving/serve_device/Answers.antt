@@ -1,29 +1,31 @@
 use Rattle.std.proofs.Common.{rules, ℕ, List, inl, inr, refl, subst}
 use Rattle.std.proofs.KnownBytes.{Keeps-refl}
+use Rattle.std.proofs.lemmas.Result.{err_from_is_err_and}
 use Rattle.hpb_rules.specs.AuctionValue.{AuctionValue}
 use Rattle.hpb_serve.specs.Ended.{EndsAll}
-use Rattle.hpb_program.proofs.Doubting.{told_serving}
-use Rattle.hpb_program.proofs.Served.{unserved}
+use Rattle.hpb_program.proofs.Doubting.{told_not, told_serving}
+use Rattle.hpb_program.proofs.Served.{unopened, unserved}
 use Rattle.hpb_program.proofs.serving.serve_device.Goals as goal
 
-pub returns-in-Err-with_capacity-clause-serves : goal.returns-in-Err-with_capacity-clause-serves
-returns-in-Err-with_capacity-clause-serves g c = inl (Keeps-refl _)
+pub returns-in_err-room-clause-serves : goal.returns-in_err-room-clause-serves
+returns-in_err-room-clause-serves g c = let p = err_from_is_err_and c.from_residual-in_err-room.result c.from_residual-in_err-room.ensures.1 in rw (p.1, p.2) (inl (Keeps-refl _))
 
-pub returns-in-Err-listen-clause-serves : goal.returns-in-Err-listen-clause-serves
-returns-in-Err-listen-clause-serves g c = ((c.in-Ok.ensures.read.0, c.in-Ok.ensures.read.1), Keeps-refl _, refl)
+pub returns-in-Err-clause-serves : goal.returns-in-Err-clause-serves
+returns-in-Err-clause-serves g c = ((c.in_ok-opened.ensures.read.0, c.in_ok-opened.ensures.read.1), Keeps-refl _, refl)
 
-pub returns-in-Err-serve_watched-clause-serves : goal.returns-in-Err-serve_watched-clause-serves
-returns-in-Err-serve_watched-clause-serves g c =
-    unserved g.row.D.Denot (g.D.Disk.seen c.args.disk) c.args.port _ _ c.in-Err-serve_watched.fault c.from.result (c.in-Ok.ensures.read.0, c.in-Ok.ensures.read.1) c.from.ensures c.in-Err-serve_watched.ensures.written
+pub returns-in_err-served-clause-serves : goal.returns-in_err-served-clause-serves
+returns-in_err-served-clause-serves g c =
+    let p = err_from_is_err_and c.from_residual-in_err-served.result c.from_residual-in_err-served.ensures.1 in rw (p.1, p.2)
+    (unserved g.row.D.Denot (g.D.Disk.seen c.args.disk) c.args.port _ _ _ _ (c.in_ok-opened.ensures.read.0, c.in_ok-opened.ensures.read.1) refl c.in_err-served.ensures.written)
 
-pub returns-in-Ok-serve_watched-clause-serves : goal.returns-in-Ok-serve_watched-clause-serves
-returns-in-Ok-serve_watched-clause-serves g c =
+pub returns-clause-serves : goal.returns-clause-serves
+returns-clause-serves g c =
     let d = g.D.Disk in
-    let read = c.in-Ok.ensures.read in
-    let served = c.in-Ok-serve_watched.served in
+    let read = c.in_ok-opened.ensures.read in
+    let served = c.in_ok-served.served in
     let EndsBy : List ℕ → ℕ → AuctionValue → Type 0 = λ image failures before. EndsAll d.seen d.may_leave d.failures image failures before c.args.sessions served in
-    let of_image = subst (λ image. EndsBy image (d.failures c.in-Ok.opened.disk) c.in-Ok.opened.plan.auction) c.in-Ok.ensures.same c.in-Ok-serve_watched.ensures.ended in
-    let of_number = subst (λ failures. EndsBy (d.seen c.args.disk) failures c.in-Ok.opened.plan.auction) c.in-Ok.ensures.works of_image in (
+    let of_image = subst (λ image. EndsBy image (d.failures c.in_ok-opened.opened.disk) c.in_ok-opened.opened.plan.auction) c.in_ok-opened.ensures.same c.in_ok-served.ensures.ended in
+    let of_number = subst (λ failures. EndsBy (d.seen c.args.disk) failures c.in_ok-opened.opened.plan.auction) c.in_ok-opened.ensures.works of_image in (
       record {
         found = read.0;
         reads = read.1;
@@ -33,15 +35,22 @@ returns-in-Ok-serve_watched-clause-serves g c =
       search rules,
     )
 
-pub returns-in-Err-with_capacity-clause-told : goal.returns-in-Err-with_capacity-clause-told
-returns-in-Err-with_capacity-clause-told g c = inr (c.in-Ok.opened.plan, c.in-Ok.ensures.plan, c.in-Ok.ensures.told)
+pub returns-in_err-room-clause-told : goal.returns-in_err-room-clause-told
+returns-in_err-room-clause-told g c = let p = err_from_is_err_and c.from_residual-in_err-room.result c.from_residual-in_err-room.ensures.1 in rw (p.1, p.2) (inr (c.in_ok-opened.opened.plan, c.in_ok-opened.ensures.plan, c.in_ok-opened.ensures.told))
 
-pub returns-in-Err-listen-clause-told : goal.returns-in-Err-listen-clause-told
-returns-in-Err-listen-clause-told g c = (c.in-Ok.opened.plan, c.in-Ok.ensures.plan, c.in-Ok.ensures.told)
+pub returns-in-Err-clause-told : goal.returns-in-Err-clause-told
+returns-in-Err-clause-told g c = (c.in_ok-opened.opened.plan, c.in_ok-opened.ensures.plan, c.in_ok-opened.ensures.told)
 
-pub returns-in-Err-serve_watched-clause-told : goal.returns-in-Err-serve_watched-clause-told
-returns-in-Err-serve_watched-clause-told g c =
-    told_serving g.row.D.Denot (g.D.Disk.seen c.args.disk) _ _ c.in-Err-serve_watched.fault c.from.result c.from.ensures (c.in-Ok.opened.plan, c.in-Ok.ensures.plan, c.in-Ok.ensures.told)
+pub returns-in_err-served-clause-told : goal.returns-in_err-served-clause-told
+returns-in_err-served-clause-told g c =
+    let p = err_from_is_err_and c.from_residual-in_err-served.result c.from_residual-in_err-served.ensures.1 in rw (p.1, p.2)
+    (told_serving g.row.D.Denot (g.D.Disk.seen c.args.disk) _ _ _ _ refl (c.in_ok-opened.opened.plan, c.in_ok-opened.ensures.plan, c.in_ok-opened.ensures.told))
 
-pub returns-in-Ok-serve_watched-clause-told : goal.returns-in-Ok-serve_watched-clause-told
-returns-in-Ok-serve_watched-clause-told g c = (c.in-Ok.opened.plan, c.in-Ok.ensures.plan, c.in-Ok.ensures.told)
+pub returns-clause-told : goal.returns-clause-told
+returns-clause-told g c = (c.in_ok-opened.opened.plan, c.in_ok-opened.ensures.plan, c.in_ok-opened.ensures.told)
+
+pub returns-in_err-opened-clause-serves : goal.returns-in_err-opened-clause-serves
+returns-in_err-opened-clause-serves g c = let p = err_from_is_err_and c.from_residual.result c.from_residual.ensures.1 in rw (p.1, p.2) (unopened (g.D.Disk.seen c.args.disk) _ _ _ c.in_err-opened.ensures.fault)
+
+pub returns-in_err-opened-clause-told : goal.returns-in_err-opened-clause-told
+returns-in_err-opened-clause-told g c = let p = err_from_is_err_and c.from_residual.result c.from_residual.ensures.1 in rw (p.1, p.2) (told_not _ _ _ _ c.in_err-opened.ensures.fault c.in_err-opened.ensures.untold)

@@ -1,18 +1,40 @@
-use Rattle.std.proofs.Common.{[]}
-use Rattle.hpb_server.proofs.Queues.{not_asked, sent_first}
+use Rattle.std.proofs.Common.{[], ◌∙◌, arith}
+use Rattle.std.specs.Prelude.{Ok, Err}
+use Rattle.hpb_rules.specs.Rendering.{reply_text}
+use Rattle.hpb_server.proofs.Errors.{err_alone}
+use Rattle.hpb_server.proofs.Queues.{command_passed, none_asked, passes_fewer}
 use Rattle.hpb_server.proofs.serving.ask_alone.Goals as goal
 
-pub returns-in_err-send_first-clause-passed : goal.returns-in_err-send_first-clause-passed
-returns-in_err-send_first-clause-passed g c = λ state at. (
-  state,
-  not_asked g.D.Desk.rules_at g.D.Desk.over_at g.D.Desk.asks g.D.Desk.looks g.D.Desk.most g.D.Desk.takes_memory [] c.in_err-send_first.field-0.0 c.from_residual.result c.from_residual.ensures.1 c.in_err-send_first.ensures.passed,
-  at,
-)
-
-pub returns-clause-passed : goal.returns-clause-passed
-returns-clause-passed g c = λ state at.
-    let asked = c.ask_alone_now.ensures.passed state at in (
+pub returns-in_err-pass_added-in-Ok-clause-passed : goal.returns-in_err-pass_added-in-Ok-clause-passed
+returns-in_err-pass_added-in-Ok-clause-passed g c = λ state at.
+    let asked = c.in-Ok.ensures.asked state at in
+    let fault = c.in_err-pass_added-in-Ok.field-0.0 in (
       asked.0,
-      sent_first g.D.Desk.rules_at g.D.Desk.over_at g.D.Desk.asks g.D.Desk.looks g.D.Desk.most g.D.Desk.takes_memory _ c.ask_alone_now.result c.in_ok-send_first.ensures.passed asked.1,
+      passes_fewer g.D.Desk.rules_at g.D.Desk.over_at g.D.Desk.asks g.D.Desk.looks g.D.Desk.most g.D.Desk.takes_memory [] fault c.from_residual.result c.from_residual.ensures.1
+          (command_passed g.D.Desk.rules_at g.D.Desk.over_at g.D.Desk.asks g.D.Desk.looks g.D.Desk.most g.D.Desk.takes_memory state asked.0 c.args.command.now c.in-Ok.reply g.met.D.Desk.most_is_some.0
+          (g.met.D.Desk.over_is c.args.desk.now state at ∙ c.requires.goes_on) (g.met.D.Desk.rules_stay state asked.0 c.args.command.now c.in-Ok.reply asked.1) asked.1
+          _ _ (Err fault) (c.in_err-pass_added-in-Ok.ensures c.args.output.now (reply_text c.in-Ok.reply) c.reply-added.ensures)),
       asked.2,
     )
+
+pub returns-in_ok-pass_added-in-Ok-clause-passed : goal.returns-in_ok-pass_added-in-Ok-clause-passed
+returns-in_ok-pass_added-in-Ok-clause-passed g c = λ state at.
+    let asked = c.in-Ok.ensures.asked state at in (
+      asked.0,
+      command_passed g.D.Desk.rules_at g.D.Desk.over_at g.D.Desk.asks g.D.Desk.looks g.D.Desk.most g.D.Desk.takes_memory state asked.0 c.args.command.now c.in-Ok.reply g.met.D.Desk.most_is_some.0
+          (g.met.D.Desk.over_is c.args.desk.now state at ∙ c.requires.goes_on) (g.met.D.Desk.rules_stay state asked.0 c.args.command.now c.in-Ok.reply asked.1) asked.1
+          _ _ (Ok tt) (c.in_ok-pass_added-in-Ok.ensures c.args.output.now (reply_text c.in-Ok.reply) c.reply-added.ensures),
+      c.explain.ensures.kept asked.0 asked.2,
+    )
+
+pub returns-in_ok-pass_added-in-Ok-clause-told : goal.returns-in_ok-pass_added-in-Ok-clause-told
+returns-in_ok-pass_added-in-Ok-clause-told g c = λ at_terminal state at.
+    let asked = c.in-Ok.ensures.asked state at in
+    (c.in-Ok.reply, asked.0, asked.1, c.explain.ensures.told at_terminal asked.0 asked.2)
+
+pub returns-in-Err-clause-passed : goal.returns-in-Err-clause-passed
+returns-in-Err-clause-passed g c = λ state at. (
+  state,
+  none_asked g.D.Desk.rules_at g.D.Desk.over_at g.D.Desk.asks g.D.Desk.looks g.D.Desk.most g.D.Desk.takes_memory c.break_off.result (c.break_off.ensures.passed g.D.Desk.most g.D.Desk.takes_memory [] (omega arith) (λ none. c.in-Err.ensures.refused)) (err_alone _ c.break_off.result c.break_off.ensures.failed),
+  c.in-Err.ensures.kept state at,
+)

@@ -1,18 +1,32 @@
-use Rattle.std.proofs.Common.{[]}
-use Rattle.hpb_server.proofs.Queues.{not_asked, sent_first}
+use Rattle.std.proofs.Common.{[], refl, sym, ap, arith, append-nil}
+use Rattle.hpb_server.specs.Session.{asked_for, replies_text}
+use Rattle.hpb_server.proofs.Errors.{ok_case}
+use Rattle.hpb_server.proofs.Passing.{passes_weaker}
+use Rattle.hpb_server.proofs.Queues.{fewer_replies, none_asked, queue_answered}
 use Rattle.hpb_server.proofs.serving.ask_waiting.Goals as goal
 
-pub returns-in_err-send_first-clause-passed : goal.returns-in_err-send_first-clause-passed
-returns-in_err-send_first-clause-passed g c = λ state at. (
-  state,
-  not_asked g.D.Desk.rules_at g.D.Desk.over_at g.D.Desk.asks g.D.Desk.looks g.D.Desk.most g.D.Desk.takes_memory [] c.in_err-send_first.field-0.0 c.from_residual.result c.from_residual.ensures.1 c.in_err-send_first.ensures.passed,
-  at,
-)
-
-pub returns-clause-passed : goal.returns-clause-passed
-returns-clause-passed g c = λ state at.
-    let asked = c.ask_waiting_now.ensures.passed state at in (
+pub returns-in-Ok-clause-passed : goal.returns-in-Ok-clause-passed
+returns-in-Ok-clause-passed g c = λ state at.
+    let commands = c.args.queue.now in
+    let replies = c.in-Ok.replies in
+    let asked = c.in-Ok.ensures.asked state at in
+    let fewer = fewer_replies g.D.Desk.rules_at g.D.Desk.over_at g.D.Desk.asks g.D.Desk.looks state asked.0 commands replies asked.1 in (
       asked.0,
-      sent_first g.D.Desk.rules_at g.D.Desk.over_at g.D.Desk.asks g.D.Desk.looks g.D.Desk.most g.D.Desk.takes_memory _ c.ask_waiting_now.result c.in_ok-send_first.ensures.passed asked.1,
+      record {
+        answered = asked_for commands;
+        waiting = [];
+        text = replies_text replies;
+        parts = sym (append-nil (asked_for commands));
+        answers = queue_answered g.D.Desk.rules_at g.D.Desk.over_at g.D.Desk.asks g.D.Desk.looks g.met.D.Desk.rules_stay state asked.0 commands replies asked.1;
+        passes = passes_weaker g.D.Desk.takes_memory _ _ _ _ c.pass_replies.result (omega (arith, fewer, c.requires.most)) c.pass_replies.ensures;
+        queued = ok_case c.pass_replies.result (sym (ap asked_for c.clear.ensures));
+      },
       asked.2,
     )
+
+pub returns-in-Err-clause-passed : goal.returns-in-Err-clause-passed
+returns-in-Err-clause-passed g c = λ state at. (
+  state,
+  none_asked g.D.Desk.rules_at g.D.Desk.over_at g.D.Desk.asks g.D.Desk.looks g.D.Desk.most g.D.Desk.takes_memory c.break_off.result (c.break_off.ensures.passed g.D.Desk.most g.D.Desk.takes_memory [] (omega arith) (λ none. c.in-Err.ensures.refused)) (ok_case c.break_off.result refl),
+  c.in-Err.ensures.kept state at,
+)

@@ -1,8 +1,17 @@
-use Rattle.std.proofs.Common.{[], append-nil, arith}
+use Rattle.std.proofs.Common.{[], append-nil, arith, ◌∙◌, sym}
 use Rattle.std.specs.Prelude.{Ok}
 use Rattle.std.proofs.KnownBytes.{Appends-nil}
-use Rattle.hpb_server.proofs.Queues.{none_asked, waits_more_in}
+use Rattle.std.proofs.lemmas.List.{nil_from_length}
+use Rattle.hpb_server.proofs.Queues.{none_asked, sent_first, waits_more_in}
 use Rattle.hpb_server.proofs.serving.pass_command.Goals as goal
+
+pub returns-then-most_asked-eq1-clause-passed : goal.returns-then-most_asked-eq1-clause-passed
+returns-then-most_asked-eq1-clause-passed g c = λ state at.
+    let asked = c.ask_alone.ensures.passed state at in (
+      asked.0,
+      rw (nil_from_length c.args.queue.now (sym c.len.ensures.value ∙ c.if-len-eq0.true)) (sent_first g.D.Desk.rules_at g.D.Desk.over_at g.D.Desk.asks g.D.Desk.looks g.D.Desk.most g.D.Desk.takes_memory _ c.ask_alone.result c.in_ok-send_first.ensures.passed asked.1),
+      asked.2,
+    )
 
 pub returns-then-len-most_asked-clause-passed : goal.returns-then-len-most_asked-clause-passed
 returns-then-len-most_asked-clause-passed g c = λ state at. (

@@ -4,6 +4,7 @@ use Rattle.hpb_rules.specs.ProperValues.{IsProper}
 use Rattle.hpb_rules.proofs.ProperValues.{counted_proper}
 use Rattle.hpb_auction.specs.Inside.{value_inside}
 use Rattle.hpb_auction.specs.Formed.{formed_at_close}
+use Rattle.hpb_auction.proofs.Kept.{told_kept}
 use Rattle.hpb_auction.proofs.Proper.{taken_proper}
 use Rattle.hpb_rules.specs.Saved.{restored_last}
 use Rattle.hpb_rules.specs.AuctionValue.{AuctionValue}
@@ -22,30 +23,10 @@ returns-clause-formed c = c.close_round-formed.ensures.formed ∙ ap formed_at_c
 
 pub invariant_of-self : goal.invariant_of-self
 invariant_of-self c =
-    let kept = c.self.invariant in
-    record {
-      accepted = kept.accepted;
-      proper = counted_proper (value_inside c.self.inside) kept.proper c.args.accepted.number (omega (arith, c.requires.count, ap (λ (value : AuctionValue). value.count) c.self.view_is)) c.requires.limit;
-      tree = kept.tree;
-      rows = kept.rows;
-      most_rows = kept.most_rows;
-      bids = kept.bids;
-      tables = kept.tables;
-      holdings = kept.holdings;
-      winners = kept.winners;
-    }
+    told_kept c.self.inside c.self.invariant
+    (counted_proper (value_inside c.self.inside) c.self.invariant.proper c.args.accepted.number (omega (arith, c.requires.count, ap (λ (value : AuctionValue). value.count) c.self.view_is)) c.requires.limit)
 
 pub invariant_of-self-2 : goal.invariant_of-self-2
 invariant_of-self-2 c =
-    let kept = c.self-2.invariant in
-    record {
-      accepted = kept.accepted;
-      proper = subst IsProper (sym (returns-clause-value c)) (taken_proper c.args.self.now c.args.accepted.command c.args.accepted.number (ap (λ (value : AuctionValue). draft_refusal value.rules) (sym c.self.view_is) ∙ c.self.invariant.accepted) (subst IsProper c.self.view_is c.self.invariant.proper) c.requires.new c.requires.count);
-      tree = kept.tree;
-      rows = kept.rows;
-      most_rows = kept.most_rows;
-      bids = kept.bids;
-      tables = kept.tables;
-      holdings = kept.holdings;
-      winners = kept.winners;
-    }
+    told_kept c.self-2.inside c.self-2.invariant
+    (subst IsProper (sym (returns-clause-value c)) (taken_proper c.args.self.now c.args.accepted.command c.args.accepted.number (ap (λ (value : AuctionValue). draft_refusal value.rules) (sym c.self.view_is) ∙ c.self.invariant.accepted) (subst IsProper c.self.view_is c.self.invariant.proper) c.requires.new c.requires.count))

@@ -4,6 +4,7 @@ use Rattle.hpb_rules.specs.Drafts.{draft_refusal}
 use Rattle.hpb_rules.specs.ProperValues.{IsProper}
 use Rattle.hpb_rules.specs.Values.{changed}
 use Rattle.hpb_auction.specs.Inside.{value_inside}
+use Rattle.hpb_auction.proofs.Kept.{told_kept}
 use Rattle.hpb_auction.proofs.Proper.{taken_proper, stage_taken}
 use Rattle.hpb_auction.proofs.auction.Auction.accept_stage.Goals as goal
 
@@ -14,15 +15,5 @@ returns c =
 
 pub invariant_of-self : goal.invariant_of-self
 invariant_of-self c =
-    let kept = c.self.invariant in
-    record {
-      accepted = kept.accepted;
-      proper = subst IsProper (sym (returns c)) (taken_proper c.args.self.now c.args.accepted.command c.args.accepted.number (ap (λ (value : AuctionValue). draft_refusal value.rules) (sym c.self.view_is) ∙ kept.accepted) (subst IsProper c.self.view_is kept.proper) c.requires.new c.requires.count);
-      tree = kept.tree;
-      rows = kept.rows;
-      most_rows = kept.most_rows;
-      bids = kept.bids;
-      tables = kept.tables;
-      holdings = kept.holdings;
-      winners = kept.winners;
-    }
+    told_kept c.self.inside c.self.invariant
+    (subst IsProper (sym (returns c)) (taken_proper c.args.self.now c.args.accepted.command c.args.accepted.number (ap (λ (value : AuctionValue). draft_refusal value.rules) (sym c.self.view_is) ∙ c.self.invariant.accepted) (subst IsProper c.self.view_is c.self.invariant.proper) c.requires.new c.requires.count))

@@ -1,23 +1,14 @@
-use Rattle.std.proofs.Common.{length, sym, ap, ◌∙◌, Some, arith}
-use Rattle.std.specs.List.{position}
-use Rattle.std.specs.Str.{bytes_eq}
-use Rattle.hpb_rules.specs.Tree.{Rules, Bidder}
+use Rattle.std.proofs.Common.{length, ap, ◌∙◌, Some, arith}
+use Rattle.hpb_rules.specs.Tree.{Rules}
 use Rattle.hpb_tree.proofs.Kept.{Kept, kept}
 use Rattle.hpb_tree.proofs.Found.{bidder_position}
 use Rattle.hpb_tree.proofs.definition.Definition.search_bidder.Goals as goal
 
 pub returns-in-Some-clause-value : goal.returns-in-Some-clause-value
-returns-in-Some-clause-value c =
-    ap Some c.new.ensures
-    ∙ rw c.as_slice.ensures.value at c.in-Some.ensures.value
-    ∙ sym (bidder_position c.self.inside.bidders.items c.args.name.now)
-    ∙ ap (λ (r : Rules). position (λ (x : Bidder). bytes_eq x.name c.args.name.now) r.bidders) c.self.view_is
+returns-in-Some-clause-value c = ap Some c.new.ensures ∙ rw c.as_slice.ensures.value at c.in-Some.ensures.value ∙ bidder_position c.self.inside.bidders.items c.args.name.now (ap (λ (r : Rules). r.bidders) c.self.view_is)
 
 pub returns-in-None-clause-value : goal.returns-in-None-clause-value
-returns-in-None-clause-value c =
-    rw c.as_slice.ensures.value at c.in-None.ensures.value
-    ∙ sym (bidder_position c.self.inside.bidders.items c.args.name.now)
-    ∙ ap (λ (r : Rules). position (λ (x : Bidder). bytes_eq x.name c.args.name.now) r.bidders) c.self.view_is
+returns-in-None-clause-value c = rw c.as_slice.ensures.value at c.in-None.ensures.value ∙ bidder_position c.self.inside.bidders.items c.args.name.now (ap (λ (r : Rules). r.bidders) c.self.view_is)
 
 pub new-requires : goal.new-requires
 new-requires c =

@@ -1,0 +1,3 @@
+pub mod Words
+pub mod Hints
+pub mod Limits

@@ -1,0 +1,279 @@
+-- What words ask the program for, by what `clap` states of its commands and options.
+use Rattle.std.specs.Prelude.{◌≡◌, ◌≢◌, ◌⊎◌, IfSome, ℕ, ◌<◌, ◌≤◌, ◌^◌, max, min, List, [], ◌∷◌, true, pos, codes, unwrap_or, option_map, Option, Some, None, Result, Ok, Err}
+use Rattle.std.specs.Str.{all_ascii_digits}
+use Rattle.std.specs.Str.Parse.{IsNumeral, digits_value, without_leading_plus}
+use Rattle.clap.specs.Simple.{App, Shape, new_app, new_rule, on_top, subcommand_of, with_rule, with_subcommand}
+use Rattle.clap.specs.Walk.{Row, Rule, first_of, one_of}
+use Rattle.clap.specs.Kinds.{IsAmong}
+use Rattle.clap.specs.Faults.{fault_of}
+use Rattle.clap.specs.declared.builder.value_parser.ValueParser.TheVariants as parsers
+use Rattle.clap.specs.declared.error.kind.ErrorKind.{ErrorKind}
+use Rattle.clap.specs.declared.error.kind.ErrorKind.TheVariants.{DisplayHelp, DisplayVersion, InvalidSubcommand, MissingRequiredArgument, OutOfMemory, UnknownArgument, ValueValidation}
+use Rattle.hpb_codec.specs.Layouts.{layout_byte}
+use Rattle.hpb_codec.specs.declared.layout.JournalLayout.{JournalLayout}
+use Rattle.hpb_rules.specs.declared.limits.TheConstants.{MOST_LETTERS}
+use Rattle.hpb_words.specs.declared.status.TheConstants.{WELL, WRONG_WORDS}
+use Rattle.hpb_words.specs.declared.words.Job.{Job}
+use Rattle.hpb_words.specs.declared.words.Job.TheVariants.{Script, Format, Check, Run, Serve}
+use Rattle.hpb_words.specs.declared.words.TheConstants.{LEAST_PORT, MOST_PORT, MOST_SESSIONS}
+use Rattle.hpb_words.specs.declared.words.WordsFault.{WordsFault}
+use Rattle.hpb_words.specs.declared.words.WordsFault.TheVariants.{Memory, Refused}
+
+-- An option of a name, with one value, as `clap` sees it.
+abbrev pub option_rule : List ℕ → Rule
+option_rule name = record (new_rule name) { long = Some name; value_names = 1 }
+
+-- The option that names a file.
+abbrev pub file_rule : Rule
+file_rule = record (option_rule (codes "file")) { required = true }
+
+-- The option that gives a number of frames, of 32 bits.
+abbrev pub journal_rule : Rule
+journal_rule = record (option_rule (codes "journal")) { required = true; parser = Some (parsers.Signed (pos 0) (pos 4294967295)) }
+
+-- The option that gives the number of a layout.
+abbrev pub layout_rule : Rule
+layout_rule = record (option_rule (codes "layout")) { defaults = codes "1" ∷ []; parser = Some (parsers.Signed (pos 1) (pos 2)) }
+
+-- The option that gives the most commands of a batch.
+abbrev pub batch_rule : Rule
+batch_rule = record (option_rule (codes "batch")) { defaults = codes "1" ∷ []; parser = Some (parsers.Signed (pos 1) (pos 64)) }
+
+-- The option that gives a number of batches, of 32 bits.
+abbrev pub every_rule : Rule
+every_rule = record (option_rule (codes "every")) { defaults = codes "0" ∷ []; parser = Some (parsers.Signed (pos 0) (pos 4294967295)) }
+
+-- The option that gives a port.
+abbrev pub port_rule : Rule
+port_rule = record (option_rule (codes "port")) { required = true; parser = Some (parsers.Signed (pos 1024) (pos 65535)) }
+
+-- The option that gives a number of sessions.
+abbrev pub sessions_rule : Rule
+sessions_rule = record (option_rule (codes "sessions")) { required = true; parser = Some (parsers.Signed (pos 1) (pos 32)) }
+
+-- A command on a file, with no option but that.
+abbrev pub app_on_file : List ℕ → App
+app_on_file name = with_rule (new_app name) file_rule
+
+abbrev pub file_shape : List ℕ → Shape
+file_shape name = (app_on_file name).top
+
+-- The command that makes a file.
+abbrev pub format_shape : Shape
+format_shape = (with_rule (with_rule (app_on_file (codes "format")) journal_rule) layout_rule).top
+
+-- The command that shows what a file keeps.
+abbrev pub check_shape : Shape
+check_shape = file_shape (codes "check")
+
+-- The command that runs what a file keeps.
+abbrev pub run_shape : Shape
+run_shape = (with_rule (with_rule (app_on_file (codes "run")) batch_rule) every_rule).top
+
+-- The command that serves sessions by what a file keeps.
+abbrev pub serve_shape : Shape
+serve_shape = (with_rule (with_rule (app_on_file (codes "serve")) port_rule) sessions_rule).top
+
+-- The program without its commands.
+abbrev pub hpb_alone : App
+hpb_alone = on_top (λ s. record s { has_version = true; disable_help_subcommand = true }) (new_app (codes "hpb"))
+
+-- The program as `clap` is told of it: it has a version and the commands `format`, `check`, `run` and `serve`, each with its options.
+abbrev pub hpb : App
+hpb = with_subcommand (with_subcommand (with_subcommand (with_subcommand hpb_alone format_shape) check_shape) run_shape) serve_shape
+
+-- Help or the version is asked for.
+abbrev pub IsShown : ErrorKind → Type 0
+IsShown kind = (kind ≡ DisplayHelp) ⊎ (kind ≡ DisplayVersion)
+
+-- What is asked for ends well, and what is wrong doesn't.
+abbrev pub EndsBy : ErrorKind → ℕ → Type 0
+EndsBy kind status = (IsShown kind × (status ≡ WELL)) ⊎ ((IsShown kind → ⊥) × (status ≡ WRONG_WORDS))
+
+-- The text of an option among what was found of a command.
+abbrev pub text_in : List Row → List ℕ → List ℕ
+text_in rows name = unwrap_or (first_of name rows) []
+
+-- An option's value is digits alone, where it has one.
+abbrev pub IsGivenByDigits : List Row → List ℕ → Type 0
+IsGivenByDigits rows name = IfSome (first_of name rows) (λ text. all_ascii_digits text ≡ true)
+
+-- The values of options are well given where a file's name has a character at least and each number is digits alone, without a sign.
+abbrev pub AreWellGivenIn : List Row → Type 0
+AreWellGivenIn rows =
+    (text_in rows (codes "file") ≢ []) × IsGivenByDigits rows (codes "journal") × IsGivenByDigits rows (codes "layout") × IsGivenByDigits rows (codes "batch")
+    × IsGivenByDigits rows (codes "every") × IsGivenByDigits rows (codes "port") × IsGivenByDigits rows (codes "sessions")
+
+-- So are the values of a command, if there is one.
+abbrev pub AreWellGiven : Option (List ℕ × List Row) → Type 0
+AreWellGiven None = Unit {0}
+AreWellGiven (Some found) = AreWellGivenIn found.1
+
+-- Digits spell a number of so many bits.
+abbrev pub IsNumber : (bits : ℕ) → List ℕ → Type 0
+IsNumber bits digits = IsNumeral 10 digits × (digits_value 10 digits < 2 ^ bits)
+
+-- The number of so many bits that a text spells, or another where it spells none.
+abbrev pub IsNumberOr : (bits other : ℕ) → Option (List ℕ) → ℕ → Type 0
+IsNumberOr bits other None number = number ≡ other
+IsNumberOr bits other (Some text) number =
+    let digits = without_leading_plus text in
+    (IsNumber bits digits → number ≡ digits_value 10 digits) × ((IsNumber bits digits → ⊥) → number ≡ other)
+
+-- The number of 32 bits that a text spells, or 0.
+abbrev pub IsNumberOf : Option (List ℕ) → ℕ → Type 0
+IsNumberOf text number = IsNumberOr 32 0 text number
+
+-- A layout is the one that is named by the number that a text spells, or by 1 where it spells no number.
+abbrev pub IsLayoutOf : Option (List ℕ) → JournalLayout → Type 0
+IsLayoutOf text layout = (number : ℕ) × IsNumberOr 8 1 text number × ((named : JournalLayout) → number ≡ layout_byte named → layout ≡ named)
+
+-- A batch has as many commands as a text spells, or 1 where it spells no number: 1 at least, and as many as any batch may have at most.
+abbrev pub IsBatchOf : Option (List ℕ) → ℕ → Type 0
+IsBatchOf text batch = (number : ℕ) × IsNumberOr 32 1 text number × (batch ≡ max 1 (min number MOST_LETTERS))
+
+-- A port is the one that a text spells, or the least where it spells no number or a lesser one.
+abbrev pub IsPortOf : Option (List ℕ) → ℕ → Type 0
+IsPortOf text port = (number : ℕ) × IsNumberOr 16 LEAST_PORT text number × (port ≡ max number LEAST_PORT)
+
+-- There are as many sessions as a text spells, or 1 where it spells no number: 1 at least, and as many as there may be at most.
+abbrev pub AreSessionsOf : Option (List ℕ) → ℕ → Type 0
+AreSessionsOf text sessions = (number : ℕ) × IsNumberOr 8 1 text number × (sessions ≡ max 1 (min number MOST_SESSIONS))
+
+-- A job is what a command and its options say.
+abbrev pub IsJobOf : Option (List ℕ × List Row) → Job → Type 0
+IsJobOf None job = job ≡ Script
+IsJobOf (Some found) Script = ⊥
+IsJobOf (Some found) (Format file journal) =
+    (found.0 ≡ codes "format") × (file.now ≡ text_in found.1 (codes "file"))
+    × IsNumberOf (one_of (codes "journal") found.1) journal.frames × IsLayoutOf (one_of (codes "layout") found.1) journal.layout
+IsJobOf (Some found) (Check file) = (found.0 ≡ codes "check") × (file.now ≡ text_in found.1 (codes "file"))
+IsJobOf (Some found) (Run file batch every) =
+    (found.0 ≡ codes "run") × (file.now ≡ text_in found.1 (codes "file"))
+    × IsBatchOf (one_of (codes "batch") found.1) batch × IsNumberOf (one_of (codes "every") found.1) every
+IsJobOf (Some found) (Serve file port sessions) =
+    (found.0 ≡ codes "serve") × (file.now ≡ text_in found.1 (codes "file"))
+    × IsPortOf (one_of (codes "port") found.1) port × AreSessionsOf (one_of (codes "sessions") found.1) sessions
+
+-- The numbers of a job that are not judged later are within their range.
+abbrev pub HasRanges : Job → Type 0
+HasRanges (Run file batch every) = (1 ≤ batch) × (batch ≤ MOST_LETTERS)
+HasRanges (Serve file port sessions) = (LEAST_PORT ≤ port) × (port ≤ MOST_PORT) × (1 ≤ sessions) × (sessions ≤ MOST_SESSIONS)
+HasRanges job = Unit {0}
+
+-- A job is one on a file: each but a script.
+abbrev pub HasFile : Job → Type 0
+HasFile Script = ⊥
+HasFile job = Unit {0}
+
+-- The name is that of a command.
+abbrev pub IsKnownName : List ℕ → Type 0
+IsKnownName name = (name ≡ codes "format") ⊎ (name ≡ codes "check") ⊎ (name ≡ codes "run") ⊎ (name ≡ codes "serve")
+
+-- The command is one of the program's, or there is none.
+abbrev pub HasKnownCommand : Option (List ℕ × List Row) → Type 0
+HasKnownCommand None = Unit {0}
+HasKnownCommand (Some found) = IsKnownName found.0
+
+-- These words ask for no job, and end by such a status: by one of the kinds of what is wrong or asked for, or with a value that isn't given well.
+abbrev pub EndsWords : List (List ℕ) → ℕ → Type 0
+EndsWords words status =
+    ((kind : ErrorKind) × IsAmong kind (fault_of hpb words) × EndsBy kind status)
+    ⊎ ((fault_of hpb words ≡ []) × (AreWellGiven (subcommand_of hpb words) → ⊥) × (status ≡ WRONG_WORDS))
+
+-- These words ask for a job where nothing is wrong with them and their values are given well, and else end by a status.
+abbrev pub AsksFor : List (List ℕ) → Result Job WordsFault → Type 0
+AsksFor words (Ok job) = (fault_of hpb words ≡ []) × AreWellGiven (subcommand_of hpb words) × IsJobOf (subcommand_of hpb words) job
+AsksFor words (Err Memory) = Unit {0}
+AsksFor words (Err (Refused text status)) = EndsWords words status
+
+-- Words are wrong, or they ask for help.
+abbrev pub HasStatus : WordsFault → Type 0
+HasStatus Memory = Unit {0}
+HasStatus (Refused text status) = (status ≡ WELL) ⊎ (status ≡ WRONG_WORDS)
+
+-- What is told of an error of this kind.
+abbrev pub IsTold : ErrorKind → WordsFault → Type 0
+IsTold kind Memory = Unit {0}
+IsTold kind (Refused text status) = (kind ≢ OutOfMemory) × EndsBy kind status
+
+-- Words are told to be wrong.
+abbrev pub IsWrong : WordsFault → Type 0
+IsWrong Memory = ⊥
+IsWrong (Refused text status) = status ≡ WRONG_WORDS
+
+-- A command with the texts of its file and its number.
+abbrev pub options_in : Option (List ℕ × List Row) → Option (List ℕ × Option (List ℕ) × Option (List ℕ))
+options_in = option_map (λ found. (found.0, first_of (codes "file") found.1, one_of (codes "journal") found.1))
+
+-- A command with the texts of its file, its journal and its layout.
+abbrev pub format_options_in : Option (List ℕ × List Row) → Option (List ℕ × Option (List ℕ) × Option (List ℕ) × Option (List ℕ))
+format_options_in = option_map (λ found. (found.0, first_of (codes "file") found.1, one_of (codes "journal") found.1, one_of (codes "layout") found.1))
+
+-- A command with the texts of its file and its two numbers.
+abbrev pub run_options_in : Option (List ℕ × List Row) → Option (List ℕ × Option (List ℕ) × Option (List ℕ) × Option (List ℕ))
+run_options_in = option_map (λ found. (found.0, first_of (codes "file") found.1, one_of (codes "batch") found.1, one_of (codes "every") found.1))
+
+-- A command with the texts of its file, its port and its number of sessions.
+abbrev pub serve_options_in : Option (List ℕ × List Row) → Option (List ℕ × Option (List ℕ) × Option (List ℕ) × Option (List ℕ))
+serve_options_in = option_map (λ found. (found.0, first_of (codes "file") found.1, one_of (codes "port") found.1, one_of (codes "sessions") found.1))
+
+-- What is asked for by some words behind the program's name, or wrong with them. None and an end of options ask for a script, others for help or the
+-- version, and what the program doesn't know is wrong.
+pub record WordsAskFor : Type 0 where
+  pub none : fault_of hpb [] ≡ []
+  pub name : (name : List ℕ) → fault_of hpb (name ∷ []) ≡ []
+  pub script : (name : List ℕ) → subcommand_of hpb (name ∷ []) ≡ None
+  pub end : (name : List ℕ) → fault_of hpb (name ∷ codes "--" ∷ []) ≡ []
+  pub help : (name : List ℕ) → fault_of hpb (name ∷ codes "--help" ∷ []) ≡ DisplayHelp ∷ []
+  pub version : (name : List ℕ) → fault_of hpb (name ∷ codes "--version" ∷ []) ≡ DisplayVersion ∷ []
+  pub word : (name : List ℕ) → fault_of hpb (name ∷ codes "bogus" ∷ []) ≡ UnknownArgument ∷ InvalidSubcommand ∷ []
+  pub empty : (name : List ℕ) → fault_of hpb (name ∷ [] ∷ []) ≡ UnknownArgument ∷ InvalidSubcommand ∷ []
+  pub option : (name : List ℕ) → fault_of hpb (name ∷ codes "--bogus" ∷ []) ≡ UnknownArgument ∷ []
+  pub letter : (name : List ℕ) → fault_of hpb (name ∷ codes "-b" ∷ []) ≡ UnknownArgument ∷ []
+  pub first : (name : List ℕ) → fault_of hpb (name ∷ codes "bogus" ∷ codes "--help" ∷ []) ≡ UnknownArgument ∷ InvalidSubcommand ∷ []
+  pub format : (name : List ℕ) → fault_of hpb (name ∷ codes "format" ∷ codes "--file" ∷ codes "a.hpb" ∷ codes "--journal" ∷ codes "4" ∷ []) ≡ []
+  pub formats : (name : List ℕ) → format_options_in (subcommand_of hpb (name ∷ codes "format" ∷ codes "--file" ∷ codes "a.hpb" ∷ codes "--journal" ∷ codes "4" ∷ []))
+      ≡ Some (codes "format", Some (codes "a.hpb"), Some (codes "4"), Some (codes "1"))
+  pub formats_cells : (name : List ℕ) → format_options_in (subcommand_of hpb (name ∷ codes "format" ∷ codes "--file=a.hpb" ∷ codes "--journal=16" ∷ codes "--layout=2" ∷ []))
+      ≡ Some (codes "format", Some (codes "a.hpb"), Some (codes "16"), Some (codes "2"))
+  pub below_layout : (name : List ℕ) → fault_of hpb (name ∷ codes "format" ∷ codes "--file=a.hpb" ∷ codes "--journal=16" ∷ codes "--layout=0" ∷ []) ≡ ValueValidation ∷ []
+  pub above_layout : (name : List ℕ) → fault_of hpb (name ∷ codes "format" ∷ codes "--file=a.hpb" ∷ codes "--journal=16" ∷ codes "--layout=3" ∷ []) ≡ ValueValidation ∷ []
+  pub signed_layout : (name : List ℕ) → AreWellGiven (subcommand_of hpb (name ∷ codes "format" ∷ codes "--file=a.hpb" ∷ codes "--journal=16" ∷ codes "--layout=+1" ∷ [])) → ⊥
+  pub format_help : (name : List ℕ) → fault_of hpb (name ∷ codes "format" ∷ codes "--help" ∷ []) ≡ DisplayHelp ∷ []
+  pub no_file : (name : List ℕ) → fault_of hpb (name ∷ codes "format" ∷ codes "--journal=4" ∷ []) ≡ MissingRequiredArgument ∷ []
+  pub no_journal : (name : List ℕ) → fault_of hpb (name ∷ codes "format" ∷ codes "--file=a.hpb" ∷ []) ≡ MissingRequiredArgument ∷ []
+  pub no_number : (name : List ℕ) → fault_of hpb (name ∷ codes "format" ∷ codes "--journal=four" ∷ []) ≡ ValueValidation ∷ []
+  pub check : (name : List ℕ) → fault_of hpb (name ∷ codes "check" ∷ codes "--file=a.hpb" ∷ []) ≡ []
+  pub checks : (name : List ℕ) → options_in (subcommand_of hpb (name ∷ codes "check" ∷ codes "--file=a.hpb" ∷ [])) ≡ Some (codes "check", Some (codes "a.hpb"), None)
+  pub check_help : (name : List ℕ) → fault_of hpb (name ∷ codes "check" ∷ codes "--help" ∷ []) ≡ DisplayHelp ∷ []
+  pub check_file : (name : List ℕ) → fault_of hpb (name ∷ codes "check" ∷ []) ≡ MissingRequiredArgument ∷ []
+  pub no_name : (name : List ℕ) → AreWellGiven (subcommand_of hpb (name ∷ codes "check" ∷ codes "--file=" ∷ [])) → ⊥
+  pub run : (name : List ℕ) → fault_of hpb (name ∷ codes "run" ∷ codes "--file" ∷ codes "a.hpb" ∷ codes "--batch" ∷ codes "16" ∷ codes "--every" ∷ codes "50" ∷ []) ≡ []
+  pub runs : (name : List ℕ) → run_options_in (subcommand_of hpb (name ∷ codes "run" ∷ codes "--file" ∷ codes "a.hpb" ∷ codes "--batch" ∷ codes "16" ∷ codes "--every" ∷ codes "50" ∷ []))
+      ≡ Some (codes "run", Some (codes "a.hpb"), Some (codes "16"), Some (codes "50"))
+  pub run_alone : (name : List ℕ) → fault_of hpb (name ∷ codes "run" ∷ codes "--file=a.hpb" ∷ []) ≡ []
+  pub runs_alone : (name : List ℕ) → run_options_in (subcommand_of hpb (name ∷ codes "run" ∷ codes "--file=a.hpb" ∷ [])) ≡ Some (codes "run", Some (codes "a.hpb"), Some (codes "1"), Some (codes "0"))
+  pub run_help : (name : List ℕ) → fault_of hpb (name ∷ codes "run" ∷ codes "--help" ∷ []) ≡ DisplayHelp ∷ []
+  pub run_file : (name : List ℕ) → fault_of hpb (name ∷ codes "run" ∷ []) ≡ MissingRequiredArgument ∷ []
+  pub least_batch : (name : List ℕ) → fault_of hpb (name ∷ codes "run" ∷ codes "--file=a.hpb" ∷ codes "--batch=1" ∷ []) ≡ []
+  pub most_batch : (name : List ℕ) → fault_of hpb (name ∷ codes "run" ∷ codes "--file=a.hpb" ∷ codes "--batch=64" ∷ []) ≡ []
+  pub below_batch : (name : List ℕ) → fault_of hpb (name ∷ codes "run" ∷ codes "--file=a.hpb" ∷ codes "--batch=0" ∷ []) ≡ ValueValidation ∷ []
+  pub above_batch : (name : List ℕ) → fault_of hpb (name ∷ codes "run" ∷ codes "--file=a.hpb" ∷ codes "--batch=65" ∷ []) ≡ ValueValidation ∷ []
+  pub signed_every : (name : List ℕ) → AreWellGiven (subcommand_of hpb (name ∷ codes "run" ∷ codes "--file=a.hpb" ∷ codes "--every=-0" ∷ [])) → ⊥
+  pub signed_port : (name : List ℕ) → AreWellGiven (subcommand_of hpb (name ∷ codes "serve" ∷ codes "--file=a.hpb" ∷ codes "--port=+5000" ∷ codes "--sessions=2" ∷ [])) → ⊥
+  pub serve : (name : List ℕ) → fault_of hpb (name ∷ codes "serve" ∷ codes "--file" ∷ codes "a.hpb" ∷ codes "--port" ∷ codes "5000" ∷ codes "--sessions" ∷ codes "2" ∷ []) ≡ []
+  pub serves : (name : List ℕ) → serve_options_in (subcommand_of hpb (name ∷ codes "serve" ∷ codes "--file" ∷ codes "a.hpb" ∷ codes "--port" ∷ codes "5000" ∷ codes "--sessions" ∷ codes "2" ∷ []))
+      ≡ Some (codes "serve", Some (codes "a.hpb"), Some (codes "5000"), Some (codes "2"))
+  pub serve_help : (name : List ℕ) → fault_of hpb (name ∷ codes "serve" ∷ codes "--help" ∷ []) ≡ DisplayHelp ∷ []
+  pub serve_file : (name : List ℕ) → fault_of hpb (name ∷ codes "serve" ∷ codes "--port=5000" ∷ codes "--sessions=2" ∷ []) ≡ MissingRequiredArgument ∷ []
+  pub serve_port : (name : List ℕ) → fault_of hpb (name ∷ codes "serve" ∷ codes "--file=a.hpb" ∷ codes "--sessions=2" ∷ []) ≡ MissingRequiredArgument ∷ []
+  pub serve_sessions : (name : List ℕ) → fault_of hpb (name ∷ codes "serve" ∷ codes "--file=a.hpb" ∷ codes "--port=5000" ∷ []) ≡ MissingRequiredArgument ∷ []
+  pub least_port : (name : List ℕ) → fault_of hpb (name ∷ codes "serve" ∷ codes "--file=a.hpb" ∷ codes "--port=1024" ∷ codes "--sessions=2" ∷ []) ≡ []
+  pub most_port : (name : List ℕ) → fault_of hpb (name ∷ codes "serve" ∷ codes "--file=a.hpb" ∷ codes "--port=65535" ∷ codes "--sessions=2" ∷ []) ≡ []
+  pub below_port : (name : List ℕ) → fault_of hpb (name ∷ codes "serve" ∷ codes "--file=a.hpb" ∷ codes "--port=1023" ∷ codes "--sessions=2" ∷ []) ≡ ValueValidation ∷ []
+  pub above_port : (name : List ℕ) → fault_of hpb (name ∷ codes "serve" ∷ codes "--file=a.hpb" ∷ codes "--port=65536" ∷ codes "--sessions=2" ∷ []) ≡ ValueValidation ∷ []
+  pub least_sessions : (name : List ℕ) → fault_of hpb (name ∷ codes "serve" ∷ codes "--file=a.hpb" ∷ codes "--port=5000" ∷ codes "--sessions=1" ∷ []) ≡ []
+  pub most_sessions : (name : List ℕ) → fault_of hpb (name ∷ codes "serve" ∷ codes "--file=a.hpb" ∷ codes "--port=5000" ∷ codes "--sessions=32" ∷ []) ≡ []
+  pub below_sessions : (name : List ℕ) → fault_of hpb (name ∷ codes "serve" ∷ codes "--file=a.hpb" ∷ codes "--port=5000" ∷ codes "--sessions=0" ∷ []) ≡ ValueValidation ∷ []
+  pub above_sessions : (name : List ℕ) → fault_of hpb (name ∷ codes "serve" ∷ codes "--file=a.hpb" ∷ codes "--port=5000" ∷ codes "--sessions=33" ∷ []) ≡ ValueValidation ∷ []

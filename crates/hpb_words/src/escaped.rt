@@ -1,0 +1,103 @@
+//! Texts of the user's in what people are told.
+
+use std::fmt;
+
+/// How many characters of a file's name are shown at most.
+const MOST_SHOWN: usize = 100;
+
+/// A file's name, escaped as a word is, and cut where it is long.
+#[derive(Clone, Copy)]
+pub struct Escaped<'a>(pub &'a str);
+
+impl fmt::Display for Escaped<'_> {
+    fn fmt<W: fmt::Write>(&self, f: &mut fmt::Formatter<W>) -> fmt::Result {
+        let text = self.0;
+        let mut shown = 0usize;
+        for letter in text.chars() {
+            shown = shown.saturating_add(width(letter));
+            if shown > MOST_SHOWN {
+                return f.write_str("..");
+            }
+            write_escaped(f, letter)?;
+        }
+        Ok(())
+    }
+}
+
+/// How many bytes a name in a command has at most.
+const MOST_PASTED: usize = 400;
+
+/// A file's name in a command that is to be pasted: in quotes where a shell wants it, and whole. `F` stands for one
+/// that is longer than a line may be, or has characters that a terminal obeys or doesn't show.
+#[derive(Clone, Copy)]
+pub struct Pasted<'a>(pub &'a str);
+
+impl fmt::Display for Pasted<'_> {
+    fn fmt<W: fmt::Write>(&self, f: &mut fmt::Formatter<W>) -> fmt::Result {
+        let name = self.0;
+        if name.len() > MOST_PASTED || name.chars().any(is_escaped) {
+            return f.write_str("F");
+        }
+        // A name that begins as an option does would be taken for one.
+        let front = if name.starts_with('-') { "./" } else { "" };
+        if name.chars().all(is_plain) {
+            return write!(f, "{front}{name}");
+        }
+        write!(f, "'{front}")?;
+        for letter in name.chars() {
+            match letter {
+                '\'' => f.write_str("'\\''")?,
+                _ => f.write_char(letter)?,
+            }
+        }
+        f.write_str("'")
+    }
+}
+
+/// Whether no shell takes a character for more than itself.
+fn is_plain(letter: char) -> bool {
+    letter.is_ascii_alphanumeric()
+        || matches!(
+            letter,
+            '.' | '_' | '/' | '-' | '+' | ',' | ':' | '@' | '%' | '='
+        )
+}
+
+/// A word, whole: its characters that a terminal obeys or doesn't show are escaped.
+#[derive(Clone, Copy)]
+pub(crate) struct EscapedWord<'a>(pub(crate) &'a str);
+
+impl fmt::Display for EscapedWord<'_> {
+    fn fmt<W: fmt::Write>(&self, f: &mut fmt::Formatter<W>) -> fmt::Result {
+        let word = self.0;
+        for letter in word.chars() {
+            write_escaped(f, letter)?;
+        }
+        Ok(())
+    }
+}
+
+fn write_escaped<W: fmt::Write>(f: &mut fmt::Formatter<W>, letter: char) -> fmt::Result {
+    if is_escaped(letter) {
+        write!(f, "{}", letter.escape_debug())
+    } else {
+        f.write_char(letter)
+    }
+}
+
+/// As how many characters one is shown.
+fn width(letter: char) -> usize {
+    if is_escaped(letter) {
+        letter.escape_debug().count()
+    } else {
+        1
+    }
+}
+
+/// Whether `{:?}` escapes a character. Quotes and backslashes stay as they are, since no quotes stand around.
+pub(crate) fn is_escaped(letter: char) -> bool {
+    match letter {
+        '\'' | '"' | '\\' => false,
+        _ => letter.escape_debug().next() != Some(letter),
+    }
+}

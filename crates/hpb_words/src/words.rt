@@ -1,0 +1,557 @@
+ghost use Rattle.std.specs.Prelude.{◌≡◌, false, Some, IfErr, IfOk, MatchOption, map};
+ghost use Rattle.clap.specs.Values.{kind_of};
+ghost use Rattle.clap.specs.Words.{app_of, found_of, rows_of, rule_of, shape_of, subcommand_rows_of};
+ghost use Rattle.clap.specs.declared.builder.command.Command.TheViews.{out-Command};
+ghost use Rattle.hpb_words.specs.Words.{batch_rule, check_shape, every_rule, file_rule, file_shape, format_shape, hpb, journal_rule, layout_rule, option_rule, port_rule, run_shape, serve_shape, sessions_rule, AsksFor, HasFile, HasKnownCommand, HasRanges, HasStatus, IsJobOf, IsKnownName, IsTold, IsWrong};
+ghost use Rattle.hpb_words.specs.declared.words.WordsFault.TheVariants.{Memory};
+
+use crate::escaped::{EscapedWord, is_escaped};
+use crate::status::{WELL, WRONG_WORDS};
+use crate::values::{ValueFault, check_values};
+use clap::error::ErrorKind;
+use clap::{Arg, ArgMatches, Command, value_parser};
+use hpb_codec::{JournalLayout, JournalShape};
+use hpb_rules::{MOST_LETTERS, MOST_SEATS};
+use std::alloc::{AllocError, Global};
+use std::convert::AsStr;
+use thiserror::Error;
+
+/// The version, and the line of the kit that the program is proved with.
+const VERSION: &str = "0.1.0\nrattle-kit-13f logic dac8208d650f15bf";
+
+const USAGE: &str = r#"hpb < SCRIPT
+       hpb format --file F --journal J [--layout 1|2] < DEFINITION
+       hpb run --file F [--batch N] [--every K] < LINES
+       hpb check --file F
+       hpb serve --file F --port P --sessions N"#;
+
+const ABOUT: &str = "Runs a simultaneous ascending auction with bids on packages.";
+
+const HELP: &str =
+    r#"Without a command the auction is in memory. Standard input has its definition in JSON, in one line, and
+then commands and questions, one a line. Each of them gets one line on standard output:
+
+  BID bidder ticket node amount   a bid, in whole dollars        OK number
+  CLOSE ticket                    ends the round                 OK number
+  STAGE ticket                    moves on to the next stage     OK number
+  WAIVE bidder ticket             keeps its eligibility          OK number
+  SHOW                            the auction                    ROUND r STAGE s OPEN REVENUE v COUNT n
+  NODE name                       a package or a licence         NODE name HIGH h x PRICE p MIN m WIN yes
+  WHO bidder                      a bidder                       WHO x ELIGIBILITY e ACTIVITY a TICKET t
+
+A CLOSE of a round in which nobody bid or waived ends the auction, for good.
+Where the definition gives waivers, what WHO is answered ends with WAIVERS and how many are left.
+Each bidder numbers its commands 1, 2, .. by tickets, and so does who closes rounds and moves stages.
+What is refused gets ERR with a number and a word.
+
+Status: 0 each line got its answer; 1 the definition or memory was refused, or reading or writing
+failed; 2 the words were wrong. Each command says by --help what its status means.
+
+Example: the lines
+
+  {"step":10,"percent":10,"stages":[80],"nodes":[{"name":"a","parent":null,"units":1,"opening":100}],"bidders":[{"name":"x","units":1}]}
+  BID x 1 a 100
+  CLOSE 1
+  NODE a
+
+are answered by OK 1, OK 2 and NODE a HIGH 100 x PRICE 100 MIN 110 WIN yes.
+
+docs/RULES.md has the rules of the auction; docs/PROTOCOL.md has the definition, all lines, answers and
+refusals."#;
+
+const FORMAT_ABOUT: &str = "Makes a file that keeps an auction, before its first command";
+
+const FORMAT_HELP: &str =
+    r#"Standard input is the definition in JSON, in as many lines as you like. A file that isn't there is made. One that
+is there must have the same number of bytes as one that is made so, and must not keep an auction yet; what it holds
+is lost. The journal has J frames, each for a batch of commands. The more it has, the more rarely a checkpoint is
+needed.
+
+--layout 1: a frame is a page of 4,096 bytes. J is from 4 to 1,024, and the file has 13 + J pages.
+
+--layout 2: a frame is three cells of 512 bytes, of which a batch takes as many as it needs, so a journal of as many
+batches has three eighths of the pages. J is a multiple of 8 from 16 to 1,024, and the file has 13 + 3J/8 pages.
+
+Both keep the same promises. The layout is in the file's head, where the other commands find it.
+
+What is written is FORMATTED with the number of pages, or ERR with a number and a word.
+
+Status: 0 the file keeps the auction; 1 it doesn't, and why is written; 2 the words were wrong.
+
+Example: a file of 77 pages, and one of 37 for as many batches
+
+  hpb format --file auction.hpb --journal 64 < definition.json
+  hpb format --file cells.hpb --journal 64 --layout 2 < definition.json
+
+docs/OPERATIONS.md says how to size, copy and move a file, and what each refusal means."#;
+
+const CHECK_ABOUT: &str = "Shows the auction that a file keeps";
+
+const CHECK_HELP: &str =
+    r#"What is written is the line that SHOW is answered, and then for each node, in the order of the definition, the line
+that NODE is answered; or ERR with a number and a word. The file is only read. It can't be read so while another
+program runs it.
+
+Status: 0 the auction is shown; 1 it isn't, and why is written; 2 the words were wrong.
+
+Example:
+
+  hpb check --file auction.hpb
+
+docs/OPERATIONS.md says what each refusal means."#;
+
+const RUN_ABOUT: &str = "Runs the auction that a file keeps";
+
+const RUN_HELP: &str =
+    r#"Standard input has commands and questions, one a line, as a script has behind its definition, and each line gets its
+answer on standard output (hpb --help). A command is answered by OK once it is on the disk: no power cut takes it back,
+as long as the disk does what it is told. The auction goes on where the file's last run ended, with all that was
+answered by OK. While it runs, no other program may have the file.
+
+--batch N: as many commands as have come are put on the disk together, N at most, and then answered. Any line that is
+no command ends a batch, and no batch waits for more to come. What a batch costs, mostly two syncs of the disk, its
+commands share.
+
+--every K: a checkpoint is written after each K batches that were put on the disk. With 0 one is written only where
+the journal is full. The more often, the faster the file is opened again.
+
+Status: 0 each line got its answer; 1 the file could not be opened, its disk failed (commands are answered ERR 91
+device or ERR 93 failed from then on), memory was refused, or reading or writing failed; 2 the words were wrong. With
+1 standard error says what happened and what to do.
+
+Example: up to 16 commands at a time, and a checkpoint after each 50 batches
+
+  hpb run --file auction.hpb --batch 16 --every 50 < lines
+
+docs/OPERATIONS.md says what each refusal means."#;
+
+const SERVE_ABOUT: &str = "Serves sessions over TCP by the auction that a file keeps";
+
+const SERVE_HELP: &str =
+    r#"LISTENING P is written once port P of 127.0.0.1 can be connected to. N connections are taken, and each is a session
+of its own; the system refuses any further one. A session sends commands and questions, one a line, as a script has
+behind its definition, and each line gets its answer (hpb --help). So nc 127.0.0.1 P is a client, and needs nothing
+else. All sessions are in one auction: each is shown by its questions what the others did.
+
+A command is answered by OK once it is on the disk: no power cut takes it back, as long as the disk does what it is
+told. The auction goes on where the file's last run ended, with all that was answered by OK. While it is served, no
+other program may have the file.
+
+A session ends where its client ends its lines or its connection. Once all N have ended CLOSED n is written: n commands
+are accepted in all. What can't be served gets ERR with a number and a word.
+
+Only programs on this machine can connect. Any of them may send any command: nobody is asked who he is.
+
+Status: 0 all sessions have ended; 1 the file could not be opened, as many connections may not be open at a time (ulimit
+-n), the port could not be had, the file's disk failed (commands are answered ERR 93 failed from then on), memory was
+refused, writing failed, or what was answered isn't what was kept; 2 the words were wrong. With 1 standard error says
+what happened and what to do. Before, it says which places are taken, and when the disk fails.
+
+Example: two sessions, each from a terminal of its own
+
+  hpb serve --file auction.hpb --port 5000 --sessions 2
+  nc 127.0.0.1 5000
+  nc 127.0.0.1 5000
+
+docs/OPERATIONS.md says what each refusal means; docs/PROTOCOL.md has all lines, answers and refusals."#;
+
+/// The command that makes a file.
+const FORMAT: &str = "format";
+
+/// The command that shows what a file keeps.
+const CHECK: &str = "check";
+
+/// The command that runs what a file keeps.
+const RUN: &str = "run";
+
+/// The command that serves sessions by what a file keeps.
+const SERVE: &str = "serve";
+
+/// The option that names a file.
+pub(crate) const FILE: &str = "file";
+
+/// The option that gives the number of frames of a journal.
+pub(crate) const JOURNAL: &str = "journal";
+
+/// The option that gives the number of a journal's layout.
+pub(crate) const LAYOUT: &str = "layout";
+
+/// The option that gives the most commands of a batch.
+pub(crate) const BATCH: &str = "batch";
+
+/// The option that gives the number of batches after which there is a checkpoint.
+pub(crate) const EVERY: &str = "every";
+
+/// The option that gives a port.
+pub(crate) const PORT: &str = "port";
+
+/// The option that gives a number of sessions.
+pub(crate) const SESSIONS: &str = "sessions";
+
+/// As many commands as a batch may have.
+const MOST_BATCH: u32 = MOST_LETTERS as u32;
+
+/// The least port that may be served at. Those below it are kept for the system's own programs.
+const LEAST_PORT: u16 = 1_024;
+
+/// The greatest port that there is.
+const MOST_PORT: u16 = u16::MAX;
+
+/// As many sessions as there may be.
+const MOST_SESSIONS: u8 = MOST_SEATS as u8;
+
+/// What a command line asks for.
+#[derive(Clone, Copy, Debug, PartialEq, Eq)]
+pub enum Job<'a> {
+    /// An auction in memory: a definition and lines from the input.
+    Script,
+    /// A file that keeps an auction, by the definition from the input: the file's path, and the layout and the number
+    /// of frames of its journal, which may be out of the layout's range.
+    Format {
+        file: &'a str,
+        journal: JournalShape,
+    },
+    /// The auction that the file of this path keeps, shown.
+    Check {
+        file: &'a str,
+    },
+    /// The auction that the file of this path keeps, with lines from the input: the most commands that are made durable
+    /// together, and the number of batches after which there is a checkpoint, or 0.
+    Run {
+        file: &'a str,
+        batch: u32,
+        every: u32,
+    },
+    /// The auction that the file of this path keeps, with lines from connections: the port of 127.0.0.1, from 1,024 on,
+    /// and the number of sessions, from 1 to 32.
+    Serve {
+        file: &'a str,
+        port: u16,
+        sessions: u8,
+    },
+}
+
+impl<'a> Job<'a> {
+    /// The path of its file; a script has none.
+    pub fn file(self) -> Option<&'a str>
+        ensures { MatchOption result (HasFile self.entry → ⊥) (λ _. HasFile self.entry) }
+    {
+        match self {
+            Job::Script => None,
+            Job::Format { file, .. }
+            | Job::Check { file }
+            | Job::Run { file, .. }
+            | Job::Serve { file, .. } => Some(file),
+        }
+    }
+
+    /// The journal that it asks for, which only `format` does.
+    pub fn journal(self) -> Option<JournalShape> {
+        match self {
+            Job::Format { journal, .. } => Some(journal),
+            _ => None,
+        }
+    }
+}
+
+/// Why words ask for no job.
+#[derive(Debug, Drop, Error)]
+pub enum WordsFault {
+    /// 90: memory was refused.
+    #[error("memory")]
+    Memory,
+    /// The words are wrong, or ask for help. The text is for whoever wrote them, and the status is the
+    /// program's: 2 for wrong words, else 0.
+    #[error("{text}")]
+    Refused { text: String, status: u8 },
+}
+
+impl From<AllocError> for WordsFault {
+    ghost from_gives = { λ _ e. e ≡ Memory };
+
+    fn from(_error: AllocError) -> WordsFault {
+        WordsFault::Memory
+    }
+}
+
+/// The job that a command line asks for. Its first word is the program's name.
+pub fn read_words<'a, S: AsStr>(alloc: Global, words: &'a [S]) -> Result<Job<'a>, WordsFault>
+    ensures status { IfErr result HasStatus }
+    ensures asked { AsksFor (map S.text words.now) result }
+    ensures ranges { IfOk result HasRanges }
+{
+    let command = command(alloc)?;
+    match command.try_get_matches_from(words) {
+        Ok(matches) => match check_values(&matches) {
+            Ok(()) => Ok(job_of(&matches)),
+            Err(fault) => Err(refused_value(alloc, fault)?),
+        },
+        Err(error) => Err(refused(alloc, &error, words)?),
+    }
+}
+
+/// What matches ask for.
+fn job_of<'a>(matches: &ArgMatches<'a>) -> Job<'a>
+    requires { HasKnownCommand (subcommand_rows_of matches.now) }
+    ensures job { IsJobOf (subcommand_rows_of matches.now) result }
+    ensures ranges { HasRanges result }
+{
+    match matches.subcommand() {
+        None => Job::Script,
+        Some((name, options)) => job_of_command(name, options),
+    }
+}
+
+/// What a command asks for. It takes words only with all its options, so none of them is missing here.
+fn job_of_command<'a>(name: &str, options: &ArgMatches<'a>) -> Job<'a>
+    requires { IsKnownName name.now }
+    ensures job { IsJobOf (Some (name.now, rows_of (found_of options.now))) result }
+    ensures ranges { HasRanges result }
+{
+    let file = options.get_str(FILE).unwrap_or("");
+    if name == FORMAT {
+        let frames = options.get_one::<u32>(JOURNAL).unwrap_or(0);
+        let byte = options.get_one::<u8>(LAYOUT).unwrap_or(1);
+        let layout = JournalLayout::of_byte(byte).unwrap_or(JournalLayout::Pages);
+        let journal = JournalShape { layout, frames };
+        Job::Format { file, journal }
+    } else if name == RUN {
+        let wanted = options.get_one::<u32>(BATCH).unwrap_or(1);
+        let batch = wanted.clamp(1, MOST_BATCH);
+        let every = options.get_one::<u32>(EVERY).unwrap_or(0);
+        Job::Run { file, batch, every }
+    } else if name == SERVE {
+        let asked = options.get_one::<u16>(PORT).unwrap_or(LEAST_PORT);
+        let port = asked.max(LEAST_PORT);
+        let wanted = options.get_one::<u8>(SESSIONS).unwrap_or(1);
+        let sessions = wanted.clamp(1, MOST_SESSIONS);
+        Job::Serve {
+            file,
+            port,
+            sessions,
+        }
+    } else {
+        Job::Check { file }
+    }
+}
+
+/// What becomes of words with such a value.
+fn refused_value(alloc: Global, fault: ValueFault<'_>) -> Result<WordsFault, AllocError>
+    ensures { IfOk result IsWrong }
+{
+    let text = fault.to_string(alloc)?;
+    Ok(WordsFault::Refused {
+        text,
+        status: WRONG_WORDS,
+    })
+}
+
+/// What becomes of words that `clap` gives no matches for.
+fn refused<S: AsStr>(
+    alloc: Global,
+    error: &clap::Error,
+    words: &[S],
+) -> Result<WordsFault, AllocError>
+    ensures status { IfOk result HasStatus }
+    ensures told { IfOk result (IsTold (kind_of error.now)) }
+{
+    if error.kind() == ErrorKind::OutOfMemory {
+        return Ok(WordsFault::Memory);
+    }
+    let text = said_of(alloc, error, words)?;
+    let is_shown = error.kind() == ErrorKind::DisplayHelp
+        || error.kind() == ErrorKind::DisplayVersion;
+    let status = if is_shown { WELL } else { WRONG_WORDS };
+    Ok(WordsFault::Refused { text, status })
+}
+
+/// What is said of words: of those with characters that a terminal obeys or doesn't show what is said of them once
+/// these are escaped.
+fn said_of<S: AsStr>(
+    alloc: Global,
+    error: &clap::Error,
+    words: &[S],
+) -> Result<String, AllocError> {
+    if !words.iter().any(|word| has_escaped(word.as_str())) {
+        return error.to_string(alloc);
+    }
+    let escaped = escaped_words(alloc, words)?;
+    match command(alloc)?.try_get_matches_from(escaped.as_slice()) {
+        Ok(_) => Ok(String::new(alloc)),
+        Err(said) => said.to_string(alloc),
+    }
+}
+
+fn has_escaped(word: &str) -> bool {
+    word.chars().any(is_escaped)
+}
+
+fn escaped_words<S: AsStr>(alloc: Global, words: &[S]) -> Result<Vec<String>, AllocError> {
+    let mut escaped = Vec::new(alloc);
+    for word in words {
+        escaped.push(EscapedWord(word.as_str()).to_string(alloc)?)?;
+    }
+    Ok(escaped)
+}
+
+fn command<'a>(alloc: Global) -> Result<Command<'a>, AllocError>
+    ensures { IfOk result (λ command. app_of command ≡ hpb) }
+{
+    Command::new(alloc, "hpb")
+        .version(VERSION)
+        .override_usage(USAGE)
+        .about(ABOUT)
+        .after_help(HELP)
+        .disable_help_subcommand(true)
+        .subcommand(format_command(alloc)?)?
+        .subcommand(check_command(alloc)?)?
+        .subcommand(run_command(alloc)?)?
+        .subcommand(serve_command(alloc)?)
+}
+
+fn format_command<'a>(alloc: Global) -> Result<Command<'a>, AllocError>
+    ensures shape { IfOk result (λ command. shape_of command ≡ format_shape) }
+    ensures local { IfOk result (λ command. (out-Command command).has_globals ≡ false) }
+{
+    new_command(alloc, FORMAT, FORMAT_ABOUT, FORMAT_HELP)?
+        .arg(journal_option(alloc))?
+        .arg(layout_option(alloc))
+}
+
+fn check_command<'a>(alloc: Global) -> Result<Command<'a>, AllocError>
+    ensures shape { IfOk result (λ command. shape_of command ≡ check_shape) }
+    ensures local { IfOk result (λ command. (out-Command command).has_globals ≡ false) }
+{
+    new_command(alloc, CHECK, CHECK_ABOUT, CHECK_HELP)
+}
+
+fn run_command<'a>(alloc: Global) -> Result<Command<'a>, AllocError>
+    ensures shape { IfOk result (λ command. shape_of command ≡ run_shape) }
+    ensures local { IfOk result (λ command. (out-Command command).has_globals ≡ false) }
+{
+    new_command(alloc, RUN, RUN_ABOUT, RUN_HELP)?
+        .arg(batch_option(alloc))?
+        .arg(every_option(alloc))
+}
+
+fn serve_command<'a>(alloc: Global) -> Result<Command<'a>, AllocError>
+    ensures shape { IfOk result (λ command. shape_of command ≡ serve_shape) }
+    ensures local { IfOk result (λ command. (out-Command command).has_globals ≡ false) }
+{
+    new_command(alloc, SERVE, SERVE_ABOUT, SERVE_HELP)?
+        .arg(port_option(alloc))?
+        .arg(sessions_option(alloc))
+}
+
+/// A command on a file, with what help says of it before its options and behind them.
+fn new_command<'a>(
+    alloc: Global,
+    name: &'a str,
+    about: &'a str,
+    help: &'a str,
+) -> Result<Command<'a>, AllocError>
+    ensures shape { IfOk result (λ command. shape_of command ≡ file_shape name.now) }
+    ensures local { IfOk result (λ command. (out-Command command).has_globals ≡ false) }
+{
+    Command::new(alloc, name)
+        .about(about)
+        .after_help(help)
+        .arg(file_option(alloc))
+}
+
+fn file_option<'a>(alloc: Global) -> Arg<'a>
+    ensures rule { rule_of result ≡ file_rule }
+    ensures local { result.global ≡ false }
+{
+    option(alloc, FILE, "F", "The path of the file").required(true)
+}
+
+fn journal_option<'a>(alloc: Global) -> Arg<'a>
+    ensures rule { rule_of result ≡ journal_rule }
+    ensures local { result.global ≡ false }
+{
+    option(
+        alloc,
+        JOURNAL,
+        "J",
+        "The number of frames of the journal: 4 to 1024, and of cells a multiple of 8 from 16",
+    )
+    .required(true)
+    .value_parser(value_parser!(u32))
+}
+
+fn layout_option<'a>(alloc: Global) -> Arg<'a>
+    ensures rule { rule_of result ≡ layout_rule }
+    ensures local { result.global ≡ false }
+{
+    option(
+        alloc,
+        LAYOUT,
+        "L",
+        "The layout of the journal: 1, a page for each frame, or 2, cells",
+    )
+    .default_value("1")
+    .value_parser(value_parser!(u8).range(1..=2))
+}
+
+fn batch_option<'a>(alloc: Global) -> Arg<'a>
+    ensures rule { rule_of result ≡ batch_rule }
+    ensures local { result.global ≡ false }
+{
+    option(
+        alloc,
+        BATCH,
+        "N",
+        "The most commands that are put on the disk together, from 1 to 64",
+    )
+    .default_value("1")
+    .value_parser(value_parser!(u32).range(1..=MOST_BATCH as i64))
+}
+
+fn every_option<'a>(alloc: Global) -> Arg<'a>
+    ensures rule { rule_of result ≡ every_rule }
+    ensures local { result.global ≡ false }
+{
+    option(
+        alloc,
+        EVERY,
+        "K",
+        "The number of batches after which a checkpoint is written, or 0",
+    )
+    .default_value("0")
+    .value_parser(value_parser!(u32))
+}
+
+fn port_option<'a>(alloc: Global) -> Arg<'a>
+    ensures rule { rule_of result ≡ port_rule }
+    ensures local { result.global ≡ false }
+{
+    option(
+        alloc,
+        PORT,
+        "P",
+        "The port of 127.0.0.1, from 1024 to 65535",
+    )
+    .required(true)
+    .value_parser(value_parser!(u16).range(LEAST_PORT as i64..=MOST_PORT as i64))
+}
+
+fn sessions_option<'a>(alloc: Global) -> Arg<'a>
+    ensures rule { rule_of result ≡ sessions_rule }
+    ensures local { result.global ≡ false }
+{
+    option(alloc, SESSIONS, "N", "The number of sessions, from 1 to 32")
+        .required(true)
+        .value_parser(value_parser!(u8).range(1..=MOST_SESSIONS as i64))
+}
+
+/// An option that is given by its name, with one value.
+fn option<'a>(alloc: Global, name: &'a str, value: &'a str, help: &'a str) -> Arg<'a>
+    ensures rule { rule_of result ≡ option_rule name.now }
+    ensures local { result.global ≡ false }
+{
+    Arg::new(alloc, name)
+        .long(name)
+        .value_name(value)
+        .help(help)
+}
