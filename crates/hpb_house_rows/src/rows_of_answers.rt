@@ -215,6 +215,13 @@ const REST: u32 = 1_000;
 /// Within how many turns an answer comes that a bell has to bring.
 const FEW_TURNS: u32 = 100_000;
 
+/// Waits until the committer sleeps.
+fn rest<R: Wait>(rt: &R) {
+    for _ in 0..REST {
+        pause(rt);
+    }
+}
+
 /// Posts two commands, each once the committer sleeps, and takes their answers only then: the second is posted while the
 /// first one's answer isn't taken.
 #[derive(Drop)]
@@ -222,20 +229,26 @@ struct TwoPosts {
     taken: AtomicU32,
 }
 
+impl TwoPosts {
+    /// Counts the client's next answer, where it comes.
+    fn count_next<R: Wait>(&self, rt: &R, client: &mut Client<Halt>)
+        ensures same { SameClient client.old client.new }
+    {
+        if take_within(rt, client, FEW_TURNS).is_some() {
+            self.taken.fetch_add(1, Ordering::SeqCst);
+        }
+    }
+}
+
 impl Session for TwoPosts {
     fn run<R: Wait>(&self, rt: &R, client: Client<Halt>) -> Client<Halt> {
         let mut client = client;
-        for place in 0..2 {
-            let _ = post(&mut client, accepted_command(place));
-            for _ in 0..REST {
-                pause(rt);
-            }
-        }
-        for _ in 0..2 {
-            if take_within(rt, &mut client, FEW_TURNS).is_some() {
-                self.taken.fetch_add(1, Ordering::SeqCst);
-            }
-        }
+        let _ = post(&mut client, accepted_command(0));
+        rest(rt);
+        let _ = post(&mut client, accepted_command(1));
+        rest(rt);
+        self.count_next(rt, &mut client);
+        self.count_next(rt, &mut client);
         client
     }
 }

@@ -11,6 +11,7 @@ use Rattle.clap.specs.declared.error.kind.ErrorKind.{ErrorKind}
 use Rattle.clap.specs.declared.error.kind.ErrorKind.TheVariants.{DisplayHelp, DisplayVersion, InvalidSubcommand, MissingRequiredArgument, OutOfMemory, UnknownArgument, ValueValidation}
 use Rattle.hpb_codec.specs.Layouts.{layout_byte}
 use Rattle.hpb_codec.specs.declared.layout.JournalLayout.{JournalLayout}
+use Rattle.hpb_codec.specs.declared.layout.JournalShape.{JournalShape}
 use Rattle.hpb_rules.specs.declared.limits.TheConstants.{MOST_LETTERS}
 use Rattle.hpb_words.specs.declared.status.TheConstants.{WELL, WRONG_WORDS}
 use Rattle.hpb_words.specs.declared.words.Job.{Job}
@@ -165,6 +166,19 @@ HasRanges job = Unit {0}
 abbrev pub HasFile : Job → Type 0
 HasFile Script = ⊥
 HasFile job = Unit {0}
+
+-- The path of a job's file; a script has none.
+abbrev pub file_of : Job → Option (List ℕ)
+file_of Script = None
+file_of (Format file journal) = Some file.now
+file_of (Check file) = Some file.now
+file_of (Run file batch every) = Some file.now
+file_of (Serve file port sessions) = Some file.now
+
+-- The journal that a job asks for: of a new file alone.
+abbrev pub journal_of : Job → Option JournalShape
+journal_of (Format file journal) = Some journal
+journal_of job = None
 
 -- The name is that of a command.
 abbrev pub IsKnownName : List ℕ → Type 0

@@ -1,8 +1,8 @@
-ghost use Rattle.std.specs.Prelude.{◌≡◌, false, Some, IfErr, IfOk, MatchOption, map};
+ghost use Rattle.std.specs.Prelude.{◌≡◌, false, Some, IfErr, IfOk, MatchOption, map, option_map};
 ghost use Rattle.clap.specs.Values.{kind_of};
 ghost use Rattle.clap.specs.Words.{app_of, found_of, rows_of, rule_of, shape_of, subcommand_rows_of};
 ghost use Rattle.clap.specs.declared.builder.command.Command.TheViews.{out-Command};
-ghost use Rattle.hpb_words.specs.Words.{batch_rule, check_shape, every_rule, file_rule, file_shape, format_shape, hpb, journal_rule, layout_rule, option_rule, port_rule, run_shape, serve_shape, sessions_rule, AsksFor, HasFile, HasKnownCommand, HasRanges, HasStatus, IsJobOf, IsKnownName, IsTold, IsWrong};
+ghost use Rattle.hpb_words.specs.Words.{batch_rule, check_shape, every_rule, file_of, file_rule, file_shape, format_shape, hpb, journal_of, journal_rule, layout_rule, option_rule, port_rule, run_shape, serve_shape, sessions_rule, AsksFor, HasFile, HasKnownCommand, HasRanges, HasStatus, IsJobOf, IsKnownName, IsTold, IsWrong};
 ghost use Rattle.hpb_words.specs.declared.words.WordsFault.TheVariants.{Memory};
 
 use crate::escaped::{EscapedWord, is_escaped};
@@ -234,7 +234,8 @@ pub enum Job<'a> {
 impl<'a> Job<'a> {
     /// The path of its file; a script has none.
     pub fn file(self) -> Option<&'a str>
-        ensures { MatchOption result (HasFile self.entry → ⊥) (λ _. HasFile self.entry) }
+        ensures path { option_map (λ file. file.now) result ≡ file_of self.entry }
+        ensures some { MatchOption result (HasFile self.entry → ⊥) (λ _. HasFile self.entry) }
     {
         match self {
             Job::Script => None,
@@ -246,7 +247,9 @@ impl<'a> Job<'a> {
     }
 
     /// The journal that it asks for, which only `format` does.
-    pub fn journal(self) -> Option<JournalShape> {
+    pub fn journal(self) -> Option<JournalShape>
+        ensures { result ≡ journal_of self.entry }
+    {
         match self {
             Job::Format { journal, .. } => Some(journal),
             _ => None,
