@@ -4,13 +4,13 @@ use Rattle.hpb_define.specs.declared.fault.DefineCause.{DefineCause}
 use Rattle.hpb_define.specs.declared.fault.DefineCause.TheVariants as defining
 use Rattle.hpb_define.specs.declared.fault.DefineFault.{DefineFault}
 use Rattle.hpb_disk.specs.declared.fault.FileFault.{FileFault}
-use Rattle.hpb_disk.specs.declared.fault.FileFault.TheVariants as files
 use Rattle.hpb_recover.specs.declared.cause.Cause.{Cause}
 use Rattle.hpb_recover.specs.declared.cause.Cause.TheVariants as opening
 use Rattle.hpb_program.specs.declared.job_fault.JobFault.{JobFault}
 use Rattle.hpb_program.specs.declared.job_fault.JobFault.TheVariants as faults
 use Rattle.hpb_program.specs.Jobs.{made_by, made_of_definition, made_of_file, made_of_opening, IsOfFile, StopsReading}
 use Rattle.hpb_program.specs.Telling.{IsCutBy}
+use Rattle.hpb_program.proofs.Files.{of_each_file}
 
 module _ (cut : Bool) where
   abbrev IsElse : JobFault → Type 0
@@ -49,18 +49,7 @@ module _ (cut : Bool) where
 
   -- of a file that was to be opened
   pub of_opened_file : (fault : FileFault) (made : JobFault) → made ≡ made_of_file fault → IsCutBy cut (Err made)
-  of_opened_file fault made is = subst IsElse (sym is) (go fault)
-    where
-      go : (fault : FileFault) → IsElse (made_of_file fault)
-      go (files.Memory e) = tt
-      go files.Busy = tt
-      go files.NotAFile = tt
-      go files.TooLong = tt
-      go files.Stream = tt
-      go files.Errors = tt
-      go files.Beside = tt
-      go (files.Limit len limit) = tt
-      go (files.System e) = tt
+  of_opened_file = of_each_file IsElse tt (λ fault. tt)
 
   -- of what it holds
   pub of_opening : (cause : Cause) (made : JobFault) → made ≡ made_of_opening cause → IsCutBy cut (Err made)

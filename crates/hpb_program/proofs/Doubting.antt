@@ -5,7 +5,6 @@ use Rattle.std.proofs.KnownBytes.{Keeps-refl}
 use Rattle.std.specs.Io.KnownBytes.{Keeps}
 use Rattle.hpb_disk.specs.Images.{Only}
 use Rattle.hpb_disk.specs.declared.fault.FileFault.{FileFault}
-use Rattle.hpb_disk.specs.declared.fault.FileFault.TheVariants as files
 use Rattle.hpb_house.specs.declared.starting.StartCause.TheVariants as starting
 use Rattle.hpb_image.specs.Flaws.{HasFlaw}
 use Rattle.hpb_image.specs.declared.flaw.Flaw.{Flaw}
@@ -20,12 +19,13 @@ use Rattle.hpb_serve.specs.declared.fault.ServeFault.{ServeFault}
 use Rattle.hpb_serve.specs.declared.fault.ServeFault.TheVariants as serving
 use Rattle.hpb_program.specs.declared.job_fault.JobFault.{JobFault}
 use Rattle.hpb_program.specs.declared.job_fault.JobFault.TheVariants as faults
-use Rattle.hpb_program.specs.Doubts.{doubts_text, IsOfMachine, TellsDoubts, TellsIll, TellsImage, TellsKept, TellsStopped}
+use Rattle.hpb_program.specs.Doubts.{doubts_text, IsOfMachine, TellsDoubts, TellsImage, TellsKept, TellsStopped}
 use Rattle.hpb_server.specs.Telling.{Says}
 use Rattle.hpb_program.specs.Jobs.{made_of_file, made_of_opening, made_of_serving, Checks, ShowsKept}
 use Rattle.hpb_program.specs.Keeping.{IsNotOpened}
 use Rattle.hpb_program.specs.Serving.{IsOfDescriptors}
 use Rattle.hpb_program.specs.Telling.{IsCutBy}
+use Rattle.hpb_program.proofs.Files.{of_each_file}
 
 -- a device that was only read since leaves what it left
 pub durable_still : {D : Type 0} (seen : D → List ℕ) (may_leave : D → List ℕ → Type 0) (moment : D → ℕ) (left_since : D → ℕ → List ℕ → Type 0) (calls : ℕ) (old new : D)
@@ -114,18 +114,7 @@ told_serving D image old new fault made is told = subst (TellsStopped image old 
 
 -- of a file that is not opened nothing is told
 pub told_unopened_file : (contents : Option (List ℕ)) (fault : FileFault) (made : JobFault) → made ≡ made_of_file fault → TellsStopped [] contents contents made
-told_unopened_file contents fault made is = subst (TellsStopped [] contents contents) (sym is) (go fault)
-  where
-    go : (fault : FileFault) → TellsStopped [] contents contents (made_of_file fault)
-    go (files.Memory e) = inl (Keeps-refl contents)
-    go files.Busy = Keeps-refl contents
-    go files.NotAFile = Keeps-refl contents
-    go files.TooLong = Keeps-refl contents
-    go files.Stream = Keeps-refl contents
-    go files.Errors = Keeps-refl contents
-    go files.Beside = Keeps-refl contents
-    go (files.Limit len limit) = Keeps-refl contents
-    go (files.System e) = Keeps-refl contents
+told_unopened_file contents = of_each_file (TellsStopped [] contents contents) (inl (Keeps-refl contents)) (λ fault. Keeps-refl contents)
 
 -- nor where too few files and connections may be had at a time
 pub told_unheld : (contents : Option (List ℕ)) (fault : JobFault) → IsOfDescriptors fault → TellsStopped [] contents contents fault
@@ -165,18 +154,5 @@ checked image old new errors_old errors_new (Err faults.Counts) shows told = (sh
 
 -- and nothing is shown, or told, of one that is not
 pub checked_unopened : (contents errors : Option (List ℕ)) (fault : FileFault) (made : JobFault) → made ≡ made_of_file fault → Checks contents contents errors errors (Err made)
-checked_unopened contents errors fault made is = subst (λ (made : JobFault). Checks contents contents errors errors (Err made)) (sym is) (go fault)
-  where
-    untold : (fault : FileFault) → Keeps contents contents × TellsIll errors errors (made_of_file fault)
-    untold fault = (Keeps-refl contents, ([], told_unopened_file errors fault (made_of_file fault) refl))
-
-    go : (fault : FileFault) → Checks contents contents errors errors (Err (made_of_file fault))
-    go (files.Memory e) = untold (files.Memory e)
-    go files.Busy = untold files.Busy
-    go files.NotAFile = untold files.NotAFile
-    go files.TooLong = untold files.TooLong
-    go files.Stream = untold files.Stream
-    go files.Errors = untold files.Errors
-    go files.Beside = untold files.Beside
-    go (files.Limit len limit) = untold (files.Limit len limit)
-    go (files.System e) = untold (files.System e)
+checked_unopened contents errors = of_each_file (λ made. Checks contents contents errors errors (Err made)) (Keeps-refl contents, ([], inl (Keeps-refl errors)))
+    (λ fault. (Keeps-refl contents, ([], Keeps-refl errors)))

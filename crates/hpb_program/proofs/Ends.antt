@@ -17,7 +17,6 @@ use Rattle.hpb_disk.specs.FileDisks.{file_left}
 use Rattle.hpb_disk.specs.Images.{Within}
 use Rattle.hpb_disk.specs.declared.file.FileDisk.{FileDisk}
 use Rattle.hpb_disk.specs.declared.fault.FileFault.{FileFault}
-use Rattle.hpb_disk.specs.declared.fault.FileFault.TheVariants as files
 use Rattle.hpb_format.specs.Outcomes.{IsNew}
 use Rattle.hpb_format.specs.declared.fault.FormatCause.{FormatCause}
 use Rattle.hpb_format.specs.declared.fault.FormatCause.TheVariants as formatting
@@ -29,6 +28,7 @@ use Rattle.hpb_program.specs.Jobs.{check_text, line_of_journal, made_by, made_of
 use Rattle.hpb_program.specs.Program.{TellsEnd, TellsFault}
 use Rattle.hpb_program.specs.Telling.{IsCutBy}
 use Rattle.hpb_server.proofs.Fronts.{put_front}
+use Rattle.hpb_program.proofs.Files.{of_each_file}
 
 -- one node's line more
 pub added_line : (value : AuctionValue) (text new line : List ℕ) (place at following : ℕ) → text ≡ line_of (shown_in value) ++ nodes_text value place → new ≡ text ++ line_of line
@@ -133,18 +133,7 @@ module _ (journal : JournalShape) (before after : Streams) (text line : List ℕ
 
 -- faults of a file
 pub of_file : (fault : FileFault) (made : JobFault) → made ≡ made_of_file fault → IsOfFile made
-of_file fault made is = subst IsOfFile (sym is) (go fault)
-  where
-    go : (fault : FileFault) → IsOfFile (made_of_file fault)
-    go (files.Memory e) = tt
-    go files.Busy = tt
-    go files.NotAFile = tt
-    go files.TooLong = tt
-    go files.Stream = tt
-    go files.Errors = tt
-    go files.Beside = tt
-    go (files.Limit len limit) = tt
-    go (files.System e) = tt
+of_file = of_each_file IsOfFile tt (λ fault. tt)
 
 pub of_formatting : (cause : FormatCause) (made : JobFault) → made ≡ made_of_formatting cause → IsOfFile made
 of_formatting cause made is = subst IsOfFile (sym is) (go cause)

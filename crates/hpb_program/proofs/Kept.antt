@@ -1,13 +1,11 @@
 -- How the auction that a file keeps is run.
-use Rattle.std.proofs.Common.{◌≡◌, ℕ, Bool, true, false, List, [], Option, Result, sym, subst, refl, inl, inr, ⊎_elim}
+use Rattle.std.proofs.Common.{◌≡◌, ℕ, Bool, false, List, Option, Result, sym, subst, refl, inl, inr, ⊎_elim}
 use Rattle.std.specs.Bool.{⊤}
 use Rattle.std.proofs.KnownBytes.{Keeps-refl}
 use Rattle.hpb_rules.specs.declared.command.Command.{Command}
-use Rattle.hpb_rules.specs.declared.limits.TheConstants.{MOST_LETTERS, MOST_READ_BYTES}
 use Rattle.hpb_rules.specs.AuctionValue.{AuctionValue, Shows}
 use Rattle.hpb_rules.specs.Machine.{at_rest}
 use Rattle.hpb_disk.specs.declared.fault.FileFault.{FileFault}
-use Rattle.hpb_disk.specs.declared.fault.FileFault.TheVariants as files
 use Rattle.hpb_image.specs.Readings.{last_value, Found, Reads}
 use Rattle.hpb_image.specs.Standing.{Stands}
 use Rattle.hpb_engine.specs.declared.progress.Progress.{Progress}
@@ -15,14 +13,14 @@ use Rattle.hpb_engine.specs.Keeping.{Keeps}
 use Rattle.hpb_recover.specs.declared.cause.Cause.{Cause}
 use Rattle.hpb_recover.specs.declared.cause.Cause.TheVariants as opening
 use Rattle.hpb_recover.specs.Causes.{IsCauseAt}
-use Rattle.hpb_run.specs.Device.{at_start, never_over, rules_at, IsAt, RepliesAt, ShowsAt, State}
+use Rattle.hpb_run.specs.Running.{RunsFrom, ServesFrom}
 use Rattle.hpb_server.specs.declared.fault.Fault.{Fault}
-use Rattle.hpb_server.specs.Serving.{Serves}
 use Rattle.hpb_server.specs.Streams.{AreKept, Streams, streams}
 use Rattle.hpb_program.specs.declared.job_fault.JobFault.{JobFault}
 use Rattle.hpb_program.specs.declared.job_fault.JobFault.TheVariants as faults
 use Rattle.hpb_program.specs.Jobs.{made_of_file, made_of_opening}
-use Rattle.hpb_program.specs.Keeping.{IsNotOpened, IsOfOpening, IsRun, ServesFrom}
+use Rattle.hpb_program.specs.Keeping.{IsNotOpened, IsOfOpening, IsRun}
+use Rattle.hpb_program.proofs.Files.{of_each_file}
 
 -- nothing was read or written
 pub are_kept : (a b : Option (List ℕ)) → AreKept (streams a b) (streams a b)
@@ -35,20 +33,16 @@ pub is_run : {D : Type 0} (seen : D → List ℕ) (may_leave : D → List ℕ �
     → ((history : List Command) → Stands history (seen opened) → Keeps seen may_leave first start broken (at_rest history))
     → broken ≡ false
     → failures first ≡ failures opened
-    → ((history : List Command) → Keeps seen may_leave first start broken (at_rest history)
-    → (state : State) × Serves rules_at never_over RepliesAt ShowsAt MOST_LETTERS true [] MOST_READ_BYTES before after (at_start start.committed.rules history (failures first) broken) state end
-    × IsAt seen may_leave failures disk progress failed state)
+    → RunsFrom seen may_leave failures before after first start broken disk progress failed end
     → IsRun seen may_leave failures opened before after disk progress failed end
 is_run seen may_leave failures opened before after first start broken disk progress failed end read keeps works same ran = record {
   found = read.0;
   reads = read.1;
   shows = λ history stands. subst (λ (value : AuctionValue). Shows value history) read.2 (keeps history stands).shows;
   serves = λ history stands.
-      let ran_well : ServesFrom seen may_leave failures start.committed (failures first) history before after disk progress failed end =
-      subst (λ (b : Bool). (state : State) × Serves rules_at never_over RepliesAt ShowsAt MOST_LETTERS true [] MOST_READ_BYTES before after (at_start start.committed.rules history (failures first) b) state end
-      × IsAt seen may_leave failures disk progress failed state) works (ran history (keeps history stands)) in
-      let of_number = subst (λ (n : ℕ). ServesFrom seen may_leave failures start.committed n history before after disk progress failed end) same ran_well in
-      subst (λ (value : AuctionValue). ServesFrom seen may_leave failures value (failures opened) history before after disk progress failed end) read.2 of_number;
+      let ran_well = subst (λ (b : Bool). ServesFrom seen may_leave failures before after start.committed.rules history (failures first) b disk progress failed end) works (ran history (keeps history stands)) in
+      let of_number = subst (λ (n : ℕ). ServesFrom seen may_leave failures before after start.committed.rules history n false disk progress failed end) same ran_well in
+      subst (λ (value : AuctionValue). ServesFrom seen may_leave failures before after value.rules history (failures opened) false disk progress failed end) read.2 of_number;
 }
 
 -- why a device is not opened
@@ -78,15 +72,4 @@ of_not_opened image faults.Counts not = ⊎_elim (λ e. absurd (cc)) (λ e. absu
 
 -- and so is one of a file that is not opened
 pub of_opening : (fault : FileFault) (made : JobFault) → made ≡ made_of_file fault → IsOfOpening made
-of_opening fault made is = subst IsOfOpening (sym is) (go fault)
-  where
-    go : (fault : FileFault) → IsOfOpening (made_of_file fault)
-    go (files.Memory e) = tt
-    go files.Busy = tt
-    go files.NotAFile = tt
-    go files.TooLong = tt
-    go files.Stream = tt
-    go files.Errors = tt
-    go files.Beside = tt
-    go (files.Limit len limit) = tt
-    go (files.System e) = tt
+of_opening = of_each_file IsOfOpening tt (λ fault. tt)

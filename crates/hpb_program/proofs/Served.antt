@@ -2,7 +2,6 @@
 use Rattle.std.proofs.Common.{◌≡◌, ℕ, List, Option, Err, sym, subst, refl, inl, ⊎_elim}
 use Rattle.std.proofs.KnownBytes.{Keeps-refl}
 use Rattle.hpb_disk.specs.declared.fault.FileFault.{FileFault}
-use Rattle.hpb_disk.specs.declared.fault.FileFault.TheVariants as files
 use Rattle.hpb_house.specs.declared.starting.StartCause.TheVariants as starting
 use Rattle.hpb_recover.specs.declared.cause.Cause.TheVariants as opening
 use Rattle.hpb_serve.specs.Announcing.{listening_line, Announces}
@@ -14,6 +13,7 @@ use Rattle.hpb_program.specs.declared.job_fault.JobFault.TheVariants as faults
 use Rattle.hpb_program.specs.Jobs.{made_of_file, made_of_serving}
 use Rattle.hpb_program.specs.Keeping.{IsNotOpened}
 use Rattle.hpb_program.specs.Serving.{IsOfDescriptors, IsReadable, IsUnserved, ServesFile}
+use Rattle.hpb_program.proofs.Files.{of_each_file}
 
 -- a device that is not opened is not served, and nothing is written
 pub unopened : (image : List ℕ) (port : ℕ) (contents : Option (List ℕ)) (fault : JobFault) → IsNotOpened image fault → IsUnserved image port contents contents fault
@@ -48,18 +48,7 @@ unserved D image port old new fault made read is written = subst (λ (m : JobFau
 
 -- a file that is not opened is not served
 pub unopened_file : (sessions port : ℕ) (contents : Option (List ℕ)) (fault : FileFault) (made : JobFault) → made ≡ made_of_file fault → ServesFile sessions port contents contents (Err made)
-unopened_file sessions port contents fault made is = subst (λ (m : JobFault). ServesFile sessions port contents contents (Err m)) (sym is) (go fault)
-  where
-    go : (fault : FileFault) → ServesFile sessions port contents contents (Err (made_of_file fault))
-    go (files.Memory e) = inl (Keeps-refl contents)
-    go files.Busy = Keeps-refl contents
-    go files.NotAFile = Keeps-refl contents
-    go files.TooLong = Keeps-refl contents
-    go files.Stream = Keeps-refl contents
-    go files.Errors = Keeps-refl contents
-    go files.Beside = Keeps-refl contents
-    go (files.Limit len limit) = Keeps-refl contents
-    go (files.System e) = Keeps-refl contents
+unopened_file sessions port contents = of_each_file (λ made. ServesFile sessions port contents contents (Err made)) (inl (Keeps-refl contents)) (λ fault. Keeps-refl contents)
 
 -- where too few files and connections may be had at a time, nothing is served
 pub unheld : (sessions port : ℕ) (contents : Option (List ℕ)) (fault : JobFault) → IsOfDescriptors fault → ServesFile sessions port contents contents (Err fault)

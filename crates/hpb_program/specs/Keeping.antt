@@ -1,8 +1,6 @@
 -- What a run of the auction that a file keeps reads and writes.
-use Rattle.std.specs.Prelude.{◌≡◌, ◌⊎◌, ℕ, Bool, true, false, List, [], Option, Result, Ok, Err, ⊤}
+use Rattle.std.specs.Prelude.{◌≡◌, ◌⊎◌, ℕ, Bool, false, List, Option, Result, Ok, Err, ⊤}
 use Rattle.hpb_rules.specs.declared.command.Command.{Command}
-use Rattle.hpb_rules.specs.declared.limits.TheConstants.{MOST_LETTERS, MOST_READ_BYTES}
-use Rattle.hpb_rules.specs.AuctionValue.{AuctionValue}
 use Rattle.hpb_disk.specs.declared.file.FileDisk.{FileDisk}
 use Rattle.hpb_disk.specs.FileDisks.{file_failures, file_left, file_seen}
 use Rattle.hpb_image.specs.Flaws.{HasFlaw}
@@ -10,9 +8,8 @@ use Rattle.hpb_image.specs.Readings.{last_value, Found, Reads}
 use Rattle.hpb_image.specs.Standing.{Stands}
 use Rattle.hpb_engine.specs.declared.progress.Progress.{Progress}
 use Rattle.hpb_recover.specs.declared.cause.Cause.TheVariants as opening
-use Rattle.hpb_run.specs.Device.{at_start, never_over, rules_at, IsAt, RepliesAt, ShowsAt, State}
+use Rattle.hpb_run.specs.Running.{ServesFrom}
 use Rattle.hpb_server.specs.declared.fault.Fault.{Fault}
-use Rattle.hpb_server.specs.Serving.{Serves}
 use Rattle.hpb_server.specs.Streams.{AreKept, Streams}
 use Rattle.hpb_server.specs.Telling.{ExplainsAt}
 use Rattle.hpb_program.specs.declared.job_fault.JobFault.{JobFault}
@@ -21,19 +18,12 @@ use Rattle.hpb_program.specs.declared.run_end.RunEnd.{RunEnd}
 use Rattle.hpb_program.specs.Doubts.{TellsIll, TellsImage, TellsStopped}
 use Rattle.hpb_program.specs.Jobs.{IsKept}
 
--- Lines were answered from an auction on, and what the device and the progress then keep is where that led. No call of the device had failed when it began.
-abbrev pub ServesFrom : {D : Type 0} (seen : D → List ℕ) (may_leave : D → List ℕ → Type 0) (failures : D → ℕ) (value : AuctionValue) (failed_before : ℕ) (history : List Command)
-    (before after : Streams) (disk : D) (progress : Progress) → (failed : Bool) → Result ⊤ Fault → Type 0
-ServesFrom seen may_leave failures value failed_before history before after disk progress failed end =
-    (state : State) × Serves rules_at never_over RepliesAt ShowsAt MOST_LETTERS true [] MOST_READ_BYTES before after (at_start value.rules history failed_before false) state end
-    × IsAt seen may_leave failures disk progress failed state
-
 -- The auction that is read on a device was run: by each history that the device stood for the lines were answered.
 pub record IsRun {D : Type 0} (seen : D → List ℕ) (may_leave : D → List ℕ → Type 0) (failures : D → ℕ) (opened : D) (before after : Streams) (disk : D) (progress : Progress) (failed : Bool) (end : Result ⊤ Fault) : Type 0 where
   pub found : Found
   pub reads : Reads found (seen opened)
   pub shows : IsKept (seen opened) (last_value found)
-  pub serves : (history : List Command) → Stands history (seen opened) → ServesFrom seen may_leave failures (last_value found) (failures opened) history before after disk progress failed end
+  pub serves : (history : List Command) → Stands history (seen opened) → ServesFrom seen may_leave failures before after (last_value found).rules history (failures opened) false disk progress failed end
 
 -- A device was not opened: its flaw is there, or the machine failed.
 abbrev pub IsNotOpened : List ℕ → JobFault → Type 0

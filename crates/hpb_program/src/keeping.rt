@@ -1,15 +1,13 @@
 //! Running the auction that a file keeps.
-ghost use Rattle.std.specs.Prelude.{◌≡◌, List, [], true, false, IfErr, IfOk, OnErr};
+ghost use Rattle.std.specs.Prelude.{◌≡◌, List, false, IfErr, IfOk, OnErr};
 ghost use Rattle.hpb_rules.specs.declared.command.Command.{Command};
-ghost use Rattle.hpb_rules.specs.declared.limits.TheConstants.{MOST_LETTERS, MOST_READ_BYTES};
 ghost use Rattle.hpb_rules.specs.Machine.{at_rest};
 ghost use Rattle.hpb_image.specs.Readings.{last_value, Found, Reads};
 ghost use Rattle.hpb_image.specs.Standing.{Stands};
 ghost use Rattle.hpb_engine.specs.Keeping.{Keeps};
 ghost use Rattle.hpb_program.specs.Doubts.{TellsKept};
 ghost use Rattle.hpb_program.specs.Keeping.{IsNotOpened, IsRun, RunsFile, TellsRunning};
-ghost use Rattle.hpb_run.specs.Device.{IsAt, RepliesAt, ShowsAt, State, at_start, never_over, rules_at};
-ghost use Rattle.hpb_server.specs.Serving.{Serves};
+ghost use Rattle.hpb_run.specs.Running.{RunsFrom};
 ghost use Rattle.hpb_server.specs.Streams.{streams, AreKept};
 ghost use Rattle.hpb_server.specs.Telling.{ExplainsAt};
 
@@ -101,11 +99,8 @@ fn run_engine<D: Disk + Drop, R: Read, W: Write, E: Write>(
     errors: &mut E,
     is_terminal: bool,
 ) -> Ran<D>
-    ensures ran { (history : List Command) → Keeps D.seen D.may_leave engine.disk engine.progress engine.failed (at_rest history)
-        → (state : State) × Serves rules_at never_over RepliesAt ShowsAt MOST_LETTERS true [] MOST_READ_BYTES
-        (streams (R.remaining input.old) (W.contents output.old)) (streams (R.remaining input.new) (W.contents output.new))
-        (at_start engine.progress.committed.rules history (D.failures engine.disk) engine.failed) state result.end
-        × IsAt D.seen D.may_leave D.failures result.engine.disk result.engine.progress result.engine.failed state }
+    ensures ran { RunsFrom D.seen D.may_leave D.failures (streams (R.remaining input.old) (W.contents output.old)) (streams (R.remaining input.new) (W.contents output.new))
+        engine.disk engine.progress engine.failed result.engine.disk result.engine.progress result.engine.failed result.end }
     ensures explained { ExplainsAt is_terminal (E.contents errors.old) (E.contents errors.new) }
 {
     if is_terminal {

@@ -1,9 +1,10 @@
 -- Events are moves of the machine without a disk, and what it keeps is kept.
-use Rattle.std.proofs.Common.{◌≡◌, inl, inr, ℕ, suc, ◌+◌, ◌≤◌, Bool, true, false, List, [], ◌∷◌, ◌++◌, Option, Some, None, Ok, Err, length, refl, sym, ◌∙◌, ap, subst, arith, append_assoc}
+use Rattle.std.proofs.Common.{◌≡◌, inl, inr, ℕ, suc, ◌+◌, ◌≤◌, Bool, true, false, List, [], ◌∷◌, ◌++◌, Option, Some, None, Result, Ok, Err, length, refl, sym, ◌∙◌, ap, subst, arith, append_assoc}
 use Rattle.std.proofs.lemmas.List.{append-nil}
 use Rattle.std.specs.Prelude.{slice_index_or, if◌then◌else◌, not, ◌&&◌, ◌==◌}
 use Rattle.hpb_rules.specs.declared.command.Command.{Command}
 use Rattle.hpb_rules.specs.declared.letter.Answer.{Answer}
+use Rattle.hpb_rules.specs.declared.letter.Letter.{Letter}
 use Rattle.hpb_rules.specs.Answer.{IsHistory}
 use Rattle.hpb_rules.specs.Fronts.{IsFront}
 use Rattle.hpb_rules.specs.Letters.{Fits}
@@ -20,11 +21,12 @@ use Rattle.hpb_engine.specs.declared.event.Event.{Event}
 use Rattle.hpb_engine.specs.declared.event.Event.TheVariants as events
 use Rattle.hpb_engine.specs.declared.step.Fault.{Fault}
 use Rattle.hpb_engine.specs.declared.step.Fault.TheVariants as faults
+use Rattle.hpb_engine.specs.declared.step.Rest.{Rest}
 use Rattle.hpb_engine.specs.declared.progress.Progress.{Progress}
 use Rattle.hpb_engine.specs.Numbers.{end_of, may_be_open}
 use Rattle.hpb_engine.specs.Checkpoints.{CheckpointLeads, checkpoint_calls, step_calls}
 use Rattle.hpb_engine.specs.Steps.{turn_calls}
-use Rattle.hpb_engine.specs.Runs.{Drove, Follows, Holds, Mark, Ran, StandsAtOne}
+use Rattle.hpb_engine.specs.Runs.{Drove, Follows, Holds, IsStepped, Mark, Ran, StandsAtOne}
 use Rattle.hpb_engine.specs.Runs as runs
 use Rattle.hpb_promise.specs.Points.{Point, IsMove, GoesOn, Go, start_at, last_of, machine_at, told_at, acknowledged_at, AreMarked, MayStandAt, IsCounted, IsKept, Survives}
 
@@ -54,58 +56,63 @@ one_step failed s = if_one failed 0 (step_calls s) (omega arith)
     (if_one (s.retirement.upto == end_of s.ring) _ _ (if_one s.retirement.going 1 0 (omega arith) (omega arith))
     (if_one (may_be_open s.ring s.retirement.upto) 1 0 (omega arith) (omega arith)))))
 
+module _ (rules : Rules) (before after : Mark) (leaving : List Answer) (fault : Option Fault) where
+  -- Letters that are handed back are no move.
+  handed_back : (letters : List Letter) → after.machine ≡ before.machine → leaving ≡ [] → after.progress.committed.rules ≡ rules → after.moment ≡ before.moment → after.failed ≡ false
+      → Moved rules (events.Offer letters) before after leaving fault
+  handed_back letters becomes leaves ruled moment works = record {
+    moves = [];
+    is = inr refl;
+    becomes = becomes;
+    leaves = leaves;
+    ruled = ruled;
+    later = omega (arith, moment);
+    next = omega (arith, moment);
+    works = λ well. works;
+  }
+
+  -- Those that are taken are one.
+  taken : (letters : List Letter) → after.machine ≡ (take_letters rules before.machine letters).machine → leaving ≡ (take_letters rules before.machine letters).leaving
+      → after.progress.committed.rules ≡ rules → after.moment ≡ before.moment → after.failed ≡ false → Moved rules (events.Offer letters) before after leaving fault
+  taken letters becomes leaves ruled moment works = record {
+    moves = machine.offer letters ∷ [];
+    is = inl refl;
+    becomes = becomes;
+    leaves = leaves ∙ sym (append-nil (take_letters rules before.machine letters).leaving);
+    ruled = ruled;
+    later = omega (arith, moment);
+    next = omega (arith, moment);
+    works = λ well. works;
+  }
+
+  -- A step of a checkpoint is none.
+  stepped : (result : Result Rest Fault) → IsStepped result before after leaving → before.progress.committed.rules ≡ rules → (fault ≡ None → after.failed ≡ false)
+      → Moved rules events.Checkpoint before after leaving fault
+  stepped result told ruled works = record {
+    moves = [];
+    is = refl;
+    becomes = told.machine;
+    leaves = told.answers;
+    ruled = ap (λ (v : _). v.rules) told.same.committed ∙ ruled;
+    later = told.later;
+    next = omega (arith, told.call, one_step before.failed before.progress);
+    works = works;
+  }
+
 moved : (rules : Rules) (event : Event) (before after : Mark) (leaving : List Answer) (fault : Option Fault)
     → before.failed ≡ false → before.progress.committed.rules ≡ rules → Follows event before after leaving fault → Moved rules event before after leaving fault
-moved rules (events.Offer letters) before after leaving fault works ruled (begun.Failed back, told, none) = record {
-  moves = [];
-  is = inr refl;
-  becomes = told.machine;
-  leaves = told.answers;
-  ruled = ap (λ (p : _). p.committed.rules) told.stays ∙ ruled;
-  later = omega (arith, told.moment);
-  next = omega (arith, told.moment);
-  works = λ well. told.failed ∙ works;
-}
-moved rules (events.Offer letters) before after leaving fault works ruled (begun.Busy back, told, none) = record {
-  moves = [];
-  is = inr refl;
-  becomes = told.machine;
-  leaves = told.answers;
-  ruled = ap (λ (p : _). p.committed.rules) told.stays ∙ ruled;
-  later = omega (arith, told.moment);
-  next = omega (arith, told.moment);
-  works = λ well. told.failed ∙ works;
-}
-moved rules (events.Offer letters) before after leaving fault works ruled (begun.Full back, told, none) = record {
-  moves = [];
-  is = inr refl;
-  becomes = told.machine;
-  leaves = told.answers;
-  ruled = ap (λ (p : _). p.committed.rules) told.stays ∙ ruled;
-  later = omega (arith, told.moment);
-  next = omega (arith, told.moment);
-  works = λ well. told.failed ∙ works;
-}
-moved rules (events.Offer letters) before after leaving fault works ruled (begun.Answered answers, told, none) = record {
-  moves = machine.offer letters ∷ [];
-  is = inl refl;
-  becomes = told.machine ∙ ap (λ (r : Rules). (take_letters r before.machine letters).machine) ruled;
-  leaves = told.answers ∙ ap (λ (r : Rules). (take_letters r before.machine letters).leaving) ruled ∙ sym (append-nil (take_letters rules before.machine letters).leaving);
-  ruled = ap (λ (p : _). p.committed.rules) told.stays ∙ ruled;
-  later = omega (arith, told.moment);
-  next = omega (arith, told.moment);
-  works = λ well. told.failed ∙ works;
-}
-moved rules (events.Offer letters) before after leaving fault works ruled (begun.InFlight, told, none) = record {
-  moves = machine.offer letters ∷ [];
-  is = inl refl;
-  becomes = told.machine ∙ ap (λ (r : Rules). (take_letters r before.machine letters).machine) ruled;
-  leaves = told.answers ∙ ap (λ (r : Rules). (take_letters r before.machine letters).leaving) ruled ∙ sym (append-nil (take_letters rules before.machine letters).leaving);
-  ruled = ap (λ (p : _). p.committed.rules) told.stays ∙ ruled;
-  later = omega (arith, told.moment);
-  next = omega (arith, told.moment);
-  works = λ well. told.failed ∙ works;
-}
+moved rules (events.Offer letters) before after leaving fault works ruled (begun.Failed back, told, none) =
+    handed_back rules before after leaving fault letters told.machine told.answers (ap (λ (p : _). p.committed.rules) told.stays ∙ ruled) told.moment (told.failed ∙ works)
+moved rules (events.Offer letters) before after leaving fault works ruled (begun.Busy back, told, none) =
+    handed_back rules before after leaving fault letters told.machine told.answers (ap (λ (p : _). p.committed.rules) told.stays ∙ ruled) told.moment (told.failed ∙ works)
+moved rules (events.Offer letters) before after leaving fault works ruled (begun.Full back, told, none) =
+    handed_back rules before after leaving fault letters told.machine told.answers (ap (λ (p : _). p.committed.rules) told.stays ∙ ruled) told.moment (told.failed ∙ works)
+moved rules (events.Offer letters) before after leaving fault works ruled (begun.Answered answers, told, none) =
+    taken rules before after leaving fault letters (told.machine ∙ ap (λ (r : Rules). (take_letters r before.machine letters).machine) ruled)
+    (told.answers ∙ ap (λ (r : Rules). (take_letters r before.machine letters).leaving) ruled) (ap (λ (p : _). p.committed.rules) told.stays ∙ ruled) told.moment (told.failed ∙ works)
+moved rules (events.Offer letters) before after leaving fault works ruled (begun.InFlight, told, none) =
+    taken rules before after leaving fault letters (told.machine ∙ ap (λ (r : Rules). (take_letters r before.machine letters).machine) ruled)
+    (told.answers ∙ ap (λ (r : Rules). (take_letters r before.machine letters).leaving) ruled) (ap (λ (p : _). p.committed.rules) told.stays ∙ ruled) told.moment (told.failed ∙ works)
 moved rules events.Commit before after leaving fault works ruled (Ok step, told, none) = record {
   moves = machine.commit ∷ [];
   is = inl refl;
@@ -127,26 +134,9 @@ moved rules events.Commit before after leaving fault works ruled (Err faults.Dev
   works = λ well. absurd (let no : Some faults.Device ≡ None = sym none ∙ well in cc);
 }
 moved rules events.Commit before after leaving fault works ruled (Err faults.Failed, told, none) = absurd (let no : true ≡ false = sym told.leads.0 ∙ works in cc)
-moved rules events.Checkpoint before after leaving fault works ruled (Ok rest, told, none) = record {
-  moves = [];
-  is = refl;
-  becomes = told.machine;
-  leaves = told.answers;
-  ruled = ap (λ (v : _). v.rules) told.same.committed ∙ ruled;
-  later = told.later;
-  next = omega (arith, told.call, one_step before.failed before.progress);
-  works = λ well. told.failed;
-}
-moved rules events.Checkpoint before after leaving fault works ruled (Err faults.Device, told, none) = record {
-  moves = [];
-  is = refl;
-  becomes = told.machine;
-  leaves = told.answers;
-  ruled = ap (λ (v : _). v.rules) told.same.committed ∙ ruled;
-  later = told.later;
-  next = omega (arith, told.call, one_step before.failed before.progress);
-  works = λ well. absurd (let no : Some faults.Device ≡ None = sym none ∙ well in cc);
-}
+moved rules events.Checkpoint before after leaving fault works ruled (Ok rest, told, none) = stepped rules before after leaving fault (Ok rest) told ruled (λ well. told.failed)
+moved rules events.Checkpoint before after leaving fault works ruled (Err faults.Device, told, none) =
+    stepped rules before after leaving fault (Err faults.Device) told ruled (λ well. absurd (let no : Some faults.Device ≡ None = sym none ∙ well in cc))
 moved rules events.Checkpoint before after leaving fault works ruled (Err faults.Failed, told, none) =
     absurd ((subst (λ (f : Bool). CheckpointLeads f (Err faults.Failed) before.progress after.progress) works told.leads).1 refl)
 

@@ -1,15 +1,13 @@
 //! A session on a device.
-ghost use Rattle.std.specs.Prelude.{◌≡◌, List, [], true, false, OnOk};
+ghost use Rattle.std.specs.Prelude.{◌≡◌, List, false, OnOk};
 ghost use Rattle.hpb_rules.specs.declared.command.Command.{Command};
-ghost use Rattle.hpb_rules.specs.declared.limits.TheConstants.{MOST_LETTERS, MOST_READ_BYTES};
+ghost use Rattle.hpb_rules.specs.declared.limits.TheConstants.{MOST_READ_BYTES};
 ghost use Rattle.hpb_rules.specs.Machine.{at_rest};
 ghost use Rattle.hpb_engine.specs.Keeping.{Keeps};
 ghost use Rattle.hpb_server.specs.ScriptLaws.{WritesText};
-ghost use Rattle.hpb_server.specs.Serving.{Serves};
 ghost use Rattle.hpb_server.specs.Streams.{streams};
 ghost use Rattle.hpb_server.specs.Telling.{Explains};
-ghost use Rattle.hpb_run.specs.Device.{IsAt, RepliesAt, ShowsAt, State, at_start, never_over, rules_at};
-ghost use Rattle.hpb_run.specs.Running.{RanDevice};
+ghost use Rattle.hpb_run.specs.Running.{RanDevice, RunsFrom};
 
 use crate::desk::DeviceDesk;
 use hpb_disk::Disk;
@@ -56,11 +54,8 @@ pub fn run_device<R: Read, W: Write, D: Disk + Drop>(
 ) -> Ran<D>
     // From an engine with nothing in flight: each line has the answer of a device that works, up to the first call that
     // fails, and the engine stands where these answers lead.
-    ensures ran { (history : List Command) → Keeps D.seen D.may_leave engine.disk engine.progress engine.failed (at_rest history)
-        → (state : State) × Serves rules_at never_over RepliesAt ShowsAt MOST_LETTERS true [] MOST_READ_BYTES
-        (streams (R.remaining reader.old) (W.contents writer.old)) (streams (R.remaining reader.new) (W.contents writer.new))
-        (at_start engine.progress.committed.rules history (D.failures engine.disk) engine.failed) state result.end
-        × IsAt D.seen D.may_leave D.failures result.engine.disk result.engine.progress result.engine.failed state }
+    ensures ran { RunsFrom D.seen D.may_leave D.failures (streams (R.remaining reader.old) (W.contents writer.old)) (streams (R.remaining reader.new) (W.contents writer.new))
+        engine.disk engine.progress engine.failed result.engine.disk result.engine.progress result.engine.failed result.end }
     // So lines up to some line are answered by the rules, and none from there on, and the engine keeps what was
     // acknowledged.
     ensures text { (history : List Command) → Keeps D.seen D.may_leave engine.disk engine.progress engine.failed (at_rest history)
@@ -85,11 +80,8 @@ fn run_session<R: Read, W: Write, D: Disk + Drop>(
     batch: usize,
     every: u32,
 ) -> Ran<D>
-    ensures { (history : List Command) → Keeps D.seen D.may_leave engine.disk engine.progress engine.failed (at_rest history)
-        → (state : State) × Serves rules_at never_over RepliesAt ShowsAt MOST_LETTERS true [] MOST_READ_BYTES
-        (streams (R.remaining reader.old) (W.contents writer.old)) (streams (R.remaining reader.new) (W.contents writer.new))
-        (at_start engine.progress.committed.rules history (D.failures engine.disk) engine.failed) state result.end
-        × IsAt D.seen D.may_leave D.failures result.engine.disk result.engine.progress result.engine.failed state }
+    ensures { RunsFrom D.seen D.may_leave D.failures (streams (R.remaining reader.old) (W.contents writer.old)) (streams (R.remaining reader.new) (W.contents writer.new))
+        engine.disk engine.progress engine.failed result.engine.disk result.engine.progress result.engine.failed result.end }
 {
     match DeviceDesk::new(alloc, engine, batch, every) {
         Ok(desk) => {
@@ -117,11 +109,8 @@ pub fn run_device_at_terminal<R: Read, W: Write, E: Write, D: Disk + Drop>(
     engine: Engine<D>,
     every: u32,
 ) -> Ran<D>
-    ensures ran { (history : List Command) → Keeps D.seen D.may_leave engine.disk engine.progress engine.failed (at_rest history)
-        → (state : State) × Serves rules_at never_over RepliesAt ShowsAt MOST_LETTERS true [] MOST_READ_BYTES
-        (streams (R.remaining reader.old) (W.contents writer.old)) (streams (R.remaining reader.new) (W.contents writer.new))
-        (at_start engine.progress.committed.rules history (D.failures engine.disk) engine.failed) state result.end
-        × IsAt D.seen D.may_leave D.failures result.engine.disk result.engine.progress result.engine.failed state }
+    ensures ran { RunsFrom D.seen D.may_leave D.failures (streams (R.remaining reader.old) (W.contents writer.old)) (streams (R.remaining reader.new) (W.contents writer.new))
+        engine.disk engine.progress engine.failed result.engine.disk result.engine.progress result.engine.failed result.end }
     ensures explained { Explains (E.contents errors.old) (E.contents errors.new) }
 {
     match DeviceDesk::new(alloc, engine, ONE_AT_A_TIME, every) {
