@@ -10,7 +10,7 @@ use Rattle.hpb_program.specs.declared.job_fault.JobFault.{JobFault}
 use Rattle.hpb_program.specs.declared.job_fault.JobFault.TheVariants as faults
 use Rattle.hpb_program.specs.Jobs.{made_by, made_of_definition, made_of_file, made_of_opening, IsOfFile, StopsReading}
 use Rattle.hpb_program.specs.Telling.{IsCutBy}
-use Rattle.hpb_program.proofs.Files.{of_each_file}
+use Rattle.hpb_program.proofs.Files.{of_each_file, of_each_made}
 
 module _ (cut : Bool) where
   abbrev IsElse : JobFault → Type 0
@@ -33,19 +33,7 @@ module _ (cut : Bool) where
 
   -- of a file that was to be formatted
   pub of_file : (fault : JobFault) → IsOfFile fault → IsCutBy cut (Err fault)
-  of_file faults.Memory is = tt
-  of_file (faults.File f) is = tt
-  of_file (faults.Format f) is = tt
-  of_file faults.Reader is = absurd is
-  of_file faults.Writer is = absurd is
-  of_file (faults.Definition f) is = absurd is
-  of_file faults.Journal is = absurd is
-  of_file (faults.Open f) is = absurd is
-  of_file (faults.Port at error) is = absurd is
-  of_file (faults.Descriptors sessions wanted error) is = absurd is
-  of_file faults.Place is = absurd is
-  of_file faults.Order is = absurd is
-  of_file faults.Counts is = absurd is
+  of_file = of_each_made IsElse tt (λ fault. tt) (λ cause. tt)
 
   -- of a file that was to be opened
   pub of_opened_file : (fault : FileFault) (made : JobFault) → made ≡ made_of_file fault → IsCutBy cut (Err made)

@@ -28,7 +28,7 @@ use Rattle.hpb_program.specs.Jobs.{check_text, line_of_journal, made_by, made_of
 use Rattle.hpb_program.specs.Program.{TellsEnd, TellsFault}
 use Rattle.hpb_program.specs.Telling.{IsCutBy}
 use Rattle.hpb_server.proofs.Fronts.{put_front}
-use Rattle.hpb_program.proofs.Files.{of_each_file}
+use Rattle.hpb_program.proofs.Files.{of_each_file, of_each_made}
 
 -- one node's line more
 pub added_line : (value : AuctionValue) (text new line : List ℕ) (place at following : ℕ) → text ≡ line_of (shown_in value) ++ nodes_text value place → new ≡ text ++ line_of line
@@ -95,25 +95,11 @@ module _ (journal : JournalShape) (before after : Streams) (text : List ℕ) (gi
   out_of_range rules answers out = (defined before.remaining after.remaining text rules gives answers, out, kept)
 
   pub failed_file : (rules : Rules) (fault : JobFault) → Answers text (Ok rules) → IsShape journal → IsOfFile fault → Formats journal before after (Err fault)
-  failed_file rules fault answers journal_is of = go fault of
+  failed_file rules fault answers journal_is =
+      of_each_made (λ fault. Formats journal before after (Err fault)) ((text, gives.read, gives.within), kept) (λ fault. (may, kept)) (λ cause. (may, kept)) fault
     where
       may : MayFormat journal before after
       may = (defined before.remaining after.remaining text rules gives answers, journal_is)
-
-      go : (fault : JobFault) → IsOfFile fault → Formats journal before after (Err fault)
-      go faults.Memory of = ((text, gives.read, gives.within), kept)
-      go (faults.File f) of = (may, kept)
-      go (faults.Format f) of = (may, kept)
-      go faults.Reader of = absurd of
-      go faults.Writer of = absurd of
-      go (faults.Definition f) of = absurd of
-      go faults.Journal of = absurd of
-      go (faults.Open f) of = absurd of
-      go (faults.Port at error) of = absurd of
-      go (faults.Descriptors sessions wanted error) of = absurd of
-      go faults.Place of = absurd of
-      go faults.Order of = absurd of
-      go faults.Counts of = absurd of
 
 module _ (journal : JournalShape) (before after : Streams) (text line : List ℕ) (rules : Rules) (gives : GivesText before.remaining after.remaining text) (answers : Answers text (Ok rules)) (shape : IsShape journal)
     (disk : FileDisk) (new : Within (file_left disk) (IsNew rules journal)) (is : line ≡ line_of_journal journal) where

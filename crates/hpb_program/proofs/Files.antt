@@ -2,9 +2,10 @@
 use Rattle.std.proofs.Common.{◌≡◌, sym, subst}
 use Rattle.hpb_disk.specs.declared.fault.FileFault.{FileFault}
 use Rattle.hpb_disk.specs.declared.fault.FileFault.TheVariants as files
+use Rattle.hpb_format.specs.declared.fault.FormatCause.{FormatCause}
 use Rattle.hpb_program.specs.declared.job_fault.JobFault.{JobFault}
 use Rattle.hpb_program.specs.declared.job_fault.JobFault.TheVariants as faults
-use Rattle.hpb_program.specs.Jobs.{made_of_file}
+use Rattle.hpb_program.specs.Jobs.{made_of_file, IsOfFile}
 
 -- what is so of both is so of the fault that a file's fault becomes
 pub of_each_file : (Is : JobFault → Type 0) → Is faults.Memory → ((fault : FileFault) → Is (faults.File fault)) → (fault : FileFault) (made : JobFault) → made ≡ made_of_file fault → Is made
@@ -20,3 +21,20 @@ of_each_file Is memory file fault made is = subst Is (sym is) (go fault)
     go files.Beside = file files.Beside
     go (files.Limit len limit) = file (files.Limit len limit)
     go (files.System e) = file (files.System e)
+
+-- what is so of memory's faults, a file's and those of formatting is so of each fault of a file that is made
+pub of_each_made : (Is : JobFault → Type 0) → Is faults.Memory → ((fault : FileFault) → Is (faults.File fault)) → ((cause : FormatCause) → Is (faults.Format cause))
+    → (fault : JobFault) → IsOfFile fault → Is fault
+of_each_made Is memory file format faults.Memory of = memory
+of_each_made Is memory file format (faults.File fault) of = file fault
+of_each_made Is memory file format (faults.Format cause) of = format cause
+of_each_made Is memory file format faults.Reader of = absurd of
+of_each_made Is memory file format faults.Writer of = absurd of
+of_each_made Is memory file format (faults.Definition fault) of = absurd of
+of_each_made Is memory file format faults.Journal of = absurd of
+of_each_made Is memory file format (faults.Open cause) of = absurd of
+of_each_made Is memory file format (faults.Port at error) of = absurd of
+of_each_made Is memory file format (faults.Descriptors sessions wanted error) of = absurd of
+of_each_made Is memory file format faults.Place of = absurd of
+of_each_made Is memory file format faults.Order of = absurd of
+of_each_made Is memory file format faults.Counts of = absurd of

@@ -22,11 +22,12 @@ use Rattle.hpb_engine.specs.declared.event.Event.TheVariants as events
 use Rattle.hpb_engine.specs.declared.step.Fault.{Fault}
 use Rattle.hpb_engine.specs.declared.step.Fault.TheVariants as faults
 use Rattle.hpb_engine.specs.declared.step.Rest.{Rest}
+use Rattle.hpb_engine.specs.declared.step.Step.{Step}
 use Rattle.hpb_engine.specs.declared.progress.Progress.{Progress}
 use Rattle.hpb_engine.specs.Numbers.{end_of, may_be_open}
 use Rattle.hpb_engine.specs.Checkpoints.{CheckpointLeads, checkpoint_calls, step_calls}
 use Rattle.hpb_engine.specs.Steps.{turn_calls}
-use Rattle.hpb_engine.specs.Runs.{Drove, Follows, Holds, IsStepped, Mark, Ran, StandsAtOne}
+use Rattle.hpb_engine.specs.Runs.{Drove, Follows, Holds, IsStepped, IsTurned, Mark, Ran, StandsAtOne}
 use Rattle.hpb_engine.specs.Runs as runs
 use Rattle.hpb_promise.specs.Points.{Point, IsMove, GoesOn, Go, start_at, last_of, machine_at, told_at, acknowledged_at, AreMarked, MayStandAt, IsCounted, IsKept, Survives}
 
@@ -85,6 +86,21 @@ module _ (rules : Rules) (before after : Mark) (leaving : List Answer) (fault : 
     works = λ well. works;
   }
 
+  -- A turn is one, whatever becomes of it.
+  turned : (result : Result Step Fault) → IsTurned result before after leaving → before.progress.committed.rules ≡ rules → (move : machine.Event) → IsMove events.Commit (move ∷ [])
+      → after.machine ≡ (run rules before.machine (move ∷ [])).machine → leaving ≡ (run rules before.machine (move ∷ [])).leaving → (fault ≡ None → after.failed ≡ false)
+      → Moved rules events.Commit before after leaving fault
+  turned result told ruled move is becomes leaves works = record {
+    moves = move ∷ [];
+    is = is;
+    becomes = becomes;
+    leaves = leaves;
+    ruled = told.rules ∙ ruled;
+    later = told.later;
+    next = omega (arith, told.call, one_turn before.failed before.progress);
+    works = works;
+  }
+
   -- A step of a checkpoint is none.
   stepped : (result : Result Rest Fault) → IsStepped result before after leaving → before.progress.committed.rules ≡ rules → (fault ≡ None → after.failed ≡ false)
       → Moved rules events.Checkpoint before after leaving fault
@@ -113,26 +129,11 @@ moved rules (events.Offer letters) before after leaving fault works ruled (begun
 moved rules (events.Offer letters) before after leaving fault works ruled (begun.InFlight, told, none) =
     taken rules before after leaving fault letters (told.machine ∙ ap (λ (r : Rules). (take_letters r before.machine letters).machine) ruled)
     (told.answers ∙ ap (λ (r : Rules). (take_letters r before.machine letters).leaving) ruled) (ap (λ (p : _). p.committed.rules) told.stays ∙ ruled) told.moment (told.failed ∙ works)
-moved rules events.Commit before after leaving fault works ruled (Ok step, told, none) = record {
-  moves = machine.commit ∷ [];
-  is = inl refl;
-  becomes = told.machine;
-  leaves = told.answers ∙ sym (append-nil (turn true before.machine).leaving);
-  ruled = told.rules ∙ ruled;
-  later = told.later;
-  next = omega (arith, told.call, one_turn before.failed before.progress);
-  works = λ well. told.failed;
-}
-moved rules events.Commit before after leaving fault works ruled (Err faults.Device, told, none) = record {
-  moves = machine.failed_commit ∷ [];
-  is = inr refl;
-  becomes = told.machine;
-  leaves = told.answers ∙ sym (append-nil (turn false before.machine).leaving);
-  ruled = told.rules ∙ ruled;
-  later = told.later;
-  next = omega (arith, told.call, one_turn before.failed before.progress);
-  works = λ well. absurd (let no : Some faults.Device ≡ None = sym none ∙ well in cc);
-}
+moved rules events.Commit before after leaving fault works ruled (Ok step, told, none) =
+    turned rules before after leaving fault (Ok step) told ruled machine.commit (inl refl) told.machine (told.answers ∙ sym (append-nil (turn true before.machine).leaving)) (λ well. told.failed)
+moved rules events.Commit before after leaving fault works ruled (Err faults.Device, told, none) =
+    turned rules before after leaving fault (Err faults.Device) told ruled machine.failed_commit (inr refl) told.machine (told.answers ∙ sym (append-nil (turn false before.machine).leaving))
+    (λ well. absurd (let no : Some faults.Device ≡ None = sym none ∙ well in cc))
 moved rules events.Commit before after leaving fault works ruled (Err faults.Failed, told, none) = absurd (let no : true ≡ false = sym told.leads.0 ∙ works in cc)
 moved rules events.Checkpoint before after leaving fault works ruled (Ok rest, told, none) = stepped rules before after leaving fault (Ok rest) told ruled (λ well. told.failed)
 moved rules events.Checkpoint before after leaving fault works ruled (Err faults.Device, told, none) =

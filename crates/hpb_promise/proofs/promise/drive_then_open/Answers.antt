@@ -1,5 +1,6 @@
 use Rattle.std.proofs.Common.{subst}
 use Rattle.hpb_rules.specs.ValueLaws.{IsBestChoice}
+use Rattle.hpb_promise.proofs.Finding.{found_at}
 use Rattle.hpb_promise.proofs.promise.drive_then_open.Goals as goal
 
 pub returns-in-Ok-open-clause-kept : goal.returns-in-Ok-open-clause-kept
@@ -8,7 +9,7 @@ returns-in-Ok-open-clause-kept g c first stands =
       run.0,
       run.1,
       λ before point later left.
-          let found = (run.0.kept before point later left.cut).finds (g.E.Disk.seen c.args.left) left.left in
+          let found = found_at run.0 before point later left in
           record {
             history = found.history;
             shows = c.in-Ok-open.ensures.shows found.history found.stands;
@@ -20,13 +21,8 @@ returns-in-Ok-open-clause-kept g c first stands =
 
 pub returns-in-Err-open-clause-kept : goal.returns-in-Err-open-clause-kept
 returns-in-Err-open-clause-kept g c first stands =
-    let run = c.in-Ok.ensures.survives first stands in (
-      run.0,
-      run.1,
-      λ before point later left.
-          let found = (run.0.kept before point later left.cut).finds (g.E.Disk.seen c.args.left) left.left in
-          c.in-Err-open.ensures.stands found.history found.stands,
-    )
+    let run = c.in-Ok.ensures.survives first stands in
+    (run.0, run.1, λ before point later left. let found = found_at run.0 before point later left in c.in-Err-open.ensures.stands found.history found.stands)
 
 pub returns-in-Ok-open-clause-best : goal.returns-in-Ok-open-clause-best
 returns-in-Ok-open-clause-best g c = subst IsBestChoice c.auction.ensures c.revenue.ensures.best
