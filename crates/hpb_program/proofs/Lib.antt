@@ -1,3 +1,4 @@
+mod Files
 mod Crossing
 mod Cutting
 mod Doubting
