@@ -70,12 +70,11 @@ fn full_journal_makes_a_checkpoint(rt: HostRuntime) -> Result<(), Fail> {
 /// Makes a whole checkpoint, with so many calls of the device.
 fn checkpoint_with(
     rt: &impl Abort,
-    alloc: Global,
     engine: &mut Engine<MemoryDisk>,
     calls: usize,
 ) -> Result<(), Fail> {
     let before = engine.disk.calls();
-    let fault = make_checkpoint(alloc, engine)?;
+    let fault = make_checkpoint(engine);
     assert_eq!(rt; fault, None);
     assert_eq!(rt; engine.disk.calls(), before.saturating_add(calls));
     Ok(())
@@ -85,8 +84,8 @@ fn checkpoint_with(
 fn checkpoint_twice(rt: &impl Abort, alloc: Global, shape: JournalShape) -> Result<(), Fail> {
     let mut engine = new_engine(alloc, shape)?;
     commit_with(rt, alloc, &mut engine, 0, 4)?;
-    checkpoint_with(rt, alloc, &mut engine, 10)?;
-    checkpoint_with(rt, alloc, &mut engine, 0)?;
+    checkpoint_with(rt, &mut engine, 10)?;
+    checkpoint_with(rt, &mut engine, 0)?;
     assert_eq!(rt; count_on(alloc, Box::into_inner(engine).finish())?, 1);
     Ok(())
 }

@@ -1,6 +1,6 @@
 //! How often each answer was given.
 
-use hpb_image::Flaw;
+use hpb_recover::Flaw;
 use std::fmt;
 
 /// How many devices were opened, and how many were refused for each flaw.

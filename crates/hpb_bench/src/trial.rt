@@ -8,8 +8,7 @@ use crate::opening::opened;
 use crate::tally::Tally;
 use anyhow::{Result, bail};
 use hpb_disk::MemoryDisk;
-use hpb_image::Flaw;
-use hpb_recover::Cause;
+use hpb_recover::{Cause, Flaw};
 use std::alloc::Global;
 
 /// Opens a device, which has to be handed back with the bytes that it had: its flaw, if it has one.

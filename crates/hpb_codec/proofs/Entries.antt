@@ -11,6 +11,7 @@ use Rattle.hpb_rules.specs.declared.licence.Terms.{Terms}
 use Rattle.hpb_rules.specs.Tree.{Rules, Node, Bidder, parent_of, terms_of}
 use Rattle.hpb_rules.specs.Text.{node_name, bidder_name}
 use Rattle.hpb_rules.specs.Units.{bidder_units}
+use Rattle.hpb_rules.proofs.Places.{named_bidder}
 use Rattle.hpb_codec.specs.Numbers.{number, filled, before}
 use Rattle.hpb_codec.specs.Sizes.{length-number, behind, behind_text}
 use Rattle.hpb_codec.proofs.Fronts.{same_number, same_text}
@@ -48,11 +49,6 @@ node_entry [] i d lt = absurd (omega arith)
 node_entry (n ∷ ns) zero d lt = refl
 node_entry (n ∷ ns) (suc i) d lt = node_entry ns i d (omega arith)
 
-bidder_named : (bs : List Bidder) (i : ℕ) (d : Bidder) → i < length bs → bidder_name bs i ≡ (get_or bs i d).name
-bidder_named [] i d lt = absurd (omega arith)
-bidder_named (b ∷ bs) zero d lt = refl
-bidder_named (b ∷ bs) (suc i) d lt = bidder_named bs i d (omega arith)
-
 abbrev units_or : Option Bidder → ℕ
 units_or o = elim o [ None ↦ 0 | Some b ↦ b.units ]
 
@@ -63,7 +59,7 @@ units_at (b ∷ bs) (suc i) d lt = units_at bs i d (omega arith)
 
 -- and a bidder the name and the units
 pub bidder_entry : (rules : Rules) (i : ℕ) (d : Bidder) → i < length rules.bidders → bidders.entry_of (bidder_name rules.bidders i) (bidder_units rules i) ≡ bidders.bidder_of (get_or rules.bidders i d)
-bidder_entry rules i d lt = ap (λ (name : List ℕ). bidders.entry_of name (bidder_units rules i)) (bidder_named rules.bidders i d lt) ∙ ap (bidders.entry_of (get_or rules.bidders i d).name) (units_at rules.bidders i d lt)
+bidder_entry rules i d lt = ap (λ (name : List ℕ). bidders.entry_of name (bidder_units rules i)) (named_bidder rules.bidders i d lt) ∙ ap (bidders.entry_of (get_or rules.bidders i d).name) (units_at rules.bidders i d lt)
 
 -- a node takes 32 bytes and a bidder 24
 fields_sized : (name : List ℕ) (parent kind units opening : ℕ) → length name ≤ 16 → length (nodes.node_fields name parent kind units opening) ≡ 32

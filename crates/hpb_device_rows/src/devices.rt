@@ -3,8 +3,7 @@
 use hpb_codec::{JournalLayout, JournalShape};
 use hpb_disk::{Disk, MemoryDisk};
 use hpb_format::{FormatCause, format_layout};
-use hpb_image::Flaw;
-use hpb_recover::{Cause, open};
+use hpb_recover::{Cause, Flaw, open};
 use hpb_tree::{BidderDraft, Definition, Draft, NodeDraft, TermsDraft};
 use std::alloc::{AllocError, Global};
 use std::test::Fail;

@@ -2,8 +2,7 @@
 
 use hpb_disk::DiskFailed;
 use hpb_format::FormatCause;
-use hpb_image::Flaw;
-use hpb_recover::Cause;
+use hpb_recover::{Cause, Flaw};
 use hpb_rules::Refusal;
 use std::test::Fail;
 

@@ -1,6 +1,6 @@
 -- What stays so through the steps of a checkpoint.
 use Rattle.std.proofs.Common.{◌≡◌, ◌≢◌, inl, inr, ℕ, suc, ◌+◌, ◌-◌, ◌%◌, ◌<◌, ◌≤◌, nat_le, Bool, true, false, ◌||◌, List, length, take, drop, refl, sym, ◌∙◌, ap, subst, arith, length-append, length-drop}
-use Rattle.std.proofs.lemmas.Bool.{cases_lt, cases_eq}
+use Rattle.std.proofs.lemmas.Bool.{cases_lt, cases_eq, false_from_ne_true}
 use Rattle.std.proofs.lemmas.Bool.Decides.{nat_tests}
 use Rattle.std.proofs.lemmas.List.{length-take-le}
 use Rattle.std.proofs.Math.Nat.{add-mod_right}
@@ -14,7 +14,7 @@ use Rattle.hpb_codec.specs.States.{SpellsState}
 use Rattle.hpb_codec.specs.declared.state_format.StateFormat.TheVariants.{Two}
 use Rattle.hpb_disk.specs.Images.{SameFrom}
 use Rattle.hpb_journal.specs.declared.limits.TheConstants.{JOURNAL_AT}
-use Rattle.hpb_journal.specs.Frames.{HasIndex, IsClosed as IsClosedFrame, Kept, Says}
+use Rattle.hpb_journal.specs.Frames.{IsClosed as IsClosedFrame, HasIndex, Kept, Says}
 use Rattle.hpb_rules.specs.Fronts.{joined}
 use Rattle.hpb_journal.specs.Journals.{IsJournal}
 use Rattle.hpb_journal.specs.Layouts.{SameFrame}
@@ -31,6 +31,7 @@ use Rattle.hpb_engine.specs.Numbers.{CheckpointFits, IsSafe, count_of, end_of, l
 use Rattle.hpb_engine.specs.Facts.{Fits, IsFlight, IsSnapshot, InHead, InSlots, InJournal, Facts, ReadsCommit, ReadsRetirement, Reads, head_of}
 use Rattle.hpb_engine.specs.Laws.{Laws}
 use Rattle.hpb_engine.specs.Moves.{emptied, renewed, snapped, stepped}
+use Rattle.hpb_engine.proofs.Fitting.{refitted}
 use Rattle.hpb_engine.proofs.Cutting.{all_shortened, take_drop, upto_all, upto_shortened}
 use Rattle.hpb_engine.proofs.Regions.{head_stays}
 
@@ -46,10 +47,6 @@ other_differs : (slot : Slot) → slot ≢ other_of slot
 other_differs First is = absurd (cc)
 other_differs Second is = absurd (cc)
 
-false_unless : (b : Bool) → (b ≡ true → ⊥) → b ≡ false
-false_unless true not = absurd (not refl)
-false_unless false not = refl
-
 -- The snapshot of a committed auction is one of all acknowledged commands.
 pub snapshot_fits : (s : Progress) (k : Cut) → Fits s k → (body : List ℕ)
     → ((history : List Command) → Shows s.committed history → s.ring.next ≤ length history → IsSnapshot s.committed.rules body s.ring.next history)
@@ -64,7 +61,7 @@ module _ (laws : Laws) (s : Progress) (k : Cut) (fits : Fits s k) where
   journal = laws.shapes (shape_of s.ring.frames) (shape_is_allowed s.ring.frames)
 
   not_going : 1 ≤ s.checkpoint.steps → s.retirement.going ≡ false
-  not_going begun = false_unless s.retirement.going (λ on. omega (arith, begun, fits.safe.retirement.alone on))
+  not_going begun = false_from_ne_true s.retirement.going (λ on. omega (arith, begun, fits.safe.retirement.alone on))
 
   -- The slots are written: frames and head stay.
   module _ (old new : List ℕ) where
@@ -122,21 +119,15 @@ module _ (laws : Laws) (s : Progress) (k : Cut) (fits : Fits s k) where
   -- A checkpoint goes on: nothing else changes.
   goes_on : (next : Checkpoint) → CheckpointFits s.ring next → (s.retirement.going ≡ true → next.steps ≡ 0)
       → (1 ≤ next.steps → IsSnapshot k.rules next.body.items next.covers (upto k (next.covers - s.ring.covered))) → Fits (record s { checkpoint = next }) k
-  goes_on next numbers alone snapshot = let retirement = fits.safe.retirement in record {
-    safe = record {
-      ring = fits.safe.ring;
-      commit = fits.safe.commit;
-      checkpoint = numbers;
-      retirement = record { alone = alone; idle = retirement.idle; some = retirement.some; from = retirement.from; to = retirement.to };
-      few = fits.safe.few;
-    };
-    rules = fits.rules;
-    next = fits.next;
-    shows = fits.shows;
-    enough = fits.enough;
-    flight = fits.flight;
-    snapshot = snapshot;
-  }
+  goes_on next numbers alone = let retirement = fits.safe.retirement in refitted s k fits s.ring.clean_end s.commit next s.retirement
+      (record {
+        ring = fits.safe.ring;
+        commit = fits.safe.commit;
+        checkpoint = numbers;
+        retirement = record { alone = alone; idle = retirement.idle; some = retirement.some; from = retirement.from; to = retirement.to };
+        few = fits.safe.few;
+      })
+      fits.flight
 
   -- A checkpoint is begun.
   pub snapped_fits : s.checkpoint.steps ≡ 0 → s.retirement.going ≡ false → s.ring.covered < s.ring.next

@@ -19,6 +19,7 @@ use Rattle.hpb_engine.specs.Facts.{Facts, Fits, InJournal, IsFlight, IsSnapshot,
 use Rattle.hpb_engine.specs.Laws.{Laws}
 use Rattle.hpb_engine.specs.Numbers.{end_of, layout_of}
 use Rattle.hpb_engine.specs.Moves.{acknowledged, begun, turned}
+use Rattle.hpb_engine.proofs.Fitting.{refitted}
 use Rattle.hpb_engine.proofs.Cutting.{all_landed, upto_all, upto_landed}
 use Rattle.hpb_engine.proofs.Regions.{before_slots, checkpoint_stays, head_stays, slots_stay}
 
@@ -38,21 +39,16 @@ module _ (laws : Laws) (s : Progress) (k : Cut) (fits : Fits s k) where
 
   -- The numbers of a turn.
   pub turned_fits : (turns : ℕ) → turns ≤ 3 → s.commit.busy ≡ true → Fits (turned s turns) k
-  turned_fits turns most busy = let safe = fits.safe in record {
-    safe = record {
-      ring = safe.ring;
-      commit = record { turns = most; idle = λ free. absurd (cc); rest = safe.commit.rest; rules = safe.commit.rules; room = safe.commit.room; more = safe.commit.more };
-      checkpoint = safe.checkpoint;
-      retirement = safe.retirement;
-      few = safe.few;
-    };
-    rules = fits.rules;
-    next = fits.next;
-    shows = fits.shows;
-    enough = fits.enough;
-    flight = λ is. let flight = fits.flight is in record { kept = flight.kept; index = flight.index; first = flight.first; accepted = flight.accepted; after = flight.after; new = flight.new };
-    snapshot = fits.snapshot;
-  }
+  turned_fits turns most busy = let safe = fits.safe in refitted s k fits s.ring.clean_end (turned s turns).commit s.checkpoint s.retirement
+      (record {
+        ring = safe.ring;
+        commit = record { turns = most; idle = λ free. absurd (cc); rest = safe.commit.rest; rules = safe.commit.rules; room = safe.commit.room; more = safe.commit.more };
+        checkpoint = safe.checkpoint;
+        retirement = safe.retirement;
+        few = safe.few;
+      })
+      (λ is. let flight = fits.flight is in record { kept = flight.kept; index = flight.index; first = flight.first; accepted = flight.accepted; after = flight.after; new = flight.new })
+      fits.snapshot
 
   -- Another frame than that of the batch in flight has its own place.
   apart_from : s.commit.busy ≡ true → (b : ℕ) → s.ring.covered ≤ b → b < end_of s.ring → b ≢ s.ring.next → AreApart (layout_of s.ring) s.ring.next b
@@ -270,28 +266,22 @@ module _ (laws : Laws) (s : Progress) (k : Cut) (fits : Fits s k) where
     module _ (room : s.ring.next < s.ring.clean_end) (batch : Batch) (answers : List Answer) (working : AuctionValue) (rules : working.rules ≡ s.committed.rules)
         (flight : IsFlight k.rules s.ring.next s.committed (all k) (begun s batch answers working).commit) where
       pub begun_fits : Fits (begun s batch answers working) k
-      begun_fits = let safe = fits.safe in record {
-        safe = record {
-          ring = safe.ring;
-          commit = record {
-            turns = omega arith;
-            idle = λ no. refl;
-            rest = λ no. absurd (cc);
-            rules = rules;
-            room = λ is. room;
-            more = λ is. omega (arith, ap (λ (v : AuctionValue). v.count) flight.after, (laws.counted s.committed batch.commands flight.accepted).0, flight.kept.some);
-          };
-          checkpoint = safe.checkpoint;
-          retirement = safe.retirement;
-          few = safe.few;
-        };
-        rules = fits.rules;
-        next = fits.next;
-        shows = fits.shows;
-        enough = fits.enough;
-        flight = λ is. flight;
-        snapshot = fits.snapshot;
-      }
+      begun_fits = let safe = fits.safe in refitted s k fits s.ring.clean_end (begun s batch answers working).commit s.checkpoint s.retirement
+          (record {
+            ring = safe.ring;
+            commit = record {
+              turns = omega arith;
+              idle = λ no. refl;
+              rest = λ no. absurd (cc);
+              rules = rules;
+              room = λ is. room;
+              more = λ is. omega (arith, ap (λ (v : AuctionValue). v.count) flight.after, (laws.counted s.committed batch.commands flight.accepted).0, flight.kept.some);
+            };
+            checkpoint = safe.checkpoint;
+            retirement = safe.retirement;
+            few = safe.few;
+          })
+          (λ is. flight) fits.snapshot
 
     module _ (batch : Batch) (answers : List Answer) (working : AuctionValue) (image : List ℕ) (facts : Facts s k image) where
       pub begun_facts : Facts (begun s batch answers working) k image

@@ -8,9 +8,9 @@ use Rattle.hpb_rules.specs.AcceptedRuns.{AllAccepted}
 use Rattle.hpb_rules.specs.Tree.{Rules}
 use Rattle.hpb_rules.specs.Machine.{Machine, at_rest}
 use Rattle.hpb_disk.specs.Images.{Only}
-use Rattle.hpb_image.specs.Heads.{IsLaidOut, layout_of as layout_by}
-use Rattle.hpb_image.specs.Readings.{Found, Reads as ReadsAll, checkpoint}
-use Rattle.hpb_image.specs.Standing.{Stands}
+use Rattle.hpb_recover.specs.Heads.{IsLaidOut, layout_of as layout_by}
+use Rattle.hpb_recover.specs.Readings.{Found, Reads as ReadsAll, checkpoint}
+use Rattle.hpb_recover.specs.Standing.{Stands}
 use Rattle.hpb_journal.specs.Frames.{IsOpen, IsOwn, Kept, batch_at}
 use Rattle.hpb_rules.specs.Fronts.{joined}
 use Rattle.hpb_rules.proofs.Judged.{shown_count}

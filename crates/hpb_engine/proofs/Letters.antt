@@ -1,23 +1,21 @@
 -- Letters whose new commands are put in flight.
-use Rattle.std.proofs.Common.{◌≡◌, ℕ, suc, ◌+◌, ◌<◌, Bool, true, false, None, Option, Some, Result, Ok, Err, List, [], ◌∷◌, ◌++◌, length, map, take, refl, sym, ◌∙◌, ap, subst, arith}
-use Rattle.std.specs.Prelude.{IsOk, OnOk, if◌then◌else◌}
+use Rattle.std.proofs.Common.{◌≡◌, ℕ, suc, ◌<◌, Bool, false, None, Option, Some, List, [], ◌∷◌, length, refl, sym, ◌∙◌, ap, subst, arith}
+use Rattle.std.specs.Prelude.{if◌then◌else◌}
 use Rattle.std.specs.List.{AllByRecursion}
-use Rattle.std.proofs.lemmas.List.{length-reverse, map-append}
+use Rattle.std.proofs.lemmas.List.{length-reverse}
 use Rattle.hpb_rules.specs.declared.command.Command.{Command}
 use Rattle.hpb_rules.specs.declared.letter.Answer.{Answer}
 use Rattle.hpb_rules.specs.declared.letter.Letter.{Letter}
-use Rattle.hpb_rules.specs.declared.reply.Reply.{Reply}
 use Rattle.hpb_rules.specs.AcceptedRuns.{AllAccepted}
 use Rattle.hpb_rules.specs.Answer.{unknown}
 use Rattle.hpb_rules.specs.AuctionValue.{AuctionValue}
 use Rattle.hpb_rules.specs.Letters.{judged, new_commands}
 use Rattle.hpb_rules.specs.Machine.{Effect, Flight, Machine, in_flight, offered, take_letters}
 use Rattle.hpb_rules.specs.Tree.{Rules}
-use Rattle.hpb_rules.specs.Values.{next_value, reply_in, value_after}
+use Rattle.hpb_rules.specs.Values.{value_after}
 use Rattle.hpb_rules.specs.Rounds.{HasTicket}
-use Rattle.hpb_rules.specs.Judging.{answer_in, judged_in}
+use Rattle.hpb_rules.specs.Judging.{judged_in}
 use Rattle.hpb_rules.specs.LetterLaws.{JudgedIsShown}
-use Rattle.hpb_rules.proofs.Judged.{is_new, new_first, next_old, one_new}
 use Rattle.hpb_engine.specs.declared.progress.Progress.{Progress}
 use Rattle.hpb_engine.specs.Cuts.{Cut, all}
 use Rattle.hpb_engine.specs.Facts.{Fits, IsFlight}
@@ -74,35 +72,6 @@ module _ (laws : Laws) (s : Progress) (free : s.commit.busy ≡ false) (rest : s
         images = λ image left. begun_facts laws s k inside.fits free batch answers after image (inside.images image left);
         reads = λ works. begun_reads laws s k inside.fits free batch answers after (seen disk) (inside.images (seen disk) stays) (inside.reads works);
       }
-
--- Where none is new, each is answered by the value as it is.
-pub answered_alike : (value : AuctionValue) (letters : List Letter) → new_commands (judged_in value letters) ≡ [] → judged_in value letters ≡ map (answer_in value) letters
-answered_alike value [] none = refl
-answered_alike value (letter ∷ letters) none = by (is_new value letter.command) refl (answered_alike value letters)
-  where
-    by : (b : Bool) → is_new value letter.command ≡ b → (new_commands (judged_in value letters) ≡ [] → judged_in value letters ≡ map (answer_in value) letters)
-        → judged_in value (letter ∷ letters) ≡ map (answer_in value) (letter ∷ letters)
-    by true is later = absurd (one_new value [] letters letter refl is none)
-    by false is later =
-        let next : AuctionValue = next_value value letter.command in
-        let rest : judged_in next letters ≡ judged_in value letters = ap (λ (v : AuctionValue). judged_in v letters) (next_old value letter.command is) in
-        let old : new_commands (judged_in value letters) ≡ [] = ap new_commands (sym rest) ∙ sym (new_first value letter (judged_in next letters) false is) ∙ none in
-        ap (λ (answers : List Answer). answer_in value letter ∷ answers) (rest ∙ later old)
-
--- One answer more, which there is room for.
-abbrev answered_at : Letter → ℕ → Reply → Answer
-answered_at letter at reply = record { letter = letter; at = at; reply = reply }
-
-pub answered_more : (value : AuctionValue) (before after : List Answer) (letters : List Letter) (place : ℕ) (letter : Letter) (at : ℕ) (reply : Reply) {T E : Type 0} (pushed : Result T E) → IsOk pushed
-    → OnOk pushed (after ≡ before ++ record { letter = letter; at = at; reply = reply } ∷ []) → at ≡ value.count → reply ≡ reply_in value letter.command
-    → before ≡ map (answer_in value) (take place letters) → take (place + 1) letters ≡ take place letters ++ letter ∷ []
-    → after ≡ map (answer_in value) (take (place + 1) letters)
-answered_more value before after letters place letter at reply (Ok x) ok is count replied was more =
-    let same : answered_at letter at reply ≡ answer_in value letter = ap (λ (n : ℕ). answered_at letter n reply) count ∙ ap (answered_at letter value.count) replied in
-    is ∙ ap (λ (answers : List Answer). answers ++ answered_at letter at reply ∷ []) was
-    ∙ ap (λ (answered : Answer). map (answer_in value) (take place letters) ++ answered ∷ []) same
-    ∙ sym (ap (map (answer_in value)) more ∙ map-append (answer_in value) (take place letters) (letter ∷ []))
-answered_more value before after letters place letter at reply (Err e) ok is count replied was more = absurd (cc ok)
 
 -- The machine takes letters.
 offered_new : (acknowledged : List Command) (answers : List Answer) (commands : List Command) → (commands ≡ [] → ⊥)

@@ -1,30 +1,22 @@
 -- What stays in the parts of an image that a step doesn't touch.
-use Rattle.std.proofs.Common.{◌≡◌, ◌≢◌, ◌⊎◌, inl, inr, ℕ, ◌*◌, ◌%◌, ◌≤◌, List, [], ◌∷◌, length, sym, ◌∙◌, ap, subst, arith}
-use Rattle.std.proofs.lemmas.Bool.{cases_eq}
+use Rattle.std.proofs.Common.{◌≡◌, ℕ, ◌*◌, ◌%◌, ◌≤◌, List, length, sym, ◌∙◌, subst, arith}
 use Rattle.hpb_codec.specs.declared.head.Head.{Head}
 use Rattle.hpb_codec.specs.declared.head.TheConstants.{HEAD_SIZE}
 use Rattle.hpb_codec.specs.Heads.{SpellsHead}
 use Rattle.hpb_codec.specs.States.{SpellsState}
 use Rattle.hpb_codec.specs.declared.state.TheConstants.{CHUNK_SIZE}
-use Rattle.hpb_disk.specs.Gates.{open_byte}
 use Rattle.hpb_disk.specs.Images.{SameBefore}
-use Rattle.hpb_image.specs.declared.limits.TheConstants.{PAGE_BYTES, HEAD_AT, MAGIC_BYTES, LEAST_PAGES}
+use Rattle.hpb_recover.specs.declared.limits.TheConstants.{PAGE_BYTES, HEAD_AT, MAGIC_BYTES, LEAST_PAGES}
 use Rattle.hpb_journal.specs.declared.limits.TheConstants.{JOURNAL_AT}
 use Rattle.hpb_rules.specs.declared.command.Command.{Command}
 use Rattle.hpb_rules.specs.Tree.{Rules}
 use Rattle.hpb_slots.specs.declared.limits.TheConstants.{SLOTS_AT}
 use Rattle.hpb_slots.specs.declared.slot.Slot.{Slot}
-use Rattle.hpb_slots.specs.declared.slot.Slot.TheVariants.{First, Second}
-use Rattle.hpb_slots.specs.Slots.{body_of, chunk_at, gate_of, other_of, place_of}
+use Rattle.hpb_slots.specs.Slots.{body_of, chunk_at, gate_of, other_of}
+use Rattle.hpb_slots.proofs.SlotRegions.{two}
 use Rattle.hpb_engine.specs.declared.progress.Checkpoint.{Checkpoint}
 use Rattle.hpb_engine.specs.Facts.{InHead, InSlots, ReadsCheckpoint}
 use Rattle.hpb_engine.specs.Laws.{Laws}
-
--- The bytes of a gate are those of an open one, or not.
-pub open_or_not : (bytes : List ℕ) → (bytes ≡ open_byte) ⊎ (bytes ≢ open_byte)
-open_or_not [] = inr (λ is. cc)
-open_or_not (x ∷ y ∷ bytes) = inr (λ is. cc)
-open_or_not (x ∷ []) = elim (cases_eq x 165) [ inl is ↦ inl (ap (λ (n : ℕ). n ∷ []) is) | inr not ↦ inr (λ is. not (cc)) ]
 
 -- The head lies before the slots.
 pub head_stays : (head : Head) (old new : List ℕ) → SameBefore SLOTS_AT old new → length new ≡ length old → InHead head old → InHead head new
@@ -39,10 +31,6 @@ head_stays head old new same size was = record {
     size = size ∙ was.laid.size;
   };
 }
-
-place_bound : (slot : Slot) → place_of slot ≤ 1
-place_bound First = omega arith
-place_bound Second = omega arith
 
 pub before_slots : (old new : List ℕ) → SameBefore JOURNAL_AT old new → SameBefore SLOTS_AT old new
 before_slots old new same at count below = same at count (omega (arith, below))
@@ -71,6 +59,6 @@ module _ (laws : Laws) (old new : List ℕ) (same : SameBefore JOURNAL_AT old ne
       let gate = (slot_same slot).0 in
       record {
         closed = λ some early is_open. was.closed some early (sym gate ∙ is_open);
-        copied = λ some few i less. same (chunk_at slot i) CHUNK_SIZE (omega (arith, less, few, place_bound slot)) ∙ was.copied some few i less;
+        copied = λ some few i less. same (chunk_at slot i) CHUNK_SIZE (omega (arith, less, few, two slot)) ∙ was.copied some few i less;
         shown = λ late. gate ∙ was.shown late;
       }

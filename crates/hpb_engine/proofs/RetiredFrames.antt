@@ -1,6 +1,6 @@
 -- What stays so while frames become clean again.
-use Rattle.std.proofs.Common.{◌≡◌, ◌≢◌, inl, inr, ℕ, suc, ◌+◌, ◌<◌, ◌≤◌, Bool, true, false, List, length, refl, sym, ◌∙◌, ap, subst, arith}
-use Rattle.std.proofs.lemmas.Bool.{cases_lt, cases_eq}
+use Rattle.std.proofs.Common.{◌≡◌, ◌≢◌, inl, inr, ℕ, suc, ◌+◌, ◌<◌, ◌≤◌, true, false, List, length, refl, sym, ◌∙◌, ap, subst, arith}
+use Rattle.std.proofs.lemmas.Bool.{cases_lt, cases_eq, true_from_ne_false}
 use Rattle.hpb_journal.specs.Changes.{ChangesGate}
 use Rattle.hpb_journal.specs.Frames.{IsClosed, Says}
 use Rattle.hpb_journal.specs.Journals.{IsJournal}
@@ -13,11 +13,8 @@ use Rattle.hpb_engine.specs.Numbers.{end_of, layout_of, may_be_open}
 use Rattle.hpb_engine.specs.Facts.{Fits, Facts, Reads, head_of}
 use Rattle.hpb_engine.specs.Laws.{Laws}
 use Rattle.hpb_engine.specs.Moves.{cleaned, retired}
+use Rattle.hpb_engine.proofs.Fitting.{refitted}
 use Rattle.hpb_engine.proofs.Regions.{before_slots, checkpoint_stays, head_stays, slots_stay}
-
-true_unless : (b : Bool) → (b ≡ false → ⊥) → b ≡ true
-true_unless true not = refl
-true_unless false not = absurd (not refl)
 
 module _ (laws : Laws) (s : Progress) (k : Cut) (fits : Fits s k) where
   journal : IsJournal (layout_of s.ring)
@@ -41,7 +38,7 @@ module _ (laws : Laws) (s : Progress) (k : Cut) (fits : Fits s k) where
 
     -- The frame of a batch whose gate is written is one of them.
     flight_before : 3 ≤ s.commit.turns → s.ring.next < s.ring.clean_end
-    flight_before late = fits.safe.commit.room (true_unless s.commit.busy (λ off. omega (arith, late, fits.safe.commit.idle off)))
+    flight_before late = fits.safe.commit.room (true_from_ne_false s.commit.busy (λ off. omega (arith, late, fits.safe.commit.idle off)))
 
     module _ (old new : List ℕ) (facts : Facts s k old) (changes : ChangesGate (layout_of s.ring) s.retirement.upto old new) where
       closed_stays : (b : ℕ) → AreApart (layout_of s.ring) s.retirement.upto b → IsClosed (layout_of s.ring) b old → IsClosed (layout_of s.ring) b new
@@ -86,27 +83,21 @@ module _ (laws : Laws) (s : Progress) (k : Cut) (fits : Fits s k) where
 
   -- A frame more is to be closed.
   pub retired_fits : s.checkpoint.steps ≡ 0 → s.retirement.upto < end_of s.ring → Fits (retired s) k
-  retired_fits steps left = record {
-    safe = record {
-      ring = fits.safe.ring;
-      commit = fits.safe.commit;
-      checkpoint = fits.safe.checkpoint;
-      retirement = record {
-        alone = λ _. steps;
-        idle = λ off. absurd (cc);
-        some = λ _. omega (arith, fits.safe.retirement.from, left);
-        from = omega (arith, fits.safe.retirement.from);
-        to = omega (arith, left);
-      };
-      few = fits.safe.few;
-    };
-    rules = fits.rules;
-    next = fits.next;
-    shows = fits.shows;
-    enough = fits.enough;
-    flight = fits.flight;
-    snapshot = fits.snapshot;
-  }
+  retired_fits steps left = refitted s k fits s.ring.clean_end s.commit s.checkpoint (retired s).retirement
+      (record {
+        ring = fits.safe.ring;
+        commit = fits.safe.commit;
+        checkpoint = fits.safe.checkpoint;
+        retirement = record {
+          alone = λ _. steps;
+          idle = λ off. absurd (cc);
+          some = λ _. omega (arith, fits.safe.retirement.from, left);
+          from = omega (arith, fits.safe.retirement.from);
+          to = omega (arith, left);
+        };
+        few = fits.safe.few;
+      })
+      fits.flight fits.snapshot
 
   -- It stands closed already.
   module _ (left : s.retirement.upto < end_of s.ring) (not : may_be_open s.ring s.retirement.upto ≡ false) (image : List ℕ) (facts : Facts s k image) where
@@ -131,35 +122,29 @@ module _ (laws : Laws) (s : Progress) (k : Cut) (fits : Fits s k) where
     cleaned_fits =
         let ring = fits.safe.ring in
         let commit = fits.safe.commit in
-        record {
-          safe = record {
-            ring = record {
-              least = ring.least;
-              most = ring.most;
-              gates = ring.gates;
-              opened = ring.opened;
-              covered = ring.covered;
-              clean = omega (arith, ring.clean, ring.end);
-              end = omega arith;
-            };
-            commit = record { turns = commit.turns; idle = commit.idle; rest = commit.rest; rules = commit.rules; room = λ busy. omega (arith, commit.room busy, ring.end); more = commit.more };
-            checkpoint = record { steps = fits.safe.checkpoint.steps; size = fits.safe.checkpoint.size; new = fits.safe.checkpoint.new; old = fits.safe.checkpoint.old; closed = fits.safe.checkpoint.closed };
-            retirement = record {
-              alone = λ on. absurd (cc);
-              idle = λ _. refl;
-              some = λ on. absurd (cc);
-              from = omega arith;
-              to = omega arith;
-            };
-            few = fits.safe.few;
+        refitted s k fits (end_of s.ring) s.commit s.checkpoint (cleaned s).retirement
+        (record {
+          ring = record {
+            least = ring.least;
+            most = ring.most;
+            gates = ring.gates;
+            opened = ring.opened;
+            covered = ring.covered;
+            clean = omega (arith, ring.clean, ring.end);
+            end = omega arith;
           };
-          rules = fits.rules;
-          next = fits.next;
-          shows = fits.shows;
-          enough = fits.enough;
-          flight = fits.flight;
-          snapshot = fits.snapshot;
-        }
+          commit = record { turns = commit.turns; idle = commit.idle; rest = commit.rest; rules = commit.rules; room = λ busy. omega (arith, commit.room busy, ring.end); more = commit.more };
+          checkpoint = record { steps = fits.safe.checkpoint.steps; size = fits.safe.checkpoint.size; new = fits.safe.checkpoint.new; old = fits.safe.checkpoint.old; closed = fits.safe.checkpoint.closed };
+          retirement = record {
+            alone = λ on. absurd (cc);
+            idle = λ _. refl;
+            some = λ on. absurd (cc);
+            from = omega arith;
+            to = omega arith;
+          };
+          few = fits.safe.few;
+        })
+        fits.flight fits.snapshot
 
     module _ (image : List ℕ) (facts : Facts s k image) (reads : Reads s k image) where
       pub cleaned_synced : Facts (cleaned s) k image

@@ -7,11 +7,11 @@ use Rattle.hpb_rules.specs.Tree.{Rules}
 use Rattle.hpb_rules.specs.Answer.{IsHistory}
 use Rattle.hpb_rules.specs.AuctionValue.{Shows}
 use Rattle.hpb_rules.specs.Machine.{Machine}
-use Rattle.hpb_image.specs.Standing.{Stands}
+use Rattle.hpb_recover.specs.Standing.{Stands}
 use Rattle.hpb_journal.specs.Frames.{IsClosed, IsOpen, IsOwn}
 use Rattle.hpb_slots.specs.declared.slot.Slot.{Slot}
 use Rattle.hpb_slots.specs.declared.slot.Slot.TheVariants.{First, Second}
-use Rattle.hpb_slots.specs.Slots.{Holds, IsClosed as IsClosedSlot, other_of, place_of}
+use Rattle.hpb_slots.specs.Slots.{IsClosed as IsClosedSlot, Holds, other_of, place_of}
 use Rattle.hpb_engine.specs.declared.progress.Progress.{Progress}
 use Rattle.hpb_engine.specs.Cuts.{Cut, all, landed, shortened}
 use Rattle.hpb_engine.specs.Facts.{Facts, Fits, head_of}
@@ -22,7 +22,7 @@ use Rattle.hpb_engine.specs.Moves.{acknowledged, renewed}
 use Rattle.hpb_engine.proofs.CheckpointSteps.{renewed_fits, renewed_opened}
 use Rattle.hpb_engine.proofs.CommitTurns.{acknowledged_fits, gate_opened}
 use Rattle.hpb_engine.proofs.Cutting.{all_landed, all_shortened}
-use Rattle.hpb_engine.proofs.Regions.{open_or_not}
+use Rattle.hpb_disk.proofs.GateBytes.{is_open_byte}
 
 same_or_other : (one other : Slot) → (other ≡ one) ⊎ (other ≡ other_of one)
 same_or_other First First = inl refl
@@ -108,7 +108,7 @@ pub stands_either : (laws : Laws) (s : Progress) (k : Cut) (image : List ℕ) �
     → Stands (all k) image ⊎ ((s.commit.turns ≡ 3) × Stands (all k ++ s.commit.batch.commands) image)
 stands_either laws s k image fits facts busy = elim (cases_eq s.commit.turns 3) [
   | inr early ↦ inl (settled laws s k image fits facts (λ late. absurd (early late)))
-  | inl late ↦ elim (open_or_not ((layout_of s.ring).gate s.ring.next image)) [
+  | inl late ↦ elim (is_open_byte ((layout_of s.ring).gate s.ring.next image)) [
     | inr closed ↦ inl (settled laws s k image fits facts (λ _. closed))
     | inl opened ↦ inr (
       late,

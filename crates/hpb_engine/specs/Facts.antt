@@ -11,7 +11,7 @@ use Rattle.hpb_rules.specs.Saved.{restored}
 use Rattle.hpb_codec.specs.declared.head.Head.{Head}
 use Rattle.hpb_codec.specs.States.{SpellsState, SpellsStateIn}
 use Rattle.hpb_codec.specs.declared.state_format.StateFormat.TheVariants.{Two}
-use Rattle.hpb_image.specs.Heads.{IsFormatted, IsLaidOut}
+use Rattle.hpb_recover.specs.Heads.{IsFormatted, IsLaidOut}
 use Rattle.hpb_journal.specs.Frames.{HasIndex, IsClosed, IsOpen, Kept, MayBeKept, Says}
 use Rattle.hpb_journal.specs.Shapes.{shape_of}
 use Rattle.hpb_slots.specs.Slots.{HasChunks, Holds, IsClosed as IsClosedSlot, IsOpen as IsOpenSlot, body_of, other_of, place_of}

@@ -11,3 +11,4 @@ pub mod Moves
 pub mod Keeping
 pub mod Laws
 pub mod Starting
+pub mod Points

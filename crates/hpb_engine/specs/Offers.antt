@@ -1,5 +1,5 @@
 -- What becomes of letters that are offered.
-use Rattle.std.specs.Prelude.{◌≡◌, ◌<◌, Bool, true, false, List, []}
+use Rattle.std.specs.Prelude.{◌≡◌, ◌<◌, Bool, true, false, List, [], Option, Some, None}
 use Rattle.hpb_rules.specs.declared.letter.Answer.{Answer}
 use Rattle.hpb_rules.specs.declared.letter.Letter.{Letter}
 use Rattle.hpb_rules.specs.Letters.{new_commands}
@@ -9,6 +9,8 @@ use Rattle.hpb_rules.specs.Values.{value_after}
 use Rattle.hpb_rules.specs.Judging.{judged_in}
 use Rattle.hpb_engine.specs.declared.progress.Progress.{Progress}
 use Rattle.hpb_engine.specs.Moves.{begun}
+use Rattle.hpb_engine.specs.declared.begun.Bar.{Bar}
+use Rattle.hpb_engine.specs.declared.begun.Bar.TheVariants as bars
 use Rattle.hpb_engine.specs.declared.begun.Begun.{Begun}
 use Rattle.hpb_engine.specs.declared.begun.Begun.TheVariants as outcomes
 use Rattle.hpb_engine.specs.declared.begun.Weight.{Weight}
@@ -27,6 +29,21 @@ Weighs failed s letters weights.Busy = (failed ≡ false) × (s.commit.busy ≡ 
 Weighs failed s letters weights.Old = (failed ≡ false) × (s.commit.busy ≡ false) × AreOld s letters
 Weighs failed s letters weights.Full = (failed ≡ false) × (s.commit.busy ≡ false) × (AreOld s letters → ⊥) × (s.ring.next ≡ s.ring.clean_end)
 Weighs failed s letters weights.New = (failed ≡ false) × (s.commit.busy ≡ false) × (AreOld s letters → ⊥) × (s.ring.next < s.ring.clean_end)
+
+-- Letters that are barred, by their weight.
+abbrev pub weight_by : Bar → Weight
+weight_by bars.Failed = weights.Failed
+weight_by bars.Busy = weights.Busy
+weight_by bars.Full = weights.Full
+
+-- Nothing bars letters: no call has failed, no batch is in flight, and, where one of them is new, a clean frame is left.
+abbrev pub CanTake : (failed : Bool) → Progress → List Letter → Type 0
+CanTake failed s letters = (failed ≡ false) × (s.commit.busy ≡ false) × ((AreOld s letters → ⊥) → s.ring.next < s.ring.clean_end)
+
+-- What letters that nothing bars come to: answers leave, or they are in flight.
+abbrev pub taken : Option (List Answer) → Begun
+taken (Some answers) = outcomes.Answered answers
+taken None = outcomes.InFlight
 
 -- What was begun by a weight.
 abbrev pub weight_of : Begun → Weight

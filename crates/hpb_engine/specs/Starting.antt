@@ -2,7 +2,7 @@
 use Rattle.std.specs.Prelude.{◌≡◌, ℕ, false, List, length}
 use Rattle.hpb_rules.specs.declared.command.Command.{Command}
 use Rattle.hpb_codec.specs.declared.state.TheConstants.{STATE_SIZE}
-use Rattle.hpb_image.specs.Standing.{Stands}
+use Rattle.hpb_recover.specs.Standing.{Stands}
 use Rattle.hpb_journal.specs.Shapes.{shape_of}
 use Rattle.hpb_recover.specs.declared.plan.Plan.{Plan}
 use Rattle.hpb_engine.specs.declared.progress.Checkpoint.{Checkpoint}

@@ -16,6 +16,17 @@ pub enum Weight {
     New,
 }
 
+/// What bars letters that are offered from being taken.
+#[derive(Clone, Copy, Debug, PartialEq, Eq)]
+pub enum Bar {
+    /// 93: a call of the device has failed.
+    Failed,
+    /// A batch is in flight.
+    Busy,
+    /// There are new commands among them, and no clean frame is left.
+    Full,
+}
+
 /// What became of letters that were offered. Letters that aren't taken are handed back.
 #[derive(Drop)]
 pub enum Begun {

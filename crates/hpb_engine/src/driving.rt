@@ -32,7 +32,7 @@ pub struct Run {
 }
 
 /// Takes one event, and puts the answers that leave where there is none yet. The fault is 91, where the device fails in it.
-fn take<D: Disk + Drop>(
+fn take_event<D: Disk + Drop>(
     engine: &mut Engine<D>,
     event: &Event,
     leaving: &mut Answers,
@@ -80,7 +80,7 @@ fn take_all<D: Disk + Drop>(
     let mut leaving = Answers::new();
     for event in events {
         leaving.clear();
-        let fault = take(engine, event, &mut leaving);
+        let fault = take_event(engine, event, &mut leaving);
         let added = answers.extend_from_slice(leaving.as_slice());
         prove!(added.is_ok());
         if fault.is_some() {

@@ -1,20 +1,16 @@
 //! Taking in letters.
-ghost use Rattle.std.specs.Prelude.{◌≡◌, []};
-ghost use Rattle.hpb_rules.specs.Letters.{new_commands};
+ghost use Rattle.std.specs.Prelude.{◌≡◌, [], IfSome, None};
 ghost use Rattle.hpb_rules.specs.Machine.{Machine, take_letters};
-ghost use Rattle.hpb_rules.specs.Values.{value_after};
 ghost use Rattle.hpb_engine.specs.Keeping.{Keeps};
-ghost use Rattle.hpb_engine.specs.Moves.{begun};
-ghost use Rattle.hpb_rules.specs.Judging.{judged_in};
-ghost use Rattle.hpb_engine.specs.Offers.{AreJudged, HandsBack, StaysUnlessInFlight, Weighs, begun_of, leaving_at, offer_by, weight_of};
+ghost use Rattle.hpb_engine.specs.Offers.{AreJudged, CanTake, HandsBack, StaysUnlessInFlight, Weighs, begun_of, leaving_at, offer_by, taken, weight_by, weight_of};
 
-use crate::begun::{Begun, Weight};
+use crate::begun::{Bar, Begun, Weight};
 use crate::engine::Engine;
 use crate::laws_below;
 use hpb_auction::{accepts_any, judge_letters};
 use hpb_codec::Batch;
 use hpb_disk::Disk;
-use hpb_rules::{Answer, Answers, Letters, judged_is_shown};
+use hpb_rules::{Answers, Letters, judged_is_shown};
 
 impl<D: Disk + Drop> Engine<D> {
     /// What would become of letters, were they offered now. Nothing changes, and the device has no call.
@@ -36,42 +32,39 @@ impl<D: Disk + Drop> Engine<D> {
         Weight::New
     }
 
-    /// Answers letters that weigh `Old`: all of them are refused or repeats. Nothing changes, and the device has no call.
-    pub fn answer_old(&self, letters: &Letters) -> Answers
-        requires old { Weighs self.now.failed self.now.progress letters.now Weight.Old }
-        ensures judged { result ≡ judged_in self.now.progress.committed letters.now }
-        // The machine without a disk takes the letters and stays, and these answers leave.
-        ensures stays { (machine : Machine) → Keeps D.seen D.may_leave self.now.disk self.now.progress self.now.failed machine
-            → (take_letters self.now.progress.committed.rules machine letters.now).machine ≡ machine }
-        ensures leaving { (machine : Machine) → Keeps D.seen D.may_leave self.now.disk self.now.progress self.now.failed machine
-            → (take_letters self.now.progress.committed.rules machine letters.now).leaving ≡ result }
+    /// What bars letters, were they offered now: the first that applies. Nothing changes, and the device has no call. Where a
+    /// clean frame is left none of them is judged.
+    pub fn bars(&self, letters: &Letters) -> Option<Bar>
+        ensures barred { IfSome result (λ bar. Weighs self.now.failed self.now.progress letters.now (weight_by bar)) }
+        ensures clear { result ≡ None → CanTake self.now.failed self.now.progress letters.now }
     {
-        judged_is_shown();
-        let committed = &self.progress.committed;
-        let at = committed.count();
-        let mut answers = Answers::new();
-        for letter in letters.as_slice() {
-            let reply = committed.judge(&letter.command);
-            let _ = answers.push(Answer {
-                letter: *letter,
-                at,
-                reply,
-            });
+        if self.failed {
+            return Some(Bar::Failed);
         }
-        answers
+        if self.progress.commit.busy {
+            return Some(Bar::Busy);
+        }
+        if self.progress.ring.next < self.progress.ring.clean_end {
+            return None;
+        }
+        if accepts_any(&self.progress.committed, letters) {
+            return Some(Bar::Full);
+        }
+        None
     }
 
-    /// Puts the new commands of letters that weigh `New` in flight. The device has no call, and it takes no memory.
-    pub fn begin_new(&mut self, letters: &Letters)
-        requires new { Weighs self.old.failed self.old.progress letters.now Weight.New }
-        // What is kept before is kept after it, as the machine without a disk takes the letters, and no answer leaves.
+    /// Takes letters that nothing bars. Each is judged once: the answers leave where none is new, and else the new commands
+    /// are in flight, and none leaves. The device has no call, and it takes no memory.
+    pub fn take(&mut self, letters: &Letters) -> Option<Answers>
+        requires clear { CanTake self.old.failed self.old.progress letters.now }
+        // What is kept before is kept after it, as the machine without a disk takes the letters, and its answers leave.
         ensures keeps { (machine : Machine) → Keeps D.seen D.may_leave self.old.disk self.old.progress self.old.failed machine
             → Keeps D.seen D.may_leave self.new.disk self.new.progress self.new.failed (take_letters self.old.progress.committed.rules machine letters.now).machine }
         ensures leaving { (machine : Machine) → Keeps D.seen D.may_leave self.old.disk self.old.progress self.old.failed machine
-            → (take_letters self.old.progress.committed.rules machine letters.now).leaving ≡ [] }
-        ensures begun { self.new.progress ≡ begun self.old.progress self.new.progress.commit.batch self.new.progress.commit.answers self.new.progress.commit.working }
-        ensures answers { self.new.progress.commit.answers ≡ judged_in self.old.progress.committed letters.now }
-        ensures working { self.new.progress.commit.working ≡ value_after self.old.progress.committed (new_commands (judged_in self.old.progress.committed letters.now)) }
+            → leaving_at (taken result) ≡ (take_letters self.old.progress.committed.rules machine letters.now).leaving }
+        ensures weight { Weighs self.old.failed self.old.progress letters.now (weight_of (taken result)) }
+        ensures judged { AreJudged (taken result) letters.now self.old.progress self.new.progress }
+        ensures stays { StaysUnlessInFlight (taken result) self.old.progress self.new.progress }
         ensures disk { self.new.disk ≡ self.old.disk }
         ensures failed { self.new.failed ≡ self.old.failed }
     {
@@ -79,6 +72,9 @@ impl<D: Disk + Drop> Engine<D> {
         laws_below();
         let first = u64::from(self.progress.committed.count()) + 1;
         let judged = judge_letters(&mut self.progress.commit.working, letters);
+        if judged.commands.len() == 0 {
+            return Some(judged.answers);
+        }
         self.progress.commit.batch = Batch {
             index: self.progress.ring.next,
             first,
@@ -87,13 +83,14 @@ impl<D: Disk + Drop> Engine<D> {
         self.progress.commit.answers = judged.answers;
         self.progress.commit.turns = 0;
         self.progress.commit.busy = true;
+        None
     }
 
     /// Offers letters, as `weigh` weighs them: answers them at once where none is new, and else puts their new commands in
     /// flight. The device has no call, and it takes no memory.
     ///
-    /// Letters are handed back where a call of the device has failed (93), where a batch is in flight, and where no clean
-    /// frame is left.
+    /// Letters are handed back where something bars them: where a call of the device has failed (93), where a batch is in
+    /// flight, and where there are new commands among them and no clean frame is left.
     pub fn begin(&mut self, letters: Letters) -> Begun
         // What is kept before an offer is kept after it, as the machine takes it, and its answers leave with it.
         ensures keeps { (machine : Machine) → Keeps D.seen D.may_leave self.old.disk self.old.progress self.old.failed machine
@@ -108,15 +105,14 @@ impl<D: Disk + Drop> Engine<D> {
         ensures disk { self.new.disk ≡ self.old.disk }
         ensures failed { self.new.failed ≡ self.old.failed }
     {
-        match self.weigh(&letters) {
-            Weight::Failed => Begun::Failed(letters),
-            Weight::Busy => Begun::Busy(letters),
-            Weight::Old => Begun::Answered(self.answer_old(&letters)),
-            Weight::Full => Begun::Full(letters),
-            Weight::New => {
-                self.begin_new(&letters);
-                Begun::InFlight
-            }
+        match self.bars(&letters) {
+            Some(Bar::Failed) => Begun::Failed(letters),
+            Some(Bar::Busy) => Begun::Busy(letters),
+            Some(Bar::Full) => Begun::Full(letters),
+            None => match self.take(&letters) {
+                Some(answers) => Begun::Answered(answers),
+                None => Begun::InFlight,
+            },
         }
     }
 
@@ -134,18 +130,17 @@ impl<D: Disk + Drop> Engine<D> {
         ensures disk { self.new.disk ≡ self.old.disk }
         ensures failed { self.new.failed ≡ self.old.failed }
     {
-        match self.weigh(letters) {
-            Weight::Failed => Weight::Failed,
-            Weight::Busy => Weight::Busy,
-            Weight::Old => {
-                *leaving = self.answer_old(letters);
-                Weight::Old
-            }
-            Weight::Full => Weight::Full,
-            Weight::New => {
-                self.begin_new(letters);
-                Weight::New
-            }
+        match self.bars(letters) {
+            Some(Bar::Failed) => Weight::Failed,
+            Some(Bar::Busy) => Weight::Busy,
+            Some(Bar::Full) => Weight::Full,
+            None => match self.take(letters) {
+                Some(answers) => {
+                    *leaving = answers;
+                    Weight::Old
+                }
+                None => Weight::New,
+            },
         }
     }
 }

@@ -2,7 +2,7 @@
 ghost use Rattle.std.specs.Prelude.{◌≡◌, ◌+◌, List, ℕ, None, false, length, IfOk, IfErr};
 ghost use Rattle.hpb_rules.specs.declared.command.Command.{Command};
 ghost use Rattle.hpb_rules.specs.Machine.{at_rest};
-ghost use Rattle.hpb_image.specs.Standing.{Stands};
+ghost use Rattle.hpb_recover.specs.Standing.{Stands};
 ghost use Rattle.hpb_engine.specs.Keeping.{Keeps};
 ghost use Rattle.hpb_codec.specs.declared.state.TheConstants.{STATE_SIZE};
 ghost use Rattle.hpb_engine.specs.Starting.{IsFresh};

@@ -3,7 +3,7 @@
 use crate::runs::{driven, survived};
 use hpb_codec::JournalShape;
 use hpb_disk::{FuseDisk, MemoryDisk};
-use hpb_engine::{Driven, Engine, Event, Fault};
+use hpb_engine::{Driven, Engine, Event, Fault, Survived};
 use hpb_engine_rows::calls::count;
 use hpb_engine_rows::devices::{
     Found, calls_of_opening, engine_over, found_in, new_device, new_engine,
@@ -12,7 +12,6 @@ use hpb_engine_rows::letters::Bidder::X;
 use hpb_engine_rows::letters::Node::A;
 use hpb_engine_rows::letters::{accepted, bid, refused, two};
 use hpb_engine_rows::over_layouts;
-use hpb_promise::Survived;
 use hpb_rules::{Letter, Refusal};
 use hpb_slots::Slot;
 use std::alloc::Global;

@@ -2,9 +2,8 @@
 
 use hpb_codec::JournalShape;
 use hpb_disk::{Disk, MemoryDisk};
-use hpb_engine::{Driven, Engine, Event, drive};
+use hpb_engine::{Driven, Engine, Event, Survived, drive, drive_opened, drive_then_open};
 use hpb_engine_rows::devices::{boxed, new_device, opened_or_cause};
-use hpb_promise::{Survived, drive_opened, drive_then_open};
 use hpb_recover::Opened;
 use std::alloc::Global;
 use std::test::Fail;

@@ -4,8 +4,7 @@ ghost use Rattle.hpb_tried.specs.Tries.{LacksMemory};
 
 use anyhow::Result;
 use hpb_disk::FileDisk;
-use hpb_engine::{Driven, Engine, Event, drive};
-use hpb_promise::drive_opened;
+use hpb_engine::{Driven, Engine, Event, drive, drive_opened};
 use hpb_recover::{Opened, open};
 use hpb_rules::Refusal;
 use hpb_tried::{

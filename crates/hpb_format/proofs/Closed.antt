@@ -13,7 +13,7 @@ use Rattle.hpb_slots.specs.declared.slot.Slot.{Slot}
 use Rattle.hpb_slots.specs.declared.slot.Slot.TheVariants.{First, Second}
 use Rattle.hpb_slots.specs.Slots as slots
 use Rattle.hpb_format.specs.Stages.{AreClosed, HasHeadOf, OnlyCloses}
-use Rattle.hpb_image.specs.declared.limits.TheConstants.{HEAD_AT, MAGIC_BYTES}
+use Rattle.hpb_recover.specs.declared.limits.TheConstants.{HEAD_AT, MAGIC_BYTES}
 use Rattle.hpb_format.specs.declared.place.TheConstants.{HEAD_GATE, FIRST_GATE, SECOND_GATE}
 use Rattle.hpb_format.proofs.Runs.{after_call, after_run, after_none}
 

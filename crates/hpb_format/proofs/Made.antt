@@ -14,7 +14,7 @@ use Rattle.hpb_slots.specs.declared.slot.Slot.TheVariants.{First, Second}
 use Rattle.hpb_slots.specs.Slots as slots
 use Rattle.hpb_format.specs.Stages.{AreClosed, ChangesBody, IsClosedOrMade, IsMade, IsOpenAndMade, IsWritten, StaysClosed}
 use Rattle.hpb_codec.specs.declared.head.TheConstants.{HEAD_SIZE}
-use Rattle.hpb_image.specs.declared.limits.TheConstants.{HEAD_AT}
+use Rattle.hpb_recover.specs.declared.limits.TheConstants.{HEAD_AT}
 use Rattle.hpb_format.specs.declared.place.TheConstants.{HEAD_GATE}
 use Rattle.hpb_format.proofs.Runs.{after_call}
 

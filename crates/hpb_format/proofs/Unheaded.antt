@@ -4,7 +4,7 @@ use Rattle.hpb_disk.specs.Gates.{HasClosedGate}
 use Rattle.hpb_disk.specs.Images.{Only, LeavesOnly}
 use Rattle.hpb_disk.specs.Laws.{OpenOrClosed}
 use Rattle.hpb_journal.specs.Layouts.{Layout}
-use Rattle.hpb_image.specs.Heads.{IsHeaded}
+use Rattle.hpb_recover.specs.Heads.{IsHeaded}
 use Rattle.hpb_format.specs.Stages.{HasHeadOf, IsClosedOrMade, IsUnheadedOrMade, OnlyCloses, StaysClosed}
 use Rattle.hpb_format.specs.declared.place.TheConstants.{HEAD_GATE}
 use Rattle.hpb_format.proofs.Runs.{after_run, of_more}

@@ -11,7 +11,7 @@ use Rattle.hpb_journal.specs.Places.{closes_frame}
 use Rattle.hpb_slots.specs.Writes.{closes_slot, opens_slot, writes_chunk}
 use Rattle.hpb_slots.specs.declared.slot.Slot.{Slot}
 use Rattle.hpb_slots.specs.declared.slot.Slot.TheVariants.{First}
-use Rattle.hpb_image.specs.declared.limits.TheConstants.{HEAD_AT}
+use Rattle.hpb_recover.specs.declared.limits.TheConstants.{HEAD_AT}
 use Rattle.hpb_format.specs.Beginnings.{IsFirstHead, IsFirstState}
 use Rattle.hpb_format.specs.declared.fault.FormatCause.{FormatCause}
 use Rattle.hpb_format.specs.declared.fault.FormatCause.TheVariants as causes

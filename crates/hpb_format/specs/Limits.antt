@@ -1,7 +1,7 @@
 -- The numbers of formatting, written once more.
 use Rattle.std.specs.Prelude.{◌≡◌}
 use Rattle.hpb_format.specs.declared.place.TheConstants.{HEAD_GATE}
-use Rattle.hpb_image.specs.declared.limits.TheConstants.{HEAD_AT, MAGIC_BYTES}
+use Rattle.hpb_recover.specs.declared.limits.TheConstants.{HEAD_AT, MAGIC_BYTES}
 use Rattle.hpb_codec.specs.declared.head.TheConstants.{HEAD_SIZE}
 use Rattle.hpb_slots.specs.declared.limits.TheConstants.{SLOTS_AT, SLOTS_END}
 use Rattle.hpb_codec.specs.declared.state.TheConstants.{STATE_SIZE, CHUNKS}

@@ -1,5 +1,5 @@
 -- What a device is after it was formatted, and why it was not.
-use Rattle.std.specs.Prelude.{◌≡◌, ◌⊎◌, ◌↔◌, ℕ, ◌<◌, List, [], length, Result, Ok, Err, IfOk}
+use Rattle.std.specs.Prelude.{◌≡◌, ◌⊎◌, ◌↔◌, ℕ, ◌<◌, List, [], length, Result, Ok, Err, OnOk}
 use Rattle.hpb_disk.specs.Asked.{Asked}
 use Rattle.hpb_disk.specs.Images.{part, LeavesOnly, Only, Within}
 use Rattle.hpb_rules.specs.declared.refusal.Refusal.{Refusal}
@@ -12,9 +12,9 @@ use Rattle.hpb_journal.specs.Shapes.{shaped}
 use Rattle.hpb_codec.specs.Heads.{SpellsHeadIn}
 use Rattle.hpb_codec.specs.declared.head.TheConstants.{HEAD_SIZE}
 use Rattle.hpb_codec.specs.declared.state_format.StateFormat.TheVariants.{Two}
-use Rattle.hpb_image.specs.Heads.{IsFormatted, IsLaidOut}
-use Rattle.hpb_image.specs.declared.limits.TheConstants.{HEAD_AT}
-use Rattle.hpb_image.specs.Standing.{Stands}
+use Rattle.hpb_recover.specs.Heads.{IsFormatted, IsLaidOut}
+use Rattle.hpb_recover.specs.declared.limits.TheConstants.{HEAD_AT}
+use Rattle.hpb_recover.specs.Standing.{Stands}
 use Rattle.hpb_format.specs.Asking.{AsksToFormat}
 use Rattle.hpb_format.specs.declared.fault.FormatCause.{FormatCause}
 use Rattle.hpb_format.specs.declared.fault.FormatCause.TheVariants as causes
@@ -81,27 +81,27 @@ CountsCause (Ok _) old new = new ≡ old
 CountsCause (Err causes.Device) old new = old < new
 CountsCause (Err _) old new = new ≡ old
 
--- What a call did that was to format a device for a journal of this shape: the device before it, and its result.
+-- What a call did that was to format a device for a journal of this shape: the device before and after it, and its answer.
 pub record FormatsAs {D : Type 0} (seen : D → List ℕ) (may_leave : D → List ℕ → Type 0) (moment : D → ℕ) (left_since : D → ℕ → List ℕ → Type 0) (failures : D → ℕ) (asked : D → List Asked)
-    (rules : Rules) (journal : JournalShape) (disk : D) (result : Result D (FormatFault D)) : Type 0 where
+    (rules : Rules) (journal : JournalShape) (old new : D) (answer : Result (Unit {0}) FormatCause) : Type 0 where
   -- At `Ok` each crash leaves an image that stands for no command, under this definition and with such a journal.
-  pub stands : IfOk result (λ new. Within (may_leave new) (IsNew rules journal))
+  pub stands : OnOk answer (Within (may_leave new) (IsNew rules journal))
   -- 43 is told exactly where no journal has this shape, or the device isn't as long as it wants it.
-  pub length : FailsBy (answer_of result) causes.Length ↔ (HasLength journal (seen disk) → ⊥)
+  pub length : FailsBy answer causes.Length ↔ (HasLength journal (seen old) → ⊥)
   -- 41 is told only where the device is formatted, and there nothing else is but for a want of memory or a failure.
-  pub formatted : FailsBy (answer_of result) causes.Formatted → IsFormatted (seen disk)
-  pub refused : HasLength journal (seen disk) → IsFormatted (seen disk) → FailsAtMostBy (answer_of result) causes.Formatted
+  pub formatted : FailsBy answer causes.Formatted → IsFormatted (seen old)
+  pub refused : HasLength journal (seen old) → IsFormatted (seen old) → FailsAtMostBy answer causes.Formatted
   -- Before 43 and 90 no call of the device was made.
-  pub untouched : FailsBy (answer_of result) causes.Length ⊎ FailsBy (answer_of result) causes.Memory → given result ≡ disk
+  pub untouched : FailsBy answer causes.Length ⊎ FailsBy answer causes.Memory → new ≡ old
   -- A formatted device is left as it was, at any moment.
-  pub same : IsFormatted (seen disk) → seen (given result) ≡ seen disk
-  pub kept : IsFormatted (seen disk) → LeavesOnly (moment disk) (moment (given result)) (left_since disk) (left_since (given result)) (may_leave (given result)) (may_leave disk)
+  pub same : IsFormatted (seen old) → seen new ≡ seen old
+  pub kept : IsFormatted (seen old) → LeavesOnly (moment old) (moment new) (left_since old) (left_since new) (may_leave new) (may_leave old)
   -- Of any other a crash at any moment leaves what it could before, or an image that isn't formatted or is new,
-  pub any_moment : LeavesOnly (moment disk) (moment (given result)) (left_since disk) (left_since (given result)) (may_leave (given result)) (WasOrIsBlank may_leave disk rules journal)
+  pub any_moment : LeavesOnly (moment old) (moment new) (left_since old) (left_since new) (may_leave new) (WasOrIsBlank may_leave old rules journal)
   -- and where nothing was pending only such.
-  pub blank : Only (seen disk) (may_leave disk) → (IsFormatted (seen disk) → ⊥)
-      → LeavesOnly (moment disk) (moment (given result)) (left_since disk) (left_since (given result)) (may_leave (given result)) (IsBlank rules journal)
+  pub blank : Only (seen old) (may_leave old) → (IsFormatted (seen old) → ⊥)
+      → LeavesOnly (moment old) (moment new) (left_since old) (left_since new) (may_leave new) (IsBlank rules journal)
   -- 91 is told exactly where a call failed.
-  pub cause : CountsCause (answer_of result) (failures disk) (failures (given result))
+  pub cause : CountsCause answer (failures old) (failures new)
   -- The device was asked for this, in this order, and nothing else.
-  pub asks : AsksToFormat rules journal (answer_of result) (asked disk) (asked (given result))
+  pub asks : AsksToFormat rules journal answer (asked old) (asked new)

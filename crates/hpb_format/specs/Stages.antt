@@ -9,8 +9,8 @@ use Rattle.hpb_slots.specs.declared.slot.Slot.{Slot}
 use Rattle.hpb_slots.specs.declared.slot.Slot.TheVariants.{First, Second}
 use Rattle.hpb_slots.specs.Slots as slots
 use Rattle.hpb_codec.specs.declared.head.TheConstants.{HEAD_SIZE}
-use Rattle.hpb_image.specs.declared.limits.TheConstants.{HEAD_AT, MAGIC_BYTES}
-use Rattle.hpb_image.specs.Heads.{IsHeaded}
+use Rattle.hpb_recover.specs.declared.limits.TheConstants.{HEAD_AT, MAGIC_BYTES}
+use Rattle.hpb_recover.specs.Heads.{IsHeaded}
 use Rattle.hpb_format.specs.declared.place.TheConstants.{HEAD_GATE}
 
 -- All gates are closed: the head's, those of the two slots, and that of each batch's frame.

@@ -12,7 +12,7 @@ ghost use Rattle.hpb_slots.specs.declared.slot.Slot.{Slot};
 ghost use Rattle.hpb_slots.specs.Slots.{IsClosed as IsClosedSlot};
 ghost use Rattle.hpb_format.specs.Asking.{AreClosings, Closes, MayClose};
 ghost use Rattle.hpb_format.specs.Stages.{AreClosed, OnlyCloses};
-ghost use Rattle.hpb_image.specs.declared.limits.TheConstants.{HEAD_AT, MAGIC_BYTES};
+ghost use Rattle.hpb_recover.specs.declared.limits.TheConstants.{HEAD_AT, MAGIC_BYTES};
 ghost use Rattle.hpb_format.specs.declared.place.TheConstants.{HEAD_GATE};
 
 use crate::place::{FIRST_GATE, HEAD_GATE, SECOND_GATE};

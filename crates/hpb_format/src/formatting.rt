@@ -4,9 +4,9 @@ ghost use Rattle.hpb_codec.specs.declared.state.TheConstants.{STATE_SIZE};
 ghost use Rattle.hpb_disk.specs.Asked.{Asks};
 ghost use Rattle.hpb_disk.specs.Asked.Asked.{syncs};
 ghost use Rattle.hpb_disk.specs.Images.{Only, Within, CountsFailure, LeavesOnly};
-ghost use Rattle.hpb_image.specs.Heads.{IsFormatted, IsHeaded};
+ghost use Rattle.hpb_recover.specs.Heads.{IsFormatted, IsHeaded};
 ghost use Rattle.hpb_codec.specs.declared.head.TheConstants.{HEAD_SIZE};
-ghost use Rattle.hpb_image.specs.declared.limits.TheConstants.{HEAD_AT, MAGIC_BYTES};
+ghost use Rattle.hpb_recover.specs.declared.limits.TheConstants.{HEAD_AT, MAGIC_BYTES};
 ghost use Rattle.hpb_format.specs.Beginnings.{IsFirstHead, IsFirstState};
 ghost use Rattle.hpb_codec.specs.declared.layout.JournalShape.{JournalShape};
 ghost use Rattle.hpb_journal.specs.Shapes.{shape_of};
@@ -20,8 +20,8 @@ use crate::place::HEAD_GATE;
 use crate::writing::write_new;
 use hpb_codec::{JournalLayout, JournalShape, has_magic};
 use hpb_disk::{Disk, DiskFailed, gate_is_open};
-use hpb_image::{HEAD_AT, MAGIC_BYTES};
 use hpb_journal::{AnyFrames, Frames};
+use hpb_recover::{HEAD_AT, MAGIC_BYTES};
 use hpb_slots::holds_one;
 use hpb_tree::Definition;
 use std::alloc::Global;
@@ -150,7 +150,7 @@ fn format_shape<D: Disk + Drop>(
     definition: &Definition,
     journal: JournalShape,
 ) -> Result<D, FormatFault<D>>
-    ensures { FormatsAs D.seen D.may_leave D.moment D.left_since D.failures D.asked definition.now journal disk result }
+    ensures { FormatsAs D.seen D.may_leave D.moment D.left_since D.failures D.asked definition.now journal disk (given result) (answer_of result) }
 {
     let mut disk = disk;
     match format_in_place(alloc, &mut disk, definition, journal) {
@@ -174,7 +174,7 @@ pub fn format<D: Disk + Drop>(
     definition: &Definition,
     frames: u32,
 ) -> Result<D, FormatFault<D>>
-    ensures formats { FormatsAs D.seen D.may_leave D.moment D.left_since D.failures D.asked definition.now (paged frames) disk result }
+    ensures formats { FormatsAs D.seen D.may_leave D.moment D.left_since D.failures D.asked definition.now (paged frames) disk (given result) (answer_of result) }
 {
     let layout = JournalLayout::Pages;
     format_shape(alloc, disk, definition, JournalShape { layout, frames })
@@ -194,7 +194,7 @@ pub fn format_layout<D: Disk + Drop>(
     ensures unnamed { ((journal : JournalShape) → Names layout frames journal → ⊥) → FailsBy (answer_of result) Length × (given result ≡ disk) }
     // and by any other the device is formatted in that layout.
     ensures formats { (journal : JournalShape) → Names layout frames journal
-        → FormatsAs D.seen D.may_leave D.moment D.left_since D.failures D.asked definition.now journal disk result }
+        → FormatsAs D.seen D.may_leave D.moment D.left_since D.failures D.asked definition.now journal disk (given result) (answer_of result) }
 {
     match JournalLayout::of_byte(layout) {
         Some(layout) => format_shape(alloc, disk, definition, JournalShape { layout, frames }),

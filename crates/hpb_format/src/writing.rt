@@ -11,9 +11,9 @@ ghost use Rattle.hpb_slots.specs.Slots.{HasChunks};
 ghost use Rattle.hpb_slots.specs.Writes.{opens_slot};
 ghost use Rattle.hpb_format.specs.Asking.{AreClosings, writes_chunks, writing};
 ghost use Rattle.hpb_format.specs.Stages.{AreClosed, ChangesBody, IsClosedOrMade, IsMade, IsOpenAndMade, IsUnheadedOrMade, IsWritten, StaysClosed};
-ghost use Rattle.hpb_image.specs.Heads.{IsHeaded};
+ghost use Rattle.hpb_recover.specs.Heads.{IsHeaded};
 ghost use Rattle.hpb_codec.specs.declared.head.TheConstants.{HEAD_SIZE};
-ghost use Rattle.hpb_image.specs.declared.limits.TheConstants.{HEAD_AT};
+ghost use Rattle.hpb_recover.specs.declared.limits.TheConstants.{HEAD_AT};
 ghost use Rattle.hpb_format.specs.declared.place.TheConstants.{HEAD_GATE};
 
 use crate::closing::close_all;
@@ -23,8 +23,8 @@ use hpb_codec::CHUNKS;
 use hpb_disk::{
     Disk, DiskFailed, elsewhere_stays, open_gate, open_or_closed, put_is_read, put_is_torn,
 };
-use hpb_image::HEAD_AT;
 use hpb_journal::Frames;
+use hpb_recover::HEAD_AT;
 use hpb_slots::{Slot, chunks_are_whole, open_slot, write_chunk};
 use hpb_tree::Definition;
 

@@ -14,7 +14,7 @@ use Rattle.hpb_rules.specs.Tree.{Rules}
 use Rattle.hpb_rules.specs.Values.{value_after}
 use Rattle.hpb_rules.specs.Judging.{judged_in, value_by, letters_of}
 use Rattle.hpb_rules.specs.LetterLaws.{JudgedIsShown}
-use Rattle.hpb_image.specs.Standing.{Stands}
+use Rattle.hpb_recover.specs.Standing.{Stands}
 use Rattle.hpb_engine.specs.declared.progress.Commit.{Commit}
 use Rattle.hpb_engine.specs.declared.progress.Progress.{Progress}
 use Rattle.hpb_engine.specs.Keeping.{Keeps, flight_of, machine_of}
@@ -27,7 +27,7 @@ use Rattle.hpb_engine.specs.Offers.{AreOld}
 use Rattle.hpb_engine.specs.Steps.{TurnLeads, turn_by}
 use Rattle.hpb_board.specs.Publication.{Publishing, published}
 use Rattle.hpb_rules.specs.Fronts.{joined}
-use Rattle.hpb_house.specs.Keepers.{Keeping, IsKept, pending_of, history_by, machine_by}
+use Rattle.hpb_house.specs.Keepers.{Keeping, IsKept, KeepsEach, pending_of, history_by, machine_by}
 use Rattle.hpb_house.proofs.Leading.{lead_one, history_one, judged_letters}
 use Rattle.hpb_rules.proofs.Judged.{new_after, rules_by}
 
@@ -165,7 +165,7 @@ module _ {D : Type 0} (seen : D → List ℕ) (may_leave : D → List ℕ → Ty
 
   -- a keeper at its start
   pub started_kept : {k : Keeping D} → k.board.opened ≡ k.progress.committed → k.board.list ≡ [] → k.board.pending ≡ [] → k.progress.commit.busy ≡ false
-      → ((history : List Command) → Stands history k.image → Keeps seen may_leave k.disk k.progress k.failed (at_rest history))
+      → KeepsEach seen may_leave k.image k.disk k.progress k.failed at_rest
       → IsKept seen may_leave k
   started_kept {k} opened list pending free keeps = record {
     shown = ap (λ (l : List (List Letter)). value_by k.board.opened (joined l)) list ∙ opened;

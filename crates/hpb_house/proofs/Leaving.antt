@@ -10,7 +10,7 @@ use Rattle.hpb_rules.specs.AuctionValue.{AuctionValue}
 use Rattle.hpb_rules.specs.Letters.{new_commands}
 use Rattle.hpb_rules.specs.Judging.{judged_in, letters_of}
 use Rattle.hpb_rules.specs.LetterLaws.{JudgedIsShown}
-use Rattle.hpb_image.specs.Standing.{Stands}
+use Rattle.hpb_recover.specs.Standing.{Stands}
 use Rattle.hpb_engine.specs.declared.progress.Commit.{Commit}
 use Rattle.hpb_engine.specs.Keeping.{Keeps, StandsFor, flight_of, machine_of}
 use Rattle.hpb_board.specs.Publication.{published}

@@ -8,7 +8,7 @@ use Rattle.hpb_rules.specs.declared.letter.Answer.{Answer}
 use Rattle.hpb_rules.specs.declared.letter.Letter.{Letter}
 use Rattle.hpb_rules.specs.AuctionValue.{AuctionValue, Shows}
 use Rattle.hpb_rules.specs.Letters.{new_commands}
-use Rattle.hpb_image.specs.Standing.{Stands}
+use Rattle.hpb_recover.specs.Standing.{Stands}
 use Rattle.hpb_rules.specs.Judging.{judged_in, value_by, letters_of}
 use Rattle.hpb_rules.specs.Fronts.{joined}
 use Rattle.hpb_rings.specs.declared.report.Report.{Report}
@@ -80,8 +80,8 @@ pub record Closed {D : Type 0} (seen : D → List ℕ) (may_leave : D → List �
 -- What is so where a house is refused with 96.
 pub record Unsettled {D : Type 0} (seen : D → List ℕ) (may_leave : D → List ℕ → Type 0) (fails : D → ℕ) (image : List ℕ) (failures : ℕ) (opened : AuctionValue) (fault : CloseFault D) (reports : List Report) : Type 0 where
   -- The two numbers that are told are those of the reports and of the published list.
-  pub counts : AreCounts opened fault.auction fault.published.log reports fault.counts
+  pub counts : AreCounts opened fault.left.auction fault.left.published.log reports fault.counts
   -- With nothing in flight, and each report of the committed auction, they differ.
-  pub only : (fault.has_failed ≡ false → fault.in_flight ≡ None) → All (λ r. auction_of r.viewer ≡ fault.auction) reports → fault.counts.accepted ≢ fault.counts.committed
+  pub only : (fault.left.has_failed ≡ false → fault.left.in_flight ≡ None) → All (λ r. auction_of r.viewer ≡ fault.left.auction) reports → fault.counts.accepted ≢ fault.counts.committed
   -- The device keeps what was committed, and what may be in flight.
-  pub back : GivesBack seen may_leave fails image failures opened fault.disk fault.auction fault.has_failed fault.in_flight fault.published fault.whole reports
+  pub back : GivesBack seen may_leave fails image failures opened fault.left.disk fault.left.auction fault.left.has_failed fault.left.in_flight fault.left.published fault.left.whole reports

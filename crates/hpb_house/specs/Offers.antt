@@ -1,6 +1,6 @@
 -- What becomes of letters that are offered to a keeper.
 -- Source: this project's own.
-use Rattle.std.specs.Prelude.{◌≡◌, ◌⊎◌, List, [], ◌∷◌, ◌++◌, Result, Ok, Err}
+use Rattle.std.specs.Prelude.{◌≡◌, List, [], ◌∷◌, ◌++◌, Result, Ok, Err}
 use Rattle.hpb_rules.specs.declared.letter.Letter.{Letter}
 use Rattle.hpb_rules.specs.Machine.{Machine, take_letters}
 use Rattle.hpb_rules.specs.Tree.{Rules}
@@ -9,7 +9,7 @@ use Rattle.hpb_engine.specs.declared.begun.Weight.TheVariants as weights
 use Rattle.hpb_engine.specs.declared.step.Fault.{Fault}
 use Rattle.hpb_engine.specs.declared.step.Step.{Step}
 use Rattle.hpb_engine.specs.declared.step.Step.TheVariants as steps
-use Rattle.hpb_engine.specs.Offers.{Weighs}
+use Rattle.hpb_engine.specs.Offers.{CanTake, Weighs}
 use Rattle.hpb_board.specs.Publication.{HasRoom}
 use Rattle.hpb_house.specs.declared.offered.Offered.{Offered}
 use Rattle.hpb_house.specs.declared.offered.Offered.TheVariants as outcomes
@@ -17,13 +17,9 @@ use Rattle.hpb_house.specs.declared.offered.Reason.{Reason}
 use Rattle.hpb_house.specs.declared.offered.Reason.TheVariants as reasons
 use Rattle.hpb_house.specs.Keepers.{Keeping}
 
--- **What becomes of letters.** An engine weighs them (`Weighs`). Where it can take them, the board must have room for their answers. Letters that
+-- **What becomes of letters.** Where nothing bars them from the engine (`CanTake`), the board must have room for their answers. Letters that
 -- aren't taken are handed back as they were, with the first reason that applies. The last one is want of memory (90), and no test is named for it.
 --
--- The engine takes the letters: they are all old, or a clean frame is left.
-abbrev pub CanTake : {D : Type 0} → Keeping D → List Letter → Type 0
-CanTake k letters = Weighs k.failed k.progress letters weights.Old ⊎ Weighs k.failed k.progress letters weights.New
-
 -- The board has room for the answers to the letters.
 abbrev pub CanShow : {D : Type 0} → Keeping D → List Letter → Type 0
 CanShow k letters = HasRoom k.board.seats k.board.list letters
@@ -33,8 +29,8 @@ abbrev pub IsWhy : {D : Type 0} → Keeping D → List Letter → Reason → Typ
 IsWhy k letters reasons.Busy = Weighs k.failed k.progress letters weights.Busy
 IsWhy k letters reasons.Full = Weighs k.failed k.progress letters weights.Full
 IsWhy k letters reasons.Failed = Weighs k.failed k.progress letters weights.Failed
-IsWhy k letters reasons.Spent = CanTake k letters × (CanShow k letters → ⊥)
-IsWhy k letters reasons.Memory = CanTake k letters × CanShow k letters
+IsWhy k letters reasons.Spent = CanTake k.failed k.progress letters × (CanShow k letters → ⊥)
+IsWhy k letters reasons.Memory = CanTake k.failed k.progress letters × CanShow k letters
 
 -- What becomes of letters: those that aren't taken are handed back, as they were.
 abbrev pub Becomes : {D : Type 0} → Keeping D → List Letter → Offered → Type 0

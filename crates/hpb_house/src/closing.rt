@@ -41,18 +41,8 @@ pub struct Closing<D: Disk + Drop> {
 /// failed.
 #[derive(Drop)]
 pub struct CloseFault<D: Disk + Drop> {
-    /// The device, as the engine leaves it.
-    pub disk: D,
-    /// The committed auction.
-    pub auction: Auction,
-    /// Whether a call of the device has failed (91).
-    pub has_failed: bool,
-    /// The answers of the batch in flight, if one was: none of them has left. The device may keep its new commands.
-    pub in_flight: Option<Answers>,
-    /// The list of batches that was published: what it leads to is committed.
-    pub published: Trail,
-    /// The same list, on to the batch in flight, and to all that a report has entered.
-    pub whole: Trail,
+    /// What the house leaves all the same.
+    pub left: Closing<D>,
     /// How many answers that were taken newly accepted a command, and how many commands were committed since the
     /// opening.
     pub counts: Counts,
@@ -85,23 +75,15 @@ impl<D: Disk + Drop, W: Wait + Drop, J: Naming> House<D, W, J> {
         // At 96 too it keeps what it stood for, and then the commands committed since.
         ensures unsettled { IfErr result (λ fault. Unsettled D.seen D.may_leave D.failures J.image J.failures self.opened fault reports.new) }
         // The list that is handed back is the house's.
-        ensures list { MatchResult result (λ closing. closing.whole.book ≡ self.book) (λ fault. fault.whole.book ≡ self.book) }
+        ensures list { MatchResult result (λ closing. closing.whole.book ≡ self.book) (λ fault. fault.left.whole.book ≡ self.book) }
     {
         let House { keeper, eye, .. } = self;
         let keeper = keeper.into_inner().keeper();
         let settled = settle(reports, &keeper, &eye);
-        let closing = leave(keeper, reports);
+        let left = leave(keeper, reports);
         match settled {
-            Ok(()) => Ok(closing),
-            Err(counts) => Err(CloseFault {
-                disk: closing.disk,
-                auction: closing.auction,
-                has_failed: closing.has_failed,
-                in_flight: closing.in_flight,
-                published: closing.published,
-                whole: closing.whole,
-                counts,
-            }),
+            Ok(()) => Ok(left),
+            Err(counts) => Err(CloseFault { left, counts }),
         }
     }
 }

@@ -120,7 +120,7 @@ fn await_letters(intake: &mut Intake<Halt>, expected: usize)
     }
 }
 
-/// One turn: the letters that are held, or else those that wait, are offered.
+/// One turn: the letters that are held, or else those that wait, are offered, and committed.
 fn turn<D: Disk + Drop, W: Wait + Drop, J: Naming, G: Gate, R: Wait>(
     rt: &R,
     house: &House<D, W, J>,
@@ -136,15 +136,37 @@ fn turn<D: Disk + Drop, W: Wait + Drop, J: Naming, G: Gate, R: Wait>(
     ensures comes { Comes result (gathered intake.new.rings.items) front.new.trail.log }
     ensures ended { result ≡ End → All (λ r. ends (received r.letters) ≡ true) intake.new.rings.items }
 {
-    if held.len() > 0 {
-        return offer(rt, house, intake, gate, held, front);
-    }
-    let letters = intake.gather();
-    gate.at(rt, Point::Gathered);
+    let letters = held_or_waiting(rt, intake, gate, held);
     if letters.len() == 0 {
         return idle(rt, house, intake);
     }
-    offer(rt, house, intake, gate, letters, front)
+    match house.offer(rt, letters, front) {
+        Offered::InFlight => commit(rt, house, intake, gate),
+        Offered::Answered(answers) => {
+            let turned = expecting(intake, &answers);
+            wake_answered(intake, &answers);
+            turned
+        }
+        Offered::Back(letters, reason) => hold(rt, house, letters, reason),
+    }
+}
+
+/// The letters that are held, or else those that wait.
+fn held_or_waiting<G: Gate, R: Wait>(
+    rt: &R,
+    intake: &mut Intake<Halt>,
+    gate: &G,
+    held: Letters,
+) -> Letters
+    ensures rings { vec_len intake.new.rings ≡ vec_len intake.old.rings }
+    ensures owed { (list : List (List Letter)) → IsOwed (gathered intake.old.rings.items) list held → IsOwed (gathered intake.new.rings.items) list result }
+{
+    if held.len() > 0 {
+        return held;
+    }
+    let letters = intake.gather();
+    gate.at(rt, Point::Gathered);
+    letters
 }
 
 /// There is nothing to offer: it ends, or waits for its bell.
@@ -164,33 +186,6 @@ fn idle<D: Disk + Drop, W: Wait + Drop, J: Naming, R: Wait>(
     }
     house.committing.park(rt);
     Turned::Free { expected: 0 }
-}
-
-/// Offers letters, and commits them.
-fn offer<D: Disk + Drop, W: Wait + Drop, J: Naming, G: Gate, R: Wait>(
-    rt: &R,
-    house: &House<D, W, J>,
-    intake: &mut Intake<Halt>,
-    gate: &G,
-    letters: Letters,
-    front: &mut Front,
-) -> Turned
-    requires book { front.old.trail.book ≡ J.eye.book }
-    requires owed { IsOwed (gathered intake.old.rings.items) front.old.trail.log letters }
-    ensures rings { vec_len intake.new.rings ≡ vec_len intake.old.rings }
-    ensures book { front.new.trail.book ≡ J.eye.book }
-    ensures comes { Comes result (gathered intake.new.rings.items) front.new.trail.log }
-    ensures goes_on { result ≡ End → ⊥ }
-{
-    match house.offer(rt, letters, front) {
-        Offered::InFlight => commit(rt, house, intake, gate),
-        Offered::Answered(answers) => {
-            let turned = expecting(intake, &answers);
-            wake_answered(intake, &answers);
-            turned
-        }
-        Offered::Back(letters, reason) => hold(rt, house, letters, reason),
-    }
 }
 
 /// Makes the steps of a commit.

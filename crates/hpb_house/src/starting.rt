@@ -1,11 +1,9 @@
 //! Starting a house.
-ghost use Rattle.std.specs.Prelude.{◌≡◌, ◌≤◌, ◌<◌, false, List, [], All, IfOk, IfErr, vec_len};
-ghost use Rattle.hpb_rules.specs.declared.command.Command.{Command};
+ghost use Rattle.std.specs.Prelude.{◌≡◌, ◌≤◌, ◌<◌, false, [], All, IfOk, IfErr, vec_len};
 ghost use Rattle.hpb_rules.specs.Machine.{at_rest};
-ghost use Rattle.hpb_image.specs.Standing.{Stands};
-ghost use Rattle.hpb_engine.specs.Keeping.{Keeps};
 ghost use Rattle.hpb_engine.specs.Starts.{IsStarted};
 ghost use Rattle.rtrb.specs.Ring.{received};
+ghost use Rattle.hpb_house.specs.Keepers.{KeepsEach};
 ghost use Rattle.hpb_house.specs.Starts.{AreBegun, HasRing, HaveRings, IsBegun, IsViewOf};
 ghost use Rattle.hpb_house.specs.Told.{cause_of, refusal_of};
 ghost use Rattle.hpb_house.specs.declared.starting.StartPart.TheVariants as parts;
@@ -112,25 +110,19 @@ struct Setting<W: Wait + Drop> {
     clients: Vec<Client<Halt>>,
 }
 
-/// Makes the rings and the client of a seat.
-fn seat_client<W: Wait + Drop>(
+/// Makes the rings and the client of a seat, with this viewer.
+fn seat_client(
     alloc: Global,
-    publisher: &mut Publisher<W>,
-    eye: &Viewer,
+    viewer: Viewer,
     bell: &Arc<Parker, Global>,
     seat: u8,
 ) -> Result<(Ring<Halt>, Client<Halt>), StartPart>
-    requires eye { IsViewOf publisher.old eye.now }
-    requires seat { seat < publisher.old.seats }
-    ensures same { publisher.new ≡ publisher.old }
+    requires { seat < viewer.seats }
     ensures seat { IfOk result (λ made. made.1.seat ≡ seat) }
-    ensures begun { IfOk result (λ made. IsBegun eye.now made.1) }
+    ensures begun { IfOk result (λ made. IsBegun viewer made.1) }
     ensures ring { IfOk result (λ made. HasRing made.1 made.0) }
     ensures fresh { IfOk result (λ made. received made.0.letters ≡ []) }
 {
-    let Ok(viewer) = publisher.introduce(alloc) else {
-        return Err(StartPart::Viewer);
-    };
     let Ok((ends, ring)) = seat_rings(alloc) else {
         return Err(StartPart::Rings);
     };
@@ -166,7 +158,10 @@ fn seat_clients<W: Wait + Drop>(
     let mut rings = Vec::new(alloc);
     let mut clients = Vec::new(alloc);
     for seat in 0..sessions {
-        let (ring, client) = seat_client(alloc, publisher, eye, bell, seat)?;
+        let Ok(viewer) = publisher.introduce(alloc) else {
+            return Err(StartPart::Viewer);
+        };
+        let (ring, client) = seat_client(alloc, viewer, bell, seat)?;
         match rings.push(ring) {
             Ok(()) => {}
             Err(_) => return Err(StartPart::Seat),
@@ -267,7 +262,7 @@ fn assemble<D: Disk + Drop, W: Wait + Drop>(
     opened: Snapshot<Opened<D>>,
 ) -> Started<D, W>
     requires started { IsStarted engine.progress opened.value.plan }
-    requires keeps { (history : List Command) → Stands history (D.seen opened.value.disk) → Keeps D.seen D.may_leave engine.disk engine.progress engine.failed (at_rest history) }
+    requires keeps { KeepsEach D.seen D.may_leave (D.seen opened.value.disk) engine.disk engine.progress engine.failed at_rest }
     requires works { (engine.failed ≡ false) × (engine.disk ≡ opened.value.disk) }
     requires publisher { (setting.publisher.opened ≡ opened.value.plan.auction) × (setting.publisher.seats ≡ sessions) × (setting.publisher.list ≡ []) × (setting.publisher.pending ≡ []) }
     requires eye { IsViewOf setting.publisher setting.eye }

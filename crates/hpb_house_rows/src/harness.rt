@@ -186,14 +186,14 @@ fn ended<D: Disk + Drop>(
             },
             disk,
         },
-        Err(CloseFault { disk, counts, .. }) => Run {
+        Err(CloseFault { left, counts }) => Run {
             outcome: Outcome {
                 is_closed: false,
                 committed: counts.committed,
                 taken,
                 accepted,
             },
-            disk,
+            disk: left.disk,
         },
     }
 }

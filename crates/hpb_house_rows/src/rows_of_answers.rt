@@ -222,11 +222,23 @@ fn rest<R: Wait>(rt: &R) {
     }
 }
 
-/// Posts two commands, each once the committer sleeps, and takes their answers only then: the second is posted while the
-/// first one's answer isn't taken.
+/// Waits until the other client is done, at most so many turns.
+fn await_other<R: Wait>(rt: &R, is_done: &AtomicBool) {
+    for _ in 0..TURNS {
+        if is_done.load(Ordering::SeqCst) {
+            return;
+        }
+        pause(rt);
+    }
+}
+
+/// The client of the first seat posts two commands, each once the committer sleeps, and takes their answers only then: the
+/// second is posted while the first one's answer isn't taken. Then the other client asks, which wakes a committer that
+/// still sleeps: so a house in which a post wakes nobody ends all the same.
 #[derive(Drop)]
 struct TwoPosts {
     taken: AtomicU32,
+    is_done: AtomicBool,
 }
 
 impl TwoPosts {
@@ -238,17 +250,30 @@ impl TwoPosts {
             self.taken.fetch_add(1, Ordering::SeqCst);
         }
     }
+
+    /// Posts twice, and counts the answers that come.
+    fn post_twice<R: Wait>(&self, rt: &R, client: &mut Client<Halt>)
+        ensures same { SameClient client.old client.new }
+    {
+        let _ = post(client, accepted_command(0));
+        rest(rt);
+        let _ = post(client, accepted_command(1));
+        rest(rt);
+        self.count_next(rt, client);
+        self.count_next(rt, client);
+        self.is_done.store(true, Ordering::SeqCst);
+    }
 }
 
 impl Session for TwoPosts {
     fn run<R: Wait>(&self, rt: &R, client: Client<Halt>) -> Client<Halt> {
         let mut client = client;
-        let _ = post(&mut client, accepted_command(0));
-        rest(rt);
-        let _ = post(&mut client, accepted_command(1));
-        rest(rt);
-        self.count_next(rt, &mut client);
-        self.count_next(rt, &mut client);
+        if client.seat == 0 {
+            self.post_twice(rt, &mut client);
+        } else {
+            await_other(rt, &self.is_done);
+            let _ = ask(rt, &mut client, accepted_command(2));
+        }
         client
     }
 }
@@ -259,11 +284,12 @@ fn each_post_wakes_the_committer(rt: HostRuntime) -> Result<(), Fail> {
     over_layouts!(shape => {
         let session = TwoPosts {
             taken: AtomicU32::new(0),
+            is_done: AtomicBool::new(false),
         };
         let opened = six_nodes_opened(alloc, shape)?;
-        let run = run_in_memory(&rt, alloc, opened, 1, &OpenGate, &session)?;
+        let run = run_in_memory(&rt, alloc, opened, 2, &OpenGate, &session)?;
         assert_eq!(rt; session.taken.load(Ordering::SeqCst), 2);
-        assert_eq!(rt; count_on(alloc, run.disk)?, 2);
+        assert_eq!(rt; count_on(alloc, run.disk)?, 3);
     });
     Ok(())
 }

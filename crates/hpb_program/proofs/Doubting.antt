@@ -6,8 +6,8 @@ use Rattle.std.specs.Io.KnownBytes.{Keeps}
 use Rattle.hpb_disk.specs.Images.{Only}
 use Rattle.hpb_disk.specs.declared.fault.FileFault.{FileFault}
 use Rattle.hpb_house.specs.declared.starting.StartCause.TheVariants as starting
-use Rattle.hpb_image.specs.Flaws.{HasFlaw}
-use Rattle.hpb_image.specs.declared.flaw.Flaw.{Flaw}
+use Rattle.hpb_recover.specs.Flaws.{HasFlaw}
+use Rattle.hpb_recover.specs.declared.flaw.Flaw.{Flaw}
 use Rattle.hpb_recover.specs.Causes.{HasCause}
 use Rattle.hpb_recover.specs.Doubts.{IsFrameTold, IsSlotTold}
 use Rattle.hpb_recover.specs.Quiet.{IsQuiet}

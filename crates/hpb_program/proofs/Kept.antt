@@ -6,8 +6,8 @@ use Rattle.hpb_rules.specs.declared.command.Command.{Command}
 use Rattle.hpb_rules.specs.AuctionValue.{AuctionValue, Shows}
 use Rattle.hpb_rules.specs.Machine.{at_rest}
 use Rattle.hpb_disk.specs.declared.fault.FileFault.{FileFault}
-use Rattle.hpb_image.specs.Readings.{last_value, Found, Reads}
-use Rattle.hpb_image.specs.Standing.{Stands}
+use Rattle.hpb_recover.specs.Readings.{last_value, Found, Reads}
+use Rattle.hpb_recover.specs.Standing.{Stands}
 use Rattle.hpb_engine.specs.declared.progress.Progress.{Progress}
 use Rattle.hpb_engine.specs.Keeping.{Keeps}
 use Rattle.hpb_recover.specs.declared.cause.Cause.{Cause}

@@ -24,12 +24,12 @@ use Rattle.hpb_format.specs.declared.fault.FormatCause.{FormatCause}
 use Rattle.hpb_format.specs.declared.fault.FormatCause.TheVariants as formatting
 use Rattle.hpb_format.specs.Outcomes as formats
 use Rattle.hpb_format.specs.Outcomes.{IsNew}
-use Rattle.hpb_image.specs.Flaws.{HasFlaw}
-use Rattle.hpb_image.specs.Standing.{Stands}
+use Rattle.hpb_recover.specs.Flaws.{HasFlaw}
+use Rattle.hpb_recover.specs.Standing.{Stands}
 use Rattle.hpb_house.specs.declared.starting.StartCause.TheVariants as starting
 use Rattle.hpb_codec.specs.Layouts.{IsShape}
 use Rattle.hpb_codec.specs.declared.layout.JournalShape.{JournalShape}
-use Rattle.hpb_image.specs.declared.limits.TheConstants.{PAGE_BYTES}
+use Rattle.hpb_recover.specs.declared.limits.TheConstants.{PAGE_BYTES}
 use Rattle.hpb_journal.specs.Shapes.{shaped}
 use Rattle.hpb_recover.specs.declared.cause.Cause.{Cause}
 use Rattle.hpb_recover.specs.declared.cause.Cause.TheVariants as opening

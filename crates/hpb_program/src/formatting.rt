@@ -14,8 +14,8 @@ use hpb_codec::JournalShape;
 use hpb_define::read_definition;
 use hpb_disk::{FileDisk, FileFault};
 use hpb_format::{FormatCause, format_layout};
-use hpb_image::PAGE_BYTES;
 use hpb_journal::{AnyFrames, Frames};
+use hpb_recover::PAGE_BYTES;
 use hpb_rules::MOST_DEFINITION_BYTES;
 use hpb_server::read_some;
 use hpb_tree::Definition;
@@ -156,6 +156,6 @@ fn fault_of_format(cause: FormatCause, code: Option<i32>) -> JobFault
         (FormatCause::Device, Some(code)) => {
             JobFault::File(FileFault::System(io::Error::from_raw_os_error(code)))
         }
-        (cause, _) => JobFault::from(cause),
+        (cause, _) => JobFault::of_formatting(cause),
     }
 }

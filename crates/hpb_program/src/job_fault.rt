@@ -70,6 +70,26 @@ impl JobFault {
         }
     }
 
+    /// The one of a file that was not formatted.
+    pub(crate) fn of_formatting(cause: FormatCause) -> JobFault
+        ensures { result ≡ made_of_formatting cause }
+    {
+        match cause {
+            FormatCause::Memory => JobFault::Memory,
+            cause => JobFault::Format(cause),
+        }
+    }
+
+    /// The one of a device that was not opened, or not looked at.
+    pub(crate) fn of_opening(cause: Cause) -> JobFault
+        ensures { result ≡ made_of_opening cause }
+    {
+        match cause {
+            Cause::Memory => JobFault::Memory,
+            cause => JobFault::Open(cause),
+        }
+    }
+
     /// Whether it is one of what a file holds, or of how long it is.
     pub(crate) fn is_of_bytes(&self) -> bool {
         matches!(
@@ -112,28 +132,6 @@ impl From<FileFault> for JobFault {
         match fault {
             FileFault::Memory(_) => JobFault::Memory,
             fault => JobFault::File(fault),
-        }
-    }
-}
-
-impl From<FormatCause> for JobFault {
-    ghost from_gives = { λ cause made. made ≡ made_of_formatting cause };
-
-    fn from(cause: FormatCause) -> JobFault {
-        match cause {
-            FormatCause::Memory => JobFault::Memory,
-            cause => JobFault::Format(cause),
-        }
-    }
-}
-
-impl From<Cause> for JobFault {
-    ghost from_gives = { λ cause made. made ≡ made_of_opening cause };
-
-    fn from(cause: Cause) -> JobFault {
-        match cause {
-            Cause::Memory => JobFault::Memory,
-            cause => JobFault::Open(cause),
         }
     }
 }

@@ -2,21 +2,19 @@
 ghost use Rattle.std.specs.Prelude.{◌≡◌, List, false, IfErr, IfOk, OnErr};
 ghost use Rattle.hpb_rules.specs.declared.command.Command.{Command};
 ghost use Rattle.hpb_rules.specs.Machine.{at_rest};
-ghost use Rattle.hpb_image.specs.Readings.{last_value, Found, Reads};
-ghost use Rattle.hpb_image.specs.Standing.{Stands};
+ghost use Rattle.hpb_recover.specs.Readings.{last_value, Found, Reads};
+ghost use Rattle.hpb_recover.specs.Standing.{Stands};
 ghost use Rattle.hpb_engine.specs.Keeping.{Keeps};
 ghost use Rattle.hpb_program.specs.Doubts.{TellsKept};
 ghost use Rattle.hpb_program.specs.Keeping.{IsNotOpened, IsRun, RunsFile, TellsRunning};
-ghost use Rattle.hpb_run.specs.Running.{RunsFrom};
 ghost use Rattle.hpb_server.specs.Streams.{streams, AreKept};
-ghost use Rattle.hpb_server.specs.Telling.{ExplainsAt};
 
 use crate::job_fault::JobFault;
 use crate::opening::open_kept;
 use crate::run_end::RunEnd;
 use hpb_disk::{Disk, FileDisk};
 use hpb_engine::Engine;
-use hpb_run::{Ran, run_device, run_device_at_terminal};
+use hpb_run::{Ran, run_engine};
 use std::alloc::Global;
 use std::fs::{File, Files};
 use std::io::{Read, Write};
@@ -79,34 +77,13 @@ pub fn run_kept<D: Disk + Drop, R: Read, W: Write, E: Write>(
     Ok(run_engine(
         alloc,
         engine,
-        batch,
-        every,
         input,
         output,
         errors,
         is_terminal,
+        batch,
+        every,
     ))
-}
-
-/// Answers the lines of the input by the auction that an engine keeps.
-fn run_engine<D: Disk + Drop, R: Read, W: Write, E: Write>(
-    alloc: Global,
-    engine: Engine<D>,
-    batch: usize,
-    every: u32,
-    input: &mut R,
-    output: &mut W,
-    errors: &mut E,
-    is_terminal: bool,
-) -> Ran<D>
-    ensures ran { RunsFrom D.seen D.may_leave D.failures (streams (R.remaining input.old) (W.contents output.old)) (streams (R.remaining input.new) (W.contents output.new))
-        engine.disk engine.progress engine.failed result.engine.disk result.engine.progress result.engine.failed result.end }
-    ensures explained { ExplainsAt is_terminal (E.contents errors.old) (E.contents errors.new) }
-{
-    if is_terminal {
-        return run_device_at_terminal(alloc, input, output, errors, engine, every);
-    }
-    run_device(alloc, input, output, engine, batch, every)
 }
 
 /// An engine over the auction that a device keeps.

@@ -6,7 +6,7 @@ use hpb_codec::{
     HEAD_SIZE, JournalLayout, JournalShape, LEAST_FRAMES, MOST_FRAMES, decode_head, has_magic,
 };
 use hpb_disk::{Disk, MemoryDisk, gate_is_open};
-use hpb_image::{HEAD_AT, PAGE_BYTES};
+use hpb_recover::{HEAD_AT, PAGE_BYTES};
 use hpb_words::Job;
 use std::alloc::Global;
 use std::fs::{File, Files};

@@ -1,10 +1,8 @@
 //! What happens beside sessions that are served, told to people.
 
-use crate::notices::{
-    Change, ChangeNotice, FailedNotice, MissedNotice, TakenNotice, ThreadNotice, notify,
-};
+use crate::notices::{Change, ChangeNotice, FailedNotice, SeatNotice, notify};
 use hpb_disk::{FileDisk, FileFault};
-use hpb_image::PAGE_BYTES;
+use hpb_recover::PAGE_BYTES;
 use hpb_serve::Watch;
 use std::alloc::{AllocError, Global};
 use std::fs::{File, Files};
@@ -140,15 +138,15 @@ impl Lookout<'_> {
 
 impl Watch for Lookout<'_> {
     fn taken(&self, taken: usize, places: usize) {
-        notify(self.alloc, TakenNotice { taken, places });
+        notify(self.alloc, SeatNotice::Taken { taken, places });
     }
 
     fn missed(&self, error: &io::Error) {
-        notify(self.alloc, MissedNotice(error));
+        notify(self.alloc, SeatNotice::Missed(error));
     }
 
     fn refused_thread(&self) {
-        notify(self.alloc, ThreadNotice);
+        notify(self.alloc, SeatNotice::Refused);
     }
 
     fn failed(&self) {

@@ -29,20 +29,6 @@ impl fmt::Display for FailedNotice<'_> {
     }
 }
 
-/// A connection that was not accepted.
-#[derive(Clone, Copy)]
-pub(crate) struct MissedNotice<'a>(pub(crate) &'a io::Error);
-
-impl fmt::Display for MissedNotice<'_> {
-    fn fmt<W: fmt::Write>(&self, f: &mut fmt::Formatter<W>) -> fmt::Result {
-        let error = self.0;
-        write!(
-            f,
-            "a connection could not be accepted, and its session has ended: {error}"
-        )
-    }
-}
-
 /// What became of a file while it was served.
 #[derive(Clone, Copy, Debug, PartialEq, Eq)]
 pub(crate) enum Change {
@@ -97,28 +83,28 @@ impl fmt::Display for ChangeNotice<'_> {
     }
 }
 
-/// A place of a session that was taken.
+/// What became of a connection that asked for a session.
 #[derive(Clone, Copy)]
-pub(crate) struct TakenNotice {
-    pub(crate) taken: usize,
-    pub(crate) places: usize,
+pub(crate) enum SeatNotice<'a> {
+    /// It took a place.
+    Taken { taken: usize, places: usize },
+    /// It was not accepted.
+    Missed(&'a io::Error),
+    /// A thread was refused to it.
+    Refused,
 }
 
-impl fmt::Display for TakenNotice {
+impl fmt::Display for SeatNotice<'_> {
     fn fmt<W: fmt::Write>(&self, f: &mut fmt::Formatter<W>) -> fmt::Result {
-        let (taken, places) = (self.taken, self.places);
-        write!(f, "{taken} of {places} places taken")
-    }
-}
-
-/// A thread that was refused to a session.
-#[derive(Clone, Copy)]
-pub(crate) struct ThreadNotice;
-
-impl fmt::Display for ThreadNotice {
-    fn fmt<W: fmt::Write>(&self, f: &mut fmt::Formatter<W>) -> fmt::Result {
-        f.write_str(
-            "a thread was refused (ulimit -u tells how many there may be): sessions that have one are served to their end, and nobody else is taken",
-        )
+        match *self {
+            SeatNotice::Taken { taken, places } => write!(f, "{taken} of {places} places taken"),
+            SeatNotice::Missed(error) => write!(
+                f,
+                "a connection could not be accepted, and its session has ended: {error}"
+            ),
+            SeatNotice::Refused => f.write_str(
+                "a thread was refused (ulimit -u tells how many there may be): sessions that have one are served to their end, and nobody else is taken",
+            ),
+        }
     }
 }

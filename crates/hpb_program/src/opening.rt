@@ -4,8 +4,8 @@ ghost use Rattle.std.specs.Io.KnownBytes.{Keeps};
 ghost use Rattle.hpb_rules.specs.declared.command.Command.{Command};
 ghost use Rattle.hpb_rules.specs.AuctionValue.{Shows};
 ghost use Rattle.hpb_disk.specs.Images.{Only};
-ghost use Rattle.hpb_image.specs.Readings.{Found, Reads};
-ghost use Rattle.hpb_image.specs.Standing.{Stands};
+ghost use Rattle.hpb_recover.specs.Readings.{Found, Reads};
+ghost use Rattle.hpb_recover.specs.Standing.{Stands};
 ghost use Rattle.hpb_recover.specs.Doubts.{IsFrameTold, IsSlotTold};
 ghost use Rattle.hpb_recover.specs.Plans.{IsPlan, IsPlanOf};
 ghost use Rattle.hpb_program.specs.Doubts.{damaged_text, doubts_text, doubts_line, frame_text, later_text, slot_text, IsOfMachine, TellsDoubts};
@@ -42,7 +42,7 @@ pub(crate) fn open_kept<D: Disk + Drop, E: Write>(
 {
     let opened = match open(alloc, disk) {
         Ok(opened) => opened,
-        Err(fault) => return Err(JobFault::from(fault.cause)),
+        Err(fault) => return Err(JobFault::of_opening(fault.cause)),
     };
     let looked = look(alloc, opened)?;
     let Looked { opened, doubts } = looked;
@@ -74,7 +74,7 @@ fn look<D: Disk + Drop>(alloc: Global, opened: Opened<D>) -> Result<Looked<D>, J
             opened: opened_still(disk, plan),
             doubts,
         }),
-        Err(cause) => Err(JobFault::from(cause)),
+        Err(cause) => Err(JobFault::of_opening(cause)),
     }
 }
 

@@ -88,7 +88,7 @@ fn is_pipe(stream: i32) -> bool {
 }
 
 /// Which of the standard streams lead to a file.
-#[derive(Clone, Copy, Debug, PartialEq, Eq)]
+#[derive(Clone, Copy, Debug, Default, PartialEq, Eq)]
 pub(crate) struct Led {
     pub(crate) input: bool,
     pub(crate) output: bool,
@@ -104,11 +104,7 @@ impl Led {
                 output: OUTPUT.leads_to(rt, &found),
                 errors: ERRORS.leads_to(rt, &found),
             },
-            Err(_) => Led {
-                input: false,
-                output: false,
-                errors: false,
-            },
+            Err(_) => Led::default(),
         }
     }
 

@@ -1,15 +1,13 @@
 -- What is behind the last batch.
-use Rattle.std.proofs.Common.{◌≡◌, inl, inr, IsTrue, Bool, true, false, ℕ, suc, ◌+◌, ◌-◌, ◌<◌, ◌≤◌, List, length, sym, subst, arith}
+use Rattle.std.proofs.Common.{◌≡◌, inl, inr, Bool, true, false, ℕ, suc, ◌+◌, ◌-◌, ◌<◌, ◌≤◌, List, length, sym, subst, arith}
 use Rattle.std.specs.Prelude.{slice_index_or}
 use Rattle.std.proofs.lemmas.Bool.{cases_eq, cases_lt}
+use Rattle.hpb_codec.proofs.States.{not_true}
 use Rattle.hpb_rules.specs.AuctionValue.{AuctionValue}
 use Rattle.hpb_journal.specs.Layouts.{Layout, IsLayout}
 use Rattle.hpb_journal.specs.Frames.{IsOpen}
 use Rattle.hpb_recover.specs.Replaying.{AreGates, IsBroken, IsReplayed, IsWhole, Leads, NoneIsOwn, OneIsOwn}
 use Rattle.hpb_recover.proofs.Leading.{own_of_frame}
-
-no : (b : Bool) → b ≡ false → IsTrue b → ⊥
-no b e is = absurd (cc)
 
 module _ (layout : Layout) (covered next : ℕ) (value reached : AuctionValue) (image : List ℕ) (known : List Bool)
     (leads : Leads layout covered value image next reached) (replayed : IsReplayed layout covered next known image) where
@@ -37,7 +35,7 @@ module _ (layout : Layout) (covered next : ℕ) (value reached : AuctionValue) (
         let k = b - covered in
         let sum : covered + k ≡ b = omega (arith, least, leads.count) in
         let here : IsOpen layout (covered + k) image = subst (λ (i : ℕ). IsOpen layout i image) (sym sum) is_open in
-        no (slice_index_or gates k false) (shut k (omega (arith, least)) (omega (arith, below, sum))) ((are k (omega (arith, below, sum, to))).1 here)
+        not_true (slice_index_or gates k false) (shut k (omega (arith, least)) (omega (arith, below, sum))) ((are k (omega (arith, below, sum, to))).1 here)
 
     pub whole : IsWhole layout covered value image next (covered + place) gates reached
     whole = record {

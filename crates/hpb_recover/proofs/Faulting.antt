@@ -3,10 +3,10 @@ use Rattle.std.proofs.Common.{◌≡◌, ℕ, ◌<◌, List, sym, subst}
 use Rattle.std.specs.Prelude.{Result, Ok, Err, IfErr}
 use Rattle.std.specs.Result.{IsErrAnd}
 use Rattle.hpb_rules.specs.Tree.{Rules}
-use Rattle.hpb_image.specs.declared.flaw.Flaw.{Flaw}
-use Rattle.hpb_image.specs.Flaws.{HasFlaw}
-use Rattle.hpb_image.specs.Laws.{FlawIsOne, ReadIsFlawless}
-use Rattle.hpb_image.specs.Readings.{Found, Reads}
+use Rattle.hpb_recover.specs.declared.flaw.Flaw.{Flaw}
+use Rattle.hpb_recover.specs.Flaws.{HasFlaw}
+use Rattle.hpb_recover.specs.Laws.{FlawIsOne, ReadIsFlawless}
+use Rattle.hpb_recover.specs.Readings.{Found, Reads}
 use Rattle.hpb_recover.specs.Causes.{IsCauseAt, IsMachine, IsUnlessMachine}
 use Rattle.hpb_recover.specs.Checkpoints.{IsUnlessWithout}
 use Rattle.hpb_recover.specs.declared.cause.Cause.{Cause}

@@ -6,7 +6,7 @@ use Rattle.hpb_disk.specs.Images.{part}
 use Rattle.hpb_codec.specs.Heads.{SpellsHead, magic}
 use Rattle.hpb_codec.specs.Numbers.{before}
 use Rattle.hpb_codec.specs.declared.head.Head.{Head}
-use Rattle.hpb_image.specs.Heads.{IsFormatted, IsLaidOut, layout_of}
+use Rattle.hpb_recover.specs.Heads.{IsFormatted, IsLaidOut, layout_of}
 use Rattle.hpb_recover.specs.Beginnings.{Begins}
 use Rattle.hpb_recover.specs.Causes.{IsCauseAt, LooksFormatted}
 use Rattle.hpb_recover.specs.declared.cause.Cause.{Cause}

@@ -1,3 +1,7 @@
+mod Agreeing
+mod ImageReading
+mod ImageStanding
+mod Flawed
 pub mod Leading
 pub mod Behind
 pub mod Heading

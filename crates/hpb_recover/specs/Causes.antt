@@ -3,10 +3,10 @@ use Rattle.std.specs.Prelude.{◌≡◌, ℕ, ◌*◌, ◌%◌, ◌<◌, ◌≤�
 use Rattle.hpb_disk.specs.Asked.{Asked}
 use Rattle.hpb_disk.specs.Asked.Asked.{fails}
 use Rattle.hpb_disk.specs.Gates.{HasOpenGate}
-use Rattle.hpb_image.specs.declared.limits.TheConstants.{PAGE_BYTES, LEAST_PAGES}
-use Rattle.hpb_image.specs.declared.flaw.Flaw.{Flaw}
-use Rattle.hpb_image.specs.Flaws.{HasFlaw}
-use Rattle.hpb_image.specs.Flaws as flaws
+use Rattle.hpb_recover.specs.declared.limits.TheConstants.{PAGE_BYTES, LEAST_PAGES}
+use Rattle.hpb_recover.specs.declared.flaw.Flaw.{Flaw}
+use Rattle.hpb_recover.specs.Flaws.{HasFlaw}
+use Rattle.hpb_recover.specs.Flaws as flaws
 use Rattle.hpb_rules.specs.declared.refusal.Refusal.{Refusal}
 use Rattle.hpb_rules.specs.declared.refusal.Refusal.TheVariants as refusals
 use Rattle.hpb_recover.specs.declared.cause.Cause.{Cause}

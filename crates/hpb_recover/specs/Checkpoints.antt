@@ -5,7 +5,7 @@ use Rattle.hpb_rules.specs.declared.saved.Saved.{Saved}
 use Rattle.hpb_rules.specs.Tree.{Rules}
 use Rattle.hpb_rules.specs.AuctionValue.{AuctionValue}
 use Rattle.hpb_rules.specs.Saved.{restored}
-use Rattle.hpb_image.specs.declared.flaw.Flaw.TheVariants as flaws
+use Rattle.hpb_recover.specs.declared.flaw.Flaw.TheVariants as flaws
 use Rattle.hpb_slots.specs.declared.newest.Newest.{Newest}
 use Rattle.hpb_slots.specs.Slots.{IsOpen, other_of}
 use Rattle.hpb_slots.specs.Newest.{IsNewest, IsWithout}

@@ -1,3 +1,8 @@
+pub mod Heads
+pub mod Standing
+pub mod Readings
+pub mod Flaws
+pub mod Laws
 pub mod Causes
 pub mod Replaying
 pub mod Quiet

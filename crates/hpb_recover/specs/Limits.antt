@@ -1,6 +1,6 @@
 -- The numbers of opening, written once more.
 use Rattle.std.specs.Prelude.{◌≡◌}
-use Rattle.hpb_image.specs.declared.limits.TheConstants.{PAGE_BYTES, LEAST_PAGES, HEAD_AT, MAGIC_BYTES}
+use Rattle.hpb_recover.specs.declared.limits.TheConstants.{PAGE_BYTES, LEAST_PAGES, HEAD_AT, MAGIC_BYTES}
 use Rattle.hpb_codec.specs.declared.head.TheConstants.{HEAD_SIZE}
 use Rattle.hpb_slots.specs.declared.limits.TheConstants.{SLOTS_END}
 use Rattle.hpb_journal.specs.declared.limits.TheConstants.{JOURNAL_AT}

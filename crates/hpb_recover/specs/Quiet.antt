@@ -6,7 +6,7 @@ use Rattle.hpb_codec.specs.declared.layout.JournalLayout.TheVariants as layouts
 use Rattle.hpb_disk.specs.Images.{part, Within}
 use Rattle.hpb_journal.specs.Shapes.{frame_bytes}
 use Rattle.hpb_journal.specs.declared.limits.TheConstants.{JOURNAL_AT}
-use Rattle.hpb_image.specs.declared.limits.TheConstants.{HEAD_AT, MAGIC_BYTES}
+use Rattle.hpb_recover.specs.declared.limits.TheConstants.{HEAD_AT, MAGIC_BYTES}
 
 -- Since each earlier moment a crash may leave what it could have left before these calls, no more and no less.
 pub record LeavesNothingNew (before now : ℕ) (past since : ℕ → List ℕ → Type 0) : Type 0 where

@@ -3,8 +3,8 @@ ghost use Rattle.std.specs.Prelude.{◌≡◌};
 ghost use Rattle.hpb_recover.specs.Causes.{refusal_of};
 ghost use Rattle.hpb_recover.specs.declared.cause.Cause.TheVariants.{Device, Memory};
 
+use crate::Flaw;
 use hpb_disk::DiskFailed;
-use hpb_image::Flaw;
 use hpb_rules::Refusal;
 use std::alloc::{AllocError, AllocFailed};
 use thiserror::Error;

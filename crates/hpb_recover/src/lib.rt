@@ -1,13 +1,19 @@
-//! Opens a device: the newest checkpoint, and the batches after it.
+//! What the image of a device stands for, and the opening of a device by it: the newest checkpoint, and the batches after it.
+//!
+//! `specs/Standing` says of histories what an image stands for, `specs/Readings` says it of values alone, `specs/Flaws` says
+//! of an image why nothing is read in it. The laws of images tie the three together.
 #![tactic(auto)]
 
 mod cause;
 mod checkpoint;
 mod doubts;
 mod fault;
+mod flaw;
 mod head;
 mod journal;
 mod laws;
+mod laws_of_images;
+mod limits;
 mod opened;
 mod opening;
 mod plan;
@@ -17,7 +23,12 @@ mod rest;
 pub use cause::Cause;
 pub use doubts::{Doubts, Later, find_doubts};
 pub use fault::OpenFault;
+pub use flaw::Flaw;
 pub use laws::limits_are;
+pub use laws_of_images::{
+    flaw_is_one, read_is_flawless, read_is_shown, reading_is_one, stands_for_one, stands_is_read,
+};
+pub use limits::{HEAD_AT, LEAST_PAGES, MAGIC_BYTES, PAGE_BYTES};
 pub use opened::Opened;
 pub use opening::open;
 pub use plan::Plan;

@@ -2,10 +2,10 @@
 ghost use Rattle.std.specs.Prelude.{◌≡◌, ◌+◌, ◌≤◌, List, [], ◌∷◌, IfErr, IfOk, IsErrAnd, MatchResult, OnOk};
 ghost use Rattle.hpb_rules.specs.declared.command.Command.{Command};
 ghost use Rattle.hpb_rules.specs.AuctionValue.{Shows};
-ghost use Rattle.hpb_image.specs.declared.flaw.Flaw.{Flaw};
-ghost use Rattle.hpb_image.specs.Flaws.{HasFlaw};
-ghost use Rattle.hpb_image.specs.Standing.{Stands};
-ghost use Rattle.hpb_image.specs.Readings.{Found, Reads};
+ghost use Rattle.hpb_recover.specs.declared.flaw.Flaw.{Flaw};
+ghost use Rattle.hpb_recover.specs.Flaws.{HasFlaw};
+ghost use Rattle.hpb_recover.specs.Standing.{Stands};
+ghost use Rattle.hpb_recover.specs.Readings.{Found, Reads};
 ghost use Rattle.hpb_disk.specs.Asked.{Asks};
 ghost use Rattle.hpb_disk.specs.Asked.Asked.{syncs};
 ghost use Rattle.hpb_disk.specs.Images.{CountsFailure, Only, Within};
@@ -16,12 +16,12 @@ ghost use Rattle.hpb_recover.specs.Quiet.{IsQuiet, LeavesNothingNew, reads_in};
 use crate::checkpoint::{Checkpoint, read_checkpoint};
 use crate::head::read_head;
 use crate::journal::read_journal;
-use crate::{Cause, OpenFault, Opened, Plan};
+use crate::{
+    Cause, Flaw, OpenFault, Opened, Plan, flaw_is_one, read_is_flawless, read_is_shown,
+    reading_is_one, stands_is_read,
+};
 use hpb_codec::layout_is_named;
 use hpb_disk::{Disk, DiskFailed};
-use hpb_image::{
-    Flaw, flaw_is_one, read_is_flawless, read_is_shown, reading_is_one, stands_is_read,
-};
 use hpb_journal::AnyFrames;
 use std::alloc::Global;
 

@@ -1,6 +1,6 @@
 -- What the intake gathers.
-use Rattle.std.proofs.Common.{◌≡◌, ◌≢◌, ℕ, zero, suc, ◌<◌, ◌≤◌, ◌==◌, Bool, true, false, if◌then◌else◌, List, [], ◌∷◌, ◌++◌, length, map, take, drop, slice_set, slice_index_or, refl, ap, sym, ◌∙◌, arith, append_assoc, All, subst}
-use Rattle.std.proofs.lemmas.List.{map-append, append-nil}
+use Rattle.std.proofs.Common.{[], ◌≡◌, ◌≢◌, ℕ, zero, suc, ◌<◌, ◌≤◌, ◌==◌, Bool, true, false, if◌then◌else◌, List, ◌∷◌, ◌++◌, length, map, take, drop, slice_set, slice_index_or, refl, ap, sym, ◌∙◌, arith, append_assoc, All, subst}
+use Rattle.std.proofs.lemmas.List.{map-append, append-nil, take_all}
 use Rattle.std.proofs.lemmas.List.Elements.{All-append, All-map}
 use Rattle.hpb_rules.specs.declared.command.Command.{Command}
 use Rattle.hpb_rules.specs.declared.letter.Letter.{Letter}
@@ -63,12 +63,6 @@ of_seat-here s (c ∷ cs) e = rw e (ap (λ (l : List Command). c ∷ l) (of_seat
 of_seat-else : (k s : ℕ) (cs : List Command) → (k == s) ≡ false → of_seat s (map (letter_of k) cs) ≡ []
 of_seat-else k s [] e = refl
 of_seat-else k s (c ∷ cs) e = rw e (of_seat-else k s cs e)
-
-take-past : {A : Type 0} (n : ℕ) (xs : List A) → length xs ≤ n → take n xs ≡ xs
-take-past zero [] h = refl
-take-past (suc n) [] h = refl
-take-past zero (x ∷ xs) h = absurd (omega arith)
-take-past (suc n) (x ∷ xs) h = ap (λ l. x ∷ l) (take-past n xs (omega arith))
 
 -- the letters of a seat below n are letters of a seat below n
 drained_seats : (k n : ℕ) (cs : List Command) → k < n → All (λ x. x.seat < n) (map (letter_of k) cs)
@@ -167,4 +161,4 @@ module _ {M : Type 0} where
   told-once m (r ∷ rs) (o ∷ olds) e (suc k) d h = told-once m rs olds (cc e) k d (omega arith)
 
   pub all-told : (m : M) (n : ℕ) (rs olds : List (Ring M)) → marks (take n rs) ≡ map (told_of m) (take n olds) → length rs ≤ n → length olds ≤ n → (k : ℕ) (d : Ring M) → k < length rs → length (sent (slice_index_or rs k d).marks) ≡ 1
-  all-told m n rs olds e h h' = told-once m rs olds (ap marks (sym (take-past n rs h)) ∙ (e ∙ ap (map (told_of m)) (take-past n olds h')))
+  all-told m n rs olds e h h' = told-once m rs olds (ap marks (sym (take_all n rs h)) ∙ (e ∙ ap (map (told_of m)) (take_all n olds h')))

@@ -1,9 +1,8 @@
 -- What a client takes.
-use Rattle.std.proofs.Common.{inl, inr, ◌≡◌, ℕ, zero, suc, ◌+◌, ◌<◌, ◌≤◌, Bool, true, false, nat_lt, if◌then◌else◌, List, [], ◌∷◌, ◌++◌, length, map, take, Some, None, slice_get, slice_index_or, refl, ap, sym, ◌∙◌, arith, add-one, append_assoc}
-use Rattle.std.specs.Prelude.{filter, ◌⊎◌}
+use Rattle.std.proofs.Common.{inl, inr, ◌≡◌, ℕ, zero, suc, ◌+◌, ◌<◌, ◌≤◌, Bool, true, false, nat_lt, if◌then◌else◌, List, [], ◌∷◌, ◌++◌, length, take, Some, None, slice_get, slice_index_or, refl, ap, sym, ◌∙◌, arith, add-one, append_assoc}
+use Rattle.std.specs.Prelude.{◌⊎◌}
 use Rattle.std.specs.List.{remove}
 use Rattle.std.proofs.lemmas.List.{map-append, length-append, append-nil}
-use Rattle.std.proofs.lemmas.List.Elements.{filter-append}
 use Rattle.hpb_rules.specs.declared.letter.Letter.{Letter}
 use Rattle.hpb_rules.specs.declared.letter.Answer.{Answer}
 use Rattle.hpb_rules.specs.Letters.{is_answer_new, new_commands}
@@ -13,6 +12,7 @@ use Rattle.hpb_rings.specs.declared.slip.Slip.{Slip}
 use Rattle.hpb_rings.specs.declared.slip.Slip.TheVariants.{Letter as Post, End}
 use Rattle.hpb_rings.specs.Taking.{posted, slips, newly}
 use Rattle.hpb_rules.specs.Judging.{letters_of}
+use Rattle.hpb_rules.proofs.Judged.{new_join}
 
 is_recent : (ans : List Answer) (n : ℕ) (a : Answer) (b : Bool) → (if b then slice_get ans n else None) ≡ Some a → slice_get ans n ≡ Some a
 is_recent ans n a true h = h
@@ -31,12 +31,8 @@ there-next n [] a h = absurd cc
 there-next zero (x ∷ xs) a h = omega arith
 there-next (suc n) (x ∷ xs) a h = let r = there-next n xs a h in omega arith
 
-new_commands-append : (xs ys : List Answer) → new_commands (xs ++ ys) ≡ new_commands xs ++ new_commands ys
-new_commands-append xs ys =
-    ap (map (λ (a : Answer). a.letter.command)) (filter-append is_answer_new xs ys) ∙ map-append (λ (a : Answer). a.letter.command) (filter is_answer_new xs) (filter is_answer_new ys)
-
 newly-append : (xs ys : List Answer) → newly (xs ++ ys) ≡ newly xs + newly ys
-newly-append xs ys = ap length (new_commands-append xs ys) ∙ length-append (new_commands xs) (new_commands ys)
+newly-append xs ys = ap length (new_join xs ys) ∙ length-append (new_commands xs) (new_commands ys)
 
 pub newly-next : (n : ℕ) (ans : List Answer) (a : Answer) → slice_get ans n ≡ Some a → newly (take (n + 1) ans) ≡ newly (take n ans) + newly (a ∷ [])
 newly-next n ans a h =

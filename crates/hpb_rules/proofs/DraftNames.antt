@@ -14,6 +14,7 @@ use Rattle.hpb_rules.specs.Lines.{space, line_feed, IsSpellableName}
 use Rattle.hpb_rules.specs.Definitions.{IsNameByte, IsName, AreDistinct, AreNames}
 use Rattle.hpb_rules.specs.Drafts.{is_within, is_name_byte, is_name, has_bad_name, has_twice, has_duplicate}
 use Rattle.hpb_rules.proofs.DraftTests.{within, is_within_true}
+use Rattle.hpb_rules.proofs.Lists.{or_true}
 
 -- ---- one name
 byte_is : (byte : ℕ) → is_name_byte byte ≡ true → IsNameByte byte
@@ -31,11 +32,7 @@ byte_passes byte (inr (inl digit)) = ap (λ b. (is_within 97 122 byte || b) || e
     middle : (a : Bool) → ((a || true) || eqb byte 95) ≡ true
     middle true = refl
     middle false = refl
-byte_passes byte (inr (inr underscore)) = ap (λ b. (is_within 97 122 byte || is_within 48 57 byte) || b) (eq-eqb byte 95 underscore) ∙ last (is_within 97 122 byte || is_within 48 57 byte)
-  where
-    last : (a : Bool) → (a || true) ≡ true
-    last true = refl
-    last false = refl
+byte_passes byte (inr (inr underscore)) = ap (λ b. (is_within 97 122 byte || is_within 48 57 byte) || b) (eq-eqb byte 95 underscore) ∙ or_true (is_within 97 122 byte || is_within 48 57 byte)
 
 name_is : (name : List ℕ) → is_name name ≡ true → IsName name
 name_is name e =

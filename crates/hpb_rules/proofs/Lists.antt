@@ -68,3 +68,7 @@ take_front (suc n) (x ∷ xs) = let rest = take_front n xs in (rest.0, ap (λ ys
 pub or_false : (b : Bool) → (b || false) ≡ b
 or_false true = refl
 or_false false = refl
+
+pub or_true : (b : Bool) → (b || true) ≡ true
+or_true true = refl
+or_true false = refl

@@ -12,6 +12,10 @@ use Rattle.hpb_rules.specs.Saved.{mask_of, has_bit}
 
 -- ---- from flags to a number and back
 
+pub half : (flag : Bool) (m : ℕ) → (cond flag 1 0 + 2 * m) / 2 ≡ m
+half true m = omega arith
+half false m = omega arith
+
 -- a bit of the number of flags is the flag
 pub bit_of_mask : (flags : List Bool) (n : ℕ) → has_bit (mask_of flags) n ≡ get_or flags n false
 unfolding mask_of
@@ -22,10 +26,6 @@ bit_of_mask (flag ∷ flags) zero = ap (λ (k : ℕ). eqb k 1) (bit_at_lowest (c
     lowest true m = let e : (1 + 2 * m) % 2 ≡ 1 = omega arith in ap (λ (k : ℕ). eqb k 1) e
     lowest false m = let e : (0 + 2 * m) % 2 ≡ 0 = omega arith in ap (λ (k : ℕ). eqb k 1) e
 bit_of_mask (flag ∷ flags) (suc n) = ap (λ (k : ℕ). eqb k 1) (bit_at-suc (cond flag 1 0 + 2 * mask_of flags) n ∙ ap (λ (m : ℕ). bit_at m n) (half flag (mask_of flags))) ∙ bit_of_mask flags n
-  where
-    half : (flag : Bool) (m : ℕ) → (cond flag 1 0 + 2 * m) / 2 ≡ m
-    half true m = omega arith
-    half false m = omega arith
 
 -- no flag is no bit
 pub no_flags : mask_of [] ≡ 0

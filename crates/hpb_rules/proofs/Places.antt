@@ -1,14 +1,15 @@
 -- Tests, counts and sums over the places of a list, one place after another.
-use Rattle.std.proofs.Common.{◌≡◌, ℕ, zero, suc, ◌+◌, ◌<◌, ◌≤◌, Bool, true, false, cond, ◌||◌, List, [], ◌∷◌, ◌++◌, length, refl, sym, ap, ◌∙◌, arith, ◌-◌, subst}
+use Rattle.std.proofs.Common.{◌≡◌, ℕ, zero, suc, ◌+◌, ◌<◌, ◌≤◌, Bool, true, false, cond, ◌||◌, List, [], ◌∷◌, ◌++◌, length, refl, sym, ap, ◌∙◌, arith, ◌-◌, subst, get_or}
 use Rattle.std.proofs.Math.Numerals.{add-one}
 use Rattle.std.specs.Option.{IsSome}
 use Rattle.std.specs.List.{list_any, sum_by, range_with_len}
 use Rattle.std.proofs.lemmas.Bool.{both_ways, false_from_ne_true}
 use Rattle.std.proofs.lemmas.List.Sums.{sum_by_push}
-use Rattle.hpb_rules.specs.Tree.{Node, terms_of}
+use Rattle.hpb_rules.specs.Text.{bidder_name}
+use Rattle.hpb_rules.specs.Tree.{Bidder, Node, terms_of}
 use Rattle.hpb_rules.proofs.Ranges.{finds_in}
 
-range_from : (a n : ℕ) → range_with_len a (suc n) ≡ range_with_len a n ++ (a + n) ∷ []
+pub range_from : (a n : ℕ) → range_with_len a (suc n) ≡ range_with_len a n ++ (a + n) ∷ []
 range_from a zero = ap (λ x. x ∷ []) (omega arith)
 range_from a (suc n) = ap (λ xs. a ∷ xs) (range_from (a + 1) n ∙ ap (λ x. range_with_len (a + 1) n ++ x ∷ []) (omega arith))
 
@@ -69,3 +70,9 @@ pub terms_in : (nodes : List Node) (l : ℕ) → IsSome (terms_of nodes l) → l
 terms_in [] l some = absurd (both_ways false refl some)
 terms_in (n ∷ nodes) zero some = omega arith
 terms_in (n ∷ nodes) (suc l) some = omega (arith, terms_in nodes l some)
+
+-- the name of the bidder at a place
+pub named_bidder : (bidders : List Bidder) (k : ℕ) (b : Bidder) → k < length bidders → bidder_name bidders k ≡ (get_or bidders k b).name
+named_bidder [] k b h = absurd (omega arith)
+named_bidder (c ∷ bidders) zero b h = refl
+named_bidder (c ∷ bidders) (suc k) b h = named_bidder bidders k b (omega arith)

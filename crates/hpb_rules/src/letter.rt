@@ -4,7 +4,7 @@ use crate::reply::Reply;
 /// A command from a seat.
 #[derive(Clone, Copy, Debug, PartialEq, Eq)]
 pub struct Letter {
-    /// The place of a client, from 0 to 33.
+    /// The place of a client, from 0 to 31.
     pub seat: u8,
     pub command: Command,
 }

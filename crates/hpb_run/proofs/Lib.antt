@@ -5,7 +5,5 @@ mod Requests
 mod DeviceTexts
 pub mod DeviceSessions
 pub mod SessionRuns
-mod Driving
 mod Checkpoints
 mod Commits
-mod Runs

@@ -1,6 +1,8 @@
 -- Where an engine stands after what a desk has it do.
-use Rattle.std.proofs.Common.{◌≡◌, ◌≢◌, ◌⊎◌, inl, inr, ℕ, ◌<◌, ◌≤◌, Bool, true, false, Option, Some, None, List, ◌++◌, length, map, reverse, refl, sym, ◌∙◌, ap, subst, arith}
+use Rattle.std.proofs.Common.{◌≡◌, ◌≢◌, ◌⊎◌, inl, inr, ℕ, ◌<◌, ◌≤◌, Bool, true, false, Option, Some, None, List, [], ◌++◌, length, map, reverse, refl, sym, ◌∙◌, ap, subst, arith}
+use Rattle.std.proofs.KnownBytes.{Appends-nil, Keeps-refl}
 use Rattle.std.proofs.lemmas.Bool.Decides.{nat_tests}
+use Rattle.std.proofs.lemmas.List.Elements.{All-nil}
 use Rattle.hpb_rules.specs.declared.command.Command.{Command}
 use Rattle.hpb_rules.specs.declared.letter.Answer.{Answer}
 use Rattle.hpb_rules.specs.declared.letter.Letter.{Letter}
@@ -18,8 +20,9 @@ use Rattle.hpb_engine.specs.declared.step.Fault.{Fault}
 use Rattle.hpb_engine.specs.declared.step.Fault.TheVariants as faults
 use Rattle.hpb_engine.specs.Runs.{HasFailed}
 use Rattle.hpb_engine.specs.Steps.{refusal_of}
-use Rattle.hpb_run.specs.Batches.{IsStill, KeepsEnded, StaysRefused, TellsFailures}
+use Rattle.hpb_run.specs.Batches.{KeepsEnded, StaysRefused, TellsFailures}
 use Rattle.hpb_server.specs.Desk.{LooksStay}
+use Rattle.hpb_server.specs.Telling.{ExplainsAt, IsOfSentence}
 use Rattle.hpb_run.specs.Device.{Phase, ShowsAt, State, at_start, failed, failing, left_of, works}
 use Rattle.hpb_run.specs.Takes.{CheckpointTakes}
 use Rattle.hpb_run.specs.Standing.{AreAlike, HasAsked, IsCovered, StandsAt, commits_after, letter_of, refused, reply_of}
@@ -190,10 +193,11 @@ module _ {D : Type 0} (seen : D → List ℕ) (may_leave : D → List ℕ → Ty
       → Stands disk s off (at_start s.committed.rules history (failures disk) off)
   starts disk s off history keeps = rest_stands disk s off (at_start s.committed.rules history (failures disk) off) refl keeps refl (λ is. inl is) (omega arith)
 
-  -- So one stands that is as it was.
-  pub still_stands : (old new : D) (s t : Progress) (off after : Bool) (state : State) → IsStill old new s t off after → Stands old s off state → Stands new t after state
-  still_stands old new s t off after state still stands = rw (still.0, still.1, still.2) stands
-
 -- a look leaves the state as it is
 pub looks_stay : LooksStay ShowsAt
 looks_stay old new shown it = it.4
+
+-- nothing was told, at a terminal or elsewhere
+pub untold : (is_terminal : Bool) (contents : Option (List ℕ)) → ExplainsAt is_terminal contents contents
+untold true contents = ([], All-nil IsOfSentence, Appends-nil contents)
+untold false contents = Keeps-refl contents

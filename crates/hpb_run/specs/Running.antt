@@ -22,11 +22,15 @@ pub record RanDevice {D : Type 0} (seen : D → List ℕ) (may_leave : D → Lis
   pub stays : Stays (at_start rules history failures_before had_failed) state
   pub stands : IsAt seen may_leave failures disk s failed state
 
--- Lines were answered after a history, each as by a device that works, up to the first call that fails, and an engine stands where these answers lead.
+-- Lines were answered from a state to another, each as by a device that works, up to the first call that fails.
+abbrev pub ServesLines : (before after : Streams) (old new : State) → Result ⊤ Fault → Type 0
+ServesLines before after old new end = Serves rules_at never_over RepliesAt ShowsAt MOST_LETTERS true [] MOST_READ_BYTES before after old new end
+
+-- Lines were answered so after a history, and an engine stands where these answers lead.
 abbrev pub ServesFrom : {D : Type 0} (seen : D → List ℕ) (may_leave : D → List ℕ → Type 0) (failures : D → ℕ) (before after : Streams)
     (rules : Rules) (history : List Command) (failures_before : ℕ) (had_failed : Bool) (disk : D) (s : Progress) (failed : Bool) → Result ⊤ Fault → Type 0
 ServesFrom seen may_leave failures before after rules history failures_before had_failed disk s failed end =
-    (state : State) × Serves rules_at never_over RepliesAt ShowsAt MOST_LETTERS true [] MOST_READ_BYTES before after (at_start rules history failures_before had_failed) state end
+    (state : State) × ServesLines before after (at_start rules history failures_before had_failed) state end
     × IsAt seen may_leave failures disk s failed state
 
 -- They were so from an engine with nothing in flight, whatever it kept: the first device, progress and failure are that engine's, the others those that it came to.

@@ -1,5 +1,5 @@
 //! What a desk has its engine do.
-ghost use Rattle.std.specs.Prelude.{◌≡◌, ◌<◌, ◌≤◌, true, length, IfOk, OnErr, OnOk};
+ghost use Rattle.std.specs.Prelude.{◌≡◌, ◌<◌, ◌≤◌, true, length, IfOk, OnErr};
 ghost use Rattle.hpb_rules.specs.declared.limits.TheConstants.{MOST_LETTERS};
 ghost use Rattle.hpb_run.specs.Takes.{IsBetween};
 ghost use Rattle.hpb_run.specs.Device.{State};
@@ -39,18 +39,14 @@ pub(crate) fn ask_engine<D: Disk + Drop>(
 }
 
 /// Makes a whole checkpoint, unless the device has failed.
-pub(crate) fn rest_engine<D: Disk + Drop>(
-    alloc: Global,
-    engine: &mut Engine<D>,
-) -> Result<(), AllocError>
+pub(crate) fn rest_engine<D: Disk + Drop>(engine: &mut Engine<D>)
     ensures stands { (state : State) → StandsAt D.seen D.may_leave D.failures engine.old.disk engine.old.progress engine.old.failed state
         → StandsAt D.seen D.may_leave D.failures engine.new.disk engine.new.progress engine.new.failed state }
     ensures whole { (state : State) → StandsAt D.seen D.may_leave D.failures engine.old.disk engine.old.progress engine.old.failed state → IsBetween engine.old.progress
-        → OnOk result (IsCovered engine.old.progress engine.new.progress (D.moment engine.old.disk) (D.moment engine.new.disk) engine.new.failed) }
+        → IsCovered engine.old.progress engine.new.progress (D.moment engine.old.disk) (D.moment engine.new.disk) engine.new.failed }
 {
     if engine.failed {
-        return Ok(());
+        return;
     }
-    make_checkpoint(alloc, engine)?;
-    Ok(())
+    let _ = make_checkpoint(engine);
 }

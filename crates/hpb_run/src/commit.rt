@@ -1,18 +1,18 @@
 //! One batch of letters.
-ghost use Rattle.std.specs.Prelude.{◌≡◌, List, true, false, Some, IfOk, OnErr};
+ghost use Rattle.std.specs.Prelude.{◌≡◌, List, true, false, Err, IfOk, OnErr};
 ghost use Rattle.hpb_rules.specs.declared.command.Command.{Command};
-ghost use Rattle.hpb_rules.specs.Machine.{at_rest};
+ghost use Rattle.hpb_rules.specs.declared.letter.Answer.{Answer};
+ghost use Rattle.hpb_rules.specs.Machine.{at_rest, in_flight};
 ghost use Rattle.hpb_engine.specs.Keeping.{Keeps};
-ghost use Rattle.hpb_engine.specs.declared.begun.Weight.TheVariants as weights;
-ghost use Rattle.hpb_engine.specs.Offers.{Weighs};
+ghost use Rattle.hpb_engine.specs.Offers.{CanTake};
 ghost use Rattle.hpb_engine.specs.declared.step.Fault.TheVariants as faults;
-ghost use Rattle.hpb_run.specs.Batches.{IsStill, KeepsEnded, StaysRefused, TellsFailures, ended_by};
-ghost use Rattle.hpb_run.specs.Takes.{BatchTakes, LettersTake};
+ghost use Rattle.hpb_run.specs.Batches.{KeepsAnswered, KeepsEnded, StaysRefused, TellsFailures, answers_of, fault_of};
+ghost use Rattle.hpb_run.specs.Takes.{BatchTakes, Lands, LettersTake};
 
-use crate::checkpoint::make_checkpoint;
+use crate::checkpoint::checkpoint;
 use hpb_disk::Disk;
-use hpb_engine::{Engine, Event, Fault, Run, Weight};
-use hpb_rules::{Answer, Letters, judged_is_shown};
+use hpb_engine::{Bar, Engine, Fault, Step};
+use hpb_rules::{Answer, Answers, Letters, MOST_LETTERS};
 use std::alloc::{AllocError, Global};
 
 /// What became of letters.
@@ -25,55 +25,57 @@ pub struct Ended {
     pub fault: Option<Fault>,
 }
 
-/// Why letters were not committed, by the fault of the run and whether a call has failed.
-fn why_ended(fault: Option<Fault>, failed: bool) -> Option<Fault>
-    ensures { result ≡ ended_by fault failed }
+/// Makes the turns that are left of the batch in flight. All its answers leave with the fourth; where a call of the device
+/// fails (91), it stays in flight.
+fn land<D: Disk + Drop>(engine: &mut Engine<D>) -> Result<Answers, Fault>
+    requires busy { engine.old.progress.commit.busy ≡ true }
+    requires works { engine.old.failed ≡ false }
+    ensures keeps { (history : List Command) (given : List Answer)
+        → Keeps D.seen D.may_leave engine.old.disk engine.old.progress engine.old.failed (in_flight history given engine.old.progress.commit.turns)
+        → KeepsAnswered D.seen D.may_leave engine.new.disk engine.new.progress engine.new.failed
+        engine.old.progress.committed.rules history given (answers_of result) (fault_of result) }
+    ensures lands { Lands result engine.old.progress engine.new.progress (D.moment engine.old.disk) (D.moment engine.new.disk) }
+    ensures cause { TellsFailures (fault_of result) (D.failures engine.old.disk) (D.failures engine.new.disk) }
 {
-    match fault {
-        Some(_) => Some(Fault::Device),
-        None if failed => Some(Fault::Failed),
-        None => None,
+    match engine.commit_step()? {
+        Step::Done(answers) => Ok(answers),
+        Step::Went => land(engine),
+        Step::Idle => unreachable!(),
     }
 }
 
-/// Commits letters where there is room for them: they are offered, and four turns are made.
-fn commit_now<D: Disk + Drop>(
-    alloc: Global,
-    engine: &mut Engine<D>,
-    letters: Letters,
-) -> Result<Ended, AllocError>
+/// Commits letters that nothing bars: they are answered at once where none is new, and else once their turns are made.
+fn commit_clear<D: Disk + Drop>(engine: &mut Engine<D>, letters: &Letters) -> Result<Answers, Fault>
+    requires clear { CanTake engine.old.failed engine.old.progress letters.now }
     ensures commits { (history : List Command) → Keeps D.seen D.may_leave engine.old.disk engine.old.progress engine.old.failed (at_rest history)
-        → (Weighs engine.old.failed engine.old.progress letters weights.Full → ⊥)
-        → IfOk result (λ ended. KeepsEnded D.seen D.may_leave engine.new.disk engine.new.progress engine.new.failed
-        engine.old.progress.committed.rules history letters ended.answers.items ended.fault
-        × BatchTakes ended.fault letters engine.old.progress engine.new.progress (D.moment engine.old.disk) (D.moment engine.new.disk)
-        × (ended.fault ≡ Some faults.Failed → engine.old.failed ≡ true)) }
-    ensures cause { IfOk result (λ ended. TellsFailures ended.fault (D.failures engine.old.disk) (D.failures engine.new.disk)) }
-    ensures stays { OnErr result (IsStill engine.old.disk engine.new.disk engine.old.progress engine.new.progress engine.old.failed engine.new.failed) }
+        → KeepsEnded D.seen D.may_leave engine.new.disk engine.new.progress engine.new.failed
+        engine.old.progress.committed.rules history letters.now (answers_of result) (fault_of result) }
+    ensures takes { BatchTakes (fault_of result) letters.now engine.old.progress engine.new.progress (D.moment engine.old.disk) (D.moment engine.new.disk) }
+    ensures now { result ≡ Err faults.Failed → ⊥ }
+    ensures cause { TellsFailures (fault_of result) (D.failures engine.old.disk) (D.failures engine.new.disk) }
 {
-    judged_is_shown();
-    let events = [
-        Event::Offer(letters),
-        Event::Commit,
-        Event::Commit,
-        Event::Commit,
-        Event::Commit,
-    ];
-    let Run { answers, fault } = engine.run(alloc, &events)?;
-    Ok(Ended {
-        answers,
-        fault: why_ended(fault, engine.failed),
-    })
+    match engine.take(letters) {
+        Some(answers) => Ok(answers),
+        None => land(engine),
+    }
 }
 
-/// Whether no clean frame is left for letters that need one.
-fn lacks_room<D: Disk + Drop>(engine: &Engine<D>, letters: &Letters) -> bool
-    ensures some { result ≡ false → Weighs engine.now.failed engine.now.progress letters.now weights.Full → ⊥ }
-    ensures none { result ≡ true → Weighs engine.now.failed engine.now.progress letters.now weights.Full }
+/// Commits letters, after a whole checkpoint where no clean frame is left for them. It takes no memory.
+fn commit_all<D: Disk + Drop>(engine: &mut Engine<D>, letters: &Letters) -> Result<Answers, Fault>
+    ensures commits { (history : List Command) → Keeps D.seen D.may_leave engine.old.disk engine.old.progress engine.old.failed (at_rest history)
+        → KeepsEnded D.seen D.may_leave engine.new.disk engine.new.progress engine.new.failed
+        engine.old.progress.committed.rules history letters.now (answers_of result) (fault_of result)
+        × LettersTake letters.now engine.old.progress engine.new.progress (D.moment engine.old.disk) (D.moment engine.new.disk)
+        engine.old.failed (D.failures engine.old.disk) (D.failures engine.new.disk) (fault_of result) }
+    ensures cause { TellsFailures (fault_of result) (D.failures engine.old.disk) (D.failures engine.new.disk) }
 {
-    match engine.weigh(letters) {
-        Weight::Full => true,
-        Weight::Failed | Weight::Busy | Weight::Old | Weight::New => false,
+    match engine.bars(letters) {
+        None => commit_clear(engine, letters),
+        Some(Bar::Failed | Bar::Busy) => Err(Fault::Failed),
+        Some(Bar::Full) => match checkpoint(engine) {
+            None => commit_clear(engine, letters),
+            Some(_) => Err(Fault::Failed),
+        },
     }
 }
 
@@ -101,14 +103,19 @@ pub fn commit_letters<D: Disk + Drop>(
         → OnErr result (Keeps D.seen D.may_leave engine.new.disk engine.new.progress engine.new.failed (at_rest history)
         × StaysRefused (D.failures engine.old.disk) (D.failures engine.new.disk) engine.old.progress engine.new.progress engine.old.failed engine.new.failed) }
 {
-    if !lacks_room(engine, &letters) {
-        return commit_now(alloc, engine, letters);
-    }
-    match make_checkpoint(alloc, engine)? {
-        None => commit_now(alloc, engine, letters),
-        Some(_) => Ok(Ended {
-            answers: Vec::new(alloc),
-            fault: Some(Fault::Failed),
+    let mut answers = Vec::with_capacity(alloc, MOST_LETTERS)?;
+    match commit_all(engine, &letters) {
+        Ok(told) => {
+            let added = answers.extend_from_slice(told.as_slice());
+            prove!(added.is_ok());
+            Ok(Ended {
+                answers,
+                fault: None,
+            })
+        }
+        Err(fault) => Ok(Ended {
+            answers,
+            fault: Some(fault),
         }),
     }
 }

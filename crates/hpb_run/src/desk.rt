@@ -75,27 +75,24 @@ impl<D: Disk + Drop> DeviceDesk<D> {
     }
 
     /// Makes a whole checkpoint where one is due: once there have been `every` commits since the last one that was due.
-    /// Where none is due nothing changes, and the device has no call.
-    ///
-    /// 90 where memory is refused: it stays due.
-    pub fn make_due_checkpoint(&mut self, alloc: Global) -> Result<(), AllocError>
+    /// Where none is due nothing changes, and the device has no call. It takes no memory.
+    pub fn make_due_checkpoint(&mut self)
         ensures kept { (state : State) → DeskStands D.seen D.may_leave D.failures self.old.engine.disk self.old.engine.progress self.old.engine.failed self.old.definition state
             → DeskStands D.seen D.may_leave D.failures self.new.engine.disk self.new.engine.progress self.new.engine.failed self.new.definition state }
         // One that is due is made, and counting begins anew.
-        ensures due { is_due self.old.every self.old.commits ≡ true → OnOk result (self.new.commits ≡ 0) }
+        ensures due { is_due self.old.every self.old.commits ≡ true → self.new.commits ≡ 0 }
         ensures whole { (state : State) → DeskStands D.seen D.may_leave D.failures self.old.engine.disk self.old.engine.progress self.old.engine.failed self.old.definition state
-            → IsBetween self.old.engine.progress → is_due self.old.every self.old.commits ≡ true → OnOk result
-            (IsCovered self.old.engine.progress self.new.engine.progress (D.moment self.old.engine.disk) (D.moment self.new.engine.disk) self.new.engine.failed) }
+            → IsBetween self.old.engine.progress → is_due self.old.every self.old.commits ≡ true
+            → IsCovered self.old.engine.progress self.new.engine.progress (D.moment self.old.engine.disk) (D.moment self.new.engine.disk) self.new.engine.failed }
         // Where none is due, none is made.
         ensures none { is_due self.old.every self.old.commits ≡ false → (self.new.engine ≡ self.old.engine) × (self.new.commits ≡ self.old.commits) }
         ensures pace { (self.new.batch ≡ self.old.batch) × (self.new.every ≡ self.old.every) }
         ensures definition { self.new.definition ≡ self.old.definition }
     {
         if is_checkpoint_due(self.every, self.commits) {
-            rest_engine(alloc, &mut self.engine)?;
+            rest_engine(&mut self.engine);
             self.commits = 0;
         }
-        Ok(())
     }
 
     /// Asks for commands together, after the checkpoint that is due, and counts their commit, if it is one: where more
@@ -126,7 +123,7 @@ impl<D: Disk + Drop> DeviceDesk<D> {
             → OnErr result (DeskStands D.seen D.may_leave D.failures self.new.engine.disk self.new.engine.progress self.new.engine.failed self.new.definition state) }
         ensures definition { self.new.definition ≡ self.old.definition }
     {
-        self.make_due_checkpoint(alloc)?;
+        self.make_due_checkpoint();
         let before = self.engine.committed().count();
         let replies = ask_engine(alloc, &mut self.engine, commands)?;
         let after = self.engine.committed().count();
@@ -226,8 +223,9 @@ impl<D: Disk + Drop> Desk for DeviceDesk<D> {
         self.ask_together(alloc, commands)
     }
 
-    fn rest(&mut self, alloc: Global) -> Result<(), AllocError> {
-        self.make_due_checkpoint(alloc)
+    fn rest(&mut self, _alloc: Global) -> Result<(), AllocError> {
+        self.make_due_checkpoint();
+        Ok(())
     }
 
     fn look(&mut self) -> Option<&Auction> {

@@ -4,17 +4,19 @@ ghost use Rattle.hpb_rules.specs.declared.command.Command.{Command};
 ghost use Rattle.hpb_rules.specs.declared.limits.TheConstants.{MOST_READ_BYTES};
 ghost use Rattle.hpb_rules.specs.Machine.{at_rest};
 ghost use Rattle.hpb_engine.specs.Keeping.{Keeps};
+ghost use Rattle.hpb_run.specs.Device.{State};
+ghost use Rattle.hpb_run.specs.Running.{RanDevice, RunsFrom, ServesLines};
+ghost use Rattle.hpb_run.specs.Standing.{DeskStands};
 ghost use Rattle.hpb_server.specs.ScriptLaws.{WritesText};
 ghost use Rattle.hpb_server.specs.Streams.{streams};
-ghost use Rattle.hpb_server.specs.Telling.{Explains};
-ghost use Rattle.hpb_run.specs.Running.{RanDevice, RunsFrom};
+ghost use Rattle.hpb_server.specs.Telling.{Explains, ExplainsAt};
 
 use crate::desk::DeviceDesk;
 use hpb_disk::Disk;
 use hpb_engine::Engine;
 use hpb_server::{Fault, serve, serve_at_terminal};
 use std::alloc::Global;
-use std::io::{Read, Write};
+use std::io::{Read, Write, sink};
 
 /// How many commands are asked together at a terminal.
 const ONE_AT_A_TIME: usize = 1;
@@ -68,35 +70,8 @@ pub fn run_device<R: Read, W: Write, D: Disk + Drop>(
         → OnOk result.end (WritesText engine.progress.committed.rules history MOST_READ_BYTES
         (streams (R.remaining reader.old) (W.contents writer.old)) (streams (R.remaining reader.new) (W.contents writer.new)) result.engine.progress.committed) }
 {
-    run_session(alloc, reader, writer, engine, batch, every)
-}
-
-/// Answers the lines by a desk, and gives the engine back.
-fn run_session<R: Read, W: Write, D: Disk + Drop>(
-    alloc: Global,
-    reader: &mut R,
-    writer: &mut W,
-    engine: Engine<D>,
-    batch: usize,
-    every: u32,
-) -> Ran<D>
-    ensures { RunsFrom D.seen D.may_leave D.failures (streams (R.remaining reader.old) (W.contents writer.old)) (streams (R.remaining reader.new) (W.contents writer.new))
-        engine.disk engine.progress engine.failed result.engine.disk result.engine.progress result.engine.failed result.end }
-{
-    match DeviceDesk::new(alloc, engine, batch, every) {
-        Ok(desk) => {
-            let mut desk = desk;
-            let end = serve(alloc, reader, writer, &mut desk);
-            Ran {
-                engine: desk.into_engine(),
-                end,
-            }
-        }
-        Err(engine) => Ran {
-            engine,
-            end: Err(Fault::Memory),
-        },
-    }
+    let errors = &mut sink();
+    run_engine(alloc, engine, reader, writer, errors, false, batch, every)
 }
 
 /// The same at a terminal: commands are asked one at a time, and behind the answer of one that is refused the errors
@@ -113,10 +88,30 @@ pub fn run_device_at_terminal<R: Read, W: Write, E: Write, D: Disk + Drop>(
         engine.disk engine.progress engine.failed result.engine.disk result.engine.progress result.engine.failed result.end }
     ensures explained { Explains (E.contents errors.old) (E.contents errors.new) }
 {
-    match DeviceDesk::new(alloc, engine, ONE_AT_A_TIME, every) {
+    let batch = ONE_AT_A_TIME;
+    run_engine(alloc, engine, reader, writer, errors, true, batch, every)
+}
+
+/// Answers each line as `run_device` does, or at a terminal as `run_device_at_terminal` does, where `batch` counts for
+/// nothing. Elsewhere the errors are told nothing.
+pub fn run_engine<R: Read, W: Write, E: Write, D: Disk + Drop>(
+    alloc: Global,
+    engine: Engine<D>,
+    reader: &mut R,
+    writer: &mut W,
+    errors: &mut E,
+    is_terminal: bool,
+    batch: usize,
+    every: u32,
+) -> Ran<D>
+    ensures ran { RunsFrom D.seen D.may_leave D.failures (streams (R.remaining reader.old) (W.contents writer.old)) (streams (R.remaining reader.new) (W.contents writer.new))
+        engine.disk engine.progress engine.failed result.engine.disk result.engine.progress result.engine.failed result.end }
+    ensures explained { ExplainsAt is_terminal (E.contents errors.old) (E.contents errors.new) }
+{
+    match DeviceDesk::new(alloc, engine, batch, every) {
         Ok(desk) => {
             let mut desk = desk;
-            let end = serve_at_terminal(alloc, reader, writer, errors, &mut desk);
+            let end = serve_desk(alloc, &mut desk, reader, writer, errors, is_terminal);
             Ran {
                 engine: desk.into_engine(),
                 end,
@@ -127,4 +122,24 @@ pub fn run_device_at_terminal<R: Read, W: Write, E: Write, D: Disk + Drop>(
             end: Err(Fault::Memory),
         },
     }
+}
+
+/// Answers the lines by the desk of a device, at a terminal or elsewhere.
+fn serve_desk<R: Read, W: Write, E: Write, D: Disk + Drop>(
+    alloc: Global,
+    desk: &mut DeviceDesk<D>,
+    reader: &mut R,
+    writer: &mut W,
+    errors: &mut E,
+    is_terminal: bool,
+) -> Result<(), Fault>
+    ensures served { (state : State) → DeskStands D.seen D.may_leave D.failures desk.old.engine.disk desk.old.engine.progress desk.old.engine.failed desk.old.definition state
+        → (next : State) × ServesLines (streams (R.remaining reader.old) (W.contents writer.old)) (streams (R.remaining reader.new) (W.contents writer.new)) state next result
+        × DeskStands D.seen D.may_leave D.failures desk.new.engine.disk desk.new.engine.progress desk.new.engine.failed desk.new.definition next }
+    ensures explained { ExplainsAt is_terminal (E.contents errors.old) (E.contents errors.new) }
+{
+    if is_terminal {
+        return serve_at_terminal(alloc, reader, writer, errors, desk);
+    }
+    serve(alloc, reader, writer, desk)
 }

@@ -1,5 +1,5 @@
 -- Commands that are asked together: letters that wait, answers that are taken, and the commands that get none.
-use Rattle.std.proofs.Common.{◌≡◌, inl, inr, ℕ, zero, suc, ◌+◌, ◌-◌, ◌<◌, ◌≤◌, true, false, List, [], ◌∷◌, ◌++◌, length, take, drop, slice_get, Some, None, refl, sym, ap, subst, ◌∙◌, arith, add-one}
+use Rattle.std.proofs.Common.{[], ◌≡◌, inl, inr, ℕ, zero, suc, ◌+◌, ◌-◌, ◌<◌, ◌≤◌, true, false, List, ◌∷◌, ◌++◌, length, take, drop, slice_get, Some, None, refl, sym, ap, subst, ◌∙◌, arith, add-one, take_all}
 use Rattle.std.proofs.lemmas.Bool.{false≢true}
 use Rattle.std.proofs.lemmas.List.{length-drop, length-map, length-take-le, take-append-drop, take-take}
 use Rattle.rtrb.specs.Ring.{SameProducer}
@@ -18,7 +18,6 @@ use Rattle.hpb_serve.specs.InFlight.{AwaitsAfter, CameFrom, HasLooked, HasTaken,
 use Rattle.hpb_serve.specs.Sessions.{DeskStands, Follows, RepliesAt, State, count_after, over_at}
 use Rattle.hpb_serve.specs.Stops.{is_over, refusal_of}
 use Rattle.hpb_serve.proofs.Order.{next_later}
-use Rattle.hpb_serve.proofs.Seen.{take_whole}
 use Rattle.hpb_serve.proofs.Steps.{after_answer, after_stop, answered, count_known, follows_self, follows_trans, from_ring, goes_self, ring_kept, same_ring, stopped, stopped_stands}
 
 -- ---- commands that are asked one after another
@@ -78,11 +77,14 @@ awaits_next : {M : Type 0} (client : Client M) (taken : ℕ) (given : Answer) �
 awaits_next client taken given at next view later follows behind oldest =
     next_later client.seat taken client.viewer view given later follows at (subst (λ n. slice_get (answers_of client.seat view) n ≡ Some later) next behind)
 
--- a client that posted so many of some commands went on from where its session stands, and their letters wait
+-- a client that posted these commands, so many, went on from where its session stands, and their letters wait
+abbrev pub HavePosted : {M : Type 0} (state : State) (client : Client M) (commands : List Command) (count : ℕ) → Type 0
+HavePosted state client commands count = CameFrom state client × (client.waiting.items ≡ waiting_for client.seat client.mark commands) × (length client.waiting.items ≡ count)
+
 pub posted_start : {M : Type 0} (old new : Client M) (state : State) (commands : List Command) (count : ℕ) → DeskStands old None state
     → (new.seat ≡ old.seat) × (new.viewer ≡ old.viewer) × (new.mark ≡ old.mark) → SameProducer old.letters new.letters
     → new.waiting.items ≡ waiting_for old.seat old.mark (take count commands) → count ≤ length commands
-    → CameFrom state new × (new.waiting.items ≡ waiting_for new.seat new.mark (take count commands)) × (length new.waiting.items ≡ count)
+    → HavePosted state new (take count commands) count
 posted_start old new state commands count stands same ring posted within = (
   (
     same.0 ∙ sym stands.0,
@@ -173,7 +175,7 @@ front_answered state next commands had count within asked =
 pub all_answered : (state next : State) (commands : List Command) (had : List Reply) (count : ℕ) → length had ≡ count → length commands ≤ count
     → AsksAll RepliesAt over_at state (take (length had) (take count commands)) had next → AsksAll RepliesAt over_at state commands had next
 all_answered state next commands had count is all asked =
-    subst (λ (front : List Command). AsksAll RepliesAt over_at state front had next) (take_whole (length had) commands (omega (arith, is, all)))
+    subst (λ (front : List Command). AsksAll RepliesAt over_at state front had next) (take_all (length had) commands (omega (arith, is, all)))
     (front_answered state next commands had count (omega (arith, is)) asked)
 
 -- ---- commands that get no answer

@@ -1,5 +1,5 @@
 -- What each reply and each look keeps lasts to the end of a session.
-use Rattle.std.proofs.Common.{◌≡◌, ℕ, ◌≤◌, Bool, List, [], ◌∷◌, ◌++◌, Option, None, refl, sym, ap, subst, inl, inr, arith}
+use Rattle.std.proofs.Common.{[], ◌≡◌, ℕ, ◌≤◌, Bool, List, ◌∷◌, ◌++◌, Option, None, refl, sym, ap, subst, inl, inr, arith, take_all}
 use Rattle.std.specs.Prelude.{Result, Ok, Err, ⊤}
 use Rattle.std.specs.List.{slice_split}
 use Rattle.hpb_rules.specs.declared.command.Command.{Command}
@@ -14,12 +14,12 @@ use Rattle.hpb_rules.specs.Tree.{Rules}
 use Rattle.hpb_server.specs.declared.fault.Fault.{Fault}
 use Rattle.hpb_board.specs.Publication.{auction_of}
 use Rattle.hpb_rings.specs.declared.client.Client.{Client}
-use Rattle.hpb_server.specs.DeskLaws.{GoesOn}
 use Rattle.hpb_server.specs.Streams.{Streams}
 use Rattle.hpb_server.specs.Serving.{AnswersLook, AnswersRequest, AnswersLines, Serves}
 use Rattle.hpb_serve.specs.declared.stop.Stop.{Stop}
-use Rattle.hpb_serve.specs.Sessions.{DeskStands, GoesFrom, RepliesAt, ShowsAt, State, TellsAt, at_start, over_at, rules_at, seen_by, told_by}
-use Rattle.hpb_serve.proofs.Seen.{seen_counted, take_whole}
+use Rattle.hpb_serve.specs.Ends.{TellsOn}
+use Rattle.hpb_serve.specs.Sessions.{DeskStands, GoesFrom, RepliesAt, ShowsAt, State, at_start, over_at, rules_at, seen_by, told_by}
+use Rattle.hpb_serve.proofs.Seen.{seen_counted}
 use Rattle.hpb_serve.proofs.Steps.{goes_self, goes_trans}
 
 module _ {S : Type 0} (rules : S → Rules) (over : S → Bool) (asks : S → Command → Reply → S → Type 0) (looks : S → Option AuctionValue → S → Type 0) (Keeps : S → Type 0)
@@ -55,10 +55,10 @@ module _ {S : Type 0} (rules : S → Rules) (over : S → Bool) (asks : S → Co
 -- what a session on a house comes to
 module _ {M : Type 0} (client : Client M) (next : State) (goes : GoesFrom (at_start client) next) where
   start_told : (opened : List Command) → Shows client.viewer.opened opened → told_by opened (at_start client) ≡ seen_by opened client.viewer
-  start_told opened shows = take_whole (auction_of client.viewer).count (seen_by opened client.viewer) (omega (arith, seen_counted opened client.viewer shows))
+  start_told opened shows = take_all (auction_of client.viewer).count (seen_by opened client.viewer) (omega (arith, seen_counted opened client.viewer shows))
 
   -- what it is told of at last goes on from what its viewer showed at the start
-  pub tells_on : (opened : List Command) → Shows client.viewer.opened opened → GoesOn (seen_by opened client.viewer) (TellsAt next)
+  pub tells_on : TellsOn client.viewer next
   tells_on opened shows = (
     told_by opened next,
     subst (λ (history : List Command). IsFront history (told_by opened next)) (start_told opened shows) (goes.told opened),

@@ -1,10 +1,9 @@
 -- The history that a viewer shows, and the answers that fit it.
-use Rattle.std.proofs.Common.{◌≡◌, ℕ, zero, suc, ◌≤◌, ◌+◌, Bool, true, false, cond, List, [], ◌∷◌, ◌++◌, length, reverse, map, take, slice_get, Some, None, refl, sym, ap, subst, ◌∙◌, arith, append_assoc}
+use Rattle.std.proofs.Common.{[], ◌≡◌, ℕ, zero, suc, ◌≤◌, ◌+◌, Bool, true, false, cond, List, ◌∷◌, ◌++◌, length, reverse, map, take, slice_get, Some, None, refl, sym, ap, subst, ◌∙◌, arith, append_assoc}
 use Rattle.std.specs.Prelude.{if◌then◌else◌, filter, nat_lt, ◌==◌, All}
-use Rattle.std.proofs.lemmas.List.{length-append, length-reverse, map-append, reverse-append, reverse-reverse}
-use Rattle.std.proofs.lemmas.List.Elements.{All-filter, All-nil, filter-append}
+use Rattle.std.proofs.lemmas.List.{length-append, length-reverse}
+use Rattle.std.proofs.lemmas.List.Elements.{All-filter, All-nil}
 use Rattle.hpb_rules.specs.declared.command.Command.{Command}
-use Rattle.hpb_rules.specs.declared.command.Command.TheVariants.{Bid, Close, Stage, Waive}
 use Rattle.hpb_rules.specs.declared.letter.Answer.{Answer}
 use Rattle.hpb_rules.specs.declared.letter.Letter.{Letter}
 use Rattle.hpb_rules.specs.declared.reply.Reply.{Reply}
@@ -13,11 +12,11 @@ use Rattle.hpb_rules.specs.AuctionValue.{AuctionValue, Shows, ShowsPast}
 use Rattle.hpb_rules.specs.Fronts.{IsFront, joined}
 use Rattle.hpb_rules.specs.Letters.{Fits, is_answer_new, new_commands}
 use Rattle.hpb_rules.specs.Tree.{Rules}
-use Rattle.hpb_rules.specs.Values.{changed, next_value, reply_in}
-use Rattle.hpb_rules.proofs.Lists.{all_cons, append_nil, get_seam, take_seam, take_front}
+use Rattle.hpb_rules.specs.Values.{next_value, reply_in}
+use Rattle.hpb_rules.proofs.Lists.{all_cons, append_nil, get_seam, take_seam}
 use Rattle.hpb_rules.proofs.RunLaws.{next_is_shown, reply_is_answer, reverse_history_after, history_after_appends}
 use Rattle.hpb_rules.specs.Judging.{answer_in, judged_in, value_by}
-use Rattle.hpb_rules.proofs.Judged.{joined_append, judged_join, new_join, next_rules, rules_by, shown_count}
+use Rattle.hpb_rules.proofs.Judged.{joined_append, judged_join, new_join, next_rules, shown_count}
 use Rattle.hpb_board.specs.Publication.{Viewing, answers_of, auction_of, recent}
 use Rattle.hpb_serve.specs.Sessions.{Follows, IsToldBy, count_after, seen_by}
 
@@ -48,13 +47,6 @@ length_within : {A : Type 0} (n : ℕ) (xs : List A) → n ≤ length xs → len
 length_within zero xs le = refl
 length_within (suc n) [] le = absurd (omega (arith, le))
 length_within (suc n) (x ∷ xs) le = ap suc (length_within n xs (omega (arith, le)))
-
--- as many as there are, or more, are all
-pub take_whole : {A : Type 0} (n : ℕ) (xs : List A) → length xs ≤ n → take n xs ≡ xs
-take_whole zero [] le = refl
-take_whole zero (x ∷ xs) le = absurd (omega (arith, le))
-take_whole (suc n) [] le = refl
-take_whole (suc n) (x ∷ xs) le = ap (λ ys. x ∷ ys) (take_whole n xs (omega (arith, le)))
 
 -- ---- letters that a value judges after the history that it shows
 module _ (value : AuctionValue) (history : List Command) (shows : Shows value history) (letter : Letter) where
@@ -139,10 +131,6 @@ seen_front opened v w follows =
     subst (λ (value : AuctionValue). IsFront (seen_by opened v) (opened ++ new_commands (judged_in value (joined w.list)))) (sym follows.1)
     (subst (λ (list : List (List Letter)). IsFront (seen_by opened v) (opened ++ new_commands (judged_in v.opened (joined list)))) follows.3.1
     (grows opened v.opened v.list follows.3.0))
-
--- the auction that a viewer shows has the rules that were opened
-pub rules_shown : (v : Viewing) → (auction_of v).rules ≡ v.opened.rules
-rules_shown v = rules_by v.opened (joined v.list)
 
 -- it shows the history
 pub seen_shown : (opened : List Command) (v : Viewing) → Shows v.opened opened → Shows (auction_of v) (seen_by opened v)

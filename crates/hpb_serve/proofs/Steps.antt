@@ -1,5 +1,5 @@
 -- Single steps of a desk: an answer taken, a command that gets none, and a look.
-use Rattle.std.proofs.Common.{◌≡◌, inl, inr, ℕ, suc, ◌≤◌, Bool, true, false, max, [], ◌++◌, take, Option, Some, None, refl, sym, ap, subst, ◌∙◌, arith, append_assoc}
+use Rattle.std.proofs.Common.{[], ◌≡◌, inl, inr, ℕ, suc, ◌≤◌, Bool, true, false, max, ◌++◌, take, Option, Some, None, refl, sym, ap, subst, ◌∙◌, arith, append_assoc, take_all}
 use Rattle.std.specs.declared.alloc.Global.{Global}
 use Rattle.std.specs.Prelude.{if◌then◌else◌}
 use Rattle.std.proofs.lemmas.Bool.{eqb-true}
@@ -23,7 +23,7 @@ use Rattle.hpb_serve.specs.InFlight.{CameFrom}
 use Rattle.hpb_serve.specs.Sessions.{DeskStands, Follows, GoesFrom, IsToldBy, RepliesAt, ShowsAt, State, count_after, seen_by, told_by}
 use Rattle.hpb_serve.specs.Stops.{refusal_of}
 use Rattle.hpb_serve.proofs.Order.{count_later}
-use Rattle.hpb_serve.proofs.Seen.{fits_after, fronts_of, seen_counted, seen_front, seen_shown, take_whole, told_fits}
+use Rattle.hpb_serve.proofs.Seen.{fits_after, fronts_of, seen_counted, seen_front, seen_shown, told_fits}
 
 -- what an answer tells is known by the mark after it
 pub count_known : (mark : ℕ) (given : Answer) → count_after given ≤ greatest mark given
@@ -156,7 +156,7 @@ module _ {M : Type 0} (old new : Client M) (stop : Option Stop) (state : State) 
           (
             is,
             λ opened shows.
-                let all : told_by opened next ≡ seen_by opened new.viewer = take_whole next.told (seen_by opened new.viewer) (omega (arith, seen_counted opened new.viewer shows)) in (
+                let all : told_by opened next ≡ seen_by opened new.viewer = take_all next.told (seen_by opened new.viewer) (omega (arith, seen_counted opened new.viewer shows)) in (
                   all,
                   subst (λ (v : AuctionValue). Shows v (told_by opened next)) (sym is) (subst (Shows (auction_of new.viewer)) (sym all) (seen_shown opened new.viewer shows)),
                 ),

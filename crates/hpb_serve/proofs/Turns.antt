@@ -1,16 +1,11 @@
 -- Lists that are gone over, one element a turn.
-use Rattle.std.proofs.Common.{◌≡◌, ◌∙◌, zero, suc, List, [], ◌∷◌, ◌++◌, length, map, arith, All, Contains, Option, Some, None, IfSome, true, refl, sym, ap, subst}
+use Rattle.std.proofs.Common.{[], ◌≡◌, ◌∙◌, zero, suc, List, ◌∷◌, ◌++◌, length, map, arith, All, Contains, Option, Some, None, IfSome, true, refl, sym, ap, subst}
 use Rattle.std.specs.declared.vec.IntoIter.{IntoIter}
 use Rattle.std.specs.Vec.Iter.{into_iter_items, into_iter_steps}
 use Rattle.std.proofs.lemmas.List.{append-nil, append_assoc, map-append}
 use Rattle.std.specs.Option.{is_some}
-use Rattle.std.proofs.lemmas.List.Elements.{All-append, Contains-append_right}
+use Rattle.std.proofs.lemmas.List.Elements.{Contains-append_right}
 use Rattle.hpb_house.specs.Starts.{AreOneByOne}
-use Rattle.hpb_rules.proofs.Lists.{one_of}
-
--- what is so of each element and of one more is so of the list with that one
-pub all_and_one : {A : Type 0} (P : A → Type 0) (xs : List A) (x : A) → All P xs → P x → All P (xs ++ x ∷ [])
-all_and_one P xs x all h = All-append P xs (x ∷ []) all (one_of P x h)
 
 -- what is so of each element that is to come is so of the next
 pub next_of : {A Z : Type 0} (P : A → Type 0) (s t : IntoIter A Z) (x : A) → All P (into_iter_items s) → into_iter_steps s (Some x) t → P x
@@ -37,21 +32,6 @@ pub among : {A B C Z : Type 0} (f : A → C) (g : B → C) (whole : List C) (mad
 among f g whole made s t x is steps =
     subst (λ l. Contains l (g x)) is (Contains-append_right (map f made) (map g (into_iter_items s)) (g x)
     (subst (λ items. Contains (map g items) (g x)) (sym steps.0) (zero, omega arith, refl)))
-
--- one list where what was made tells of the elements themselves
-pub next_made : {A B Z : Type 0} (f : A → B) (whole : List B) (made : List A) (more : A) (s t : IntoIter B Z) (x : B)
-    → map f made ++ into_iter_items s ≡ whole → into_iter_steps s (Some x) t → f more ≡ x → map f (made ++ more ∷ []) ++ into_iter_items t ≡ whole
-next_made f whole made more s t x is steps same =
-    ap (λ front. front ++ into_iter_items t) (map-append f made (more ∷ []))
-    ∙ append_assoc (map f made) (f more ∷ []) (into_iter_items t)
-    ∙ ap (λ one. map f made ++ one ∷ into_iter_items t) same
-    ∙ ap (λ items. map f made ++ items) (sym steps.0)
-    ∙ is
-
--- after the last turn it is what was made
-pub no_more : {A B : Type 0} (f : A → B) (whole : List B) (made : List A) (rest : List B) → map f made ++ rest ≡ whole → length rest ≡ 0 → map f made ≡ whole
-no_more f whole made [] is none = sym (append-nil (map f made)) ∙ is
-no_more f whole made (x ∷ rest) is none = absurd (omega arith)
 
 -- pairs so far: with those of what is to come they are all
 pub one_joined : {A B C Z : Type 0} (has : A → B → Type 0) (f : C → A) (whole : List A) (made : List B) (one : B) (s t : IntoIter C Z) (x : C)

@@ -1,16 +1,19 @@
 -- How a session on a house ends.
 -- Source: this project's own.
-use Rattle.std.specs.Prelude.{◌≡◌, ℕ, true, false, Option, Some}
+use Rattle.std.specs.Prelude.{◌≡◌, ℕ, true, false, List, Option, Some}
 use Rattle.std.specs.declared.alloc.Global.{Global}
 use Rattle.rtrb.specs.Ring.{SameProducer}
 use Rattle.rtrb.specs.declared.AnyItems.{AnyItems}
 use Rattle.rtrb.specs.declared.producer.Producer.{Producer}
+use Rattle.hpb_rules.specs.declared.command.Command.{Command}
+use Rattle.hpb_rules.specs.AuctionValue.{Shows}
 use Rattle.hpb_board.specs.Publication.{Viewing}
 use Rattle.hpb_rings.specs.declared.client.Client.{Client}
 use Rattle.hpb_rings.specs.declared.slip.Slip.{Slip}
+use Rattle.hpb_server.specs.DeskLaws.{GoesOn}
 use Rattle.hpb_serve.specs.declared.end.SessionEnd.{SessionEnd}
 use Rattle.hpb_serve.specs.declared.end.SessionEnd.TheVariants.{Finished, Left}
-use Rattle.hpb_serve.specs.Sessions.{Follows, State}
+use Rattle.hpb_serve.specs.Sessions.{Follows, State, TellsAt, seen_by}
 use Rattle.hpb_serve.specs.Stops.{IsInOrder, is_over}
 use Rattle.hpb_serve.specs.declared.stop.Stop.{Stop}
 use Rattle.hpb_serve.specs.declared.stop.Stop.TheVariants.{Halted}
@@ -42,3 +45,7 @@ EndsBy stop (Left client) = (is_over stop ≡ true) × (IsInOrder client.seat cl
 -- A session ended at a state: its client's seat and viewer are that state's.
 abbrev pub EndsAt : {M : Type 0} → SessionEnd M → State → Type 0
 EndsAt end state = (state.seat ≡ seat_of end) × (state.viewing ≡ viewer_of end) × EndsBy state.stop end
+
+-- Where what was opened shows a history, what a session was told of at last goes on from what this viewer showed at the start.
+abbrev pub TellsOn : Viewing → State → Type 0
+TellsOn began state = (opened : List Command) → Shows began.opened opened → GoesOn (seen_by opened began) (TellsAt state)

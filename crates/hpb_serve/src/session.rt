@@ -1,15 +1,12 @@
 //! A session from its first line to the end of its client.
-ghost use Rattle.std.specs.Prelude.{◌≡◌, ◌⊎◌, List, [], true};
+ghost use Rattle.std.specs.Prelude.{◌≡◌, ◌⊎◌, [], true};
 ghost use Rattle.rtrb.specs.Ring.{SameProducer};
-ghost use Rattle.hpb_rules.specs.declared.command.Command.{Command};
 ghost use Rattle.hpb_rules.specs.declared.limits.TheConstants.{MOST_READ_BYTES};
-ghost use Rattle.hpb_rules.specs.AuctionValue.{Shows};
-ghost use Rattle.hpb_server.specs.DeskLaws.{GoesOn};
 ghost use Rattle.hpb_server.specs.Desk.{no_memory};
 ghost use Rattle.hpb_server.specs.Serving.{Serves};
 ghost use Rattle.hpb_server.specs.Streams.{streams};
-ghost use Rattle.hpb_serve.specs.Ends.{EndsAt, IsEndOf};
-ghost use Rattle.hpb_serve.specs.Sessions.{RepliesAt, ShowsAt, State, TellsAt, at_start, most_in_flight, over_at, rules_at, seen_by};
+ghost use Rattle.hpb_serve.specs.Ends.{EndsAt, IsEndOf, TellsOn};
+ghost use Rattle.hpb_serve.specs.Sessions.{RepliesAt, ShowsAt, State, at_start, most_in_flight, over_at, rules_at};
 
 use crate::desk::HouseDesk;
 use crate::end::{Session, SessionEnd};
@@ -45,8 +42,7 @@ pub fn run_session<M: Copy, R: Wait + Drop, I: Read, O: Write>(
     ensures served { (state : State) × Serves rules_at over_at RepliesAt ShowsAt most_in_flight no_memory [] MOST_READ_BYTES
         (streams (I.remaining reader.old) (O.contents writer.old)) (streams (I.remaining reader.new) (O.contents writer.new))
         (at_start client) state result.fault
-        × EndsAt result.end state
-        × ((opened : List Command) → Shows client.viewer.opened opened → GoesOn (seen_by opened client.viewer) (TellsAt state)) }
+        × EndsAt result.end state × TellsOn client.viewer state }
 {
     let mut desk = HouseDesk::new(rt, client).looking(looks);
     let fault = serve(alloc, reader, writer, &mut desk);

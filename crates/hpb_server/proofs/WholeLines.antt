@@ -6,6 +6,7 @@ use Rattle.std.proofs.lemmas.List.Splits.{slice_split_at, slice_split_none}
 use Rattle.hpb_rules.specs.declared.command.Command.{Command}
 use Rattle.hpb_rules.specs.declared.reply.Reply.{Reply}
 use Rattle.hpb_rules.specs.Tree.{Rules}
+use Rattle.hpb_rules.proofs.Lists.{or_true}
 use Rattle.hpb_rules.specs.AuctionValue.{AuctionValue}
 use Rattle.hpb_rules.specs.Text.{line_of, unfinished_text}
 use Rattle.hpb_rules.specs.Lines.{is_line_feed}
@@ -33,10 +34,6 @@ whole_append a b p q = ⊎_elim
 lines_whole : (lines : List (List ℕ)) → AreLines (lines_of lines)
 lines_whole [] = none_whole
 lines_whole (line ∷ lines) = whole_append (line_of line) (lines_of lines) (line_whole line) (lines_whole lines)
-
-or_true : (b : Bool) → (b || true) ≡ true
-or_true true = refl
-or_true false = refl
 
 -- ---- answers
 module _ {State : Type 0} (rules : State → Rules) (over : State → Bool) (asks : State → Command → Reply → State → Type 0) (looks : State → Option AuctionValue → State → Type 0) where

@@ -3,14 +3,14 @@ ghost use Rattle.std.specs.Prelude.{◌≡◌, true};
 ghost use Rattle.hpb_define.specs.Fault.{refusal_of};
 ghost use Rattle.hpb_server.specs.Desk.{LooksStay};
 ghost use Rattle.hpb_server.specs.Telling.{Explains, ExplainsAt, Says, TellsOf, TellsReply, TellsShown, accepted_text, sentence, told_line};
-ghost use Rattle.hpb_terminal.specs.Reasons.{text_of};
+ghost use Rattle.hpb_wire.specs.Reasons.{text_of};
 
 use crate::desk::Desk;
 use crate::output::send_bytes;
 use hpb_auction::Auction;
 use hpb_define::{DefineCause, DefineFault};
 use hpb_rules::{Command, Refusal, Reply};
-use hpb_terminal::{Reason, reason_of};
+use hpb_wire::{Reason, reason_of};
 use std::alloc::Global;
 use std::fmt;
 use std::io::Write;

@@ -12,6 +12,7 @@ use std::alloc::Global;
 use std::cell::Cell;
 use std::io;
 use std::io::{ErrorKind, Read, Write};
+use std::process::Abort;
 use std::test::Fail;
 
 pub(crate) const DEFINITION: &[u8] =
@@ -245,23 +246,74 @@ fn script(alloc: Global, line: &[u8], count: usize) -> Result<Vec<u8>, Fail> {
     Ok(text)
 }
 
-fn desk(alloc: Global) -> Result<ScriptDesk, Fail> {
-    let definition = read_definition(alloc, DEFINITION)?;
-    Ok(ScriptDesk::new(Auction::new(alloc, &definition)?))
+/// The definition without the end of its line.
+fn cut_definition() -> &'static [u8] {
+    &DEFINITION[..DEFINITION.len().saturating_sub(1)]
+}
+
+/// The auction of the definition.
+pub(crate) fn new_auction(alloc: Global) -> Result<Auction, Fail> {
+    let definition = Box::new(alloc, read_definition(alloc, DEFINITION)?)?;
+    Ok(Auction::new(alloc, &definition)?)
+}
+
+/// The desk of the auction.
+pub(crate) fn new_desk(alloc: Global) -> Result<Box<ScriptDesk>, Fail> {
+    Ok(Box::new(alloc, ScriptDesk::new(new_auction(alloc)?))?)
+}
+
+/// How a script and what it wrote ended.
+type Ended = (Result<ScriptEnd, Fault>, Vec<u8>);
+
+/// Runs a script.
+pub(crate) fn run_all<R: Read, W: Write, E: Write>(
+    alloc: Global,
+    reader: &mut R,
+    writer: &mut W,
+    errors: &mut E,
+    is_terminal: bool,
+) -> Result<ScriptEnd, Fault> {
+    run_script(alloc, reader, writer, errors, is_terminal)
+}
+
+/// Runs a script with no terminal.
+fn run<R: Read, W: Write>(
+    alloc: Global,
+    reader: &mut R,
+    writer: &mut W,
+) -> Result<ScriptEnd, Fault> {
+    run_all(alloc, reader, writer, &mut io::sink(), false)
+}
+
+/// Runs a script with no terminal, and keeps what is written.
+fn run_kept<R: Read>(alloc: Global, reader: &mut R) -> Ended {
+    let mut output = Vec::new(alloc);
+    let result = run(alloc, reader, &mut output);
+    (result, output)
+}
+
+/// Serves all lines of a reader.
+pub(crate) fn serve_all<R: Read, W: Write, D: Desk>(
+    alloc: Global,
+    reader: &mut R,
+    writer: &mut W,
+    desk: &mut D,
+) -> Result<(), Fault> {
+    serve(alloc, reader, writer, desk)
+}
+
+/// Runs a script that is given line by line.
+fn run_lines(alloc: Global, talk: &Talk, text: &[u8]) -> Result<ScriptEnd, Fault> {
+    let mut reader = Lines { talk, rest: text };
+    run(alloc, &mut reader, &mut Counts { talk })
 }
 
 #[test]
 fn an_answer_leaves_before_the_next_line_is_asked_for(rt: HostRuntime) -> Result<(), Fail> {
-    let alloc = rt.alloc();
-    let text = script(alloc, b"SHOW\n", 5)?;
+    let text = script(rt.alloc(), b"SHOW\n", 5)?;
     let talk = Talk::new();
-    let mut reader = Lines {
-        talk: &talk,
-        rest: text.as_slice(),
-    };
-    let mut writer = Counts { talk: &talk };
     assert_eq!(rt;
-        run(alloc, &mut reader, &mut writer),
+        run_lines(rt.alloc(), &talk, &text),
         Ok(ScriptEnd::Answered)
     );
     assert!(rt; !talk.early.get());
@@ -270,15 +322,18 @@ fn an_answer_leaves_before_the_next_line_is_asked_for(rt: HostRuntime) -> Result
     Ok(())
 }
 
+/// Runs a script that is given at once.
+fn run_piped(alloc: Global, talk: &Talk, text: &[u8]) -> Result<ScriptEnd, Fault> {
+    let mut reader = text;
+    run(alloc, &mut reader, &mut Counts { talk })
+}
+
 #[test]
 fn a_script_that_is_piped_in_costs_few_writes(rt: HostRuntime) -> Result<(), Fail> {
-    let alloc = rt.alloc();
-    let text = script(alloc, b"SHOW\n", 10_000)?;
+    let text = script(rt.alloc(), b"SHOW\n", 10_000)?;
     let talk = Talk::new();
-    let mut reader = text.as_slice();
-    let mut writer = Counts { talk: &talk };
     assert_eq!(rt;
-        run(alloc, &mut reader, &mut writer),
+        run_piped(rt.alloc(), &talk, &text),
         Ok(ScriptEnd::Answered)
     );
     assert_eq!(rt; talk.flushed.get(), 10_000);
@@ -286,25 +341,33 @@ fn a_script_that_is_piped_in_costs_few_writes(rt: HostRuntime) -> Result<(), Fai
     Ok(())
 }
 
-#[test]
-fn bytes_come_and_go_one_by_one(rt: HostRuntime) -> Result<(), Fail> {
-    let alloc = rt.alloc();
-    let text = script(alloc, b"BID x 1 a 100\nSHOW\n\nBID x 1 a", 1)?;
-    let mut reader = OneByteReader {
-        rest: text.as_slice(),
-        signal: false,
-    };
+/// Runs a script whose answers go one byte a call.
+fn run_to_bytes<R: Read>(alloc: Global, reader: &mut R) -> Ended {
     let mut writer = OneByteWriter {
         bytes: Vec::new(alloc),
         signal: false,
     };
-    assert_eq!(rt;
-        run(alloc, &mut reader, &mut writer),
-        Ok(ScriptEnd::Answered)
-    );
+    let result = run(alloc, reader, &mut writer);
+    (result, writer.bytes)
+}
+
+/// Runs a script that comes one byte a call, too.
+fn run_bytes(alloc: Global, text: &[u8]) -> Ended {
+    let mut reader = OneByteReader {
+        rest: text,
+        signal: false,
+    };
+    run_to_bytes(alloc, &mut reader)
+}
+
+#[test]
+fn bytes_come_and_go_one_by_one(rt: HostRuntime) -> Result<(), Fail> {
+    let text = script(rt.alloc(), b"BID x 1 a 100\nSHOW\n\nBID x 1 a", 1)?;
+    let (result, written) = run_bytes(rt.alloc(), &text);
+    assert_eq!(rt; result, Ok(ScriptEnd::Answered));
     let want =
         b"OK 1\nROUND 1 STAGE 1 OPEN REVENUE 0 COUNT 1\nERR 10 line\nERR 10 line\n".as_slice();
-    assert_eq!(rt; writer.bytes.as_slice(), want);
+    assert_eq!(rt; written.as_slice(), want);
     Ok(())
 }
 
@@ -319,148 +382,204 @@ const FRONTS: [&[u8]; 5] = [
     b"OK 1\nOK 2\nOK 3\nROUND 2 STAGE 1 OPEN REVENUE 250 COUNT 3\n",
 ];
 
-/// Runs a script with no terminal.
-fn run<R: Read, W: Write>(
-    alloc: Global,
-    reader: &mut R,
-    writer: &mut W,
-) -> Result<ScriptEnd, Fault> {
+const EMPTY: &str =
+    "hpb: 60 json: the definition is empty: a script has the whole definition in its first line, as `jq -c . definition.json` writes it\n";
+
+/// Scripts, each at a terminal or not, with what people are told of its definition: of those that are refused one is
+/// laid out over many lines, and one was cut off.
+const DEFINITIONS: [(&[u8], bool, &str); 8] = [
+    (b"\nSHOW\n", false, EMPTY),
+    (b"\nSHOW\n", true, EMPTY),
+    (b"", false, "hpb: 60 json: the definition is empty\n"),
+    (
+        b"{\n\"step\":10}\n",
+        false,
+        "hpb: 60 json: line 1 column 1: the text ends before the JSON does: a script has the whole definition in its first line, as `jq -c . definition.json` writes it\n",
+    ),
+    (
+        b"{\"step\":10",
+        false,
+        "hpb: 60 json: line 1 column 10: the text ends before the JSON does\n",
+    ),
+    (
+        b"{,}\n",
+        false,
+        "hpb: 60 json: line 1 column 2: reading stopped at \",\"\n",
+    ),
+    (DEFINITION, false, ""),
+    (DEFINITION, true, ACCEPTED),
+];
+
+/// What people are told of a script.
+fn told_of(alloc: Global, text: &[u8], is_terminal: bool) -> Result<Vec<u8>, Fail> {
+    let mut input = text;
     let mut errors = Vec::new(alloc);
-    run_script(alloc, reader, writer, &mut errors, false)
+    let _ = run_all(alloc, &mut input, &mut io::sink(), &mut errors, is_terminal)?;
+    Ok(errors)
 }
 
 #[test]
 fn people_are_told_of_a_definition(rt: HostRuntime) -> Result<(), Fail> {
-    let alloc = rt.alloc();
-    let empty =
-        "hpb: 60 json: the definition is empty: a script has the whole definition in its first line, as `jq -c . definition.json` writes it\n";
-    let table = [
-        (b"\nSHOW\n".as_slice(), false, empty),
-        (b"\nSHOW\n".as_slice(), true, empty),
-        (b"", false, "hpb: 60 json: the definition is empty\n"),
-        // A definition that is laid out over many lines, and one that was cut off.
-        (
-            b"{\n\"step\":10}\n",
-            false,
-            "hpb: 60 json: line 1 column 1: the text ends before the JSON does: a script has the whole definition in its first line, as `jq -c . definition.json` writes it\n",
-        ),
-        (
-            b"{\"step\":10",
-            false,
-            "hpb: 60 json: line 1 column 10: the text ends before the JSON does\n",
-        ),
-        (
-            b"{,}\n",
-            false,
-            "hpb: 60 json: line 1 column 2: reading stopped at \",\"\n",
-        ),
-        (DEFINITION, false, ""),
-        (DEFINITION, true, ACCEPTED),
-    ];
-    for (text, is_terminal, want) in table {
-        let mut input = text;
-        let mut output = Vec::new(alloc);
-        let mut errors = Vec::new(alloc);
-        let _ = run_script(alloc, &mut input, &mut output, &mut errors, is_terminal)?;
-        assert_eq!(rt; errors.as_slice(), want.as_bytes(), "{want}");
+    for (text, is_terminal, want) in DEFINITIONS {
+        let told = told_of(rt.alloc(), text, is_terminal)?;
+        assert_eq!(rt; told.as_slice(), want.as_bytes(), "{want}");
     }
     Ok(())
 }
 
+/// Runs a script of which so many reads succeed.
+fn run_failing(alloc: Global, text: &[u8], reads: usize) -> Ended {
+    let mut reader = FailingReader { rest: text, reads };
+    run_kept(alloc, &mut reader)
+}
+
+/// After so many reads so many lines are answered.
+fn fail_after(rt: &impl Abort, alloc: Global, text: &[u8], reads: usize, lines: usize) {
+    let (result, written) = run_failing(alloc, text, reads);
+    assert_eq!(rt; result, Err(Fault::Reader), "{reads}");
+    assert_eq!(rt;
+        Some(written.as_slice()),
+        FRONTS.get(lines).copied(),
+        "{reads}"
+    );
+}
+
 #[test]
 fn each_read_fails_in_turn(rt: HostRuntime) -> Result<(), Fail> {
-    let alloc = rt.alloc();
-    let text = script(alloc, LINES, 1)?;
+    let text = script(rt.alloc(), LINES, 1)?;
     // The first read gives the definition.
     for (reads, lines) in [(0, 0), (1, 0), (2, 1), (3, 2), (4, 3), (5, 4)] {
-        let mut reader = FailingReader {
-            rest: text.as_slice(),
-            reads,
-        };
-        let mut output = Vec::new(alloc);
-        let result = run(alloc, &mut reader, &mut output);
-        assert_eq!(rt; result, Err(Fault::Reader), "{reads}");
-        assert_eq!(rt; output.as_slice(), FRONTS[lines], "{reads}");
+        fail_after(&rt, rt.alloc(), &text, reads, lines);
     }
     Ok(())
+}
+
+/// Runs a script whose reader ends once.
+fn run_ending(alloc: Global, text: &[u8]) -> Ended {
+    let mut reader = EndingReader {
+        rest: text,
+        has_ended: false,
+    };
+    run_kept(alloc, &mut reader)
+}
+
+/// A script ended so, and this was written.
+fn end_with(rt: &impl Abort, ended: Ended, end: ScriptEnd, want: &[u8]) {
+    let (result, written) = ended;
+    assert_eq!(rt; result, Ok(end));
+    assert_eq!(rt; written.as_slice(), want);
 }
 
 #[test]
 fn nothing_is_read_after_the_end(rt: HostRuntime) -> Result<(), Fail> {
     let alloc = rt.alloc();
-    let definition = &DEFINITION[..DEFINITION.len() - 1];
+    end_with(
+        &rt,
+        run_ending(alloc, cut_definition()),
+        ScriptEnd::Answered,
+        b"",
+    );
+    end_with(&rt, run_ending(alloc, DEFINITION), ScriptEnd::Answered, b"");
+    let refused = ScriptEnd::Refused(Refusal::Json);
+    end_with(&rt, run_ending(alloc, b"{"), refused, b"ERR 60 json\n");
     let lines = script(alloc, LINES, 1)?;
-    let table = [
-        (definition, ScriptEnd::Answered, FRONTS[0]),
-        (DEFINITION, ScriptEnd::Answered, FRONTS[0]),
-        (lines.as_slice(), ScriptEnd::Answered, FRONTS[4]),
-        (b"{", ScriptEnd::Refused(Refusal::Json), b"ERR 60 json\n"),
-    ];
-    for (text, end, want) in table {
-        let mut reader = EndingReader {
-            rest: text,
-            has_ended: false,
-        };
-        let mut output = Vec::new(alloc);
-        let result = run(alloc, &mut reader, &mut output);
-        assert_eq!(rt; result, Ok(end), "{}", text.len());
-        assert_eq!(rt; output.as_slice(), want, "{}", text.len());
-    }
+    end_with(
+        &rt,
+        run_ending(alloc, &lines),
+        ScriptEnd::Answered,
+        FRONTS[4],
+    );
     Ok(())
 }
 
-/// Serves the lines one by one to a writer that fails: what is written, and how many were accepted.
-fn served(
+/// Serves all lines of a reader by an auction in memory.
+fn serve_script<R: Read, W: Write>(
     alloc: Global,
-    writes: usize,
-    flushes: usize,
-) -> Result<(Vec<u8>, Result<(), Fault>, u32), Fail> {
+    reader: &mut R,
+    writer: &mut W,
+    desk: &mut ScriptDesk,
+) -> Result<(), Fault> {
+    serve_auction(alloc, reader, writer, desk)
+}
+
+/// Serves the lines one by one.
+fn serve_to<W: Write>(alloc: Global, writer: &mut W, desk: &mut ScriptDesk) -> Result<(), Fault> {
     let talk = Talk::new();
     let mut reader = Lines {
         talk: &talk,
         rest: LINES,
     };
+    serve_script(alloc, &mut reader, writer, desk)
+}
+
+/// How many commands a desk has accepted.
+fn count_of(desk: Box<ScriptDesk>) -> u32 {
+    Box::into_inner(desk).into_auction().count()
+}
+
+/// Serves the lines one by one to a writer that fails: how that ended, what is written, and how many were accepted.
+fn served(
+    alloc: Global,
+    writes: usize,
+    flushes: usize,
+) -> Result<(Result<(), Fault>, Vec<u8>, u32), Fail> {
+    let mut desk = new_desk(alloc)?;
     let mut writer = FailingWriter {
         bytes: Vec::new(alloc),
         writes,
         flushes,
     };
-    let mut desk = desk(alloc)?;
-    let result = serve_auction(alloc, &mut reader, &mut writer, &mut desk);
-    Ok((writer.bytes, result, desk.into_auction().count()))
+    let result = serve_to(alloc, &mut writer, &mut desk);
+    Ok((result, writer.bytes, count_of(desk)))
+}
+
+/// After so many writes and flushes the lines ended so: so many of them stand written, and so many are accepted.
+fn end_after(
+    rt: &impl Abort,
+    alloc: Global,
+    (writes, flushes): (usize, usize),
+    end: Result<(), Fault>,
+    (lines, accepted): (usize, u32),
+) -> Result<(), Fail> {
+    let (result, written, count) = served(alloc, writes, flushes)?;
+    assert_eq!(rt; result, end, "{writes} {flushes}");
+    assert_eq!(rt;
+        Some(written.as_slice()),
+        FRONTS.get(lines).copied(),
+        "{writes} {flushes}"
+    );
+    assert_eq!(rt; count, accepted, "{writes} {flushes}");
+    Ok(())
 }
 
 #[test]
 fn each_write_and_each_flush_fails_in_turn(rt: HostRuntime) -> Result<(), Fail> {
     let alloc = rt.alloc();
+    let failed = Err(Fault::Writer);
     for (line, accepted) in [(0, 1), (1, 2), (2, 3), (3, 3)] {
-        let (written, result, count) = served(alloc, line, usize::MAX)?;
-        assert_eq!(rt; result, Err(Fault::Writer), "{line}");
-        assert_eq!(rt; written.as_slice(), FRONTS[line], "{line}");
-        assert_eq!(rt; count, accepted, "{line}");
-        let (written, result, count) = served(alloc, usize::MAX, line)?;
-        assert_eq!(rt; result, Err(Fault::Writer), "{line}");
-        assert_eq!(rt; written.as_slice(), FRONTS[line + 1], "{line}");
-        assert_eq!(rt; count, accepted, "{line}");
+        end_after(&rt, alloc, (line, usize::MAX), failed, (line, accepted))?;
+        end_after(&rt, alloc, (usize::MAX, line), failed, (line + 1, accepted))?;
     }
-    let (written, result, count) = served(alloc, 4, 4)?;
-    assert_eq!(rt; result, Ok(()));
-    assert_eq!(rt; written.as_slice(), FRONTS[4]);
-    assert_eq!(rt; count, 3);
-    Ok(())
+    end_after(&rt, alloc, (4, 4), Ok(()), (4, 3))
+}
+
+/// Serves a question.
+fn serve_question<W: Write>(alloc: Global, writer: &mut W) -> Result<Result<(), Fault>, Fail> {
+    let mut desk = new_desk(alloc)?;
+    let mut input = b"SHOW\n".as_slice();
+    Ok(serve_all(alloc, &mut input, writer, &mut *desk))
 }
 
 #[test]
 fn a_writer_that_takes_nothing_has_failed(rt: HostRuntime) -> Result<(), Fail> {
-    let alloc = rt.alloc();
-    let mut input = b"SHOW\n".as_slice();
     let mut writer = PausingWriter {
-        bytes: Vec::new(alloc),
+        bytes: Vec::new(rt.alloc()),
         writes: 0,
     };
-    let mut desk = desk(alloc)?;
-    let result = serve(alloc, &mut input, &mut writer, &mut desk);
-    assert_eq!(rt; result, Err(Fault::Writer));
+    assert_eq!(rt;
+        serve_question(rt.alloc(), &mut writer)?,
+        Err(Fault::Writer)
+    );
     assert_eq!(rt; writer.writes, 1);
     assert!(rt; writer.bytes.is_empty());
     Ok(())
@@ -468,91 +587,114 @@ fn a_writer_that_takes_nothing_has_failed(rt: HostRuntime) -> Result<(), Fail> {
 
 #[test]
 fn many_bytes_go_one_by_one(rt: HostRuntime) -> Result<(), Fail> {
-    let alloc = rt.alloc();
-    let text = script(alloc, b"SHOW\n", 100)?;
+    let text = script(rt.alloc(), b"SHOW\n", 100)?;
     let mut input = text.as_slice();
-    let mut writer = OneByteWriter {
-        bytes: Vec::new(alloc),
-        signal: false,
-    };
-    let result = run(alloc, &mut input, &mut writer);
+    let (result, written) = run_to_bytes(rt.alloc(), &mut input);
     assert_eq!(rt; result, Ok(ScriptEnd::Answered));
-    let mut want = Vec::new(alloc);
-    for _ in 0..100 {
-        want.extend_from_slice(b"ROUND 1 STAGE 1 OPEN REVENUE 0 COUNT 0\n")?;
-    }
-    assert_eq!(rt; writer.bytes, want);
+    let want = b"ROUND 1 STAGE 1 OPEN REVENUE 0 COUNT 0\n".repeat(rt.alloc(), 100)?;
+    assert_eq!(rt; written, want);
+    Ok(())
+}
+
+/// Answers the lines of a reader of which so many bytes may be read.
+fn answer_all<R: Read, W: Write, D: Desk>(
+    alloc: Global,
+    reader: &mut R,
+    writer: &mut W,
+    desk: &mut D,
+    budget: u64,
+) -> Result<Result<(), Fault>, Fail> {
+    let mut input = Input::new(alloc, budget)?;
+    let mut output = Output::new(alloc)?;
+    let result = answer_lines(
+        alloc,
+        reader,
+        writer,
+        &mut io::sink(),
+        false,
+        desk,
+        &mut input,
+        &mut output,
+    );
+    Ok(result)
+}
+
+/// Answers such lines by a desk of its own: how that ended, and what was written.
+fn answered_within<R: Read>(
+    alloc: Global,
+    reader: &mut R,
+    budget: u64,
+) -> Result<(Result<(), Fault>, Vec<u8>), Fail> {
+    let mut desk = new_desk(alloc)?;
+    let mut written = Vec::new(alloc);
+    let result = answer_all(alloc, reader, &mut written, &mut *desk, budget)?;
+    Ok((result, written))
+}
+
+/// Of 24 bytes so many may be read: it ends so, this is written, and so many bytes are left.
+fn read_within(
+    rt: &impl Abort,
+    alloc: Global,
+    budget: u64,
+    end: Result<(), Fault>,
+    want: &[u8],
+    left: usize,
+) -> Result<(), Fail> {
+    let mut reader = b"CLOSE 0\nCLOSE 0\nCLOSE 0\n".as_slice();
+    let (result, written) = answered_within(alloc, &mut reader, budget)?;
+    assert_eq!(rt; result, end, "{budget}");
+    assert_eq!(rt; written.as_slice(), want, "{budget}");
+    assert_eq!(rt; reader.len(), left, "{budget}");
     Ok(())
 }
 
 #[test]
 fn no_more_is_read_than_may_be(rt: HostRuntime) -> Result<(), Fail> {
     let alloc = rt.alloc();
-    let text = b"CLOSE 0\nCLOSE 0\nCLOSE 0\n".as_slice();
-    let refused = b"ERR 13 old\nERR 13 old\nERR 13 old\n".as_slice();
-    let table = [
-        (24, Ok(()), refused, 0),
-        (23, Err(Fault::Reader), &refused[..22], 0),
-        (16, Err(Fault::Reader), &refused[..22], 7),
-        (0, Err(Fault::Reader), b"".as_slice(), 23),
-    ];
-    for (budget, end, want, left) in table {
-        let mut reader = text;
-        let mut written = Vec::new(alloc);
-        let mut desk = desk(alloc)?;
-        let mut input = Input::new(alloc, budget)?;
-        let mut output = Output::new(alloc)?;
-        let result = answer_lines(
-            alloc,
-            &mut reader,
-            &mut written,
-            &mut io::sink(),
-            false,
-            &mut desk,
-            &mut input,
-            &mut output,
-        );
-        assert_eq!(rt; result, end, "{budget}");
-        assert_eq!(rt; written.as_slice(), want, "{budget}");
-        assert_eq!(rt; reader.len(), left, "{budget}");
-    }
-    Ok(())
+    let (two, three) = (
+        b"ERR 13 old\nERR 13 old\n",
+        b"ERR 13 old\nERR 13 old\nERR 13 old\n",
+    );
+    let failed = Err(Fault::Reader);
+    read_within(&rt, alloc, 24, Ok(()), three, 0)?;
+    read_within(&rt, alloc, 23, failed, two, 0)?;
+    read_within(&rt, alloc, 16, failed, two, 7)?;
+    read_within(&rt, alloc, 0, failed, b"", 23)
+}
+
+/// Runs a script that is given at once, and keeps what is written.
+fn run_text(alloc: Global, text: &[u8]) -> Ended {
+    let mut reader = text;
+    run_kept(alloc, &mut reader)
 }
 
 #[test]
 fn inputs_end_early(rt: HostRuntime) -> Result<(), Fail> {
     let alloc = rt.alloc();
-    let definition = &DEFINITION[..DEFINITION.len() - 1];
+    let refused = ScriptEnd::Refused(Refusal::Json);
+    end_with(&rt, run_text(alloc, b""), refused, b"ERR 60 json\n");
+    end_with(&rt, run_text(alloc, b"\nSHOW\n"), refused, b"ERR 60 json\n");
+    end_with(
+        &rt,
+        run_text(alloc, cut_definition()),
+        ScriptEnd::Answered,
+        b"",
+    );
+    end_with(&rt, run_text(alloc, DEFINITION), ScriptEnd::Answered, b"");
     let long = script(alloc, b"x", 129)?;
-    let table = [
-        (
-            b"".as_slice(),
-            ScriptEnd::Refused(Refusal::Json),
-            "ERR 60 json\n",
-        ),
-        (
-            b"\nSHOW\n".as_slice(),
-            ScriptEnd::Refused(Refusal::Json),
-            "ERR 60 json\n",
-        ),
-        (definition, ScriptEnd::Answered, ""),
-        (DEFINITION, ScriptEnd::Answered, ""),
-        (long.as_slice(), ScriptEnd::Answered, "ERR 10 line\n"),
-    ];
-    for (text, end, want) in table {
-        let mut input = text;
-        let mut output = Vec::new(alloc);
-        assert_eq!(rt; run(alloc, &mut input, &mut output), Ok(end), "{want}");
-        assert_eq!(rt; output.as_slice(), want.as_bytes(), "{want}");
-    }
+    end_with(
+        &rt,
+        run_text(alloc, &long),
+        ScriptEnd::Answered,
+        b"ERR 10 line\n",
+    );
     Ok(())
 }
 
 #[test]
 fn faults_have_the_words_of_their_refusals(rt: HostRuntime) -> Result<(), Fail> {
-    let alloc = rt.alloc();
     for fault in [Fault::Memory, Fault::Reader, Fault::Writer] {
-        let text = fault.to_string(alloc)?;
+        let text = fault.to_string(rt.alloc())?;
         assert_eq!(rt; text.as_str(), fault.refusal().word());
     }
     Ok(())

@@ -1,16 +1,23 @@
-//! Tests of sessions on a house, and of sessions over connections.
+//! Tests of sessions on a house, and of sessions over connections; and of devices, engines and houses of the least and the
+//! greatest sizes.
 #![tactic(auto)]
 
+#[cfg(test)]
+mod auctions;
 #[cfg(test)]
 mod caller;
 #[cfg(test)]
 mod devices;
+#[cfg(test)]
+mod houses;
 #[cfg(test)]
 mod in_time;
 #[cfg(test)]
 mod one_session;
 #[cfg(test)]
 mod outputs;
+#[cfg(test)]
+mod rows;
 #[cfg(test)]
 mod rows_of_callers;
 #[cfg(test)]

@@ -8,7 +8,7 @@ use Rattle.hpb_rules.specs.Tree.{Node, Bidder}
 use Rattle.hpb_rules.specs.Text.{bidder_name}
 use Rattle.hpb_tree.specs.Inside.{nodes_inside, node_inside}
 use Rattle.hpb_tree.specs.Definition.{bidders_view, bidder_view}
-use Rattle.hpb_tree.proofs.Accepted.{named_bidder}
+use Rattle.hpb_rules.proofs.Places.{named_bidder}
 use Rattle.hpb_tree.proofs.Views.{IsRead, read_inside}
 use Rattle.hpb_tree.specs.declared.tree.TreeNode.{TreeNode}
 use Rattle.hpb_tree.specs.declared.definition.Bidder.{Bidder as Entry}

@@ -11,7 +11,8 @@ use Rattle.hpb_rules.proofs.TreeLaws.{full_tree}
 use Rattle.hpb_rules.proofs.Places.{sum_more, sum_grows, sum_has}
 use Rattle.hpb_tree.specs.Licences.{licences_among, part_over}
 use Rattle.hpb_tree.specs.Sound.{AreSound}
-use Rattle.hpb_tree.proofs.Walks.{Ordered, ordered}
+use Rattle.hpb_rules.proofs.Depths.{Ordered}
+use Rattle.hpb_tree.proofs.Walks.{ordered}
 
 -- what one place more adds to the sums of a node
 pub units_more : (nodes : List Node) (node n : ℕ)

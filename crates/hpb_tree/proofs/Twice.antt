@@ -1,5 +1,5 @@
 -- Names that stand twice, and that are found where they stand once.
-use Rattle.std.proofs.Common.{◌≡◌, ℕ, zero, suc, ◌<◌, Bool, true, false, cond, ◌||◌, List, [], ◌∷◌, ◌++◌, map, take, length, get_or, Some, None, refl, sym, ap, ◌∙◌, arith}
+use Rattle.std.proofs.Common.{[], ◌≡◌, ℕ, zero, suc, ◌<◌, Bool, true, false, cond, ◌||◌, List, ◌∷◌, ◌++◌, map, take, length, get_or, Some, None, refl, sym, ap, ◌∙◌, arith}
 use Rattle.std.specs.List.{list_any, position, position_or_len}
 use Rattle.std.specs.Str.{bytes_eq}
 use Rattle.std.proofs.lemmas.Bool.{or_parts, both_ways, false_from_ne_true, lt-ltb}
@@ -8,6 +8,8 @@ use Rattle.std.proofs.lemmas.List.Folds.{list_any-append, list_any_at}
 use Rattle.std.proofs.lemmas.List.Sums.{position_or_len_is}
 use Rattle.std.proofs.lemmas.Slice.Eq.{bytes_eq-Decides}
 use Rattle.hpb_rules.specs.Drafts.{has_twice}
+use Rattle.hpb_rules.proofs.Lists.{or_false}
+use Rattle.hpb_rules.proofs.Tests.{same_answer}
 
 -- one of the names stands before it too, or among those seen earlier
 abbrev pub has_seen : List (List ℕ) → List (List ℕ) → Bool
@@ -15,12 +17,7 @@ has_seen seen [] = false
 has_seen seen (name ∷ names) = list_any (bytes_eq name) seen || has_seen (seen ++ name ∷ []) names
 
 pub flip : (a b : List ℕ) → bytes_eq a b ≡ bytes_eq b a
-flip a b = same_from_bools (bytes_eq a b) (bytes_eq b a) (λ e. (bytes_eq-Decides b a).1 (sym ((bytes_eq-Decides a b).0 e))) (λ e. (bytes_eq-Decides a b).1 (sym ((bytes_eq-Decides b a).0 e)))
-  where
-    same_from_bools : (x y : Bool) → (x ≡ true → y ≡ true) → (y ≡ true → x ≡ true) → x ≡ y
-    same_from_bools true y f g = sym (f refl)
-    same_from_bools false true f g = g refl
-    same_from_bools false false f g = refl
+flip a b = same_answer (bytes_eq a b) (bytes_eq b a) (λ e. (bytes_eq-Decides b a).1 (sym ((bytes_eq-Decides a b).0 e))) (λ e. (bytes_eq-Decides a b).1 (sym ((bytes_eq-Decides b a).0 e)))
 
 -- two tests that agree on each item agree on the list
 any_same : {X : Type 0} (p q : X → Bool) → ((x : X) → p x ≡ q x) → (xs : List X) → list_any p xs ≡ list_any q xs
@@ -48,10 +45,6 @@ or_four true b c d = refl
 or_four false true c d = refl
 or_four false false c d = refl
 
-or_none : (b : Bool) → (b || false) ≡ b
-or_none true = refl
-or_none false = refl
-
 -- of the names that are left one was seen, or one stands twice among them
 seen_or_twice : (seen names : List (List ℕ)) → has_seen seen names ≡ (list_any (λ name. list_any (bytes_eq name) seen) names || has_twice names)
 seen_or_twice seen [] = refl
@@ -59,7 +52,7 @@ seen_or_twice seen (name ∷ names) =
     ap (λ b. list_any (bytes_eq name) seen || b) (seen_or_twice (seen ++ name ∷ []) names)
     ∙ ap (λ b. list_any (bytes_eq name) seen || (b || has_twice names))
     (any_same (λ other. list_any (bytes_eq other) (seen ++ name ∷ [])) (λ other. list_any (bytes_eq other) seen || bytes_eq name other)
-    (λ other. list_any-append (bytes_eq other) seen (name ∷ []) ∙ ap (λ b. list_any (bytes_eq other) seen || b) (or_none (bytes_eq other name) ∙ flip other name)) names
+    (λ other. list_any-append (bytes_eq other) seen (name ∷ []) ∙ ap (λ b. list_any (bytes_eq other) seen || b) (or_false (bytes_eq other name) ∙ flip other name)) names
     ∙ any_either (λ other. list_any (bytes_eq other) seen) (bytes_eq name) names)
     ∙ or_four (list_any (bytes_eq name) seen) (list_any (λ other. list_any (bytes_eq other) seen) names) (list_any (bytes_eq name) names) (has_twice names)
 

@@ -1,16 +1,12 @@
 -- The way up from a node, where each parent stands before its children.
-use Rattle.std.proofs.Common.{◌≡◌, ℕ, zero, suc, ◌+◌, ◌<◌, ◌≤◌, Bool, true, false, ◌||◌, eqb, List, length, Option, Some, None, refl, sym, ap, ◌∙◌, subst, arith}
+use Rattle.std.proofs.Common.{◌≡◌, ℕ, zero, suc, ◌<◌, ◌≤◌, true, false, ◌||◌, eqb, List, length, Option, Some, None, refl, sym, ap, ◌∙◌, subst, arith}
 use Rattle.std.proofs.lemmas.Bool.{leb-false, eq-eqb, ne_eqb}
-use Rattle.hpb_rules.specs.Drafts.{is_late, has_late_parent, depth_within, depth}
+use Rattle.hpb_rules.specs.Drafts.{is_late, has_late_parent}
 use Rattle.hpb_rules.specs.Tree.{Node, parent_of, at_parent, at_or_under, at_or_under_within}
-use Rattle.hpb_rules.specs.Prices.{of_parent}
 use Rattle.hpb_rules.proofs.Above.{parent_in}
+use Rattle.hpb_rules.proofs.Depths.{Ordered, first_on_top}
 use Rattle.hpb_rules.proofs.Places.{none_at}
 use Rattle.hpb_rules.proofs.Lists.{or_false}
-
--- each parent stands before its children
-pub record Ordered (nodes : List Node) : Type 0 where
-  pub before : (m p : ℕ) → parent_of nodes m ≡ Some p → p < m
 
 pub ordered : (nodes : List Node) → has_late_parent nodes ≡ false → Ordered nodes
 ordered nodes h = record {
@@ -23,54 +19,14 @@ pub parent_within : (nodes : List Node) → Ordered nodes → (m p : ℕ) → m 
 parent_within nodes o m p h e = omega (arith, o.before m p e)
 
 module _ (nodes : List Node) (o : Ordered nodes) where
-  top_has_none : (p : ℕ) → parent_of nodes 0 ≡ Some p → ⊥
-  top_has_none p e = omega (arith, o.before 0 p e)
-
-  none_above : (c : Option ℕ) → parent_of nodes 0 ≡ c → (f : ℕ → ℕ) → of_parent c f ≡ 0
-  none_above None e f = refl
-  none_above (Some p) e f = absurd (top_has_none p e)
-
-  not_above : (c : Option ℕ) → parent_of nodes 0 ≡ c → (test : ℕ → Bool) → at_parent c test ≡ false
-  not_above None e test = refl
-  not_above (Some p) e test = absurd (top_has_none p e)
-
-  -- more levels than stand above change nothing
-  depth_enough : (k j m : ℕ) → m ≤ k → m ≤ j → depth_within nodes k m ≡ depth_within nodes j m
-  depth_enough zero zero m a b = refl
-  depth_enough zero (suc j) m a b =
-      let z : m ≡ 0 = omega arith in
-      subst (λ x. 1 ≡ depth_within nodes (suc j) x) (sym z) (omega (arith, none_above (parent_of nodes 0) refl (depth_within nodes j)))
-  depth_enough (suc k) zero m a b =
-      let z : m ≡ 0 = omega arith in
-      subst (λ x. depth_within nodes (suc k) x ≡ 1) (sym z) (omega (arith, none_above (parent_of nodes 0) refl (depth_within nodes k)))
-  depth_enough (suc k) (suc j) m a b = ap (λ x. suc x) (by (depth_enough k j) (parent_of nodes m) refl)
-    where
-      by : ((p : ℕ) → p ≤ k → p ≤ j → depth_within nodes k p ≡ depth_within nodes j p) → (c : Option ℕ) → parent_of nodes m ≡ c → of_parent c (depth_within nodes k) ≡ of_parent c (depth_within nodes j)
-      by rec None e = refl
-      by rec (Some p) e = let lt : p < m = o.before m p e in rec p (omega arith) (omega arith)
-
-  pub depth_below : (m p : ℕ) → parent_of nodes m ≡ Some p → 1 + depth nodes p ≡ depth nodes m
-  depth_below m p e =
-      let lt : p < m = o.before m p e in
-      let more : 1 + depth nodes p ≡ suc (depth nodes p) = omega arith in
-      more
-      ∙ ap (λ x. suc x) (depth_enough p m p (omega arith) (omega arith))
-      ∙ sym (ap (λ c. suc (of_parent c (depth_within nodes m))) e)
-      ∙ depth_enough (suc m) m m (omega arith) (omega arith)
-
-  pub depth_top : (m : ℕ) → parent_of nodes m ≡ None → 1 ≡ depth nodes m
-  depth_top m e =
-      sym (ap (λ c. suc (of_parent c (depth_within nodes m))) e)
-      ∙ depth_enough (suc m) m m (omega arith) (omega arith)
-
   under_enough : (k j n m : ℕ) → m ≤ k → m ≤ j → at_or_under_within nodes k n m ≡ at_or_under_within nodes j n m
   under_enough zero zero n m a b = refl
   under_enough zero (suc j) n m a b =
       let z : m ≡ 0 = omega arith in
-      subst (λ x. eqb n x ≡ at_or_under_within nodes (suc j) n x) (sym z) (sym (ap (λ b. eqb n 0 || b) (not_above (parent_of nodes 0) refl (at_or_under_within nodes j n)) ∙ or_false (eqb n 0)))
+      subst (λ x. eqb n x ≡ at_or_under_within nodes (suc j) n x) (sym z) (sym (ap (λ c. eqb n 0 || at_parent c (at_or_under_within nodes j n)) (first_on_top nodes o) ∙ or_false (eqb n 0)))
   under_enough (suc k) zero n m a b =
       let z : m ≡ 0 = omega arith in
-      subst (λ x. at_or_under_within nodes (suc k) n x ≡ eqb n x) (sym z) (ap (λ b. eqb n 0 || b) (not_above (parent_of nodes 0) refl (at_or_under_within nodes k n)) ∙ or_false (eqb n 0))
+      subst (λ x. at_or_under_within nodes (suc k) n x ≡ eqb n x) (sym z) (ap (λ c. eqb n 0 || at_parent c (at_or_under_within nodes k n)) (first_on_top nodes o) ∙ or_false (eqb n 0))
   under_enough (suc k) (suc j) n m a b = ap (λ x. eqb n m || x) (by (under_enough k j n) (parent_of nodes m) refl)
     where
       by : ((p : ℕ) → p ≤ k → p ≤ j → at_or_under_within nodes k n p ≡ at_or_under_within nodes j n p) → (c : Option ℕ) → parent_of nodes m ≡ c → at_parent c (at_or_under_within nodes k n) ≡ at_parent c (at_or_under_within nodes j n)

@@ -10,7 +10,7 @@ use anyhow::{Error, Result};
 use hpb_codec::{JournalLayout, JournalShape, LEAST_CELL_FRAMES, LEAST_FRAMES};
 use hpb_disk::FileDisk;
 use hpb_format::format_layout;
-use hpb_image::{LEAST_PAGES, PAGE_BYTES};
+use hpb_recover::{LEAST_PAGES, PAGE_BYTES};
 use std::fs;
 
 /// The name of the file, in the folder that the program is run in.

@@ -12,13 +12,10 @@ use Rattle.std.proofs.lemmas.List.Sums.{fails_before_first, passes_at_first}
 use Rattle.std.proofs.lemmas.Nat.{shr-shr}
 use Rattle.std.proofs.lemmas.Simd.{leading_from_mask_l, mask_l-lt, trailing_mask_l}
 use Rattle.hpb_rules.specs.Lines.{line_words, is_line_feed, is_space, line_feed, space}
+use Rattle.hpb_rules.proofs.Masks.{half}
 use Rattle.hpb_wire.specs.Marks.{marks_of}
 use Rattle.hpb_wire.specs.Requests.{IsFrontLine}
 use Rattle.hpb_wire.proofs.Cutting.{words_all}
-
-half : (b : Bool) (n : ℕ) → (cond b 1 0 + 2 * n) / 2 ≡ n
-half true n = omega arith
-half false n = omega arith
 
 -- the marks from byte n on
 pub marks_behind : (byte n : ℕ) (line : List ℕ) → marks_of byte line / 2 ^ n ≡ marks_of byte (drop n line)

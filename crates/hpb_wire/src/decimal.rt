@@ -23,8 +23,10 @@ pub(crate) fn put_number(bytes: &mut [u8], at: usize, number: u64) -> usize
         return put_short(bytes, at, number);
     }
     if number < 100_000_000 {
+        let four = number % 10_000;
         let next = put_short(bytes, at, number / 10_000);
-        return put_four(bytes, next, number % 10_000);
+        let last = put_piece(bytes, next, &two_digits(four / 100));
+        return put_piece(bytes, last, &two_digits(four % 100));
     }
     put_long(bytes, at, number)
 }
@@ -48,62 +50,34 @@ fn put_short(bytes: &mut [u8], at: usize, number: u64) -> usize
     ensures written { take result bytes.new ≡ take at bytes.old ++ decimal number }
     ensures most { result ≤ at + 4 }
 {
-    if number < 100 {
-        return put_one_or_two(bytes, at, number);
-    }
-    let next = put_one_or_two(bytes, at, number / 100);
-    put_pair(bytes, next, number % 100)
-}
-
-/// Writes a number of one digit or two.
-#[inline(always)]
-fn put_one_or_two(bytes: &mut [u8], at: usize, number: u64) -> usize
-    requires short { number < 100 }
-    requires room { at + 2 ≤ length bytes.old }
-    ensures written { take result bytes.new ≡ take at bytes.old ++ decimal number }
-    ensures most { result ≤ at + 2 }
-{
     if number < 10 {
-        return put_digit(bytes, at, number);
+        return put_piece(bytes, at, &one_digit(number));
     }
-    put_pair(bytes, at, number)
+    if number < 100 {
+        return put_piece(bytes, at, &two_digits(number));
+    }
+    if number < 1_000 {
+        let next = put_piece(bytes, at, &one_digit(number / 100));
+        return put_piece(bytes, next, &two_digits(number % 100));
+    }
+    let next = put_piece(bytes, at, &two_digits(number / 100));
+    put_piece(bytes, next, &two_digits(number % 100))
 }
 
-/// Writes four digits.
+/// The digits of a number below 100, also where the first is 0.
 #[inline(always)]
-fn put_four(bytes: &mut [u8], at: usize, four: u64) -> usize
-    requires short { four < 10_000 }
-    requires room { at + 4 ≤ length bytes.old }
-    ensures written { take result bytes.new ≡ take at bytes.old ++ pair (four / 100) ++ pair (four % 100) }
-    ensures next { result ≡ at + 4 }
+fn two_digits(number: u64) -> [u8; 2]
+    requires { number < 100 }
+    ensures { result ≡ pair number }
 {
-    let next = put_pair(bytes, at, four / 100);
-    put_pair(bytes, next, four % 100)
+    let from = number as usize * 2;
+    [PAIRS[from], PAIRS[from + 1]]
 }
 
-/// Writes two digits.
 #[inline(always)]
-fn put_pair(bytes: &mut [u8], at: usize, two: u64) -> usize
-    requires short { two < 100 }
-    requires room { at + 2 ≤ length bytes.old }
-    ensures written { take result bytes.new ≡ take at bytes.old ++ pair two }
-    ensures next { result ≡ at + 2 }
+fn one_digit(number: u64) -> [u8; 1]
+    requires { number < 10 }
+    ensures { result ≡ decimal number }
 {
-    let from = two as usize * 2;
-    let (tens, ones) = (PAIRS[from], PAIRS[from + 1]);
-    bytes[at] = tens;
-    bytes[at + 1] = ones;
-    at + 2
-}
-
-/// Writes a digit.
-#[inline(always)]
-fn put_digit(bytes: &mut [u8], at: usize, digit: u64) -> usize
-    requires short { digit < 10 }
-    requires room { at + 1 ≤ length bytes.old }
-    ensures written { take result bytes.new ≡ take at bytes.old ++ decimal digit }
-    ensures next { result ≡ at + 1 }
-{
-    bytes[at] = b'0' + digit as u8;
-    at + 1
+    [b'0' + number as u8]
 }

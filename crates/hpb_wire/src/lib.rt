@@ -1,4 +1,5 @@
-//! Lines of text: what each asks for, and how responses are written.
+//! Lines of text: what each asks for, how responses are written, and what a terminal is told beside a refusal: the number
+//! that would do.
 #![tactic(auto)]
 
 mod cut;
@@ -8,18 +9,23 @@ mod marks;
 mod number;
 mod pieces;
 mod reading;
+mod reasons;
 mod refusals;
 mod response;
 mod room;
+mod senders;
 mod text;
 mod views;
 mod word;
 mod writing;
 
 pub use line::{FrontRequest, parse_front, parse_line};
+pub use reasons::{Reason, reason_of};
 pub use response::Response;
 pub use text::{RESPONSE_BYTES, ResponseText};
 pub use views::{node, show, who};
 
 #[cfg(test)]
 mod tests;
+#[cfg(test)]
+mod tests_of_reasons;

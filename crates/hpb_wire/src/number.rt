@@ -7,10 +7,8 @@ ghost use Rattle.hpb_rules.specs.Lines.{number_up_to};
 ghost use Rattle.hpb_wire.specs.Words.{bytes_of};
 ghost use Rattle.hpb_wire.specs.Numbers.{number_of_digits, digits_number, digit_number, has_front_zero};
 
+use crate::decimal::MOST_DIGITS;
 use crate::word::Word;
-
-/// How many digits the greatest number of 64 bits has.
-const MOST_DIGITS: usize = 20;
 
 /// How many bytes are read together.
 const LANES: usize = 8;
@@ -21,14 +19,8 @@ const ZEROS: u64 = 0x3030_3030_3030_3030;
 /// The high bit of each of eight bytes.
 const HIGH_BITS: u64 = 0x8080_8080_8080_8080;
 
-/// All bits of each of eight bytes but the high one.
-const LOW_BITS: u64 = 0x7f7f_7f7f_7f7f_7f7f;
-
 /// What takes ten to the high bit, for each of eight bytes.
 const TEN_TO_HIGH: u64 = 0x7676_7676_7676_7676;
-
-/// The first and the fifth of eight bytes.
-const TWO_PAIRS: u64 = 0x0000_00ff_0000_00ff;
 
 /// The number up to `most` that a word spells in decimal, with no sign and no zero before another digit.
 #[inline(always)]
@@ -90,8 +82,11 @@ fn keep_first(word: u64, count: usize) -> u64
 fn has_others(word: u64) -> bool
     ensures { (bytes : List ℕ) → IsEightBytes bytes → word ≡ number_l 256 bytes → result ≡ list_any (nat_le 10) bytes }
 {
-    ((word & LOW_BITS) + TEN_TO_HIGH | word) & HIGH_BITS != 0
+    ((word & !HIGH_BITS) + TEN_TO_HIGH | word) & HIGH_BITS != 0
 }
+
+/// The first and the fifth of eight bytes.
+const TWO_PAIRS: u64 = 0x0000_00ff_0000_00ff;
 
 /// The number that eight digits spell, the first of them in the lowest byte.
 #[inline(always)]

@@ -34,9 +34,8 @@ pub(crate) fn put_text(bytes: &mut [u8], at: usize, text: &[u8]) -> usize
     ensures written { take result bytes.new ≡ take at bytes.old ++ text.now }
     ensures next { result ≡ at + length text.now }
 {
-    let next = at + text.len();
-    bytes[at..next].copy_from_slice(text);
-    next
+    bytes[at..at + text.len()].copy_from_slice(text);
+    at + text.len()
 }
 
 /// Writes a text as its front and its back, which may overlap.

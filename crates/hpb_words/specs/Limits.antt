@@ -1,5 +1,5 @@
 -- The limits of the words, as the numbers and texts that the documents name.
-use Rattle.std.specs.Prelude.{◌≡◌, codes}
+use Rattle.std.specs.Prelude.{◌≡◌, [], ◌∷◌, codes}
 use Rattle.hpb_words.specs.declared.hints.TheConstants.{SCRIPT_HINT, FORMAT_HINT, RUN_HINT}
 use Rattle.hpb_words.specs.declared.status.TheConstants.{WELL, ILL, WRONG_WORDS}
 use Rattle.hpb_words.specs.declared.words.TheConstants.{FORMAT, CHECK, RUN, SERVE, MOST_BATCH, LEAST_PORT, MOST_PORT, MOST_SESSIONS}
@@ -7,9 +7,7 @@ use Rattle.hpb_words.specs.declared.words.TheConstants.{FORMAT, CHECK, RUN, SERV
 -- Each limit of the words is the one that the documents name.
 pub record LimitsAre : Type 0 where
   -- The statuses of the process.
-  pub well : WELL ≡ 0
-  pub ill : ILL ≡ 1
-  pub wrong_words : WRONG_WORDS ≡ 2
+  pub statuses : WELL ∷ ILL ∷ WRONG_WORDS ∷ [] ≡ 0 ∷ 1 ∷ 2 ∷ []
   -- The commands.
   pub format : FORMAT.now ≡ codes "format"
   pub check : CHECK.now ≡ codes "check"

@@ -1,11 +1,13 @@
 -- What words ask the program for, by what `clap` states of its commands and options.
-use Rattle.std.specs.Prelude.{◌≡◌, ◌≢◌, ◌⊎◌, IfSome, ℕ, ◌<◌, ◌≤◌, ◌^◌, max, min, List, [], ◌∷◌, true, pos, codes, unwrap_or, option_map, Option, Some, None, Result, Ok, Err}
+use Rattle.std.specs.Prelude.{◌≡◌, ◌≢◌, ◌⊎◌, IfSome, ℕ, ◌<◌, ◌≤◌, ◌^◌, max, min, List, [], ◌∷◌, true, false, pos, codes, unwrap_or, option_map, Option, Some, None, Result, Ok, Err}
 use Rattle.std.specs.Str.{all_ascii_digits}
 use Rattle.std.specs.Str.Parse.{IsNumeral, digits_value, without_leading_plus}
-use Rattle.clap.specs.Simple.{App, Shape, new_app, new_rule, on_top, subcommand_of, with_rule, with_subcommand}
+use Rattle.clap.specs.Simple.{App, Shape, new_app, new_rule, on_top, shape_of, subcommand_of, with_rule, with_subcommand}
 use Rattle.clap.specs.Walk.{Row, Rule, first_of, one_of}
 use Rattle.clap.specs.Kinds.{IsAmong}
 use Rattle.clap.specs.Faults.{fault_of}
+use Rattle.clap.specs.declared.builder.command.Command.{Command}
+use Rattle.clap.specs.declared.builder.command.Command.TheViews.{out-Command}
 use Rattle.clap.specs.declared.builder.value_parser.ValueParser.TheVariants as parsers
 use Rattle.clap.specs.declared.error.kind.ErrorKind.{ErrorKind}
 use Rattle.clap.specs.declared.error.kind.ErrorKind.TheVariants.{DisplayHelp, DisplayVersion, InvalidSubcommand, MissingRequiredArgument, OutOfMemory, UnknownArgument, ValueValidation}
@@ -74,6 +76,10 @@ run_shape = (with_rule (with_rule (app_on_file (codes "run")) batch_rule) every_
 -- The command that serves sessions by what a file keeps.
 abbrev pub serve_shape : Shape
 serve_shape = (with_rule (with_rule (app_on_file (codes "serve")) port_rule) sessions_rule).top
+
+-- A command has such a shape, and no option that its own commands would have as well.
+abbrev pub IsCommandOf : Shape → Command → Type 0
+IsCommandOf shape command = (shape_of command ≡ shape) × ((out-Command command).has_globals ≡ false)
 
 -- The program without its commands.
 abbrev pub hpb_alone : App
@@ -232,62 +238,81 @@ run_options_in = option_map (λ found. (found.0, first_of (codes "file") found.1
 abbrev pub serve_options_in : Option (List ℕ × List Row) → Option (List ℕ × Option (List ℕ) × Option (List ℕ) × Option (List ℕ))
 serve_options_in = option_map (λ found. (found.0, first_of (codes "file") found.1, one_of (codes "port") found.1, one_of (codes "sessions") found.1))
 
--- What is asked for by some words behind the program's name, or wrong with them. None and an end of options ask for a script, others for help or the
--- version, and what the program doesn't know is wrong.
+-- What is asked for by some words without a command, or wrong with them: none and an end of options ask for a script, others for help or the version, and what the program doesn't know is wrong.
+pub record AskedAlone (program : List ℕ) : Type 0 where
+  pub name : fault_of hpb (program ∷ []) ≡ []
+  pub script : subcommand_of hpb (program ∷ []) ≡ None
+  pub end : fault_of hpb (program ∷ codes "--" ∷ []) ≡ []
+  pub help : fault_of hpb (program ∷ codes "--help" ∷ []) ≡ DisplayHelp ∷ []
+  pub version : fault_of hpb (program ∷ codes "--version" ∷ []) ≡ DisplayVersion ∷ []
+  pub word : fault_of hpb (program ∷ codes "bogus" ∷ []) ≡ UnknownArgument ∷ InvalidSubcommand ∷ []
+  pub empty : fault_of hpb (program ∷ [] ∷ []) ≡ UnknownArgument ∷ InvalidSubcommand ∷ []
+  pub option : fault_of hpb (program ∷ codes "--bogus" ∷ []) ≡ UnknownArgument ∷ []
+  pub letter : fault_of hpb (program ∷ codes "-b" ∷ []) ≡ UnknownArgument ∷ []
+  pub first : fault_of hpb (program ∷ codes "bogus" ∷ codes "--help" ∷ []) ≡ UnknownArgument ∷ InvalidSubcommand ∷ []
+
+-- What `format` is asked for by some options, or what is wrong with them.
+pub record AskedToFormat (program : List ℕ) : Type 0 where
+  pub format : fault_of hpb (program ∷ codes "format" ∷ codes "--file" ∷ codes "a.hpb" ∷ codes "--journal" ∷ codes "4" ∷ []) ≡ []
+  pub formats : format_options_in (subcommand_of hpb (program ∷ codes "format" ∷ codes "--file" ∷ codes "a.hpb" ∷ codes "--journal" ∷ codes "4" ∷ []))
+      ≡ Some (codes "format", Some (codes "a.hpb"), Some (codes "4"), Some (codes "1"))
+  pub formats_cells : format_options_in (subcommand_of hpb (program ∷ codes "format" ∷ codes "--file=a.hpb" ∷ codes "--journal=16" ∷ codes "--layout=2" ∷ []))
+      ≡ Some (codes "format", Some (codes "a.hpb"), Some (codes "16"), Some (codes "2"))
+  pub below_layout : fault_of hpb (program ∷ codes "format" ∷ codes "--file=a.hpb" ∷ codes "--journal=16" ∷ codes "--layout=0" ∷ []) ≡ ValueValidation ∷ []
+  pub above_layout : fault_of hpb (program ∷ codes "format" ∷ codes "--file=a.hpb" ∷ codes "--journal=16" ∷ codes "--layout=3" ∷ []) ≡ ValueValidation ∷ []
+  pub signed_layout : AreWellGiven (subcommand_of hpb (program ∷ codes "format" ∷ codes "--file=a.hpb" ∷ codes "--journal=16" ∷ codes "--layout=+1" ∷ [])) → ⊥
+  pub format_help : fault_of hpb (program ∷ codes "format" ∷ codes "--help" ∷ []) ≡ DisplayHelp ∷ []
+  pub no_file : fault_of hpb (program ∷ codes "format" ∷ codes "--journal=4" ∷ []) ≡ MissingRequiredArgument ∷ []
+  pub no_journal : fault_of hpb (program ∷ codes "format" ∷ codes "--file=a.hpb" ∷ []) ≡ MissingRequiredArgument ∷ []
+  pub no_number : fault_of hpb (program ∷ codes "format" ∷ codes "--journal=four" ∷ []) ≡ ValueValidation ∷ []
+
+-- What `check` is asked for by some options, or what is wrong with them.
+pub record AskedToCheck (program : List ℕ) : Type 0 where
+  pub check : fault_of hpb (program ∷ codes "check" ∷ codes "--file=a.hpb" ∷ []) ≡ []
+  pub checks : options_in (subcommand_of hpb (program ∷ codes "check" ∷ codes "--file=a.hpb" ∷ [])) ≡ Some (codes "check", Some (codes "a.hpb"), None)
+  pub check_help : fault_of hpb (program ∷ codes "check" ∷ codes "--help" ∷ []) ≡ DisplayHelp ∷ []
+  pub check_file : fault_of hpb (program ∷ codes "check" ∷ []) ≡ MissingRequiredArgument ∷ []
+  pub no_name : AreWellGiven (subcommand_of hpb (program ∷ codes "check" ∷ codes "--file=" ∷ [])) → ⊥
+
+-- What `run` is asked for by some options, or what is wrong with them.
+pub record AskedToRun (program : List ℕ) : Type 0 where
+  pub run : fault_of hpb (program ∷ codes "run" ∷ codes "--file" ∷ codes "a.hpb" ∷ codes "--batch" ∷ codes "16" ∷ codes "--every" ∷ codes "50" ∷ []) ≡ []
+  pub runs : run_options_in (subcommand_of hpb (program ∷ codes "run" ∷ codes "--file" ∷ codes "a.hpb" ∷ codes "--batch" ∷ codes "16" ∷ codes "--every" ∷ codes "50" ∷ []))
+      ≡ Some (codes "run", Some (codes "a.hpb"), Some (codes "16"), Some (codes "50"))
+  pub run_alone : fault_of hpb (program ∷ codes "run" ∷ codes "--file=a.hpb" ∷ []) ≡ []
+  pub runs_alone : run_options_in (subcommand_of hpb (program ∷ codes "run" ∷ codes "--file=a.hpb" ∷ [])) ≡ Some (codes "run", Some (codes "a.hpb"), Some (codes "1"), Some (codes "0"))
+  pub run_help : fault_of hpb (program ∷ codes "run" ∷ codes "--help" ∷ []) ≡ DisplayHelp ∷ []
+  pub run_file : fault_of hpb (program ∷ codes "run" ∷ []) ≡ MissingRequiredArgument ∷ []
+  pub least_batch : fault_of hpb (program ∷ codes "run" ∷ codes "--file=a.hpb" ∷ codes "--batch=1" ∷ []) ≡ []
+  pub most_batch : fault_of hpb (program ∷ codes "run" ∷ codes "--file=a.hpb" ∷ codes "--batch=64" ∷ []) ≡ []
+  pub below_batch : fault_of hpb (program ∷ codes "run" ∷ codes "--file=a.hpb" ∷ codes "--batch=0" ∷ []) ≡ ValueValidation ∷ []
+  pub above_batch : fault_of hpb (program ∷ codes "run" ∷ codes "--file=a.hpb" ∷ codes "--batch=65" ∷ []) ≡ ValueValidation ∷ []
+  pub signed_every : AreWellGiven (subcommand_of hpb (program ∷ codes "run" ∷ codes "--file=a.hpb" ∷ codes "--every=-0" ∷ [])) → ⊥
+
+-- What `serve` is asked for by some options, or what is wrong with them.
+pub record AskedToServe (program : List ℕ) : Type 0 where
+  pub signed_port : AreWellGiven (subcommand_of hpb (program ∷ codes "serve" ∷ codes "--file=a.hpb" ∷ codes "--port=+5000" ∷ codes "--sessions=2" ∷ [])) → ⊥
+  pub serve : fault_of hpb (program ∷ codes "serve" ∷ codes "--file" ∷ codes "a.hpb" ∷ codes "--port" ∷ codes "5000" ∷ codes "--sessions" ∷ codes "2" ∷ []) ≡ []
+  pub serves : serve_options_in (subcommand_of hpb (program ∷ codes "serve" ∷ codes "--file" ∷ codes "a.hpb" ∷ codes "--port" ∷ codes "5000" ∷ codes "--sessions" ∷ codes "2" ∷ []))
+      ≡ Some (codes "serve", Some (codes "a.hpb"), Some (codes "5000"), Some (codes "2"))
+  pub serve_help : fault_of hpb (program ∷ codes "serve" ∷ codes "--help" ∷ []) ≡ DisplayHelp ∷ []
+  pub serve_file : fault_of hpb (program ∷ codes "serve" ∷ codes "--port=5000" ∷ codes "--sessions=2" ∷ []) ≡ MissingRequiredArgument ∷ []
+  pub serve_port : fault_of hpb (program ∷ codes "serve" ∷ codes "--file=a.hpb" ∷ codes "--sessions=2" ∷ []) ≡ MissingRequiredArgument ∷ []
+  pub serve_sessions : fault_of hpb (program ∷ codes "serve" ∷ codes "--file=a.hpb" ∷ codes "--port=5000" ∷ []) ≡ MissingRequiredArgument ∷ []
+  pub least_port : fault_of hpb (program ∷ codes "serve" ∷ codes "--file=a.hpb" ∷ codes "--port=1024" ∷ codes "--sessions=2" ∷ []) ≡ []
+  pub most_port : fault_of hpb (program ∷ codes "serve" ∷ codes "--file=a.hpb" ∷ codes "--port=65535" ∷ codes "--sessions=2" ∷ []) ≡ []
+  pub below_port : fault_of hpb (program ∷ codes "serve" ∷ codes "--file=a.hpb" ∷ codes "--port=1023" ∷ codes "--sessions=2" ∷ []) ≡ ValueValidation ∷ []
+  pub above_port : fault_of hpb (program ∷ codes "serve" ∷ codes "--file=a.hpb" ∷ codes "--port=65536" ∷ codes "--sessions=2" ∷ []) ≡ ValueValidation ∷ []
+  pub least_sessions : fault_of hpb (program ∷ codes "serve" ∷ codes "--file=a.hpb" ∷ codes "--port=5000" ∷ codes "--sessions=1" ∷ []) ≡ []
+  pub most_sessions : fault_of hpb (program ∷ codes "serve" ∷ codes "--file=a.hpb" ∷ codes "--port=5000" ∷ codes "--sessions=32" ∷ []) ≡ []
+  pub below_sessions : fault_of hpb (program ∷ codes "serve" ∷ codes "--file=a.hpb" ∷ codes "--port=5000" ∷ codes "--sessions=0" ∷ []) ≡ ValueValidation ∷ []
+  pub above_sessions : fault_of hpb (program ∷ codes "serve" ∷ codes "--file=a.hpb" ∷ codes "--port=5000" ∷ codes "--sessions=33" ∷ []) ≡ ValueValidation ∷ []
+
+-- What is asked for by some words behind the program's name, whatever that is, or wrong with them; and nothing is wrong where there is no word at all.
 pub record WordsAskFor : Type 0 where
   pub none : fault_of hpb [] ≡ []
-  pub name : (name : List ℕ) → fault_of hpb (name ∷ []) ≡ []
-  pub script : (name : List ℕ) → subcommand_of hpb (name ∷ []) ≡ None
-  pub end : (name : List ℕ) → fault_of hpb (name ∷ codes "--" ∷ []) ≡ []
-  pub help : (name : List ℕ) → fault_of hpb (name ∷ codes "--help" ∷ []) ≡ DisplayHelp ∷ []
-  pub version : (name : List ℕ) → fault_of hpb (name ∷ codes "--version" ∷ []) ≡ DisplayVersion ∷ []
-  pub word : (name : List ℕ) → fault_of hpb (name ∷ codes "bogus" ∷ []) ≡ UnknownArgument ∷ InvalidSubcommand ∷ []
-  pub empty : (name : List ℕ) → fault_of hpb (name ∷ [] ∷ []) ≡ UnknownArgument ∷ InvalidSubcommand ∷ []
-  pub option : (name : List ℕ) → fault_of hpb (name ∷ codes "--bogus" ∷ []) ≡ UnknownArgument ∷ []
-  pub letter : (name : List ℕ) → fault_of hpb (name ∷ codes "-b" ∷ []) ≡ UnknownArgument ∷ []
-  pub first : (name : List ℕ) → fault_of hpb (name ∷ codes "bogus" ∷ codes "--help" ∷ []) ≡ UnknownArgument ∷ InvalidSubcommand ∷ []
-  pub format : (name : List ℕ) → fault_of hpb (name ∷ codes "format" ∷ codes "--file" ∷ codes "a.hpb" ∷ codes "--journal" ∷ codes "4" ∷ []) ≡ []
-  pub formats : (name : List ℕ) → format_options_in (subcommand_of hpb (name ∷ codes "format" ∷ codes "--file" ∷ codes "a.hpb" ∷ codes "--journal" ∷ codes "4" ∷ []))
-      ≡ Some (codes "format", Some (codes "a.hpb"), Some (codes "4"), Some (codes "1"))
-  pub formats_cells : (name : List ℕ) → format_options_in (subcommand_of hpb (name ∷ codes "format" ∷ codes "--file=a.hpb" ∷ codes "--journal=16" ∷ codes "--layout=2" ∷ []))
-      ≡ Some (codes "format", Some (codes "a.hpb"), Some (codes "16"), Some (codes "2"))
-  pub below_layout : (name : List ℕ) → fault_of hpb (name ∷ codes "format" ∷ codes "--file=a.hpb" ∷ codes "--journal=16" ∷ codes "--layout=0" ∷ []) ≡ ValueValidation ∷ []
-  pub above_layout : (name : List ℕ) → fault_of hpb (name ∷ codes "format" ∷ codes "--file=a.hpb" ∷ codes "--journal=16" ∷ codes "--layout=3" ∷ []) ≡ ValueValidation ∷ []
-  pub signed_layout : (name : List ℕ) → AreWellGiven (subcommand_of hpb (name ∷ codes "format" ∷ codes "--file=a.hpb" ∷ codes "--journal=16" ∷ codes "--layout=+1" ∷ [])) → ⊥
-  pub format_help : (name : List ℕ) → fault_of hpb (name ∷ codes "format" ∷ codes "--help" ∷ []) ≡ DisplayHelp ∷ []
-  pub no_file : (name : List ℕ) → fault_of hpb (name ∷ codes "format" ∷ codes "--journal=4" ∷ []) ≡ MissingRequiredArgument ∷ []
-  pub no_journal : (name : List ℕ) → fault_of hpb (name ∷ codes "format" ∷ codes "--file=a.hpb" ∷ []) ≡ MissingRequiredArgument ∷ []
-  pub no_number : (name : List ℕ) → fault_of hpb (name ∷ codes "format" ∷ codes "--journal=four" ∷ []) ≡ ValueValidation ∷ []
-  pub check : (name : List ℕ) → fault_of hpb (name ∷ codes "check" ∷ codes "--file=a.hpb" ∷ []) ≡ []
-  pub checks : (name : List ℕ) → options_in (subcommand_of hpb (name ∷ codes "check" ∷ codes "--file=a.hpb" ∷ [])) ≡ Some (codes "check", Some (codes "a.hpb"), None)
-  pub check_help : (name : List ℕ) → fault_of hpb (name ∷ codes "check" ∷ codes "--help" ∷ []) ≡ DisplayHelp ∷ []
-  pub check_file : (name : List ℕ) → fault_of hpb (name ∷ codes "check" ∷ []) ≡ MissingRequiredArgument ∷ []
-  pub no_name : (name : List ℕ) → AreWellGiven (subcommand_of hpb (name ∷ codes "check" ∷ codes "--file=" ∷ [])) → ⊥
-  pub run : (name : List ℕ) → fault_of hpb (name ∷ codes "run" ∷ codes "--file" ∷ codes "a.hpb" ∷ codes "--batch" ∷ codes "16" ∷ codes "--every" ∷ codes "50" ∷ []) ≡ []
-  pub runs : (name : List ℕ) → run_options_in (subcommand_of hpb (name ∷ codes "run" ∷ codes "--file" ∷ codes "a.hpb" ∷ codes "--batch" ∷ codes "16" ∷ codes "--every" ∷ codes "50" ∷ []))
-      ≡ Some (codes "run", Some (codes "a.hpb"), Some (codes "16"), Some (codes "50"))
-  pub run_alone : (name : List ℕ) → fault_of hpb (name ∷ codes "run" ∷ codes "--file=a.hpb" ∷ []) ≡ []
-  pub runs_alone : (name : List ℕ) → run_options_in (subcommand_of hpb (name ∷ codes "run" ∷ codes "--file=a.hpb" ∷ [])) ≡ Some (codes "run", Some (codes "a.hpb"), Some (codes "1"), Some (codes "0"))
-  pub run_help : (name : List ℕ) → fault_of hpb (name ∷ codes "run" ∷ codes "--help" ∷ []) ≡ DisplayHelp ∷ []
-  pub run_file : (name : List ℕ) → fault_of hpb (name ∷ codes "run" ∷ []) ≡ MissingRequiredArgument ∷ []
-  pub least_batch : (name : List ℕ) → fault_of hpb (name ∷ codes "run" ∷ codes "--file=a.hpb" ∷ codes "--batch=1" ∷ []) ≡ []
-  pub most_batch : (name : List ℕ) → fault_of hpb (name ∷ codes "run" ∷ codes "--file=a.hpb" ∷ codes "--batch=64" ∷ []) ≡ []
-  pub below_batch : (name : List ℕ) → fault_of hpb (name ∷ codes "run" ∷ codes "--file=a.hpb" ∷ codes "--batch=0" ∷ []) ≡ ValueValidation ∷ []
-  pub above_batch : (name : List ℕ) → fault_of hpb (name ∷ codes "run" ∷ codes "--file=a.hpb" ∷ codes "--batch=65" ∷ []) ≡ ValueValidation ∷ []
-  pub signed_every : (name : List ℕ) → AreWellGiven (subcommand_of hpb (name ∷ codes "run" ∷ codes "--file=a.hpb" ∷ codes "--every=-0" ∷ [])) → ⊥
-  pub signed_port : (name : List ℕ) → AreWellGiven (subcommand_of hpb (name ∷ codes "serve" ∷ codes "--file=a.hpb" ∷ codes "--port=+5000" ∷ codes "--sessions=2" ∷ [])) → ⊥
-  pub serve : (name : List ℕ) → fault_of hpb (name ∷ codes "serve" ∷ codes "--file" ∷ codes "a.hpb" ∷ codes "--port" ∷ codes "5000" ∷ codes "--sessions" ∷ codes "2" ∷ []) ≡ []
-  pub serves : (name : List ℕ) → serve_options_in (subcommand_of hpb (name ∷ codes "serve" ∷ codes "--file" ∷ codes "a.hpb" ∷ codes "--port" ∷ codes "5000" ∷ codes "--sessions" ∷ codes "2" ∷ []))
-      ≡ Some (codes "serve", Some (codes "a.hpb"), Some (codes "5000"), Some (codes "2"))
-  pub serve_help : (name : List ℕ) → fault_of hpb (name ∷ codes "serve" ∷ codes "--help" ∷ []) ≡ DisplayHelp ∷ []
-  pub serve_file : (name : List ℕ) → fault_of hpb (name ∷ codes "serve" ∷ codes "--port=5000" ∷ codes "--sessions=2" ∷ []) ≡ MissingRequiredArgument ∷ []
-  pub serve_port : (name : List ℕ) → fault_of hpb (name ∷ codes "serve" ∷ codes "--file=a.hpb" ∷ codes "--sessions=2" ∷ []) ≡ MissingRequiredArgument ∷ []
-  pub serve_sessions : (name : List ℕ) → fault_of hpb (name ∷ codes "serve" ∷ codes "--file=a.hpb" ∷ codes "--port=5000" ∷ []) ≡ MissingRequiredArgument ∷ []
-  pub least_port : (name : List ℕ) → fault_of hpb (name ∷ codes "serve" ∷ codes "--file=a.hpb" ∷ codes "--port=1024" ∷ codes "--sessions=2" ∷ []) ≡ []
-  pub most_port : (name : List ℕ) → fault_of hpb (name ∷ codes "serve" ∷ codes "--file=a.hpb" ∷ codes "--port=65535" ∷ codes "--sessions=2" ∷ []) ≡ []
-  pub below_port : (name : List ℕ) → fault_of hpb (name ∷ codes "serve" ∷ codes "--file=a.hpb" ∷ codes "--port=1023" ∷ codes "--sessions=2" ∷ []) ≡ ValueValidation ∷ []
-  pub above_port : (name : List ℕ) → fault_of hpb (name ∷ codes "serve" ∷ codes "--file=a.hpb" ∷ codes "--port=65536" ∷ codes "--sessions=2" ∷ []) ≡ ValueValidation ∷ []
-  pub least_sessions : (name : List ℕ) → fault_of hpb (name ∷ codes "serve" ∷ codes "--file=a.hpb" ∷ codes "--port=5000" ∷ codes "--sessions=1" ∷ []) ≡ []
-  pub most_sessions : (name : List ℕ) → fault_of hpb (name ∷ codes "serve" ∷ codes "--file=a.hpb" ∷ codes "--port=5000" ∷ codes "--sessions=32" ∷ []) ≡ []
-  pub below_sessions : (name : List ℕ) → fault_of hpb (name ∷ codes "serve" ∷ codes "--file=a.hpb" ∷ codes "--port=5000" ∷ codes "--sessions=0" ∷ []) ≡ ValueValidation ∷ []
-  pub above_sessions : (name : List ℕ) → fault_of hpb (name ∷ codes "serve" ∷ codes "--file=a.hpb" ∷ codes "--port=5000" ∷ codes "--sessions=33" ∷ []) ≡ ValueValidation ∷ []
+  pub alone : (program : List ℕ) → AskedAlone program
+  pub format : (program : List ℕ) → AskedToFormat program
+  pub check : (program : List ℕ) → AskedToCheck program
+  pub run : (program : List ℕ) → AskedToRun program
+  pub serve : (program : List ℕ) → AskedToServe program

@@ -5,6 +5,9 @@ use std::fmt;
 /// How many characters of a file's name are shown at most.
 const MOST_SHOWN: usize = 100;
 
+/// How many bytes a name in a command has at most.
+const MOST_PASTED: usize = 400;
+
 /// A file's name, escaped as a word is, and cut where it is long.
 #[derive(Clone, Copy)]
 pub struct Escaped<'a>(pub &'a str);
@@ -23,9 +26,6 @@ impl fmt::Display for Escaped<'_> {
         Ok(())
     }
 }
-
-/// How many bytes a name in a command has at most.
-const MOST_PASTED: usize = 400;
 
 /// A file's name in a command that is to be pasted: in quotes where a shell wants it, and whole. `F` stands for one
 /// that is longer than a line may be, or has characters that a terminal obeys or doesn't show.

@@ -1,8 +1,7 @@
 ghost use Rattle.std.specs.Prelude.{◌≡◌, false, Some, IfErr, IfOk, MatchOption, map, option_map};
 ghost use Rattle.clap.specs.Values.{kind_of};
-ghost use Rattle.clap.specs.Words.{app_of, found_of, rows_of, rule_of, shape_of, subcommand_rows_of};
-ghost use Rattle.clap.specs.declared.builder.command.Command.TheViews.{out-Command};
-ghost use Rattle.hpb_words.specs.Words.{batch_rule, check_shape, every_rule, file_of, file_rule, file_shape, format_shape, hpb, journal_of, journal_rule, layout_rule, option_rule, port_rule, run_shape, serve_shape, sessions_rule, AsksFor, HasFile, HasKnownCommand, HasRanges, HasStatus, IsJobOf, IsKnownName, IsTold, IsWrong};
+ghost use Rattle.clap.specs.Words.{app_of, found_of, rows_of, rule_of, subcommand_rows_of};
+ghost use Rattle.hpb_words.specs.Words.{check_shape, file_of, file_shape, format_shape, hpb, journal_of, option_rule, run_shape, serve_shape, AsksFor, HasFile, HasKnownCommand, HasRanges, HasStatus, IsCommandOf, IsJobOf, IsKnownName, IsTold, IsWrong};
 ghost use Rattle.hpb_words.specs.declared.words.WordsFault.TheVariants.{Memory};
 
 use crate::escaped::{EscapedWord, is_escaped};
@@ -85,6 +84,11 @@ Example: a file of 77 pages, and one of 37 for as many batches
 
 docs/OPERATIONS.md says how to size, copy and move a file, and what each refusal means."#;
 
+const JOURNAL_HELP: &str =
+    "The number of frames of the journal: 4 to 1024, and of cells a multiple of 8 from 16";
+
+const LAYOUT_HELP: &str = "The layout of the journal: 1, a page for each frame, or 2, cells";
+
 const CHECK_ABOUT: &str = "Shows the auction that a file keeps";
 
 const CHECK_HELP: &str =
@@ -125,6 +129,10 @@ Example: up to 16 commands at a time, and a checkpoint after each 50 batches
 
 docs/OPERATIONS.md says what each refusal means."#;
 
+const BATCH_HELP: &str = "The most commands that are put on the disk together, from 1 to 64";
+
+const EVERY_HELP: &str = "The number of batches after which a checkpoint is written, or 0";
+
 const SERVE_ABOUT: &str = "Serves sessions over TCP by the auction that a file keeps";
 
 const SERVE_HELP: &str =
@@ -154,6 +162,10 @@ Example: two sessions, each from a terminal of its own
   nc 127.0.0.1 5000
 
 docs/OPERATIONS.md says what each refusal means; docs/PROTOCOL.md has all lines, answers and refusals."#;
+
+const PORT_HELP: &str = "The port of 127.0.0.1, from 1024 to 65535";
+
+const SESSIONS_HELP: &str = "The number of sessions, from 1 to 32";
 
 /// The command that makes a file.
 const FORMAT: &str = "format";
@@ -413,37 +425,41 @@ fn command<'a>(alloc: Global) -> Result<Command<'a>, AllocError>
 }
 
 fn format_command<'a>(alloc: Global) -> Result<Command<'a>, AllocError>
-    ensures shape { IfOk result (λ command. shape_of command ≡ format_shape) }
-    ensures local { IfOk result (λ command. (out-Command command).has_globals ≡ false) }
+    ensures { IfOk result (IsCommandOf format_shape) }
 {
+    let journal = option(alloc, JOURNAL, "J", JOURNAL_HELP).required(true);
+    let layout = option(alloc, LAYOUT, "L", LAYOUT_HELP).default_value("1");
     new_command(alloc, FORMAT, FORMAT_ABOUT, FORMAT_HELP)?
-        .arg(journal_option(alloc))?
-        .arg(layout_option(alloc))
+        .arg(journal.value_parser(value_parser!(u32)))?
+        .arg(layout.value_parser(value_parser!(u8).range(1..=2)))
 }
 
 fn check_command<'a>(alloc: Global) -> Result<Command<'a>, AllocError>
-    ensures shape { IfOk result (λ command. shape_of command ≡ check_shape) }
-    ensures local { IfOk result (λ command. (out-Command command).has_globals ≡ false) }
+    ensures { IfOk result (IsCommandOf check_shape) }
 {
     new_command(alloc, CHECK, CHECK_ABOUT, CHECK_HELP)
 }
 
 fn run_command<'a>(alloc: Global) -> Result<Command<'a>, AllocError>
-    ensures shape { IfOk result (λ command. shape_of command ≡ run_shape) }
-    ensures local { IfOk result (λ command. (out-Command command).has_globals ≡ false) }
+    ensures { IfOk result (IsCommandOf run_shape) }
 {
+    let batch = option(alloc, BATCH, "N", BATCH_HELP).default_value("1");
+    let every = option(alloc, EVERY, "K", EVERY_HELP).default_value("0");
     new_command(alloc, RUN, RUN_ABOUT, RUN_HELP)?
-        .arg(batch_option(alloc))?
-        .arg(every_option(alloc))
+        .arg(batch.value_parser(value_parser!(u32).range(1..=MOST_BATCH as i64)))?
+        .arg(every.value_parser(value_parser!(u32)))
 }
 
 fn serve_command<'a>(alloc: Global) -> Result<Command<'a>, AllocError>
-    ensures shape { IfOk result (λ command. shape_of command ≡ serve_shape) }
-    ensures local { IfOk result (λ command. (out-Command command).has_globals ≡ false) }
+    ensures { IfOk result (IsCommandOf serve_shape) }
 {
+    let ports = value_parser!(u16).range(LEAST_PORT as i64..=MOST_PORT as i64);
+    let counts = value_parser!(u8).range(1..=MOST_SESSIONS as i64);
+    let port = option(alloc, PORT, "P", PORT_HELP).value_parser(ports);
+    let sessions = option(alloc, SESSIONS, "N", SESSIONS_HELP).value_parser(counts);
     new_command(alloc, SERVE, SERVE_ABOUT, SERVE_HELP)?
-        .arg(port_option(alloc))?
-        .arg(sessions_option(alloc))
+        .arg(port.required(true))?
+        .arg(sessions.required(true))
 }
 
 /// A command on a file, with what help says of it before its options and behind them.
@@ -453,99 +469,13 @@ fn new_command<'a>(
     about: &'a str,
     help: &'a str,
 ) -> Result<Command<'a>, AllocError>
-    ensures shape { IfOk result (λ command. shape_of command ≡ file_shape name.now) }
-    ensures local { IfOk result (λ command. (out-Command command).has_globals ≡ false) }
+    ensures { IfOk result (IsCommandOf (file_shape name.now)) }
 {
+    let file = option(alloc, FILE, "F", "The path of the file").required(true);
     Command::new(alloc, name)
         .about(about)
         .after_help(help)
-        .arg(file_option(alloc))
-}
-
-fn file_option<'a>(alloc: Global) -> Arg<'a>
-    ensures rule { rule_of result ≡ file_rule }
-    ensures local { result.global ≡ false }
-{
-    option(alloc, FILE, "F", "The path of the file").required(true)
-}
-
-fn journal_option<'a>(alloc: Global) -> Arg<'a>
-    ensures rule { rule_of result ≡ journal_rule }
-    ensures local { result.global ≡ false }
-{
-    option(
-        alloc,
-        JOURNAL,
-        "J",
-        "The number of frames of the journal: 4 to 1024, and of cells a multiple of 8 from 16",
-    )
-    .required(true)
-    .value_parser(value_parser!(u32))
-}
-
-fn layout_option<'a>(alloc: Global) -> Arg<'a>
-    ensures rule { rule_of result ≡ layout_rule }
-    ensures local { result.global ≡ false }
-{
-    option(
-        alloc,
-        LAYOUT,
-        "L",
-        "The layout of the journal: 1, a page for each frame, or 2, cells",
-    )
-    .default_value("1")
-    .value_parser(value_parser!(u8).range(1..=2))
-}
-
-fn batch_option<'a>(alloc: Global) -> Arg<'a>
-    ensures rule { rule_of result ≡ batch_rule }
-    ensures local { result.global ≡ false }
-{
-    option(
-        alloc,
-        BATCH,
-        "N",
-        "The most commands that are put on the disk together, from 1 to 64",
-    )
-    .default_value("1")
-    .value_parser(value_parser!(u32).range(1..=MOST_BATCH as i64))
-}
-
-fn every_option<'a>(alloc: Global) -> Arg<'a>
-    ensures rule { rule_of result ≡ every_rule }
-    ensures local { result.global ≡ false }
-{
-    option(
-        alloc,
-        EVERY,
-        "K",
-        "The number of batches after which a checkpoint is written, or 0",
-    )
-    .default_value("0")
-    .value_parser(value_parser!(u32))
-}
-
-fn port_option<'a>(alloc: Global) -> Arg<'a>
-    ensures rule { rule_of result ≡ port_rule }
-    ensures local { result.global ≡ false }
-{
-    option(
-        alloc,
-        PORT,
-        "P",
-        "The port of 127.0.0.1, from 1024 to 65535",
-    )
-    .required(true)
-    .value_parser(value_parser!(u16).range(LEAST_PORT as i64..=MOST_PORT as i64))
-}
-
-fn sessions_option<'a>(alloc: Global) -> Arg<'a>
-    ensures rule { rule_of result ≡ sessions_rule }
-    ensures local { result.global ≡ false }
-{
-    option(alloc, SESSIONS, "N", "The number of sessions, from 1 to 32")
-        .required(true)
-        .value_parser(value_parser!(u8).range(1..=MOST_SESSIONS as i64))
+        .arg(file)
 }
 
 /// An option that is given by its name, with one value.

@@ -4,7 +4,7 @@ use super::using::{BOTH, FOUR_PAGES, FailingWriter, Ran, new_file, run_over, run
 use crate::advice::{EndAdvice, JobAdvice};
 use crate::known::{Known, trouble_of};
 use crate::noted::Failures;
-use crate::notices::{Change, ChangeNotice, FailedNotice, MissedNotice, TakenNotice, ThreadNotice};
+use crate::notices::{Change, ChangeNotice, FailedNotice, SeatNotice};
 use crate::{Job, JobFault, RunEnd};
 use hpb_disk::{FileDisk, FileFault};
 use hpb_format::FormatCause;
@@ -411,10 +411,10 @@ fn what_happens_beside_sessions_is_told(rt: HostRuntime) -> Result<(), Fail> {
     );
     let error = io::Error::from_raw_os_error(libc::EMFILE);
     assert_eq!(rt;
-        format!(in alloc; "{}", MissedNotice(&error))?.as_str(),
+        format!(in alloc; "{}", SeatNotice::Missed(&error))?.as_str(),
         "a connection could not be accepted, and its session has ended: Too many open files (os error 24)"
     );
-    let taken = TakenNotice {
+    let taken = SeatNotice::Taken {
         taken: 3,
         places: 8,
     };
@@ -423,7 +423,7 @@ fn what_happens_beside_sessions_is_told(rt: HostRuntime) -> Result<(), Fail> {
         "3 of 8 places taken"
     );
     assert_eq!(rt;
-        format!(in alloc; "{}", ThreadNotice)?.as_str(),
+        format!(in alloc; "{}", SeatNotice::Refused)?.as_str(),
         "a thread was refused (ulimit -u tells how many there may be): sessions that have one are served to their end, and nobody else is taken"
     );
     Ok(())

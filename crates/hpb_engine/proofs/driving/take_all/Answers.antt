@@ -28,21 +28,21 @@ returns-then-is_some-clause-ran g c machine keeps =
     let i = c.loop-event.event-index in
     let event : Event = c.event-item.result in
     let old = c.loop-event.engine in
-    let new = c.take-fault.new.engine in
+    let new = c.take_event-fault.new.engine in
     let ran = c.loop-event.invariant.2 machine keeps in
-    let why = some_in c.take-fault.result (sym c.is_some.ensures ∙ c.if-is_some.true) in
+    let why = some_in c.take_event-fault.result (sym c.is_some.ensures ∙ c.if-is_some.true) in
     let worked = sym c.is_ok.ensures.value ∙ c.if-prove.false in
     let items = c.extend_from_slice-added.ensures.items ∙ ap (λ (ok : Bool). if ok then c.loop-event.answers.items ++ c.as_slice.result.now else c.loop-event.answers.items) worked
     ∙ ap (λ (more : List Answer). c.loop-event.answers.items ++ more) c.as_slice.ensures.value in
-    subst (λ (given : List Answer). Ran d.seen d.may_leave d.moment d.left_since start events new.disk new.progress new.failed given c.take-fault.result) (sym items)
-    (subst (λ (fault : Option Fault). Ran d.seen d.may_leave d.moment d.left_since start events new.disk new.progress new.failed (c.loop-event.answers.items ++ c.take-fault.new.leaving) fault) (sym why.1)
-    (subst (λ (taken : List Event). Ran d.seen d.may_leave d.moment d.left_since start taken new.disk new.progress new.failed (c.loop-event.answers.items ++ c.take-fault.new.leaving) (Some why.0))
+    subst (λ (given : List Answer). Ran d.seen d.may_leave d.moment d.left_since start events new.disk new.progress new.failed given c.take_event-fault.result) (sym items)
+    (subst (λ (fault : Option Fault). Ran d.seen d.may_leave d.moment d.left_since start events new.disk new.progress new.failed (c.loop-event.answers.items ++ c.take_event-fault.new.leaving) fault) (sym why.1)
+    (subst (λ (taken : List Event). Ran d.seen d.may_leave d.moment d.left_since start taken new.disk new.progress new.failed (c.loop-event.answers.items ++ c.take_event-fault.new.leaving) (Some why.0))
     (sym (front_rest events i event c.loop-event-test.true c.event-item.is))
-    (ran_off g.met.D.Disk.only_now ran (c.take-fault.ensures.took (last_of start ran.marks).machine ran.keeps) (drop (i + 1) events) why.0 why.1)))
+    (ran_off g.met.D.Disk.only_now ran (c.take_event-fault.ensures.took (last_of start ran.marks).machine ran.keeps) (drop (i + 1) events) why.0 why.1)))
 
 pub returns-then-is_some-clause-cause : goal.returns-then-is_some-clause-cause
 returns-then-is_some-clause-cause g c =
-    subst (λ (before : ℕ). HasFailed c.take-fault.result before (g.D.Disk.failures c.take-fault.new.engine.disk)) c.loop-event.invariant.1 c.take-fault.ensures.cause
+    subst (λ (before : ℕ). HasFailed c.take_event-fault.result before (g.D.Disk.failures c.take_event-fault.new.engine.disk)) c.loop-event.invariant.1 c.take_event-fault.ensures.cause
 
 pub loop-event-preserved : goal.loop-event-preserved
 loop-event-preserved g c =
@@ -52,10 +52,10 @@ loop-event-preserved g c =
     let i = c.loop-event.event-index in
     let event : Event = c.event-item.result in
     let old = c.loop-event.engine in
-    let new = c.take-fault.new.engine in
-    let none = none_of c.take-fault.result (sym c.is_some.ensures ∙ c.if-is_some.false) in
+    let new = c.take_event-fault.new.engine in
+    let none = none_of c.take_event-fault.result (sym c.is_some.ensures ∙ c.if-is_some.false) in
     let worked = sym c.is_ok.ensures.value ∙ c.if-prove.false in
-    let unfailed = λ (no : c.take-fault.result ≡ None). subst (λ (fault : Option Fault). HasFailed fault (d.failures old.disk) (d.failures new.disk)) no c.take-fault.ensures.cause in
+    let unfailed = λ (no : c.take_event-fault.result ≡ None). subst (λ (fault : Option Fault). HasFailed fault (d.failures old.disk) (d.failures new.disk)) no c.take_event-fault.ensures.cause in
     let items = c.extend_from_slice-added.ensures.items ∙ ap (λ (ok : Bool). if ok then c.loop-event.answers.items ++ c.as_slice.result.now else c.loop-event.answers.items) worked
     ∙ ap (λ (more : List Answer). c.loop-event.answers.items ++ more) c.as_slice.ensures.value in
     let len : vec_len c.extend_from_slice-added.new.self ≡ vec_len c.loop-event.answers + length c.as_slice.result.now =
@@ -66,9 +66,9 @@ loop-event-preserved g c =
           let start = mark_of d.moment engine.disk engine.progress engine.failed machine in
           let ran = c.loop-event.invariant.2 machine keeps in
           subst (λ (given : List Answer). Ran d.seen d.may_leave d.moment d.left_since start (take (i + 1) events) new.disk new.progress new.failed given None) (sym items)
-          (subst (λ (taken : List Event). Ran d.seen d.may_leave d.moment d.left_since start taken new.disk new.progress new.failed (c.loop-event.answers.items ++ c.take-fault.new.leaving) None)
+          (subst (λ (taken : List Event). Ran d.seen d.may_leave d.moment d.left_since start taken new.disk new.progress new.failed (c.loop-event.answers.items ++ c.take_event-fault.new.leaving) None)
           (sym (front_more events i event c.loop-event-test.true c.event-item.is))
-          (ran_on g.met.D.Disk.only_now ran (c.take-fault.ensures.took (last_of start ran.marks).machine ran.keeps) none)),
+          (ran_on g.met.D.Disk.only_now ran (c.take_event-fault.ensures.took (last_of start ran.marks).machine ran.keeps) none)),
     )
 
 pub returns-clause-ran : goal.returns-clause-ran

@@ -1,7 +1,7 @@
 use Rattle.std.proofs.Common.{◌≡◌, ℕ, Some, refl, ◌∙◌, ap, subst}
 use Rattle.hpb_codec.specs.declared.layout.JournalLayout.{JournalLayout}
 use Rattle.hpb_codec.specs.declared.layout.JournalShape.{JournalShape}
-use Rattle.hpb_format.specs.Outcomes.{FormatsAs, Names}
+use Rattle.hpb_format.specs.Outcomes.{answer_of, given, FormatsAs, Names}
 use Rattle.hpb_format.proofs.formatting.format_layout.Goals as goal
 
 some_same : {x y : JournalLayout} → Some x ≡ Some y → x ≡ y
@@ -20,5 +20,5 @@ returns-in-Some-clause-unnamed g c none = absurd (none (shape c.in-Some.layout c
 pub returns-in-Some-clause-formats : goal.returns-in-Some-clause-formats
 returns-in-Some-clause-formats g c journal names =
     let d = g.D.Disk in
-    subst (λ (j : JournalShape). FormatsAs d.seen d.may_leave d.moment d.left_since d.failures d.asked c.args.definition.now j c.args.disk c.format_shape.result)
+    subst (λ (j : JournalShape). FormatsAs d.seen d.may_leave d.moment d.left_since d.failures d.asked c.args.definition.now j c.args.disk (given c.format_shape.result) (answer_of c.format_shape.result))
     (named c.args.layout c.args.frames c.in-Some.layout journal names (c.in-Some.ensures.only journal.layout names.layout_is)) c.format_shape.ensures

@@ -2,7 +2,7 @@ use Rattle.std.proofs.Common.{◌≡◌, List, ℕ, take, drop, sym, ◌∙◌, 
 use Rattle.std.proofs.lemmas.List.{take-take}
 use Rattle.hpb_codec.specs.Numbers.{before}
 use Rattle.hpb_disk.specs.Images.{part}
-use Rattle.hpb_image.specs.declared.limits.TheConstants.{HEAD_AT, MAGIC_BYTES}
+use Rattle.hpb_recover.specs.declared.limits.TheConstants.{HEAD_AT, MAGIC_BYTES}
 use Rattle.hpb_format.proofs.Beginning.{before_is}
 use Rattle.hpb_format.proofs.formatting.is_headed.Goals as goal
 

@@ -7,7 +7,7 @@ use Rattle.hpb_format.proofs.Made.{written}
 use Rattle.hpb_format.proofs.Runs.{keeps_on, quiet_keeps}
 use Rattle.hpb_disk.specs.Asked.Asked.{syncs, writes}
 use Rattle.hpb_format.specs.Asking.{writes_chunks}
-use Rattle.hpb_image.specs.declared.limits.TheConstants.{HEAD_AT}
+use Rattle.hpb_recover.specs.declared.limits.TheConstants.{HEAD_AT}
 use Rattle.hpb_disk.proofs.Turns.{and_then, at_first, at_last, at_later, breaks_with, in_turn, in_turn_on}
 use Rattle.hpb_format.proofs.writing.write_all.Goals as goal
 

@@ -6,7 +6,7 @@ use Rattle.hpb_format.specs.declared.place.TheConstants.{HEAD_GATE}
 use Rattle.hpb_format.proofs.Runs.{keeps_on}
 use Rattle.hpb_disk.specs.Asked.Asked.{syncs, writes}
 use Rattle.hpb_format.specs.Asking.{writes_chunks}
-use Rattle.hpb_image.specs.declared.limits.TheConstants.{HEAD_AT}
+use Rattle.hpb_recover.specs.declared.limits.TheConstants.{HEAD_AT}
 use Rattle.hpb_slots.specs.Writes.{opens_slot}
 use Rattle.hpb_slots.specs.declared.slot.Slot.TheVariants.{First}
 use Rattle.hpb_disk.proofs.Turns.{Breaks, at_first, breaks_with, in_turn_on}

@@ -1,7 +1,7 @@
 use Rattle.std.proofs.Common.{◌≡◌, ℕ, length, sym, ◌∙◌, ap, subst, arith}
 use Rattle.std.proofs.lemmas.Result.{on_ok_weaker}
 use Rattle.hpb_disk.specs.Images.{part, Torn}
-use Rattle.hpb_image.specs.declared.limits.TheConstants.{HEAD_AT}
+use Rattle.hpb_recover.specs.declared.limits.TheConstants.{HEAD_AT}
 use Rattle.hpb_format.proofs.Made.{write_stays}
 use Rattle.hpb_format.proofs.writing.write_head.Goals as goal
 

@@ -2,7 +2,7 @@ use Rattle.std.proofs.Common.{rules, ◌≡◌, ◌∙◌, sym, ap, subst}
 use Rattle.hpb_house.specs.Clients.{IsReportOf}
 use Rattle.hpb_house.specs.declared.keeper.Halt.{Halt}
 use Rattle.hpb_rings.specs.declared.client.Client.{Client}
-use Rattle.hpb_house_rows.proofs.Threads.{next_made, no_more}
+use Rattle.hpb_house.proofs.Threads.{next_made, no_more}
 use Rattle.hpb_house_rows.proofs.harness.start_clients.Goals as goal
 
 pub spawn_with-requires-clause-keeps : goal.spawn_with-requires-clause-keeps

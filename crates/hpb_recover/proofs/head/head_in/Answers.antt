@@ -3,7 +3,7 @@ use Rattle.hpb_codec.specs.declared.head.Head.{Head}
 use Rattle.hpb_codec.specs.declared.layout.JournalShape.{JournalShape}
 use Rattle.hpb_codec.specs.declared.state_format.StateFormat.{StateFormat}
 use Rattle.hpb_journal.specs.Shapes.{shaped}
-use Rattle.hpb_image.specs.Heads.{layout_of}
+use Rattle.hpb_recover.specs.Heads.{layout_of}
 use Rattle.hpb_recover.proofs.Heading.{is_formatted, not_formatted, is_laid_out, spelled_here}
 use Rattle.hpb_recover.proofs.head.head_in.Goals as goal
 

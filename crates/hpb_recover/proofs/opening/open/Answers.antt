@@ -1,13 +1,22 @@
-use Rattle.std.proofs.Common.{◌∷◌, sym, ◌∙◌, subst, arith}
+use Rattle.std.proofs.Common.{◌+◌, ◌∷◌, sym, ◌∙◌, subst, arith}
 use Rattle.hpb_rules.specs.AuctionValue.{AuctionValue, Shows}
 use Rattle.hpb_disk.specs.Asked.Asked.{syncs}
-use Rattle.hpb_image.specs.Flaws.{HasFlaw}
-use Rattle.hpb_image.specs.Standing.{Stands}
+use Rattle.hpb_recover.specs.Flaws.{HasFlaw}
+use Rattle.hpb_recover.specs.Standing.{Stands}
 use Rattle.hpb_recover.specs.Plans.{IsPlan}
 use Rattle.hpb_recover.proofs.Faulting.{machine_only}
 use Rattle.hpb_recover.proofs.Quietly.{opened_calls}
 use Rattle.hpb_recover.proofs.Reading.{ended_later}
+use Rattle.hpb_recover.specs.Quiet.{IsQuiet, reads_in}
+use Rattle.hpb_recover.proofs.opening.open.Given.{Over}
+use Rattle.hpb_recover.proofs.opening.open.Goals.{After-read_plan}
 use Rattle.hpb_recover.proofs.opening.open.Goals as goal
+
+-- The sync and the reads are so many calls at most.
+calls_made : (g : Over) (c : After-read_plan g) → IsQuiet g.D.Disk.seen g.D.Disk.may_leave g.D.Disk.moment g.D.Disk.left_since (1 + reads_in (g.D.Disk.seen c.args.disk)) c.args.disk c.read_plan.new.disk
+calls_made g c =
+    let d = g.D.Disk in
+    opened_calls d.seen d.may_leave d.moment d.left_since c.args.disk c.settle.new.disk c.read_plan.new.disk c.settle.ensures.quiet c.read_plan.ensures.quiet
 
 pub returns-in-Ok-read_plan-clause-shows : goal.returns-in-Ok-read_plan-clause-shows
 returns-in-Ok-read_plan-clause-shows g c history stands =
@@ -37,24 +46,16 @@ invariant_of-result g c = record {
 }
 
 pub returns-in-Ok-read_plan-clause-since : goal.returns-in-Ok-read_plan-clause-since
-returns-in-Ok-read_plan-clause-since g c =
-    let d = g.D.Disk in
-    (opened_calls d.seen d.may_leave d.moment d.left_since c.args.disk c.settle.new.disk c.read_plan.new.disk c.settle.ensures.quiet c.read_plan.ensures.quiet).since
+returns-in-Ok-read_plan-clause-since g c = (calls_made g (goal.at.returns-in-Ok-read_plan-clause-since g c).After-read_plan).since
 
 pub returns-in-Ok-read_plan-clause-calls : goal.returns-in-Ok-read_plan-clause-calls
-returns-in-Ok-read_plan-clause-calls g c =
-    let d = g.D.Disk in
-    omega (arith, (opened_calls d.seen d.may_leave d.moment d.left_since c.args.disk c.settle.new.disk c.read_plan.new.disk c.settle.ensures.quiet c.read_plan.ensures.quiet).few)
+returns-in-Ok-read_plan-clause-calls g c = omega (arith, (calls_made g (goal.at.returns-in-Ok-read_plan-clause-calls g c).After-read_plan).few)
 
 pub returns-in-Err-read_plan-clause-since : goal.returns-in-Err-read_plan-clause-since
-returns-in-Err-read_plan-clause-since g c =
-    let d = g.D.Disk in
-    (opened_calls d.seen d.may_leave d.moment d.left_since c.args.disk c.settle.new.disk c.read_plan.new.disk c.settle.ensures.quiet c.read_plan.ensures.quiet).since
+returns-in-Err-read_plan-clause-since g c = (calls_made g (goal.at.returns-in-Err-read_plan-clause-since g c).After-read_plan).since
 
 pub returns-in-Err-read_plan-clause-calls : goal.returns-in-Err-read_plan-clause-calls
-returns-in-Err-read_plan-clause-calls g c =
-    let d = g.D.Disk in
-    omega (arith, (opened_calls d.seen d.may_leave d.moment d.left_since c.args.disk c.settle.new.disk c.read_plan.new.disk c.settle.ensures.quiet c.read_plan.ensures.quiet).few)
+returns-in-Err-read_plan-clause-calls g c = omega (arith, (calls_made g (goal.at.returns-in-Err-read_plan-clause-calls g c).After-read_plan).few)
 
 pub returns-in-Ok-read_plan-clause-asked : goal.returns-in-Ok-read_plan-clause-asked
 returns-in-Ok-read_plan-clause-asked g c = c.in-Ok-read_plan.ensures.asked ∙ c.in-Ok.ensures.asked

@@ -1,7 +1,6 @@
 use Rattle.std.proofs.Common.{ℕ, List, refl, sym, ◌∙◌, ap, subst, arith}
 use Rattle.hpb_codec.specs.declared.layout.JournalShape.{JournalShape}
 use Rattle.hpb_journal.specs.Shapes.{shape_of, shaped}
-use Rattle.hpb_image.specs.Heads.{layout_of}
 use Rattle.hpb_recover.specs.declared.plan.Plan.{Plan}
 use Rattle.hpb_recover.specs.Checkpoints.{IsCheckpoint, IsUnlessWithout}
 use Rattle.hpb_recover.specs.Replaying.{IsBroken, IsWhole}
@@ -10,7 +9,7 @@ use Rattle.hpb_recover.proofs.Quietly.{at_most, begun_reads, all_reads, named_he
 use Rattle.hpb_recover.proofs.Planning.{damaged, found, reads, is_plan_of, plan_of_one, cause_of_checkpoint, cause_of_journal}
 use Rattle.hpb_recover.proofs.Reading.{ended_later}
 use Rattle.hpb_recover.proofs.opening.read_plan.Given.{Over}
-use Rattle.hpb_recover.proofs.opening.read_plan.Goals.{After-read_journal}
+use Rattle.hpb_recover.proofs.opening.read_plan.Goals.{After-read_journal, In-Ok, In-Ok-Some}
 use Rattle.hpb_recover.proofs.opening.read_plan.Goals as goal
 
 -- The reads of head, checkpoint and journal.
@@ -20,6 +19,33 @@ quiet_reads g c =
     all_reads d.seen d.may_leave d.moment d.left_since c.in_ok-head.head.journal c.args.disk.now c.read_head.new.disk c.read_checkpoint.new.disk c.read_journal.new.disk
     (named_here c.layout_is_named.ensures c.in_ok-head.head (d.seen c.args.disk.now) c.in_ok-head.ensures.laid.spelled) c.in_ok-head.ensures.laid.size c.read_head.ensures.quiet c.read_checkpoint.ensures.quiet
     (subst (λ (s : JournalShape). IsQuiet d.seen d.may_leave d.moment d.left_since s.frames c.read_checkpoint.new.disk c.read_journal.new.disk) c.new-frames.ensures c.read_journal.ensures.quiet)
+
+-- The newest checkpoint is that of the image.
+newest_read : (g : Over) (c : In-Ok g) → IsCheckpoint c.in_ok-head.head.definition c.in-Ok.checkpoint.newest c.in-Ok.checkpoint.auction (g.D.Disk.seen c.args.disk.now)
+newest_read g c = subst (IsCheckpoint c.in_ok-head.head.definition c.in-Ok.checkpoint.newest c.in-Ok.checkpoint.auction) c.read_head.ensures.quiet.same c.in-Ok.ensures.checkpoint
+
+-- The plan that is given where all is read.
+abbrev plan_read : (g : Over) → In-Ok-Some g → Plan
+plan_read g c = record {
+  frames = c.new-frames.result;
+  slot = c.in-Ok.checkpoint.newest.slot;
+  other_open = c.in-Ok.checkpoint.newest.other_open;
+  covered = c.in-Ok.checkpoint.newest.index;
+  next = c.in-Ok-Some.journal.next;
+  clean_end = c.in-Ok-Some.journal.clean_end;
+  gates = c.in-Ok-Some.journal.gates;
+  auction = c.read_journal.new.auction;
+}
+
+-- The journal of the image is whole, and leads to what the plan tells, in the layout of these frames or of the head.
+abbrev IsWholeBy : (g : Over) → In-Ok-Some g → JournalShape → Type 0
+IsWholeBy g c shape = IsWhole (shaped shape) c.in-Ok.checkpoint.newest.index c.in-Ok.checkpoint.auction (g.D.Disk.seen c.args.disk.now) c.in-Ok-Some.journal.next c.in-Ok-Some.journal.clean_end c.in-Ok-Some.journal.gates.items c.read_journal.new.auction
+
+whole_read : (g : Over) (c : In-Ok-Some g) → IsWholeBy g c (shape_of c.new-frames.result)
+whole_read g c =
+    let journal = c.in-Ok-Some.journal in
+    subst (λ (l : List ℕ). IsWhole (shaped (shape_of c.new-frames.result)) c.in-Ok.checkpoint.newest.index c.in-Ok.checkpoint.auction l journal.next journal.clean_end journal.gates.items c.read_journal.new.auction)
+    (c.read_checkpoint.ensures.quiet.same ∙ c.read_head.ensures.quiet.same) (rw c.in-Ok-Some.field-0-is at c.in-Ok-Some.ensures.journal)
 
 pub returns-in_err-head-clause-quiet : goal.returns-in_err-head-clause-quiet
 returns-in_err-head-clause-quiet g c =
@@ -56,32 +82,24 @@ returns-in-Ok-None-clause-quiet g c = quiet_reads g (goal.at.returns-in-Ok-None-
 
 pub returns-in-Ok-None-clause-cause : goal.returns-in-Ok-None-clause-cause
 returns-in-Ok-None-clause-cause g c =
-    let d = g.D.Disk in
-    let image = d.seen c.args.disk.now in
-    let head = c.in_ok-head.head in
+    let image = g.D.Disk.seen c.args.disk.now in
     let newest = c.in-Ok.checkpoint.newest in
     let value = c.in-Ok.checkpoint.auction in
-    let checkpoint = subst (IsCheckpoint head.definition newest value) c.read_head.ensures.quiet.same c.in-Ok.ensures.checkpoint in
     let broken = rw c.in-Ok-None.field-0-is at c.in-Ok-None.ensures.journal in
     let here = subst (IsBroken (shaped (shape_of c.new-frames.result)) newest.index value) (c.read_checkpoint.ensures.quiet.same ∙ c.read_head.ensures.quiet.same) broken in
-    damaged head newest image c.in_ok-head.ensures.formatted c.in_ok-head.ensures.laid value checkpoint
+    damaged c.in_ok-head.head newest image c.in_ok-head.ensures.formatted c.in_ok-head.ensures.laid value (newest_read g (goal.at.returns-in-Ok-None-clause-cause g c).In-Ok)
     (subst (λ (s : JournalShape). IsBroken (shaped s) newest.index value image) c.new-frames.ensures here)
 
 pub returns-clause-found : goal.returns-clause-found
 returns-clause-found g c =
-    let d = g.D.Disk in
-    let image = d.seen c.args.disk.now in
+    let all = (goal.at.returns-clause-found g c).In-Ok-Some in
     let head = c.in_ok-head.head in
     let newest = c.in-Ok.checkpoint.newest in
+    let image = g.D.Disk.seen c.args.disk.now in
     let value = c.in-Ok.checkpoint.auction in
-    let journal = c.in-Ok-Some.journal in
-    let checkpoint = subst (IsCheckpoint head.definition newest value) c.read_head.ensures.quiet.same c.in-Ok.ensures.checkpoint in
-    let plan : Plan = record { frames = c.new-frames.result; slot = newest.slot; other_open = newest.other_open; covered = newest.index; next = journal.next; clean_end = journal.clean_end; gates = journal.gates; auction = c.read_journal.new.auction } in
-    let was = rw c.in-Ok-Some.field-0-is at c.in-Ok-Some.ensures.journal in
-    let there = subst (λ (l : List ℕ). IsWhole (shaped (shape_of c.new-frames.result)) newest.index value l plan.next plan.clean_end plan.gates.items plan.auction)
-    (c.read_checkpoint.ensures.quiet.same ∙ c.read_head.ensures.quiet.same) was in
-    let whole : IsWhole (layout_of head) newest.index value image plan.next plan.clean_end plan.gates.items plan.auction =
-    subst (λ (s : JournalShape). IsWhole (shaped s) newest.index value image plan.next plan.clean_end plan.gates.items plan.auction) c.new-frames.ensures there in
+    let checkpoint = newest_read g (goal.at.returns-clause-found g c).In-Ok in
+    let plan = plan_read g all in
+    let whole = subst (IsWholeBy g all) c.new-frames.ensures (whole_read g all) in
     let f = c.in_ok-head.ensures.formatted in
     let l = c.in_ok-head.ensures.laid in
     let one = c.reading_is_one.ensures in (
@@ -92,30 +110,19 @@ returns-clause-found g c =
 
 pub returns-clause-plan : goal.returns-clause-plan
 returns-clause-plan g c =
-    let d = g.D.Disk in
-    let image = d.seen c.args.disk.now in
-    let head = c.in_ok-head.head in
-    let newest = c.in-Ok.checkpoint.newest in
-    let value = c.in-Ok.checkpoint.auction in
-    let journal = c.in-Ok-Some.journal in
-    let checkpoint = subst (IsCheckpoint head.definition newest value) c.read_head.ensures.quiet.same c.in-Ok.ensures.checkpoint in
-    let plan : Plan = record { frames = c.new-frames.result; slot = newest.slot; other_open = newest.other_open; covered = newest.index; next = journal.next; clean_end = journal.clean_end; gates = journal.gates; auction = c.read_journal.new.auction } in
-    let was = rw c.in-Ok-Some.field-0-is at c.in-Ok-Some.ensures.journal in
-    let there = subst (λ (l : List ℕ). IsWhole (shaped (shape_of c.new-frames.result)) newest.index value l plan.next plan.clean_end plan.gates.items plan.auction)
-    (c.read_checkpoint.ensures.quiet.same ∙ c.read_head.ensures.quiet.same) was in
-    let whole : IsWhole (layout_of head) newest.index value image plan.next plan.clean_end plan.gates.items plan.auction =
-    subst (λ (s : JournalShape). IsWhole (shaped s) newest.index value image plan.next plan.clean_end plan.gates.items plan.auction) c.new-frames.ensures there in
-    let f = c.in_ok-head.ensures.formatted in
-    let l = c.in_ok-head.ensures.laid in
+    let all = (goal.at.returns-clause-plan g c).In-Ok-Some in
+    let there = whole_read g all in
+    let checkpoint = newest_read g (goal.at.returns-clause-plan g c).In-Ok in
     record {
-      size = l.size ∙ ap (λ (s : JournalShape). (shaped s).size) (sym c.new-frames.ensures);
+      size = c.in_ok-head.ensures.laid.size ∙ ap (λ (s : JournalShape). (shaped s).size) (sym c.new-frames.ensures);
       few = checkpoint.covered;
-      follows = omega (arith, whole.leads.count);
+      follows = omega (arith, there.leads.count);
       clean = there.clean_ones;
       other = checkpoint.other;
       gates = there.gates;
       all = there.all;
-      reads = plan_of_one head newest image f l value checkpoint c.reading_is_one.ensures plan c.new-frames.ensures refl refl refl whole;
+      reads = plan_of_one c.in_ok-head.head c.in-Ok.checkpoint.newest (g.D.Disk.seen c.args.disk.now) c.in_ok-head.ensures.formatted c.in_ok-head.ensures.laid
+          c.in-Ok.checkpoint.auction checkpoint c.reading_is_one.ensures (plan_read g all) c.new-frames.ensures refl refl refl (subst (IsWholeBy g all) c.new-frames.ensures there);
     }
 
 pub returns-clause-quiet : goal.returns-clause-quiet

@@ -1,9 +1,21 @@
 use Rattle.std.proofs.Common.{rules, ℕ, List, ◌∙◌, subst, arith}
 use Rattle.hpb_rules.specs.Tree.{Rules}
 use Rattle.hpb_journal.specs.Frames.{IsRead}
+use Rattle.hpb_journal.specs.declared.frame.Frame.TheVariants as frames
 use Rattle.hpb_recover.specs.Replaying.{HasBrokenOff, HasStopped}
 use Rattle.hpb_recover.proofs.Leading.{led_rules, leads_on, own_of_frame, has_stopped}
+use Rattle.hpb_recover.proofs.replay.replay.Given.{Over}
+use Rattle.hpb_recover.proofs.replay.replay.Goals.{In-Batch}
 use Rattle.hpb_recover.proofs.replay.replay.Goals as goal
+
+-- The batch that was read stands in its frame.
+batch_read : (g : Over) (c : In-Batch g) → IsRead (g.F.Frames.layout c.args.frames.now) c.loop-index.auction.rules c.loop-index.index (g.D.Disk.seen c.args.disk.now) (frames.Batch c.in-Batch.batch)
+batch_read g c =
+    let layout = g.F.Frames.layout c.args.frames.now in
+    let b = c.loop-index.index in
+    let image = g.D.Disk.seen c.args.disk.now in
+    let read = subst (λ (l : List ℕ). IsRead layout c.definition.result.now b l c.in_ok-read_frame.field-0) c.loop-index.invariant.quiet.same c.in_ok-read_frame.ensures.frame in
+    subst (IsRead layout c.loop-index.auction.rules b image) c.in-Batch.is (subst (λ (r : Rules). IsRead layout r b image c.in_ok-read_frame.field-0) c.definition.ensures read)
 
 pub returns-in-Damaged-clause-next : goal.returns-in-Damaged-clause-next
 returns-in-Damaged-clause-next g c =
@@ -32,9 +44,7 @@ returns-then-not-goes_on-clause-next g c =
     let image = g.D.Disk.seen c.args.disk.now in
     let inv = c.loop-index.invariant in
     let batch = c.in-Batch.batch in
-    let read = subst (λ (l : List ℕ). IsRead layout c.definition.result.now b l c.in_ok-read_frame.field-0) inv.quiet.same c.in_ok-read_frame.ensures.frame in
-    let here = subst (λ (r : Rules). IsRead layout r b image c.in_ok-read_frame.field-0) c.definition.ensures read in
-    let filled = subst (IsRead layout c.loop-index.auction.rules b image) c.in-Batch.is here in
+    let filled = batch_read g (goal.at.returns-then-not-goes_on-clause-next g c).In-Batch in
     let led = led_rules layout c.args.covered c.args.auction.now image b c.loop-index.auction inv.leads in
     let stopped = has_stopped layout c.laws.ensures b batch.first c.loop-index.auction batch.commands image filled.1 c.if-not-goes_on.ensures in
     let broken : HasBrokenOff layout c.args.covered c.args.auction.now image = record {
@@ -54,9 +64,7 @@ loop-index-preserved g c =
     let image = g.D.Disk.seen c.args.disk.now in
     let inv = c.loop-index.invariant in
     let batch = c.in-Batch.batch in
-    let read = subst (λ (l : List ℕ). IsRead layout c.definition.result.now b l c.in_ok-read_frame.field-0) inv.quiet.same c.in_ok-read_frame.ensures.frame in
-    let here = subst (λ (r : Rules). IsRead layout r b image c.in_ok-read_frame.field-0) c.definition.ensures read in
-    let filled = subst (IsRead layout c.loop-index.auction.rules b image) c.in-Batch.is here in
+    let filled = batch_read g (goal.at.loop-index-preserved g c).In-Batch in
     let took = c.if-not-goes_on.ensures in
     record {
       quiet = search rules;

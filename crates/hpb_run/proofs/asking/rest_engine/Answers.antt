@@ -1,5 +1,5 @@
 use Rattle.std.proofs.Common.{inl}
-use Rattle.hpb_run.proofs.Standings.{covered_by, keeps_rest, rested, still_stands}
+use Rattle.hpb_run.proofs.Standings.{covered_by, keeps_rest, rested}
 use Rattle.hpb_run.proofs.asking.rest_engine.Goals as goal
 
 pub returns-then-engine-clause-whole : goal.returns-then-engine-clause-whole
@@ -11,8 +11,8 @@ returns-clause-whole g c state stands between =
     let old = c.args.engine.now in
     let new = c.make_checkpoint.new.engine in
     let on = c.if-engine.false in
-    let made = (c.in_ok-make_checkpoint.ensures.made state.history (keeps_rest d.seen d.may_leave d.failures old.disk old.progress old.failed state stands on)).1 in
-    covered_by old.progress new.progress (d.moment old.disk) (d.moment new.disk) new.failed c.in_ok-make_checkpoint.field-0 (made.whole between on) made.fails
+    let made = (c.make_checkpoint.ensures.made state.history (keeps_rest d.seen d.may_leave d.failures old.disk old.progress old.failed state stands on)).1 in
+    covered_by old.progress new.progress (d.moment old.disk) (d.moment new.disk) new.failed c.make_checkpoint.result (made.whole between on) made.fails
 
 pub returns-clause-stands : goal.returns-clause-stands
 returns-clause-stands g c state stands =
@@ -20,13 +20,6 @@ returns-clause-stands g c state stands =
     let old = c.args.engine.now in
     let new = c.make_checkpoint.new.engine in
     let on = c.if-engine.false in
-    let came = c.in_ok-make_checkpoint.ensures.made state.history (keeps_rest d.seen d.may_leave d.failures old.disk old.progress old.failed state stands on) in
-    rested d.seen d.may_leave d.failures old.disk old.progress old.failed state stands on new.disk new.progress new.failed c.in_ok-make_checkpoint.field-0
-    came.0 came.1.committed came.1.works c.in_ok-make_checkpoint.ensures.cause
-
-pub returns-in_err-make_checkpoint-clause-stands : goal.returns-in_err-make_checkpoint-clause-stands
-returns-in_err-make_checkpoint-clause-stands g c state stands =
-    let d = g.D.Disk in
-    let old = c.args.engine.now in
-    let new = c.make_checkpoint.new.engine in
-    still_stands d.seen d.may_leave d.failures old.disk new.disk old.progress new.progress old.failed new.failed state c.in_err-make_checkpoint.ensures.stays stands
+    let came = c.make_checkpoint.ensures.made state.history (keeps_rest d.seen d.may_leave d.failures old.disk old.progress old.failed state stands on) in
+    rested d.seen d.may_leave d.failures old.disk old.progress old.failed state stands on new.disk new.progress new.failed c.make_checkpoint.result
+    came.0 came.1.committed came.1.works c.make_checkpoint.ensures.cause

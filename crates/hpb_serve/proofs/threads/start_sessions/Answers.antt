@@ -1,8 +1,9 @@
-use Rattle.std.proofs.Common.{rules, ◌≡◌, ◌∙◌, [], sym, ap, subst}
+use Rattle.std.proofs.Common.{[], rules, ◌≡◌, ◌∙◌, sym, ap, subst}
 use Rattle.hpb_house.specs.declared.keeper.Halt.{Halt}
 use Rattle.hpb_rings.specs.declared.client.Client.{Client}
 use Rattle.hpb_serve.specs.Ended.{EndsWith}
-use Rattle.hpb_serve.proofs.Turns.{if_not_some, is_there, next_made, no_more, rest_of, while_some}
+use Rattle.hpb_house.proofs.Threads.{next_made, no_more}
+use Rattle.hpb_serve.proofs.Turns.{if_not_some, is_there, rest_of, while_some}
 use Rattle.hpb_serve.proofs.threads.start_sessions.Goals as goal
 
 pub loop-client-preserved-in_default : goal.loop-client-preserved-in_default

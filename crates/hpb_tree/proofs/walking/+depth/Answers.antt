@@ -1,6 +1,7 @@
-use Rattle.std.proofs.Common.{◌<◌, sym, ap, ◌∙◌, ◌+◌, arith}
+use Rattle.std.proofs.Common.{◌<◌, sym, ap, ◌+◌, arith}
 use Rattle.hpb_tree.specs.Draft.{nodes_said}
-use Rattle.hpb_tree.proofs.Walks.{ordered, depth_below}
+use Rattle.hpb_rules.proofs.Depths.{depth_below}
+use Rattle.hpb_tree.proofs.Walks.{ordered}
 use Rattle.hpb_tree.proofs.walking.+depth.Goals as goal
 
 pub depth-requires : goal.depth-requires
@@ -15,7 +16,8 @@ overflow_add-result t c =
 
 pub returns-in-Some-clause-value : goal.returns-in-Some-clause-value
 returns-in-Some-clause-value t c =
-    ap (λ n. 1 + n) c.depth.ensures.value ∙ depth_below (nodes_said c.args.nodes.now) (ordered (nodes_said c.args.nodes.now) c.requires.before) c.args.place c.in-Some.parent (sym c.in-Some.ensures)
+    let nodes = nodes_said c.args.nodes.now in
+    omega (arith, ap (λ n. 1 + n) c.depth.ensures.value, depth_below nodes (ordered nodes c.requires.before) c.args.place c.in-Some.parent (sym c.in-Some.ensures))
 
 pub returns-in-Some-clause-most : goal.returns-in-Some-clause-most
 returns-in-Some-clause-most t c =

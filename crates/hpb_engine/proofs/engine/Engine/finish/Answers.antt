@@ -1,6 +1,6 @@
 use Rattle.std.proofs.Common.{List, subst}
 use Rattle.hpb_rules.specs.declared.command.Command.{Command}
-use Rattle.hpb_image.specs.Standing.{Stands}
+use Rattle.hpb_recover.specs.Standing.{Stands}
 use Rattle.hpb_engine.proofs.engine.Engine.finish.Goals as goal
 
 pub returns-clause-stands : goal.returns-clause-stands

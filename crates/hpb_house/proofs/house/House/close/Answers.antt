@@ -1,4 +1,4 @@
-use Rattle.std.proofs.Common.{◌≡◌, ◌∙◌, All, ap, sym, subst}
+use Rattle.std.proofs.Common.{◌∙◌, All, ap, sym, subst}
 use Rattle.hpb_board.specs.Publication.{Viewing}
 use Rattle.hpb_rings.specs.declared.report.Report.{Report}
 use Rattle.hpb_house.specs.Boards.{SameBoard}
@@ -12,8 +12,8 @@ settle-settled-requires-clause-board g c =
     (on_board g.J.Naming.eye g.J.Naming.clients g.J.Naming.eye.seats c.self.invariant.2 c.args.reports.now c.requires.clients)
 
 -- the reports follow the keeper's board after the last view too
-pub leave-closing-requires : goal.leave-closing-requires
-leave-closing-requires g c = λ i d lt.
+pub leave-left-requires : goal.leave-left-requires
+leave-left-requires g c = λ i d lt.
     let on = on_board g.J.Naming.eye g.J.Naming.clients g.J.Naming.eye.seats c.self.invariant.2 c.args.reports.now c.requires.clients in
     (board_after g.J.Naming.eye c.settle-settled.ensures.viewed on i d lt).0 ∙ sym c.keeper-keeper.ensures.own.book
 
@@ -21,7 +21,7 @@ leave-closing-requires g c = λ i d lt.
 pub returns-in-Ok-clause-closed : goal.returns-in-Ok-clause-closed
 returns-in-Ok-clause-closed g c =
     let own = c.keeper-keeper.ensures.own in
-    let left = c.leave-closing.ensures in
+    let left = c.leave-left.ensures in
     let seen = ap (λ (v : Viewing). v.opened) (sym c.self.view_is) in
     let opened = seen ∙ (ap (λ (v : Viewing). v.opened) c.self.invariant.0 ∙ sym own.opened) in
     let alone = apart g.J.Naming.eye g.J.Naming.clients g.J.Naming.eye.seats c.self.invariant.2 c.args.reports.now c.requires.clients in
@@ -35,7 +35,7 @@ returns-in-Ok-clause-closed g c =
 pub returns-clause-unsettled : goal.returns-clause-unsettled
 returns-clause-unsettled g c =
     let own = c.keeper-keeper.ensures.own in
-    let left = c.leave-closing.ensures in
+    let left = c.leave-left.ensures in
     let seen = ap (λ (v : Viewing). v.opened) (sym c.self.view_is) in
     let opened = seen ∙ (ap (λ (v : Viewing). v.opened) c.self.invariant.0 ∙ sym own.opened) in
     record {

@@ -1,6 +1,6 @@
 use Rattle.std.proofs.Common.{◌≡◌, [], All, sym, subst}
 use Rattle.rtrb.specs.Ring.{received}
-use Rattle.hpb_image.specs.Standing.{Stands}
+use Rattle.hpb_recover.specs.Standing.{Stands}
 use Rattle.hpb_house.proofs.starting.House+D+W+Brand.start.Goals as goal
 
 pub assemble-requires-clause-keeps : goal.assemble-requires-clause-keeps

@@ -15,7 +15,7 @@ returns-clause-alike g c state at = c.in_ok-replies.ensures.alike state (c.make_
 pub returns-in_err-replies-clause-kept : goal.returns-in_err-replies-clause-kept
 returns-in_err-replies-clause-kept g c state at =
     let rests = c.make_due_checkpoint.ensures.kept state at in
-    let told = err_from_is_err_and c.from_residual-in_err-replies.result c.from_residual-in_err-replies.ensures.1 in
+    let told = err_from_is_err_and c.from_residual.result c.from_residual.ensures.1 in
     rw told.1 (c.in_err-replies.ensures.kept state rests.0, rests.1)
 
 pub returns-clause-counted : goal.returns-clause-counted
@@ -25,4 +25,4 @@ returns-clause-counted g c not_due =
 
 pub returns-clause-anew : goal.returns-clause-anew
 returns-clause-anew g c due =
-    let zero = c.in_ok-make_due_checkpoint.ensures.due due in counted_anew _ _ _ _ zero c.count_commit-self.ensures
+    let zero = c.make_due_checkpoint.ensures.due due in counted_anew _ _ _ _ zero c.count_commit-self.ensures

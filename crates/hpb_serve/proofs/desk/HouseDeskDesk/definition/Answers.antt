@@ -1,5 +1,5 @@
 use Rattle.std.proofs.Common.{◌∙◌, ap}
-use Rattle.hpb_serve.proofs.Seen.{rules_shown}
+use Rattle.hpb_house.proofs.Histories.{rules_shown}
 use Rattle.hpb_serve.proofs.desk.HouseDeskDesk.definition.Goals as goal
 
 pub returns : goal.returns

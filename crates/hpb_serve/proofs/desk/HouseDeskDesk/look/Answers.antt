@@ -1,6 +1,6 @@
 use Rattle.std.proofs.Common.{◌≡◌, ◌∙◌, length, refl, ap}
 use Rattle.hpb_serve.proofs.Posts.{moved}
-use Rattle.hpb_serve.proofs.Seen.{rules_shown}
+use Rattle.hpb_house.proofs.Histories.{rules_shown}
 use Rattle.hpb_serve.proofs.Steps.{looked, looked_away, ring_kept}
 use Rattle.hpb_serve.proofs.desk.HouseDeskDesk.look.Goals as goal
 

@@ -1,4 +1,0 @@
-mod Agreeing
-mod Reading
-mod Standing
-mod Flawed

@@ -1,5 +1,0 @@
-use Rattle.hpb_image.proofs.Flawed as flawed
-use Rattle.hpb_image.proofs.laws.flaw_is_one.Goals as goal
-
-pub returns : goal.returns
-returns c = flawed.flaw_is_one c.heads_are_one.ensures
