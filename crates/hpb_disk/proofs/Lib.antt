@@ -6,3 +6,4 @@ pub mod GateBytes
 pub mod Runs
 pub mod Replacements
 pub mod Turns
+pub mod Crossing

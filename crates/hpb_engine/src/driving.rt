@@ -113,7 +113,8 @@ impl<D: Disk + Drop> Engine<D> {
 
 /// Takes events in order: letters are offered, and turns of commits and steps of checkpoints are made, in any order among
 /// each other. It stops at the first at which a call of the device fails (91). An offer is dropped where a batch is in
-/// flight, where no clean frame is left, and after a fault; so are turns with nothing in flight.
+/// flight, where there are new commands in it and no clean frame is left, and after a fault; so are turns with nothing in
+/// flight.
 ///
 /// What is acknowledged is never lost: whenever a crash comes, at any moment from the start on, within a call or between
 /// two, what it leaves stands for the commands that were acknowledged by then, perhaps with those of batches after them.

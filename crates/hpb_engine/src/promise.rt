@@ -17,7 +17,7 @@ use hpb_recover::{OpenFault, Opened, open};
 use hpb_rules::{fits_grow, rest_is_sound, run_is_moves, run_joins};
 use std::alloc::Global;
 
-/// Starts an engine over an opened device, and takes events in order, as `hpb_engine::drive` does: up to the first at which
+/// Starts an engine over an opened device, and takes events in order, as `drive` does: up to the first at which
 /// a call of the device fails (91).
 ///
 /// 90 where memory is refused: no event is taken, and the device is handed back as it was opened.

@@ -28,8 +28,8 @@ pub struct Closing<D: Disk + Drop> {
     pub auction: Auction,
     /// Whether a call of the device has failed (91).
     pub has_failed: bool,
-    /// The answers of the batch in flight, if one was, as it may be after such a call: none of them has left. The
-    /// device may keep its new commands.
+    /// The answers of the batch in flight, if one was, as it may be after such a call, and where a close is refused (96):
+    /// none of them has left. The device may keep its new commands.
     pub in_flight: Option<Answers>,
     /// The list of batches that was published: what it leads to is committed.
     pub published: Trail,

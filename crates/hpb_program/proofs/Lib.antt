@@ -1,5 +1,4 @@
 mod Files
-mod Crossing
 mod Cutting
 mod Doubting
 mod Ends

@@ -21,7 +21,7 @@ pub struct Ended {
     /// The answers to all of them, in their order, where there is no fault.
     pub answers: Vec<Answer>,
     /// 91, where a call of the device failed in their commit: whether they stand is open, and none is acknowledged. 93,
-    /// where one had failed before, or in the checkpoint before their commit: none was taken.
+    /// where one had failed before, or in the checkpoint before their commit, or a batch was in flight: none was taken.
     pub fault: Option<Fault>,
 }
 
@@ -83,7 +83,7 @@ fn commit_all<D: Disk + Drop>(engine: &mut Engine<D>, letters: &Letters) -> Resu
 /// is left for them, a whole checkpoint is made first, which leaves one.
 ///
 /// The fault tells why there are no answers: 91 where a call of the device failed in the commit, 93 where one failed
-/// before. Where memory is refused (90), none is taken, and what is acknowledged stays.
+/// before, and where a batch is in flight. Where memory is refused (90), none is taken, and what is acknowledged stays.
 pub fn commit_letters<D: Disk + Drop>(
     alloc: Global,
     engine: &mut Engine<D>,

@@ -1,5 +1,5 @@
 use denote.Param.Send.{sendable}
-use Rattle.hpb_house_rows.proofs.Crossing.{Memory-send}
+use Rattle.hpb_disk.proofs.Crossing.{Memory-send}
 use Rattle.hpb_house_rows.proofs.harness.run_in_memory.Goals as goal
 
 pub run_house-requires-send-D : goal.run_house-requires-send-D

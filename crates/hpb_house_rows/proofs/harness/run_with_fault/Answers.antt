@@ -1,6 +1,6 @@
 use denote.Param.Send.{sendable}
 use Rattle.std.proofs.Crossing.{crosses}
-use Rattle.hpb_house_rows.proofs.Crossing.{Memory-send, Trace-send}
+use Rattle.hpb_disk.proofs.Crossing.{Memory-send, Trace-send}
 use Rattle.hpb_house_rows.proofs.harness.run_with_fault.Goals as goal
 
 pub run_house-requires-send-D : goal.run_house-requires-send-D

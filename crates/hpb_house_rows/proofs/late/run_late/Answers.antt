@@ -1,6 +1,6 @@
 use denote.Param.Send.{sendable}
 use Rattle.std.proofs.Crossing.{crosses}
-use Rattle.hpb_house_rows.proofs.Crossing.{Memory-send, Trace-send}
+use Rattle.hpb_disk.proofs.Crossing.{Memory-send, Trace-send}
 use Rattle.hpb_house_rows.proofs.late.run_late.Goals as goal
 
 -- the device may cross to the committer's thread

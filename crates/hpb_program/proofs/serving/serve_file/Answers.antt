@@ -5,7 +5,7 @@ use Rattle.hpb_disk.specs.FileDisks.{file_failures, file_left, file_seen}
 use Rattle.hpb_program.specs.Doubts.{TellsImage}
 use Rattle.hpb_house.specs.declared.closing.Closing.{Closing}
 use Rattle.hpb_program.specs.Serving.{Ends, with_told}
-use Rattle.hpb_program.proofs.Crossing.{File-send}
+use Rattle.hpb_disk.proofs.Crossing.{File-send}
 use Rattle.hpb_program.proofs.Doubting.{told_unheld, told_unopened_file}
 use Rattle.hpb_program.proofs.serving.serve_file.Goals as goal
 

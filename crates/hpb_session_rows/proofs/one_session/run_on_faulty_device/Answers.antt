@@ -1,6 +1,6 @@
 use denote.Param.Send.{sendable}
 use Rattle.std.proofs.Crossing.{crosses}
-use Rattle.hpb_session_rows.proofs.Crossing.{Memory-send, Trace-send}
+use Rattle.hpb_disk.proofs.Crossing.{Memory-send, Trace-send}
 use Rattle.hpb_session_rows.proofs.one_session.run_on_faulty_device.Goals as goal
 
 pub run_on_house-requires-send-D : goal.run_on_house-requires-send-D
