@@ -122,8 +122,9 @@ class Between:
     """Stands between sessions and who serves them, and ends where one more command is accepted than so many."""
 
     def __init__(self, program, job, most):
-        self.left, port, self.behind = most, job.options["--port"], free_port()
+        self.left, port = most, job.options["--port"]
         self.listener = socket.create_server((ADDRESS, int(port)))
+        self.behind = free_port()
         words = [str(self.behind) if word == port else word for word in job.words]
         self.process = subprocess.Popen([program, *words], stdout=subprocess.PIPE, preexec_fn=ends_with_its_parent)
         self.process.stdout.readline()
