@@ -1,6 +1,7 @@
 //! Devices in memory, and what a stop leaves of them.
 
 use super::using::{all_of, write};
+use crate::done::Done;
 use crate::{Disk, Fate, MemoryDisk};
 use std::test::Fail;
 
@@ -120,5 +121,14 @@ fn each_call_counts_once(rt: HostRuntime) -> Result<(), Fail> {
     assert_eq!(rt; disk.len(), 4);
     let _stopped = disk.after_stop(alloc, &[])?;
     assert_eq!(rt; disk.calls(), 4);
+    Ok(())
+}
+
+/// That a value may go to another thread is proved where this is called.
+fn may_cross_threads<T: Send>(_value: &T) {}
+
+#[test]
+fn a_call_in_the_record_may_cross_threads() -> Result<(), Fail> {
+    may_cross_threads(&Done::Sync);
     Ok(())
 }
