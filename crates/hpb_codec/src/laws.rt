@@ -2,40 +2,27 @@
 ghost use Rattle.hpb_codec.specs.Laws.{BatchBegins, BatchesAreOne, CellsAreFewest, CellsAreOne, CellsBegin, ChunksAreBody, HeadsAreOne, LayoutIsNamed, RecordsAreOne, StatesAreOne};
 ghost use Rattle.hpb_codec.specs.Limits.{LimitsAre};
 
-/// A command has one record, and bytes are the record of at most one command.
-pub fn records_are_one()
-    ensures { RecordsAreOne }
-{}
-
-/// A batch has one body, and bytes are the body of at most one batch.
+/// A command has one record, a batch one body, and bytes are the record of at most one command, or the body of at most one
+/// batch, which begins with the batch's index.
 pub fn batches_are_one()
-    ensures { BatchesAreOne }
+    ensures records { RecordsAreOne }
+    ensures bodies { BatchesAreOne }
+    ensures begin { BatchBegins }
 {}
 
-/// The body of a batch begins with its index.
-pub fn batch_begins()
-    ensures { BatchBegins }
-{}
-
-/// A batch has one spelling in cells, and bytes are the cells of at most one batch.
+/// A batch has one spelling in cells, as few as hold its fields and records, and bytes are the cells of at most one batch: the
+/// body of a frame of cells begins with those of one batch at most, and with the batch's index.
 pub fn cells_are_one()
-    ensures { CellsAreOne }
-{}
-
-/// The body of a frame of cells begins with the cells of one batch at most, and with the batch's index.
-pub fn cells_begin()
-    ensures { CellsBegin }
-{}
-
-/// A batch takes as few cells as hold its fields and records.
-pub fn cells_are_fewest()
-    ensures { CellsAreFewest }
+    ensures bodies { CellsAreOne }
+    ensures begin { CellsBegin }
+    ensures fewest { CellsAreFewest }
 {}
 
 /// What is saved, with a batch index, has one body in each format, and bytes are the body of at most one such, whatever
-/// the format.
+/// the format. The chunks of a body, one behind the other, are the body.
 pub fn states_are_one()
-    ensures { StatesAreOne }
+    ensures bodies { StatesAreOne }
+    ensures chunks { ChunksAreBody }
 {}
 
 /// A definition with the shape of its journal has one head in each format of states, and bytes are the head of at most
@@ -47,11 +34,6 @@ pub fn heads_are_one()
 /// A head names the layout of its journal by the byte behind the text that it begins with.
 pub fn layout_is_named()
     ensures { LayoutIsNamed }
-{}
-
-/// The chunks of a state's body, one behind the other, are the body.
-pub fn chunks_are_body()
-    ensures { ChunksAreBody }
 {}
 
 /// Each size and each limit of the code is the number that the written format names.

@@ -30,8 +30,7 @@ pub use batch::{BATCH_SIZE, Batch, batch_index, decode_batch, encode_batch};
 pub use cells::{CELLS_SIZE, decode_cells, encode_cells};
 pub use head::{HEAD_SIZE, Head, decode_head, encode_head, has_magic};
 pub use laws::{
-    batch_begins, batches_are_one, cells_are_fewest, cells_are_one, cells_begin, chunks_are_body,
-    heads_are_one, layout_is_named, limits_are, records_are_one, states_are_one,
+    batches_are_one, cells_are_one, heads_are_one, layout_is_named, limits_are, states_are_one,
 };
 pub use layout::{
     CELL_FRAMES_STEP, JournalLayout, JournalShape, LEAST_CELL_FRAMES, LEAST_FRAMES, MOST_FRAMES,

@@ -14,24 +14,15 @@ use hpb_rules::{BidderId, MOST_BIDDERS, Offer, SavedNode};
 /// How many bytes the entry of a node has.
 pub(crate) const NODE_SIZE: usize = 24;
 
-/// The amount of a bid, 0 where there is none.
-fn amount(bid: &Option<Offer>) -> u64
-    ensures { result ≡ amount_or_zero bid.now }
+/// The amount and the bidder of a bid, both 0 where there is none.
+fn said(bid: &Option<Offer>) -> (u64, u8)
+    ensures amount { result.0 ≡ amount_or_zero bid.now }
+    ensures bidder { result.1 ≡ bidder_or_zero bid.now }
+    ensures bound { result.1 < MOST_BIDDERS }
 {
     match bid {
-        None => 0,
-        Some(offer) => offer.amount,
-    }
-}
-
-/// The bidder of a bid, 0 where there is none.
-fn bidder(bid: &Option<Offer>) -> u8
-    ensures value { result ≡ bidder_or_zero bid.now }
-    ensures bound { result < MOST_BIDDERS }
-{
-    match bid {
-        None => 0,
-        Some(offer) => offer.bidder.place() as u8,
+        None => (0, 0),
+        Some(offer) => (offer.amount, offer.bidder.place() as u8),
     }
 }
 
@@ -82,10 +73,12 @@ impl Entry for SavedNode {
     ghost sound = { HasAmounts };
 
     fn put(&self, out: &mut [u8], at: usize) -> usize {
-        let at = put_u64(out, at, amount(&self.high));
-        let at = put_u64(out, at, amount(&self.incoming));
-        let at = put_u8(out, at, bidder(&self.high));
-        let at = put_u8(out, at, bidder(&self.incoming));
+        let (high_amount, high_bidder) = said(&self.high);
+        let (incoming_amount, incoming_bidder) = said(&self.incoming);
+        let at = put_u64(out, at, high_amount);
+        let at = put_u64(out, at, incoming_amount);
+        let at = put_u8(out, at, high_bidder);
+        let at = put_u8(out, at, incoming_bidder);
         put_zeros(out, at, 6)
     }
 

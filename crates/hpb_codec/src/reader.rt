@@ -1,5 +1,5 @@
 //! Reads the field at the front of bytes, and gives what stands behind it.
-ghost use Rattle.std.specs.Prelude.{◌≡◌, ◌≤◌, ◌+◌, ◌++◌, ◌↔◌, IsTrue, EachIndex, length, slice_index};
+ghost use Rattle.std.specs.Prelude.{◌≡◌, ◌≤◌, ◌+◌, ◌++◌, ◌↔◌, IsTrue, length};
 ghost use Rattle.hpb_codec.specs.Numbers.{before, leading, number, rest, zeros};
 
 /// The byte at the front, and what stands behind it.
@@ -87,12 +87,6 @@ pub fn front_bytes(bytes: &[u8], count: usize) -> (&[u8], &[u8])
 #[tactic(auto, using(crate::proofs::Numbers::zeros_are, crate::proofs::Numbers::zero_each))]
 pub fn is_zero(bytes: &[u8]) -> bool
     ensures { IsTrue result ↔ bytes.now ≡ zeros (length bytes.now) }
-{
-    is_each_zero(bytes)
-}
-
-fn is_each_zero(bytes: &[u8]) -> bool
-    ensures { IsTrue result ↔ EachIndex bytes.now (λ k. slice_index bytes.now k ≡ 0) }
 {
     // Without a way out the loop takes many bytes at a time.
     let mut greatest = 0;

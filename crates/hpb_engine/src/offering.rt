@@ -105,14 +105,13 @@ impl<D: Disk + Drop> Engine<D> {
         ensures disk { self.new.disk ≡ self.old.disk }
         ensures failed { self.new.failed ≡ self.old.failed }
     {
-        match self.bars(&letters) {
-            Some(Bar::Failed) => Begun::Failed(letters),
-            Some(Bar::Busy) => Begun::Busy(letters),
-            Some(Bar::Full) => Begun::Full(letters),
-            None => match self.take(&letters) {
-                Some(answers) => Begun::Answered(answers),
-                None => Begun::InFlight,
-            },
+        let mut leaving = Answers::new();
+        match self.offer(&letters, &mut leaving) {
+            Weight::Failed => Begun::Failed(letters),
+            Weight::Busy => Begun::Busy(letters),
+            Weight::Old => Begun::Answered(leaving),
+            Weight::Full => Begun::Full(letters),
+            Weight::New => Begun::InFlight,
         }
     }
 
@@ -126,7 +125,9 @@ impl<D: Disk + Drop> Engine<D> {
         ensures leaving { (machine : Machine) → Keeps D.seen D.may_leave self.old.disk self.old.progress self.old.failed machine
             → leaving.new ≡ (offer_by (begun_of result letters.now leaving.new) self.old.progress.committed.rules machine letters.now).leaving }
         ensures weight { Weighs self.old.failed self.old.progress letters.now result }
+        ensures judged { AreJudged (begun_of result letters.now leaving.new) letters.now self.old.progress self.new.progress }
         ensures stays { StaysUnlessInFlight (begun_of result letters.now leaving.new) self.old.progress self.new.progress }
+        ensures committed { self.new.progress.committed ≡ self.old.progress.committed }
         ensures disk { self.new.disk ≡ self.old.disk }
         ensures failed { self.new.failed ≡ self.old.failed }
     {

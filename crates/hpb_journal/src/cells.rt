@@ -13,7 +13,7 @@ ghost use Rattle.hpb_journal.specs.declared.limits.TheConstants.{JOURNAL_AT, CEL
 use crate::limits::{BODY_AT, CELL_FRAME_BYTES, JOURNAL_AT};
 use crate::three_cells::in_cells;
 use crate::{Frame, Frames};
-use hpb_codec::{Batch, CELLS_SIZE, cells_begin, encode_cells};
+use hpb_codec::{Batch, CELLS_SIZE, cells_are_one, encode_cells};
 use hpb_disk::{
     Disk, DiskFailed, close_gate, elsewhere_stays, open_gate, put_is_read, put_is_torn,
 };
@@ -125,6 +125,6 @@ impl Frames for CellFrames {
     }
 
     fn laws(&self) {
-        cells_begin();
+        cells_are_one();
     }
 }

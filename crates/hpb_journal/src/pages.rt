@@ -6,7 +6,7 @@ ghost use Rattle.hpb_journal.specs.declared.limits.TheConstants.{JOURNAL_AT, PAG
 use crate::limits::{BODY_AT, JOURNAL_AT, PAGE_BYTES};
 use crate::page::frame_in;
 use crate::{Frame, Frames};
-use hpb_codec::{BATCH_SIZE, Batch, batch_begins, batches_are_one, encode_batch};
+use hpb_codec::{BATCH_SIZE, Batch, batches_are_one, encode_batch};
 use hpb_disk::{
     Disk, DiskFailed, close_gate, elsewhere_stays, open_gate, put_is_read, put_is_torn,
 };
@@ -97,6 +97,5 @@ impl Frames for PageFrames {
 
     fn laws(&self) {
         batches_are_one();
-        batch_begins();
     }
 }

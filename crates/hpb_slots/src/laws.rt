@@ -1,7 +1,7 @@
 //! The laws of slots.
 ghost use Rattle.hpb_slots.specs.Laws.{ChunksAreWhole, HoldsOne, NewestIsOne, OpenOrClosed, SlotsStay};
 
-use hpb_codec::{chunks_are_body, states_are_one};
+use hpb_codec::states_are_one;
 
 /// Each slot is open or closed.
 pub fn open_or_closed()
@@ -28,7 +28,7 @@ pub fn newest_is_one()
 pub fn chunks_are_whole()
     ensures { ChunksAreWhole }
 {
-    chunks_are_body();
+    states_are_one();
 }
 
 /// Slots stay where their bytes do.

@@ -16,7 +16,7 @@ use crate::draft::Draft;
 use crate::fault::DefinitionFault;
 use limits::is_over_limits;
 use names::{has_bad_name, has_duplicate};
-use ranges::{has_bad_number, lacks_something};
+use ranges::has_bad_number;
 use shape::{has_late_parent, has_parted_licence, has_thin_package};
 use std::alloc::{AllocError, Global};
 use terms::has_bad_terms;
@@ -44,7 +44,7 @@ fn first_fault(alloc: Global, draft: &Draft) -> Result<Option<DefinitionFault>, 
     if has_bad_number(draft) {
         return Ok(Some(DefinitionFault::Number));
     }
-    if lacks_something(draft) {
+    if draft.nodes.is_empty() || draft.bidders.is_empty() || draft.stages.is_empty() {
         return Ok(Some(DefinitionFault::Empty));
     }
     if has_bad_name(draft) {

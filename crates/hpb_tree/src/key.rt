@@ -44,34 +44,15 @@ impl NameKey {
         requires word { WORD ≤ length bytes.now }
         ensures { result ≡ key_of (take len bytes.now) }
     {
+        let word = u64::from_be_bytes([
+            bytes[0], bytes[1], bytes[2], bytes[3], bytes[4], bytes[5], bytes[6], bytes[7],
+        ]);
         NameKey {
             len,
-            first: word_front(bytes, len),
+            first: word >> (8 * (WORD - len)),
             rest: 0,
         }
     }
-}
-
-/// The number that so many first bytes spell, out of the number of the first eight.
-#[inline(always)]
-fn word_front(bytes: &[u8], len: usize) -> u64
-    requires some { 0 < len }
-    requires most { len ≤ WORD }
-    requires word { WORD ≤ length bytes.now }
-    ensures { result ≡ number (take len bytes.now) }
-{
-    word(bytes) >> (8 * (WORD - len))
-}
-
-/// The number that the first eight bytes spell.
-#[inline(always)]
-fn word(bytes: &[u8]) -> u64
-    requires { WORD ≤ length bytes.now }
-    ensures { result ≡ number (take WORD bytes.now) }
-{
-    u64::from_be_bytes([
-        bytes[0], bytes[1], bytes[2], bytes[3], bytes[4], bytes[5], bytes[6], bytes[7],
-    ])
 }
 
 /// The number that the first bytes spell, as many as one number takes.

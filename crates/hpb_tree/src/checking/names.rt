@@ -52,11 +52,7 @@ fn is_name(name: &str) -> bool
 fn has_name_bytes(bytes: &[u8]) -> bool
     ensures { result ≡ list_all is_name_byte bytes.now }
 {
-    bytes.iter().all(|byte| is_name_byte(*byte))
-}
-
-fn is_name_byte(byte: u8) -> bool
-    ensures { result ≡ is_name_byte byte }
-{
-    (b'a' <= byte && byte <= b'z') || (b'0' <= byte && byte <= b'9') || byte == b'_'
+    bytes.iter().all(|byte| (b'a' <= *byte && *byte <= b'z')
+        || (b'0' <= *byte && *byte <= b'9')
+        || *byte == b'_')
 }

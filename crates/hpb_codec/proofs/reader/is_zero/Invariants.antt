@@ -1,6 +1,6 @@
 use Rattle.std.proofs.Common.{◌≡◌, ◌<◌, ℕ}
 use Rattle.std.specs.Prelude.{slice_index, EachIndex}
-use Rattle.hpb_codec.proofs.reader.is_each_zero.Given as goal
+use Rattle.hpb_codec.proofs.reader.is_zero.Given as goal
 
 abbrev pub invariant-loop-byte : goal.invariant-loop-byte
 invariant-loop-byte l = record {
