@@ -1,194 +1,129 @@
+ghost use Rattle.std.specs.Prelude.{◌<◌};
+
 use crate::{Auction, Judged, accepts_any, judge_letters};
 use hpb_rules::{Answer, BidderId, Command, Letter, Letters, NodeId, Refusal, Reply};
 use hpb_tree::{BidderDraft, Definition, Draft, NodeDraft, TermsDraft};
 use std::alloc::{AllocError, Global};
 use std::test::*;
 
-fn node(
-    alloc: Global,
-    name: &str,
-    parent: Option<u64>,
-    units: Option<u64>,
-) -> Result<NodeDraft, AllocError> {
-    Ok(NodeDraft {
-        name: String::from_str(alloc, name)?,
-        parent,
-        terms: units.map(|units| TermsDraft {
-            units,
-            opening: 100,
-        }),
-    })
+/// The licences `a` 0 and `b` 1, of 10 units each.
+fn nodes(alloc: Global) -> Result<Vec<NodeDraft>, AllocError> {
+    let mut nodes = Vec::new(alloc);
+    for name in ["a", "b"] {
+        nodes.push(NodeDraft {
+            name: String::from_str(alloc, name)?,
+            parent: None,
+            terms: Some(TermsDraft {
+                units: 10,
+                opening: 100,
+            }),
+        })?;
+    }
+    Ok(nodes)
 }
 
-/// An auction before its first command, of six nodes, four bidders and two stages: `all` 0 has `east` 1 and the licence
-/// `c` 4, `east` has the licences `a` 2 and `b` 3, and the licence `d` 5 stands alone.
-fn six_nodes(alloc: Global) -> Result<Auction, Fail> {
-    let mut draft = Draft {
+/// The bidders `x` 0 and `y` 1, with 10 units each.
+fn bidders(alloc: Global) -> Result<Vec<BidderDraft>, AllocError> {
+    let mut bidders = Vec::new(alloc);
+    for name in ["x", "y"] {
+        let name = String::from_str(alloc, name)?;
+        bidders.push(BidderDraft { name, units: 10 })?;
+    }
+    Ok(bidders)
+}
+
+fn two_licences(alloc: Global) -> Result<Box<Definition>, Fail> {
+    let stages = vec![in alloc; 80, 95]?;
+    let nodes = nodes(alloc)?;
+    let bidders = bidders(alloc)?;
+    let draft = Draft {
         step: 10,
         percent: 10,
-        stages: vec![in alloc; 80, 95]?,
+        stages,
         waivers: 0,
-        nodes: Vec::new(alloc),
-        bidders: Vec::new(alloc),
+        nodes,
+        bidders,
     };
-    draft.nodes.push(node(alloc, "all", None, None)?)?;
-    draft.nodes.push(node(alloc, "east", Some(0), None)?)?;
-    draft.nodes.push(node(alloc, "a", Some(1), Some(10))?)?;
-    draft.nodes.push(node(alloc, "b", Some(1), Some(10))?)?;
-    draft.nodes.push(node(alloc, "c", Some(0), Some(20))?)?;
-    draft.nodes.push(node(alloc, "d", None, Some(5))?)?;
-    for (name, units) in [("x", 10), ("y", 10), ("z", 40), ("w", 25)] {
-        let name = String::from_str(alloc, name)?;
-        draft.bidders.push(BidderDraft { name, units })?;
-    }
-    let definition = Definition::check(alloc, &draft)?;
-    Ok(Auction::new(alloc, &definition)?)
+    let definition = Definition::check(alloc, &draft);
+    drop(draft);
+    Ok(Box::new(alloc, definition?)?)
 }
 
-/// A bid of `x`, which is bidder 0, on `a`, which is node 2.
-fn bid_of_x(ticket: u32, amount: u64) -> Letter {
+/// An auction before its first command, of two licences and two bidders.
+fn new_auction(alloc: Global) -> Result<Box<Auction>, Fail> {
+    let definition = two_licences(alloc)?;
+    let auction = Auction::new(alloc, &definition);
+    drop(definition);
+    Ok(Box::new(alloc, auction?)?)
+}
+
+/// A bid of `x` on `a`, by number 0, or of `y` on `b`, by number 1.
+fn bid(number: u8, ticket: u32, amount: u64) -> Letter
+    requires { number < 2 }
+{
     Letter {
-        seat: 0,
+        seat: number,
         command: Command::Bid {
-            bidder: BidderId::new(0),
+            bidder: BidderId::new(number as usize),
             ticket,
-            node: NodeId::new(2),
+            node: NodeId::new(number as usize),
             amount,
         },
     }
 }
 
-/// A bid of `y`, which is bidder 1, on `b`, which is node 3.
-fn bid_of_y(ticket: u32, amount: u64) -> Letter {
-    Letter {
-        seat: 1,
-        command: Command::Bid {
-            bidder: BidderId::new(1),
-            ticket,
-            node: NodeId::new(3),
-            amount,
-        },
-    }
-}
+/// A letter, how many commands were accepted before it, and its reply.
+type Row = (Letter, u32, Reply);
 
-fn list_of(items: &[Letter]) -> Letters {
+fn list_of(rows: &[Row]) -> Letters {
     let mut letters = Letters::new();
-    for item in items {
-        let _ = letters.push(*item);
+    for (letter, _, _) in rows {
+        let _ = letters.push(*letter);
     }
     letters
 }
 
-fn is_any_new(auction: &Auction, items: &[Letter]) -> bool {
-    accepts_any(auction, &list_of(items))
-}
-
-fn judge(auction: &mut Auction, items: &[Letter]) -> Judged {
-    judge_letters(auction, &list_of(items))
-}
-
-fn are_answers(judged: &Judged, wanted: &[(Letter, u32, Reply)]) -> bool {
-    let mut same = judged.answers.len() == wanted.len();
-    for (place, (letter, at, reply)) in wanted.iter().enumerate() {
-        let answer = Answer {
-            letter: *letter,
-            at: *at,
-            reply: *reply,
-        };
-        same &= judged.answers.get(place) == Some(answer);
-    }
-    same
-}
-
-fn are_commands(judged: &Judged, wanted: &[Letter]) -> bool {
-    let mut same = judged.commands.len() == wanted.len();
-    for (place, letter) in wanted.iter().enumerate() {
-        same &= judged.commands.get(place) == Some(letter.command);
-    }
-    same
+/// Whether the answer at a place is that of a row.
+fn is_answer(judged: &Judged, place: usize, row: &Row) -> bool {
+    let (letter, at, reply) = *row;
+    judged.answers.get(place) == Some(Answer { letter, at, reply })
 }
 
 #[test]
-fn second_bid_on_a_node_is_refused(rt: HostRuntime) -> Result<(), Fail> {
-    let mut auction = six_nodes(rt.alloc())?;
-    let bids = [bid_of_x(1, 100), bid_of_x(2, 120)];
-    assert!(rt; is_any_new(&auction, &bids));
-    let judged = judge(&mut auction, &bids);
-    let again = Reply::Refused(Refusal::Again);
-    assert!(rt; are_answers(&judged, &[(bids[0], 0, Reply::Ok(1)), (bids[1], 1, again)]));
-    assert!(rt; are_commands(&judged, &bids[..1]));
+fn letters_are_judged_one_after_another(rt: HostRuntime) -> Result<(), Fail> {
+    let rows = [
+        (bid(0, 3, 100), 0, Reply::Refused(Refusal::Gap)),
+        (bid(0, 1, 105), 0, Reply::Refused(Refusal::Step)),
+        (bid(1, 1, 100), 0, Reply::Ok(1)),
+        // A repeat, and a second bid on a node.
+        (bid(1, 1, 100), 1, Reply::Ok(1)),
+        (bid(1, 2, 120), 1, Reply::Refused(Refusal::Again)),
+    ];
+    let list = list_of(&rows);
+    let mut auction = new_auction(rt.alloc())?;
+    assert!(rt; !accepts_any(&auction, &list_of(&rows[..2])));
+    assert!(rt; accepts_any(&auction, &list));
+    let judged = judge_letters(&mut auction, &list);
+    assert_eq!(rt; judged.answers.len(), 5);
+    for (place, row) in rows.iter().enumerate() {
+        assert!(rt; is_answer(&judged, place, row), "{place}");
+    }
+    assert_eq!(rt; judged.commands.len(), 1);
+    assert!(rt; judged.commands.get(0) == Some(rows[2].0.command));
+    assert!(rt; !accepts_any(&auction, &list));
     assert_eq!(rt; auction.count(), 1);
-    Ok(())
-}
-
-#[test]
-fn repeat_is_answered_and_left_out(rt: HostRuntime) -> Result<(), Fail> {
-    let mut auction = six_nodes(rt.alloc())?;
-    let first = [bid_of_x(1, 100), bid_of_y(1, 150)];
-    let judged = judge(&mut auction, &first);
-    assert!(rt;
-        are_answers(
-            &judged,
-            &[(first[0], 0, Reply::Ok(1)), (first[1], 1, Reply::Ok(2))]
-        )
-    );
-    assert!(rt; are_commands(&judged, &first));
-    let repeat = [bid_of_x(1, 100)];
-    assert!(rt; !is_any_new(&auction, &repeat));
-    let judged = judge(&mut auction, &repeat);
-    assert!(rt; are_answers(&judged, &[(repeat[0], 2, Reply::Ok(1))]));
-    assert!(rt; are_commands(&judged, &[]));
-    assert_eq!(rt; auction.count(), 2);
-    Ok(())
-}
-
-#[test]
-fn last_of_three_is_new(rt: HostRuntime) -> Result<(), Fail> {
-    let mut auction = six_nodes(rt.alloc())?;
-    let letters = [bid_of_x(3, 100), bid_of_x(1, 105), bid_of_y(1, 100)];
-    assert!(rt; !is_any_new(&auction, &letters[..2]));
-    assert!(rt; is_any_new(&auction, &letters));
-    let judged = judge(&mut auction, &letters);
-    let gap = Reply::Refused(Refusal::Gap);
-    let step = Reply::Refused(Refusal::Step);
-    assert!(rt;
-        are_answers(
-            &judged,
-            &[
-                (letters[0], 0, gap),
-                (letters[1], 0, step),
-                (letters[2], 0, Reply::Ok(1))
-            ]
-        )
-    );
-    assert!(rt; are_commands(&judged, &[letters[2]]));
-    Ok(())
-}
-
-#[test]
-fn no_letter_changes_nothing(rt: HostRuntime) -> Result<(), Fail> {
-    let mut auction = six_nodes(rt.alloc())?;
-    assert!(rt; !is_any_new(&auction, &[]));
-    let judged = judge(&mut auction, &[]);
-    assert!(rt; are_answers(&judged, &[]));
-    assert!(rt; are_commands(&judged, &[]));
-    assert_eq!(rt; auction.count(), 0);
     Ok(())
 }
 
 /// 64 letters: `x` bids once, and then sends the same 63 times more.
 #[test]
 fn list_may_be_full(rt: HostRuntime) -> Result<(), Fail> {
-    let mut auction = six_nodes(rt.alloc())?;
-    let letters = [bid_of_x(1, 100); 64];
-    let judged = judge(&mut auction, &letters);
+    let row = (bid(0, 1, 100), 1, Reply::Ok(1));
+    let list = list_of(&[row; 64]);
+    let mut auction = new_auction(rt.alloc())?;
+    let judged = judge_letters(&mut auction, &list);
     assert_eq!(rt; judged.answers.len(), 64);
-    let last = Answer {
-        letter: letters[0],
-        at: 1,
-        reply: Reply::Ok(1),
-    };
-    assert!(rt; judged.answers.get(63) == Some(last));
-    assert!(rt; are_commands(&judged, &letters[..1]));
+    assert!(rt; is_answer(&judged, 63, &row));
+    assert_eq!(rt; judged.commands.len(), 1);
     Ok(())
 }

@@ -1,151 +1,62 @@
 use super::*;
 use Refusal::{Children, Duplicate, Empty, Field, Json, Leaf, Limits, Name, Number, Parent, Terms};
-use hpb_rules::{NodeId, Refusal};
-use hpb_tree::{Definition, DefinitionFault};
+use hpb_rules::Refusal;
+use hpb_tree::DefinitionFault;
 use std::alloc::{AllocError, Global};
 use std::test::Fail;
 
 const WORKED: &str =
     r#"{"step":10,"percent":10,"stages":[80,95],"nodes":[{"name":"all","parent":null},{"name":"east","parent":"all"},{"name":"a","parent":"east","units":10,"opening":100},{"name":"b","parent":"east","units":10,"opening":100},{"name":"c","parent":"all","units":20,"opening":100},{"name":"d","parent":null,"units":5,"opening":100}],"bidders":[{"name":"x","units":10},{"name":"y","units":10},{"name":"z","units":40},{"name":"w","units":25}]}"#;
 
-static REFUSED: [(&str, Refusal); 12] = [
+static REFUSED: [(&str, Refusal); 4] = [
     ("", Json),
-    (" ", Json),
-    ("{", Json),
     ("\u{feff}{}", Json),
-    ("\u{a0}{}", Json),
-    ("\u{c}{}", Json),
-    ("{}\0", Json),
     ("{}{}", Json),
-    ("{}", Field),
     ("[]", Field),
-    ("null", Field),
-    ("10.0", Field),
 ];
 
-static CHANGED: [(&str, &str, Refusal); 51] = [
-    // No number that JSON has, also beside and inside fields that are unknown.
+// A text of the worked definition, what is put in its place, and by which refusal it is refused then.
+static CHANGED: [(&str, &str, Refusal); 18] = [
+    // A number that JSON hasn't, and one that is too large for it inside a field that is unknown.
     (r#""percent":10"#, r#""percent":010"#, Json),
-    (r#""percent":10"#, r#""percent":+1"#, Json),
-    (r#""percent":10"#, r#""percent":.5"#, Json),
-    (r#""percent":10"#, r#""percent":1e999"#, Json),
     (r#""step":10"#, r#""note":[1e999]"#, Json),
-    // Fields.
+    // Fields: unknown, missing, of another type, and one of two that a licence has.
     (r#""step":10"#, r#""step":10,"note":1"#, Field),
-    (r#""step":10"#, r#""step":"10""#, Field),
-    (r#""step":10,"percent":10"#, r#""percent":10.0"#, Field),
-    ("[80,95]", r#"[80,"95"]"#, Field),
-    ("[80,95]", "80", Field),
-    (r#"{"name":"all","parent":null}"#, "null", Field),
-    (
-        r#"{"name":"all","parent":null}"#,
-        r#"{"name":"all"}"#,
-        Field,
-    ),
-    (r#""parent":"all""#, r#""parent":0"#, Field),
-    (r#""parent":"all""#, r#""parent":"all","units":10"#, Field),
-    (
-        r#""parent":"all""#,
-        r#""parent":"all","opening":100"#,
-        Field,
-    ),
-    (
-        r#""parent":"all""#,
-        r#""parent":"all","units":null,"opening":null"#,
-        Field,
-    ),
     (r#"{"name":"x","units":10}"#, r#"{"name":"x"}"#, Field),
-    (
-        r#"{"name":"x","units":10}"#,
-        r#"{"name":"x","units":10,"parent":null}"#,
-        Field,
-    ),
     (r#""step":10"#, r#""step":10,"waivers":null"#, Field),
-    (r#""step":10"#, r#""step":10,"waivers":"1""#, Field),
-    // Numbers.
-    (r#""step":10"#, r#""step":10,"waivers":21"#, Number),
-    (r#""step":10"#, r#""step":10,"waivers":-1"#, Number),
-    (r#""step":10"#, r#""step":10,"waivers":1.0"#, Number),
-    (r#""percent":10"#, r#""percent":-0"#, Number),
-    (r#""percent":10"#, r#""percent":-1"#, Number),
+    (r#""parent":"all""#, r#""parent":"all","units":10"#, Field),
+    // Numbers that aren't whole, don't fit 64 bits, or are out of range.
     (r#""percent":10"#, r#""percent":10.0"#, Number),
-    (r#""percent":10"#, r#""percent":1e1"#, Number),
-    (r#""percent":10"#, r#""percent":0e999"#, Number),
-    (r#""percent":10"#, r#""percent":1e-400"#, Number),
-    (
-        r#""percent":10"#,
-        r#""percent":18446744073709551616"#,
-        Number,
-    ),
-    (
-        r#""percent":10"#,
-        r#""percent":18446744073709551615"#,
-        Number,
-    ),
     (r#""units":5"#, r#""units":18446744073709551616"#, Number),
-    (
-        r#""units":5,"opening":100"#,
-        r#""units":5,"opening":100.0"#,
-        Number,
-    ),
-    (
-        r#""name":"w","units":25"#,
-        r#""name":"w","units":25e0"#,
-        Number,
-    ),
-    ("[80,95]", "[49]", Number),
-    ("[80,95]", "[80,80,80,80,101]", Number),
+    (r#""step":10"#, r#""step":10,"waivers":21"#, Number),
     // Rules of definitions.
     ("[80,95]", "[]", Empty),
     (r#""name":"d""#, r#""name":"D""#, Name),
-    (r#""name":"d""#, r#""name":"seventeen_bytes__""#, Name),
-    (r#""name":"d""#, r#""name":"""#, Name),
     (r#""name":"d""#, r#""name":"a""#, Duplicate),
     (r#""parent":"all""#, r#""parent":"al""#, Parent),
-    (r#""parent":"all""#, r#""parent":"east""#, Parent),
     (r#""parent":"all""#, r#""parent":"d""#, Parent),
-    (r#""parent":"all""#, r#""parent":"""#, Parent),
+    (r#""parent":"east""#, r#""parent":"all""#, Children),
     (
-        r#""units":5,"opening":100"#,
-        r#""units":5,"opening":100},{"name":"e","parent":null"#,
-        Children,
-    ),
-    (
-        r#""name":"all","parent":null"#,
-        r#""name":"all","parent":null,"units":1,"opening":100"#,
+        r#""parent":null"#,
+        r#""parent":null,"units":1,"opening":100"#,
         Leaf,
     ),
     ("[80,95]", "[80,80,80,80,80]", Limits),
-    (
-        r#""units":5,"opening":100"#,
-        r#""units":0,"opening":100"#,
-        Terms,
-    ),
-    (
-        r#""units":5,"opening":100"#,
-        r#""units":5,"opening":105"#,
-        Terms,
-    ),
-    (
-        r#""units":5,"opening":100"#,
-        r#""units":18446744073709551615,"opening":100"#,
-        Terms,
-    ),
+    (r#""units":5"#, r#""units":0"#, Terms),
 ];
 
-static SPELLED: [(&str, &str); 6] = [
+static SPELLED: [(&str, &str); 4] = [
     (r#"{"step""#, " \t\r{\"step\""),
     (r#""name":"a""#, r#""n\u0061me":"\u0061""#),
-    (r#""name":"x""#, r#""name":"a""#),
     (r#""step":10,"percent":10"#, r#""percent":10,"step":10"#),
-    (r#""step":10"#, r#""step":10,"waivers":0"#),
     (r#""step":10"#, r#""waivers":20,"step":10"#),
 ];
 
-fn refusal(alloc: Global, text: &str) -> Option<Refusal> {
-    read_definition(alloc, text.as_bytes())
-        .err()
-        .map(|fault| fault.refusal())
+fn refusal(alloc: Global, text: &[u8]) -> Option<Refusal> {
+    match read_definition(alloc, text) {
+        Ok(_) => None,
+        Err(fault) => Some(fault.refusal()),
+    }
 }
 
 /// How many bytes a definition has at most, by the written rules.
@@ -174,15 +85,14 @@ fn nested(alloc: Global, depth: usize) -> Result<String, AllocError> {
 fn hostile_definitions(rt: HostRuntime) -> Result<(), Fail> {
     let alloc = rt.alloc();
     let most = padded(alloc, WORKED, MOST_BYTES)?;
-    assert_eq!(rt; refusal(alloc, most.as_str()), None);
+    assert_eq!(rt; refusal(alloc, most.as_bytes()), None);
     let long = padded(alloc, WORKED, MOST_BYTES + 1)?;
-    assert_eq!(rt; refusal(alloc, long.as_str()), Some(Json));
+    assert_eq!(rt; refusal(alloc, long.as_bytes()), Some(Json));
     let deepest = nested(alloc, 127)?;
-    assert_eq!(rt; refusal(alloc, deepest.as_str()), Some(Field));
+    assert_eq!(rt; refusal(alloc, deepest.as_bytes()), Some(Field));
     let deep = nested(alloc, 128)?;
-    assert_eq!(rt; refusal(alloc, deep.as_str()), Some(Json));
-    let refused = read_definition(alloc, b"{\"step\":\"\xff\"}").err();
-    assert_eq!(rt; refused.map(|fault| fault.cause), Some(DefineCause::Json));
+    assert_eq!(rt; refusal(alloc, deep.as_bytes()), Some(Json));
+    assert_eq!(rt; refusal(alloc, b"{\"step\":\"\xff\"}"), Some(Json));
     Ok(())
 }
 
@@ -190,7 +100,7 @@ fn hostile_definitions(rt: HostRuntime) -> Result<(), Fail> {
 fn refused_definitions(rt: HostRuntime) {
     let alloc = rt.alloc();
     for (text, refused) in &REFUSED {
-        assert_eq!(rt; refusal(alloc, text), Some(*refused), "{text}");
+        assert_eq!(rt; refusal(alloc, text.as_bytes()), Some(*refused), "{text}");
     }
 }
 
@@ -200,7 +110,7 @@ fn refused_definitions_one_change(rt: HostRuntime) -> Result<(), Fail> {
     let alloc = rt.alloc();
     for (old, new, refused) in &CHANGED {
         let text = WORKED.replacen(alloc, *old, new, 1)?;
-        assert_eq!(rt; refusal(alloc, text.as_str()), Some(*refused), "{new}");
+        assert_eq!(rt; refusal(alloc, text.as_bytes()), Some(*refused), "{new}");
     }
     Ok(())
 }
@@ -211,7 +121,7 @@ fn accepted_spellings(rt: HostRuntime) -> Result<(), Fail> {
     for (old, new) in &SPELLED {
         let text = WORKED.replacen(alloc, *old, new, 1)?;
         assert!(rt; text.as_str() != WORKED, "{old} is not there");
-        assert_eq!(rt; refusal(alloc, text.as_str()), None, "{new}");
+        assert_eq!(rt; refusal(alloc, text.as_bytes()), None, "{new}");
     }
     Ok(())
 }
@@ -242,73 +152,29 @@ fn faults_have_the_words_of_their_refusals(rt: HostRuntime) -> Result<(), Fail> 
     Ok(())
 }
 
-// The place, the parent's place, the units, the opening and the licences of a node.
-type NodeRow = (usize, Option<usize>, u32, u64, u64);
-
-static NODES: [(&str, NodeRow); 6] = [
-    ("all", (0, None, 40, 300, 7)),
-    ("east", (1, Some(0), 20, 200, 3)),
-    ("a", (2, Some(1), 10, 100, 1)),
-    ("b", (3, Some(1), 10, 100, 2)),
-    ("c", (4, Some(0), 20, 100, 4)),
-    ("d", (5, None, 5, 100, 8)),
-];
-
-static BIDDERS: [(&str, (usize, u32)); 4] = [
-    ("x", (0, 10)),
-    ("y", (1, 10)),
-    ("z", (2, 40)),
-    ("w", (3, 25)),
-];
-
-fn node_row(definition: &Definition, name: &str) -> Option<NodeRow> {
-    let node = definition.find_node(name.as_bytes())?;
-    let tree = definition.tree();
-    Some((
-        node.place(),
-        tree.parent(node).map(NodeId::place),
-        tree.units(node),
-        tree.opening(node),
-        tree.licences(node),
-    ))
-}
-
-fn bidder_row(definition: &Definition, name: &str) -> Option<(usize, u32)> {
-    let bidder = definition.find_bidder(name.as_bytes())?;
-    Some((bidder.place(), definition.bidder_units(bidder)))
-}
-
 #[test]
 fn worked_definition(rt: HostRuntime) -> Result<(), Fail> {
-    let definition = read_definition(rt.alloc(), WORKED.as_bytes())?;
-    assert_eq!(rt; (definition.step(), definition.tree().percent()), (10, 10));
+    let alloc = rt.alloc();
+    let text = WORKED.replacen(alloc, r#""step":10"#, r#""step":10,"waivers":20"#, 1)?;
+    let definition = read_definition(alloc, text.as_bytes())?;
+    assert_eq!(rt; (definition.step(), definition.waivers()), (10, 20));
     assert_eq!(rt; definition.stages(), [80, 95].as_slice());
     assert_eq!(rt;
         (definition.node_count(), definition.bidder_count()),
         (6, 4)
     );
-    for (name, row) in &NODES {
-        assert_eq!(rt; node_row(&definition, name), Some(*row), "{name}");
+    let tree = definition.tree();
+    assert_eq!(rt; tree.percent(), 10);
+    match definition.find_node(b"east") {
+        Some(east) => {
+            assert_eq!(rt; (tree.units(east), tree.opening(east)), (20, 200));
+            assert_eq!(rt; tree.licences(east), 3);
+        }
+        None => assert!(rt; false),
     }
-    for (name, row) in &BIDDERS {
-        assert_eq!(rt; bidder_row(&definition, name), Some(*row), "{name}");
-    }
-    Ok(())
-}
-
-#[test]
-fn waivers_of_definitions(rt: HostRuntime) -> Result<(), Fail> {
-    let alloc = rt.alloc();
-    for (field, wanted) in [
-        ("", 0),
-        (r#""waivers":0,"#, 0),
-        (r#""waivers":1,"#, 1),
-        (r#""waivers":20,"#, 20),
-    ] {
-        let fields = format!(in alloc; "{{{field}\"step\"")?;
-        let text = WORKED.replacen(alloc, r#"{"step""#, fields.as_str(), 1)?;
-        let definition = read_definition(alloc, text.as_bytes())?;
-        assert_eq!(rt; definition.waivers(), wanted, "{field}");
+    match definition.find_bidder(b"z") {
+        Some(z) => assert_eq!(rt; definition.bidder_units(z), 40),
+        None => assert!(rt; false),
     }
     Ok(())
 }

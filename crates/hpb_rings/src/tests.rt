@@ -2,22 +2,47 @@ use super::*;
 use hpb_rules::{Command, Letter, Letters};
 use rtrb::Producer;
 use std::alloc::{AllocError, Global};
+use std::process::Abort;
 use std::test::Fail;
 
-/// A seat, by both ends of its ring of letters.
-fn make_seat(alloc: Global) -> Result<(Producer<Slip>, Ring<u8>), AllocError> {
+/// Where the clients of seats post letters, by their numbers.
+type Seats = Vec<Producer<Slip>>;
+
+/// Makes one more seat.
+fn add_seat(alloc: Global, seats: &mut Seats, rings: &mut Vec<Ring<u8>>) -> Result<(), AllocError> {
     let (ends, ring) = seat_rings(alloc)?;
     let Ends { letters, .. } = ends;
-    Ok((letters, ring))
+    rings.push(ring)?;
+    seats.push(letters)?;
+    Ok(())
 }
 
-/// Posts a letter, as the client of a seat does.
-fn post(letters: &mut Producer<Slip>, seat: u8) {
+/// So many seats, 32 at most, and the intake over their rings.
+fn make_seats(
+    rt: &impl Abort,
+    alloc: Global,
+    count: usize,
+) -> Result<(Seats, Intake<u8>), AllocError> {
+    let mut seats = Vec::new(alloc);
+    let mut rings = Vec::new(alloc);
+    for _ in 0..count {
+        add_seat(alloc, &mut seats, &mut rings)?;
+    }
+    assert!(rt; rings.len() <= 32);
+    Ok((seats, Intake::new(rings)))
+}
+
+/// Posts so many letters, as the client of a seat does. Those for which there is no room are lost.
+fn post(seats: &mut Seats, seat: u8, count: usize) {
     let letter = Letter {
         seat,
         command: Command::Close { ticket: 1 },
     };
-    let _ = letters.push(Slip::of(&letter));
+    if let Some(letters) = seats.get_mut(seat as usize) {
+        for _ in 0..count {
+            let _ = letters.push(Slip::of(&letter));
+        }
+    }
 }
 
 /// Whose letter stands at a place.
@@ -28,34 +53,24 @@ fn seat_at(letters: &Letters, place: usize) -> Option<u8> {
     }
 }
 
-/// The seats of the letters that are gathered, in their order.
-fn gathered(intake: &mut Intake<u8>) -> [Option<u8>; 4] {
-    let letters = intake.gather();
-    [
-        seat_at(&letters, 0),
-        seat_at(&letters, 1),
-        seat_at(&letters, 2),
-        seat_at(&letters, 3),
-    ]
+/// Whether letters are those of these seats, in their order.
+fn are_of(letters: &Letters, seats: &[u8]) -> bool {
+    let mut same = letters.len() == seats.len();
+    for (place, seat) in seats.iter().enumerate() {
+        same &= seat_at(letters, place) == Some(*seat);
+    }
+    same
 }
 
 /// Three seats with a letter each: another one comes first from call to call, so that none is always the last.
 #[test]
 fn each_gathering_begins_at_another_seat(rt: HostRuntime) -> Result<(), Fail> {
-    let (mut a, first) = make_seat(rt.alloc())?;
-    let (mut b, second) = make_seat(rt.alloc())?;
-    let (mut c, third) = make_seat(rt.alloc())?;
-    let rings = vec![in rt.alloc(); first, second, third]?;
-    let mut intake = Intake::new(rings);
+    let (mut seats, mut intake) = make_seats(&rt, rt.alloc(), 3)?;
     for order in [[0, 1, 2], [1, 2, 0], [2, 0, 1], [0, 1, 2]] {
-        post(&mut a, 0);
-        post(&mut b, 1);
-        post(&mut c, 2);
-        let [one, other, last] = order;
-        assert_eq!(rt;
-            gathered(&mut intake),
-            [Some(one), Some(other), Some(last), None]
-        );
+        for seat in 0..3 {
+            post(&mut seats, seat, 1);
+        }
+        assert!(rt; are_of(&intake.gather(), &order));
     }
     Ok(())
 }
@@ -63,15 +78,10 @@ fn each_gathering_begins_at_another_seat(rt: HostRuntime) -> Result<(), Fail> {
 /// Three letters of one seat and one of another: one gathering takes all that wait.
 #[test]
 fn one_gathering_takes_all_that_wait(rt: HostRuntime) -> Result<(), Fail> {
-    let (mut a, first) = make_seat(rt.alloc())?;
-    let (mut b, second) = make_seat(rt.alloc())?;
-    for _ in 0..3 {
-        post(&mut a, 0);
-    }
-    post(&mut b, 1);
-    let rings = vec![in rt.alloc(); first, second]?;
-    let mut intake = Intake::new(rings);
-    assert_eq!(rt; gathered(&mut intake), [Some(0), Some(0), Some(0), Some(1)]);
+    let (mut seats, mut intake) = make_seats(&rt, rt.alloc(), 2)?;
+    post(&mut seats, 0, 3);
+    post(&mut seats, 1, 1);
+    assert!(rt; are_of(&intake.gather(), &[0, 0, 0, 1]));
     Ok(())
 }
 
@@ -79,59 +89,30 @@ fn one_gathering_takes_all_that_wait(rt: HostRuntime) -> Result<(), Fail> {
 /// and comes last to those just served.
 #[test]
 fn a_gathering_goes_on_where_the_last_was_full(rt: HostRuntime) -> Result<(), Fail> {
-    let (mut a, first) = make_seat(rt.alloc())?;
-    let (mut b, second) = make_seat(rt.alloc())?;
-    let (mut c, third) = make_seat(rt.alloc())?;
-    let (mut d, fourth) = make_seat(rt.alloc())?;
-    let (mut e, fifth) = make_seat(rt.alloc())?;
-    for _ in 0..16 {
-        post(&mut a, 0);
-        post(&mut b, 1);
-        post(&mut c, 2);
-        post(&mut d, 3);
-        post(&mut e, 4);
+    let (mut seats, mut intake) = make_seats(&rt, rt.alloc(), 5)?;
+    for seat in 0..5 {
+        post(&mut seats, seat, 16);
     }
-    let rings = vec![in rt.alloc(); first, second, third, fourth, fifth]?;
-    let mut intake = Intake::new(rings);
-    let full = intake.gather();
-    assert_eq!(rt; full.len(), 64);
-    post(&mut b, 1);
+    assert_eq!(rt; intake.gather().len(), 64);
+    post(&mut seats, 1, 1);
     let next = intake.gather();
     assert_eq!(rt; next.len(), 17);
-    assert_eq!(rt;
-        [seat_at(&next, 0), seat_at(&next, 15), seat_at(&next, 16)],
-        [Some(4), Some(4), Some(1)]
-    );
-    Ok(())
-}
-
-/// Posts as many letters of each seat as its ring has room for.
-fn flood(seats: &mut Vec<Producer<Slip>>) {
-    for seat in 0..32u8 {
-        if let Some(letters) = seats.get_mut(seat as usize) {
-            for _ in 0..16 {
-                post(letters, seat);
-            }
-        }
+    for (place, seat) in [(0, 4), (15, 4), (16, 1)] {
+        assert_eq!(rt; seat_at(&next, place), Some(seat));
     }
+    Ok(())
 }
 
 /// Every one of 32 seats has its ring full before each gathering, which takes what four of them have: three seats further
 /// each time, so that eleven reach all.
 #[test]
 fn a_flood_starves_no_seat(rt: HostRuntime) -> Result<(), Fail> {
-    let mut seats = Vec::new(rt.alloc());
-    let mut rings = Vec::new(rt.alloc());
-    for _ in 0..32 {
-        let (letters, ring) = make_seat(rt.alloc())?;
-        seats.push(letters)?;
-        rings.push(ring)?;
-    }
-    assert_eq!(rt; rings.len(), 32);
-    let mut intake = Intake::new(rings);
+    let (mut seats, mut intake) = make_seats(&rt, rt.alloc(), 32)?;
     let mut served = [false; 32];
     for _ in 0..11 {
-        flood(&mut seats);
+        for seat in 0..32 {
+            post(&mut seats, seat, 16);
+        }
         for letter in intake.gather().as_slice() {
             if let Some(is_served) = served.get_mut(letter.seat as usize) {
                 *is_served = true;

@@ -25,7 +25,3 @@ pub use terminal::serve_at_terminal;
 
 #[cfg(test)]
 mod tests;
-#[cfg(test)]
-mod tests_of_batches;
-#[cfg(test)]
-mod tests_of_terminals;

@@ -1,3 +1,6 @@
+mod batches;
+mod terminals;
+
 ghost use Rattle.std.specs.Io.{ReadsAtMost};
 
 use super::*;
@@ -188,17 +191,21 @@ impl Read for EndingReader<'_> {
     }
 }
 
-/// Takes all of a write, and hands it on, each so often, and fails then.
+/// Takes all of a write, and hands it on, each so often. It fails then, or takes nothing.
 #[derive(Drop)]
 struct FailingWriter {
     bytes: Vec<u8>,
     writes: usize,
     flushes: usize,
+    takes_nothing: bool,
 }
 
 impl Write for FailingWriter {
     fn write(&mut self, bytes: &[u8]) -> io::Result<usize> {
         if self.writes == 0 {
+            if self.takes_nothing {
+                return Ok(0);
+            }
             return Err(ErrorKind::BrokenPipe.into());
         }
         self.writes -= 1;
@@ -215,28 +222,6 @@ impl Write for FailingWriter {
     }
 }
 
-/// Takes nothing at its first write, and all from then on.
-#[derive(Drop)]
-struct PausingWriter {
-    bytes: Vec<u8>,
-    writes: usize,
-}
-
-impl Write for PausingWriter {
-    fn write(&mut self, bytes: &[u8]) -> io::Result<usize> {
-        self.writes = self.writes.saturating_add(1);
-        if self.writes == 1 {
-            return Ok(0);
-        }
-        self.bytes.extend_from_slice(bytes)?;
-        Ok(bytes.len())
-    }
-
-    fn flush(&mut self) -> io::Result<()> {
-        Ok(())
-    }
-}
-
 /// A script of so many equal lines.
 fn script(alloc: Global, line: &[u8], count: usize) -> Result<Vec<u8>, Fail> {
     let mut text = DEFINITION.to_vec(alloc)?;
@@ -244,11 +229,6 @@ fn script(alloc: Global, line: &[u8], count: usize) -> Result<Vec<u8>, Fail> {
         text.extend_from_slice(line)?;
     }
     Ok(text)
-}
-
-/// The definition without the end of its line.
-fn cut_definition() -> &'static [u8] {
-    &DEFINITION[..DEFINITION.len().saturating_sub(1)]
 }
 
 /// The auction of the definition.
@@ -302,62 +282,47 @@ pub(crate) fn serve_all<R: Read, W: Write, D: Desk>(
     serve(alloc, reader, writer, desk)
 }
 
-/// Runs a script that is given line by line.
-fn run_lines(alloc: Global, talk: &Talk, text: &[u8]) -> Result<ScriptEnd, Fault> {
-    let mut reader = Lines { talk, rest: text };
-    run(alloc, &mut reader, &mut Counts { talk })
-}
-
 #[test]
 fn an_answer_leaves_before_the_next_line_is_asked_for(rt: HostRuntime) -> Result<(), Fail> {
     let text = script(rt.alloc(), b"SHOW\n", 5)?;
     let talk = Talk::new();
-    assert_eq!(rt;
-        run_lines(rt.alloc(), &talk, &text),
-        Ok(ScriptEnd::Answered)
-    );
+    let mut reader = Lines {
+        talk: &talk,
+        rest: &text,
+    };
+    let result = run(rt.alloc(), &mut reader, &mut Counts { talk: &talk });
+    assert_eq!(rt; result, Ok(ScriptEnd::Answered));
     assert!(rt; !talk.early.get());
     assert_eq!(rt; talk.flushed.get(), 5);
     assert_eq!(rt; talk.writes.get(), 5);
     Ok(())
 }
 
-/// Runs a script that is given at once.
-fn run_piped(alloc: Global, talk: &Talk, text: &[u8]) -> Result<ScriptEnd, Fault> {
-    let mut reader = text;
-    run(alloc, &mut reader, &mut Counts { talk })
-}
-
+/// Commands and questions wait for nothing, since the desk doesn't.
 #[test]
 fn a_script_that_is_piped_in_costs_few_writes(rt: HostRuntime) -> Result<(), Fail> {
-    let text = script(rt.alloc(), b"SHOW\n", 10_000)?;
+    let text = script(rt.alloc(), b"CLOSE 0\nSHOW\n", 5_000)?;
     let talk = Talk::new();
-    assert_eq!(rt;
-        run_piped(rt.alloc(), &talk, &text),
-        Ok(ScriptEnd::Answered)
-    );
+    let mut reader = text.as_slice();
+    let result = run(rt.alloc(), &mut reader, &mut Counts { talk: &talk });
+    assert_eq!(rt; result, Ok(ScriptEnd::Answered));
     assert_eq!(rt; talk.flushed.get(), 10_000);
     assert!(rt; talk.writes.get() < 20);
     Ok(())
 }
 
-/// Runs a script whose answers go one byte a call.
-fn run_to_bytes<R: Read>(alloc: Global, reader: &mut R) -> Ended {
-    let mut writer = OneByteWriter {
-        bytes: Vec::new(alloc),
-        signal: false,
-    };
-    let result = run(alloc, reader, &mut writer);
-    (result, writer.bytes)
-}
-
-/// Runs a script that comes one byte a call, too.
+/// Runs a script that comes one byte a call, and whose answers go so.
 fn run_bytes(alloc: Global, text: &[u8]) -> Ended {
     let mut reader = OneByteReader {
         rest: text,
         signal: false,
     };
-    run_to_bytes(alloc, &mut reader)
+    let mut writer = OneByteWriter {
+        bytes: Vec::new(alloc),
+        signal: false,
+    };
+    let result = run(alloc, &mut reader, &mut writer);
+    (result, writer.bytes)
 }
 
 #[test]
@@ -427,15 +392,10 @@ fn people_are_told_of_a_definition(rt: HostRuntime) -> Result<(), Fail> {
     Ok(())
 }
 
-/// Runs a script of which so many reads succeed.
-fn run_failing(alloc: Global, text: &[u8], reads: usize) -> Ended {
-    let mut reader = FailingReader { rest: text, reads };
-    run_kept(alloc, &mut reader)
-}
-
 /// After so many reads so many lines are answered.
 fn fail_after(rt: &impl Abort, alloc: Global, text: &[u8], reads: usize, lines: usize) {
-    let (result, written) = run_failing(alloc, text, reads);
+    let mut reader = FailingReader { rest: text, reads };
+    let (result, written) = run_kept(alloc, &mut reader);
     assert_eq!(rt; result, Err(Fault::Reader), "{reads}");
     assert_eq!(rt;
         Some(written.as_slice()),
@@ -454,18 +414,13 @@ fn each_read_fails_in_turn(rt: HostRuntime) -> Result<(), Fail> {
     Ok(())
 }
 
-/// Runs a script whose reader ends once.
-fn run_ending(alloc: Global, text: &[u8]) -> Ended {
+/// A script whose reader ends once ends so, and this is written.
+fn end_with(rt: &impl Abort, alloc: Global, text: &[u8], end: ScriptEnd, want: &[u8]) {
     let mut reader = EndingReader {
         rest: text,
         has_ended: false,
     };
-    run_kept(alloc, &mut reader)
-}
-
-/// A script ended so, and this was written.
-fn end_with(rt: &impl Abort, ended: Ended, end: ScriptEnd, want: &[u8]) {
-    let (result, written) = ended;
+    let (result, written) = run_kept(alloc, &mut reader);
     assert_eq!(rt; result, Ok(end));
     assert_eq!(rt; written.as_slice(), want);
 }
@@ -473,43 +428,27 @@ fn end_with(rt: &impl Abort, ended: Ended, end: ScriptEnd, want: &[u8]) {
 #[test]
 fn nothing_is_read_after_the_end(rt: HostRuntime) -> Result<(), Fail> {
     let alloc = rt.alloc();
-    end_with(
-        &rt,
-        run_ending(alloc, cut_definition()),
-        ScriptEnd::Answered,
-        b"",
-    );
-    end_with(&rt, run_ending(alloc, DEFINITION), ScriptEnd::Answered, b"");
     let refused = ScriptEnd::Refused(Refusal::Json);
-    end_with(&rt, run_ending(alloc, b"{"), refused, b"ERR 60 json\n");
-    let lines = script(alloc, LINES, 1)?;
-    end_with(
-        &rt,
-        run_ending(alloc, &lines),
-        ScriptEnd::Answered,
-        FRONTS[4],
-    );
+    for text in [b"".as_slice(), b"{", b"\nSHOW\n"] {
+        end_with(&rt, alloc, text, refused, b"ERR 60 json\n");
+    }
+    let cut = &DEFINITION[..DEFINITION.len().saturating_sub(1)];
+    for text in [cut, DEFINITION] {
+        end_with(&rt, alloc, text, ScriptEnd::Answered, b"");
+    }
+    let long = script(alloc, b"x", 129)?;
+    end_with(&rt, alloc, &long, ScriptEnd::Answered, b"ERR 10 line\n");
     Ok(())
 }
 
-/// Serves all lines of a reader by an auction in memory.
-fn serve_script<R: Read, W: Write>(
-    alloc: Global,
-    reader: &mut R,
-    writer: &mut W,
-    desk: &mut ScriptDesk,
-) -> Result<(), Fault> {
-    serve_auction(alloc, reader, writer, desk)
-}
-
-/// Serves the lines one by one.
+/// Serves the lines one by one by an auction in memory.
 fn serve_to<W: Write>(alloc: Global, writer: &mut W, desk: &mut ScriptDesk) -> Result<(), Fault> {
     let talk = Talk::new();
     let mut reader = Lines {
         talk: &talk,
         rest: LINES,
     };
-    serve_script(alloc, &mut reader, writer, desk)
+    serve_auction(alloc, &mut reader, writer, desk)
 }
 
 /// How many commands a desk has accepted.
@@ -520,114 +459,76 @@ fn count_of(desk: Box<ScriptDesk>) -> u32 {
 /// Serves the lines one by one to a writer that fails: how that ended, what is written, and how many were accepted.
 fn served(
     alloc: Global,
-    writes: usize,
-    flushes: usize,
+    (writes, flushes, takes_nothing): (usize, usize, bool),
 ) -> Result<(Result<(), Fault>, Vec<u8>, u32), Fail> {
     let mut desk = new_desk(alloc)?;
     let mut writer = FailingWriter {
         bytes: Vec::new(alloc),
         writes,
         flushes,
+        takes_nothing,
     };
     let result = serve_to(alloc, &mut writer, &mut desk);
     Ok((result, writer.bytes, count_of(desk)))
 }
 
-/// After so many writes and flushes the lines ended so: so many of them stand written, and so many are accepted.
+/// With this writer the lines ended so: so many of them stand written, and so many are accepted.
 fn end_after(
     rt: &impl Abort,
     alloc: Global,
-    (writes, flushes): (usize, usize),
+    writer: (usize, usize, bool),
     end: Result<(), Fault>,
     (lines, accepted): (usize, u32),
 ) -> Result<(), Fail> {
-    let (result, written, count) = served(alloc, writes, flushes)?;
-    assert_eq!(rt; result, end, "{writes} {flushes}");
+    let (result, written, count) = served(alloc, writer)?;
+    assert_eq!(rt; result, end, "{writer:?}");
     assert_eq!(rt;
         Some(written.as_slice()),
         FRONTS.get(lines).copied(),
-        "{writes} {flushes}"
+        "{writer:?}"
     );
-    assert_eq!(rt; count, accepted, "{writes} {flushes}");
+    assert_eq!(rt; count, accepted, "{writer:?}");
     Ok(())
 }
 
 #[test]
 fn each_write_and_each_flush_fails_in_turn(rt: HostRuntime) -> Result<(), Fail> {
     let alloc = rt.alloc();
-    let failed = Err(Fault::Writer);
+    let (failed, many) = (Err(Fault::Writer), usize::MAX);
     for (line, accepted) in [(0, 1), (1, 2), (2, 3), (3, 3)] {
-        end_after(&rt, alloc, (line, usize::MAX), failed, (line, accepted))?;
-        end_after(&rt, alloc, (usize::MAX, line), failed, (line + 1, accepted))?;
+        end_after(&rt, alloc, (line, many, false), failed, (line, accepted))?;
+        end_after(
+            &rt,
+            alloc,
+            (many, line, false),
+            failed,
+            (line + 1, accepted),
+        )?;
     }
-    end_after(&rt, alloc, (4, 4), Ok(()), (4, 3))
+    end_after(&rt, alloc, (1, many, true), failed, (1, 2))?;
+    end_after(&rt, alloc, (4, 4, false), Ok(()), (4, 3))
 }
 
-/// Serves a question.
-fn serve_question<W: Write>(alloc: Global, writer: &mut W) -> Result<Result<(), Fault>, Fail> {
-    let mut desk = new_desk(alloc)?;
-    let mut input = b"SHOW\n".as_slice();
-    Ok(serve_all(alloc, &mut input, writer, &mut *desk))
-}
-
-#[test]
-fn a_writer_that_takes_nothing_has_failed(rt: HostRuntime) -> Result<(), Fail> {
-    let mut writer = PausingWriter {
-        bytes: Vec::new(rt.alloc()),
-        writes: 0,
-    };
-    assert_eq!(rt;
-        serve_question(rt.alloc(), &mut writer)?,
-        Err(Fault::Writer)
-    );
-    assert_eq!(rt; writer.writes, 1);
-    assert!(rt; writer.bytes.is_empty());
-    Ok(())
-}
-
-#[test]
-fn many_bytes_go_one_by_one(rt: HostRuntime) -> Result<(), Fail> {
-    let text = script(rt.alloc(), b"SHOW\n", 100)?;
-    let mut input = text.as_slice();
-    let (result, written) = run_to_bytes(rt.alloc(), &mut input);
-    assert_eq!(rt; result, Ok(ScriptEnd::Answered));
-    let want = b"ROUND 1 STAGE 1 OPEN REVENUE 0 COUNT 0\n".repeat(rt.alloc(), 100)?;
-    assert_eq!(rt; written, want);
-    Ok(())
-}
-
-/// Answers the lines of a reader of which so many bytes may be read.
-fn answer_all<R: Read, W: Write, D: Desk>(
-    alloc: Global,
-    reader: &mut R,
-    writer: &mut W,
-    desk: &mut D,
-    budget: u64,
-) -> Result<Result<(), Fault>, Fail> {
-    let mut input = Input::new(alloc, budget)?;
-    let mut output = Output::new(alloc)?;
-    let result = answer_lines(
-        alloc,
-        reader,
-        writer,
-        &mut io::sink(),
-        false,
-        desk,
-        &mut input,
-        &mut output,
-    );
-    Ok(result)
-}
-
-/// Answers such lines by a desk of its own: how that ended, and what was written.
+/// Answers the lines of a reader of which so many bytes may be read: how that ended, and what was written.
 fn answered_within<R: Read>(
     alloc: Global,
     reader: &mut R,
     budget: u64,
 ) -> Result<(Result<(), Fault>, Vec<u8>), Fail> {
     let mut desk = new_desk(alloc)?;
+    let mut input = Input::new(alloc, budget)?;
+    let mut output = Output::new(alloc)?;
     let mut written = Vec::new(alloc);
-    let result = answer_all(alloc, reader, &mut written, &mut *desk, budget)?;
+    let result = answer_lines(
+        alloc,
+        reader,
+        &mut written,
+        &mut io::sink(),
+        false,
+        &mut *desk,
+        &mut input,
+        &mut output,
+    );
     Ok((result, written))
 }
 
@@ -660,35 +561,6 @@ fn no_more_is_read_than_may_be(rt: HostRuntime) -> Result<(), Fail> {
     read_within(&rt, alloc, 23, failed, two, 0)?;
     read_within(&rt, alloc, 16, failed, two, 7)?;
     read_within(&rt, alloc, 0, failed, b"", 23)
-}
-
-/// Runs a script that is given at once, and keeps what is written.
-fn run_text(alloc: Global, text: &[u8]) -> Ended {
-    let mut reader = text;
-    run_kept(alloc, &mut reader)
-}
-
-#[test]
-fn inputs_end_early(rt: HostRuntime) -> Result<(), Fail> {
-    let alloc = rt.alloc();
-    let refused = ScriptEnd::Refused(Refusal::Json);
-    end_with(&rt, run_text(alloc, b""), refused, b"ERR 60 json\n");
-    end_with(&rt, run_text(alloc, b"\nSHOW\n"), refused, b"ERR 60 json\n");
-    end_with(
-        &rt,
-        run_text(alloc, cut_definition()),
-        ScriptEnd::Answered,
-        b"",
-    );
-    end_with(&rt, run_text(alloc, DEFINITION), ScriptEnd::Answered, b"");
-    let long = script(alloc, b"x", 129)?;
-    end_with(
-        &rt,
-        run_text(alloc, &long),
-        ScriptEnd::Answered,
-        b"ERR 10 line\n",
-    );
-    Ok(())
 }
 
 #[test]

@@ -27,5 +27,3 @@ pub use views::{node, show, who};
 
 #[cfg(test)]
 mod tests;
-#[cfg(test)]
-mod tests_of_reasons;

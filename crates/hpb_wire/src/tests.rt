@@ -8,95 +8,114 @@ use hpb_tree::{BidderDraft, Definition, Draft, NodeDraft, TermsDraft};
 use std::alloc::{AllocError, Global};
 use std::test::Fail;
 
-fn licence(alloc: Global, name: &str) -> Result<NodeDraft, AllocError> {
-    let terms = TermsDraft {
-        units: 10,
-        opening: 100,
-    };
+/// The names of the licences with their bidding units.
+const LICENCES: [(&str, u64); 2] = [("a", 10), ("d", 7)];
+
+const BIDDERS: [&str; 2] = ["x", "y"];
+
+fn licence(alloc: Global, name: &str, units: u64) -> Result<NodeDraft, AllocError> {
+    let opening = 100;
     Ok(NodeDraft {
         name: String::from_str(alloc, name)?,
         parent: None,
-        terms: Some(terms),
+        terms: Some(TermsDraft { units, opening }),
     })
 }
 
-/// The licences `a` and `d`, and the bidders `x` and `y`.
-fn definition(alloc: Global) -> Result<Definition, Fail> {
-    let mut draft = Draft {
+fn bidder(alloc: Global, name: &str) -> Result<BidderDraft, AllocError> {
+    let name = String::from_str(alloc, name)?;
+    Ok(BidderDraft { name, units: 20 })
+}
+
+/// The licences, and the bidders with 20 units each. The step is 10 dollars.
+fn draft(alloc: Global) -> Result<Draft, AllocError> {
+    let mut nodes = Vec::new(alloc);
+    for (name, units) in LICENCES {
+        nodes.push(licence(alloc, name, units)?)?;
+    }
+    let mut bidders = Vec::new(alloc);
+    for name in BIDDERS {
+        bidders.push(bidder(alloc, name)?)?;
+    }
+    Ok(Draft {
         step: 10,
         percent: 10,
-        stages: vec![in alloc; 80]?,
+        stages: vec![in alloc; 80, 95]?,
         waivers: 0,
-        nodes: Vec::new(alloc),
-        bidders: Vec::new(alloc),
-    };
-    for name in ["a", "d"] {
-        draft.nodes.push(licence(alloc, name)?)?;
-    }
-    for name in ["x", "y"] {
-        let name = String::from_str(alloc, name)?;
-        draft.bidders.push(BidderDraft { name, units: 20 })?;
-    }
-    Ok(Definition::check(alloc, &draft)?)
+        nodes,
+        bidders,
+    })
 }
 
-/// A bid of `x` on `a`.
-fn bid(ticket: u32, amount: u64) -> Result<Request, Refusal> {
-    Ok(Request::Command(Command::Bid {
-        bidder: BidderId::new(0),
-        ticket,
-        node: NodeId::new(0),
-        amount,
-    }))
+fn definition(alloc: Global) -> Result<Box<Definition>, Fail> {
+    Ok(Box::new(alloc, Definition::check(alloc, &draft(alloc)?)?)?)
 }
 
-fn close(ticket: u32) -> Result<Request, Refusal> {
-    Ok(Request::Command(Command::Close { ticket }))
+/// An auction of these.
+fn auction(alloc: Global) -> Result<Box<Auction>, Fail> {
+    let definition = definition(alloc)?;
+    Ok(Box::new(alloc, Auction::new(alloc, &definition)?)?)
 }
 
-fn stage(ticket: u32) -> Result<Request, Refusal> {
-    Ok(Request::Command(Command::Stage { ticket }))
-}
+/// Bids of `x` on `a`, with their tickets and amounts.
+const BIDS: [(&[u8], u32, u64); 4] = [
+    (b"BID x 0 a 123456789", 0, 123_456_789),
+    (b"BID x 10 a 1000000", 10, 1_000_000),
+    (b"BID x 12345678 a 90817263", 12_345_678, 90_817_263),
+    (
+        b"BID x 4294967295 a 18446744073709551615",
+        u32::MAX,
+        u64::MAX,
+    ),
+];
 
-/// A waiver of `y`.
-fn waiver(ticket: u32) -> Result<Request, Refusal> {
-    let bidder = BidderId::new(1);
-    Ok(Request::Command(Command::Waive { bidder, ticket }))
-}
+/// Lines of another form.
+const MALFORMED: [(&[u8], Refusal); 10] = [
+    (b"", Refusal::Line),
+    (b" BID x 1 a 100", Refusal::Line),
+    (b"BID x 1 a 100 ", Refusal::Line),
+    (b"BID x 1 a 100 1", Refusal::Line),
+    (b"BID x +1 a 100", Refusal::Line),
+    (b"BID x 1/ a 1000000", Refusal::Line),
+    (b"BID x 1: a 1000000", Refusal::Line),
+    (b"BID x 1\xb1 a 1000000", Refusal::Line),
+    (b"bid x 1 a 100", Refusal::Line),
+    (b"NODE ", Refusal::Line),
+];
+
+/// Bytes that nobody types.
+const HOSTILE: [(&[u8], Refusal); 13] = [
+    (&[b'x'; 1_000], Refusal::Line),
+    (b"\xff\xff\xff\xff", Refusal::Line),
+    (b"BID x 4294967296 a 100", Refusal::Line),
+    (b"BID x 1 a 18446744073709551616", Refusal::Line),
+    (b"SHOW\r", Refusal::Line),
+    (b"NODE a\r", Refusal::Node),
+    (b"NODE a\nNODE d", Refusal::Line),
+    (b"WHO \xff", Refusal::Bidder),
+    (b"WHO X", Refusal::Bidder),
+    (b"BID q 1 e 100", Refusal::Bidder),
+    (b"BID x 1 e 100", Refusal::Node),
+    (b"BID q 1 e 1x", Refusal::Line),
+    (b"BID a 0 x 0", Refusal::Bidder),
+];
 
 #[test]
-fn malformed_lines(rt: HostRuntime) -> Result<(), Fail> {
+fn lines_are_read(rt: HostRuntime) -> Result<(), Fail> {
     let definition = definition(rt.alloc())?;
-    let table: [(&[u8], Result<Request, Refusal>); 26] = [
-        (b"BID x 1 a 100", bid(1, 100)),
-        (b"BID x 01 a 100", Err(Refusal::Line)),
-        (b"BID x  1 a 100", Err(Refusal::Line)),
-        (b"BID  1 a 100", Err(Refusal::Line)),
-        (b" BID x 1 a 100", Err(Refusal::Line)),
-        (b"BID x 1 a 100 ", Err(Refusal::Line)),
-        (b"BID x 1 a", Err(Refusal::Line)),
-        (b"BID x 1 a 100 1", Err(Refusal::Line)),
-        (b"BID x +1 a 100", Err(Refusal::Line)),
-        (b"bid x 1 a 100", Err(Refusal::Line)),
-        (b"CLOSE 7", close(7)),
-        (b"CLOSE", Err(Refusal::Line)),
-        (b"STAGE 0", stage(0)),
-        (b"STAGE 00", Err(Refusal::Line)),
-        (b"WAIVE y 2", waiver(2)),
-        (b"WAIVE y", Err(Refusal::Line)),
-        (b"WAIVE y 02", Err(Refusal::Line)),
-        (b"WAIVE y 2 a", Err(Refusal::Line)),
-        (b"WAIVE y 4294967296", Err(Refusal::Line)),
-        (b"WAIVE q 2", Err(Refusal::Bidder)),
-        (b"SHOW", Ok(Request::Show)),
-        (b"SHOW ", Err(Refusal::Line)),
-        (b"NODE d", Ok(Request::Node(NodeId::new(1)))),
-        (b"NODE ", Err(Refusal::Line)),
-        (b"WHO y", Ok(Request::Who(BidderId::new(1)))),
-        (b"", Err(Refusal::Line)),
-    ];
-    for (line, wanted) in table {
-        assert_eq!(rt; parse_line(line, &definition), wanted, "at {line:?}");
+    for (line, ticket, amount) in BIDS {
+        let bid = Command::Bid {
+            bidder: BidderId::new(0),
+            ticket,
+            node: NodeId::new(0),
+            amount,
+        };
+        let request = parse_line(line, &definition);
+        assert_eq!(rt; request, Ok(Request::Command(bid)), "at {line:?}");
+    }
+    for (line, refusal) in MALFORMED {
+        let request = parse_line(line, &definition);
+        assert_eq!(rt; request, Err(refusal), "at {line:?}");
     }
     Ok(())
 }
@@ -104,134 +123,79 @@ fn malformed_lines(rt: HostRuntime) -> Result<(), Fail> {
 #[test]
 fn hostile_lines(rt: HostRuntime) -> Result<(), Fail> {
     let definition = definition(rt.alloc())?;
-    let long = [b'x'; 1000];
-    let table: [(&[u8], Result<Request, Refusal>); 14] = [
-        (&long, Err(Refusal::Line)),
-        (b"\xff\xff\xff\xff", Err(Refusal::Line)),
-        (
-            b"BID x 4294967295 a 18446744073709551615",
-            bid(u32::MAX, u64::MAX),
-        ),
-        (b"BID x 4294967296 a 100", Err(Refusal::Line)),
-        (b"BID x 1 a 18446744073709551616", Err(Refusal::Line)),
-        (b"SHOW\r", Err(Refusal::Line)),
-        (b"NODE a\r", Err(Refusal::Node)),
-        (b"NODE a\nNODE d", Err(Refusal::Line)),
-        (b"WHO \xff", Err(Refusal::Bidder)),
-        (b"WHO X", Err(Refusal::Bidder)),
-        (b"BID q 1 e 100", Err(Refusal::Bidder)),
-        (b"BID x 1 e 100", Err(Refusal::Node)),
-        (b"BID q 1 e 1x", Err(Refusal::Line)),
-        (b"BID a 0 x 0", Err(Refusal::Bidder)),
-    ];
-    for (line, wanted) in table {
-        assert_eq!(rt; parse_line(line, &definition), wanted, "at {line:?}");
+    for (line, refusal) in HOSTILE {
+        let request = parse_line(line, &definition);
+        assert_eq!(rt; request, Err(refusal), "at {line:?}");
     }
     Ok(())
 }
 
-#[test]
-fn numbers_of_lines(rt: HostRuntime) -> Result<(), Fail> {
-    let definition = definition(rt.alloc())?;
-    let table: [(&[u8], Result<Request, Refusal>); 7] = [
-        (b"BID x 12345678 a 90817263", bid(12345678, 90817263)),
-        (b"BID x 10 a 1000000", bid(10, 1000000)),
-        (b"BID x 0 a 123456789", bid(0, 123456789)),
-        (b"BID x 01 a 1000000", Err(Refusal::Line)),
-        (b"BID x 1/ a 1000000", Err(Refusal::Line)),
-        (b"BID x 1: a 1000000", Err(Refusal::Line)),
-        (b"BID x 1\xb1 a 1000000", Err(Refusal::Line)),
-    ];
-    for (line, wanted) in table {
-        assert_eq!(rt; parse_line(line, &definition), wanted, "at {line:?}");
-    }
-    Ok(())
-}
-
-#[test]
-fn responses_are_written(rt: HostRuntime) -> Result<(), Fail> {
-    let mut text = ResponseText::new(rt.alloc(), 0)?;
-    let standing = Some(HighBid {
-        amount: 100,
-        bidder: "x",
-    });
-    let node = NodeLine {
+/// Responses of each form.
+const RESPONSES: [Response<'static>; 7] = [
+    Response::Reply(Reply::Ok(1_000_000)),
+    Response::Reply(Reply::Refused(Refusal::Eligibility)),
+    Response::Show(RoundLine {
+        round: 2,
+        stage: 1,
+        closed: true,
+        revenue: 64_000_000_000_000,
+        count: 65,
+    }),
+    Response::Node(NodeLine {
         name: "a",
-        high: standing,
+        high: Some(HighBid {
+            amount: 100,
+            bidder: "x",
+        }),
         price: 138,
         minimum: 160,
         wins: false,
-    };
-    let free = NodeLine {
+    }),
+    Response::Node(NodeLine {
         name: "d",
         high: None,
         price: 0,
         minimum: 100,
         wins: true,
-    };
-    let who = BidderLine {
+    }),
+    Response::Who(BidderLine {
         name: "w",
         eligibility: 21,
         activity: 20,
         ticket: 2,
         waivers: None,
-    };
-    let with_waivers = BidderLine {
+    }),
+    Response::Who(BidderLine {
+        name: "w",
+        eligibility: 21,
+        activity: 20,
+        ticket: 2,
         waivers: Some(20),
-        ..who
-    };
-    let round = RoundLine {
-        round: 2,
-        stage: 1,
-        closed: false,
-        revenue: 64_000_000_000_000,
-        count: 65,
-    };
-    let last = RoundLine {
-        closed: true,
-        ..round
-    };
-    let table = [
-        (Response::Reply(Reply::Ok(1_000_000)), "OK 1000000\n"),
-        (
-            Response::Reply(Reply::Refused(Refusal::Eligibility)),
-            "ERR 25 eligibility\n",
-        ),
-        (
-            Response::Show(round),
-            "ROUND 2 STAGE 1 OPEN REVENUE 64000000000000 COUNT 65\n",
-        ),
-        (
-            Response::Show(last),
-            "ROUND 2 STAGE 1 CLOSED REVENUE 64000000000000 COUNT 65\n",
-        ),
-        (
-            Response::Node(node),
-            "NODE a HIGH 100 x PRICE 138 MIN 160 WIN no\n",
-        ),
-        (
-            Response::Node(free),
-            "NODE d HIGH 0 - PRICE 0 MIN 100 WIN yes\n",
-        ),
-        (
-            Response::Who(who),
-            "WHO w ELIGIBILITY 21 ACTIVITY 20 TICKET 2\n",
-        ),
-        (
-            Response::Who(with_waivers),
-            "WHO w ELIGIBILITY 21 ACTIVITY 20 TICKET 2 WAIVERS 20\n",
-        ),
-    ];
-    for (response, line) in table {
-        text.clear();
+    }),
+];
+
+const WRITTEN: &str = "OK 1000000
+ERR 25 eligibility
+ROUND 2 STAGE 1 CLOSED REVENUE 64000000000000 COUNT 65
+NODE a HIGH 100 x PRICE 138 MIN 160 WIN no
+NODE d HIGH 0 - PRICE 0 MIN 100 WIN yes
+WHO w ELIGIBILITY 21 ACTIVITY 20 TICKET 2
+WHO w ELIGIBILITY 21 ACTIVITY 20 TICKET 2 WAIVERS 20
+";
+
+#[test]
+fn responses_are_written(rt: HostRuntime) -> Result<(), Fail> {
+    let mut text = ResponseText::new(rt.alloc(), 0)?;
+    let mut printed = String::new(rt.alloc());
+    for response in RESPONSES {
         text.render(&response)?;
-        assert_eq!(rt; text.as_bytes(), line.as_bytes());
+        write!(printed, "{response}\n")?;
     }
+    assert_eq!(rt; text.as_bytes(), WRITTEN.as_bytes());
+    assert_eq!(rt; printed.as_str(), WRITTEN);
+    text.clear();
     text.render_reply(Reply::Ok(1))?;
-    assert_eq!(rt;
-        text.as_bytes(),
-        b"WHO w ELIGIBILITY 21 ACTIVITY 20 TICKET 2 WAIVERS 20\nOK 1\n".as_slice()
-    );
+    assert_eq!(rt; text.as_bytes(), b"OK 1\n".as_slice());
     Ok(())
 }
 
@@ -247,39 +211,120 @@ fn response(auction: &Auction, request: Request) -> Response<'_>
     }
 }
 
-/// The line of a response about an auction.
-fn shown(alloc: Global, auction: &Auction, line: &[u8]) -> Result<ResponseText, AllocError> {
-    let response = match parse_line(line, auction.definition()) {
-        Ok(request) => response(auction, request),
-        Err(refusal) => Response::Reply(Reply::Refused(refusal)),
-    };
-    let mut text = ResponseText::new(alloc, 0)?;
-    text.render(&response)?;
+/// Adds what a line is answered.
+fn answer(text: &mut ResponseText, auction: &mut Auction, line: &[u8]) -> Result<(), AllocError> {
+    match parse_line(line, auction.definition()) {
+        Ok(Request::Command(command)) => text.render_reply(auction.apply(&command)),
+        Ok(request) => text.render(&response(auction, request)),
+        Err(refusal) => text.render_reply(Reply::Refused(refusal)),
+    }
+}
+
+const LINES: [&[u8]; 8] = [
+    b"BID x 1 a 200",
+    b"CLOSE 1",
+    b"STAGE 2",
+    b"WAIVE y 1",
+    b"SHOW",
+    b"NODE a",
+    b"NODE d",
+    b"WHO x",
+];
+
+const ANSWERS: &str = "OK 1
+OK 2
+OK 3
+ERR 28 waiver
+ROUND 2 STAGE 2 OPEN REVENUE 200 COUNT 3
+NODE a HIGH 200 x PRICE 200 MIN 220 WIN yes
+NODE d HIGH 0 - PRICE 0 MIN 100 WIN no
+WHO x ELIGIBILITY 12 ACTIVITY 10 TICKET 1
+";
+
+#[test]
+fn auctions_are_shown(rt: HostRuntime) -> Result<(), Fail> {
+    let mut auction = auction(rt.alloc())?;
+    let mut text = ResponseText::new(rt.alloc(), RESPONSE_BYTES)?;
+    for line in LINES {
+        answer(&mut text, &mut *auction, line)?;
+    }
+    assert_eq!(rt; text.as_bytes(), ANSWERS.as_bytes());
+    Ok(())
+}
+
+/// What was asked before the reasons below.
+const BEFORE: [&[u8]; 4] = [
+    b"BID x 1 a 200",
+    b"BID y 1 d 100",
+    b"CLOSE 1",
+    b"BID y 2 d 110",
+];
+
+/// Commands, each with its refusal, and what is told of it.
+const REASONS: [(&[u8], Refusal, &str); 9] = [
+    // x bid once, y twice, and one round was closed.
+    (
+        b"BID x 1 a 300",
+        Refusal::Ticket,
+        "the next ticket of x is 2",
+    ),
+    (b"WAIVE y 1", Refusal::Old, "the next ticket of y is 3"),
+    (
+        b"STAGE 3",
+        Refusal::Gap,
+        "the next ticket of the auctioneer is 2",
+    ),
+    (
+        b"BID x 2 d 115",
+        Refusal::Step,
+        "an amount is a multiple of 10 dollars",
+    ),
+    // a has a high bid of 200, and the percent is 10; of d the open round doesn't count yet.
+    (
+        b"BID y 3 a 210",
+        Refusal::Low,
+        "the least that may be bid on a is 220 dollars",
+    ),
+    (
+        b"BID x 2 d 100",
+        Refusal::Low,
+        "the least that may be bid on d is 110 dollars",
+    ),
+    (
+        b"BID x 2 d 1000000000010",
+        Refusal::High,
+        "the most that may be bid is 1000000000000 dollars",
+    ),
+    // x has won a, of 10 of its 12 units; d has 7.
+    (
+        b"BID x 2 d 110",
+        Refusal::Eligibility,
+        "x is eligible for 12 bidding units, and active on 10 without this bid",
+    ),
+    (b"BID x 2 d 110", Refusal::Again, ""),
+];
+
+/// What is told of a line's command that is refused so, or nothing.
+fn told(alloc: Global, auction: &Auction, line: &[u8], refusal: Refusal) -> Result<String, Fail> {
+    let mut text = String::new(alloc);
+    if let Request::Command(command) = parse_line(line, auction.definition())? {
+        if let Some(reason) = reason_of(auction, &command, refusal) {
+            write!(text, "{reason}")?;
+        }
+    }
     Ok(text)
 }
 
 #[test]
-fn auctions_are_shown(rt: HostRuntime) -> Result<(), Fail> {
-    let alloc = rt.alloc();
-    let mut auction = Auction::new(alloc, &definition(alloc)?)?;
-    let bid = Command::Bid {
-        bidder: BidderId::new(0),
-        ticket: 1,
-        node: NodeId::new(0),
-        amount: 200,
-    };
-    assert_eq!(rt; auction.apply(&bid), Reply::Ok(1));
-    assert_eq!(rt; auction.apply(&Command::Close { ticket: 1 }), Reply::Ok(2));
-    let table: [(&[u8], &str); 5] = [
-        (b"SHOW", "ROUND 2 STAGE 1 OPEN REVENUE 200 COUNT 2\n"),
-        (b"NODE a", "NODE a HIGH 200 x PRICE 200 MIN 220 WIN yes\n"),
-        (b"NODE d", "NODE d HIGH 0 - PRICE 0 MIN 100 WIN no\n"),
-        (b"WHO x", "WHO x ELIGIBILITY 12 ACTIVITY 10 TICKET 1\n"),
-        (b"WHO z", "ERR 11 bidder\n"),
-    ];
-    for (line, wanted) in table {
-        let text = shown(alloc, &auction, line)?;
-        assert_eq!(rt; text.as_bytes(), wanted.as_bytes());
+fn a_refused_command_is_told_what_would_do(rt: HostRuntime) -> Result<(), Fail> {
+    let mut auction = auction(rt.alloc())?;
+    let mut text = ResponseText::new(rt.alloc(), RESPONSE_BYTES)?;
+    for line in BEFORE {
+        answer(&mut text, &mut *auction, line)?;
+    }
+    for (line, refusal, want) in REASONS {
+        let reason = told(rt.alloc(), &auction, line, refusal)?;
+        assert_eq!(rt; reason.as_str(), want, "{line:?} {refusal:?}");
     }
     Ok(())
 }

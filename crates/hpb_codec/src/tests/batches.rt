@@ -1,8 +1,7 @@
 use crate::table::Entry;
-use crate::tests::examples::{body_with, change, first_bid, scribbled, six_nodes};
+use crate::tests::examples::{body_with, first_bid, scribbled, six_nodes};
 use crate::{BATCH_SIZE, Batch, decode_batch, encode_batch};
 use hpb_rules::{BidderId, Command, Commands, NodeId};
-use hpb_tree::Definition;
 use std::test::*;
 
 /// The record of bidder 0's first bid, 100 on node 2.
@@ -89,67 +88,5 @@ fn greatest_batch_comes_back(rt: HostRuntime) -> Result<(), Fail> {
     assert_eq!(rt; read.index, u64::MAX);
     assert_eq!(rt; read.first, 999_937);
     assert!(rt; read.commands.as_slice() == batch.commands.as_slice());
-    Ok(())
-}
-
-/// Whether bytes are the body of a batch.
-fn is_batch(bytes: &[u8], definition: &Definition) -> bool {
-    bytes.len() == BATCH_SIZE && decode_batch(bytes, definition).is_some()
-}
-
-/// Whether they are with another byte at a place. They stay as they are.
-fn is_batch_with(bytes: &mut [u8], definition: &Definition, at: usize, byte: u8) -> bool {
-    if at >= bytes.len() {
-        return false;
-    }
-    let before = bytes[at];
-    bytes[at] = byte;
-    let is = is_batch(bytes, definition);
-    bytes[at] = before;
-    is
-}
-
-#[test]
-fn loose_batches_are_refused(rt: HostRuntime) -> Result<(), Fail> {
-    let alloc = rt.alloc();
-    let definition = six_nodes(alloc)?;
-    let parts: [(usize, &[u8]); 3] = [(0, &front(2)), (24, &RECORD), (40, &CLOSE)];
-    let mut bytes = body_with(alloc, BATCH_SIZE, &parts)?;
-    assert!(rt; is_batch(&bytes, &definition));
-    // Each byte that has to be zero.
-    for at in 0..BATCH_SIZE {
-        if matches!(at, 18..=23 | 27 | 41..=43 | 48..=55) || at >= 56 {
-            assert!(rt; !is_batch_with(&mut bytes, &definition, at, 1), "at {at}");
-        }
-    }
-    // The greatest bidder and the greatest node, and one more; a kind and a ticket that there aren't.
-    for (at, byte, wanted) in [
-        (25, 3, true),
-        (25, 4, false),
-        (26, 5, true),
-        (26, 6, false),
-        (24, 0, false),
-        (24, 5, false),
-        // A waiver has no node and no amount.
-        (24, 4, false),
-        (31, 0, false),
-        (47, 0, false),
-    ] {
-        let is = is_batch_with(&mut bytes, &definition, at, byte);
-        assert_eq!(rt; is, wanted, "{byte} at {at}");
-    }
-    Ok(())
-}
-
-#[test]
-fn counts_are_1_to_64(rt: HostRuntime) -> Result<(), Fail> {
-    let alloc = rt.alloc();
-    let definition = six_nodes(alloc)?;
-    let mut bytes = body_with(alloc, BATCH_SIZE, &[(0, &front(0))])?;
-    assert!(rt; !is_batch(&bytes, &definition));
-    for i in 0..65 {
-        change(&mut bytes, &[(17, &[i as u8 + 1]), (24 + i * 16, &RECORD)]);
-        assert_eq!(rt; is_batch(&bytes, &definition), i < 64, "at {i}");
-    }
     Ok(())
 }

@@ -10,17 +10,6 @@ use std::test::*;
 /// Where page 1 begins: a head begins with byte 16 of page 0.
 const NODES: usize = 4_080;
 
-/// Where its licences begin and end, of six nodes the last four.
-const LICENCES: usize = NODES + 64;
-
-const LICENCES_END: usize = LICENCES + 128;
-
-/// Where page 2 begins.
-const BIDDERS: usize = 8_176;
-
-/// Where the last of four bidders ends.
-const BIDDERS_END: usize = BIDDERS + 96;
-
 /// What stands in the head of six nodes and a journal of 1,024 pages.
 const SIX_NODES: [(usize, &[u8]); 29] = [
     (0, b"HPBAUCT1"),
@@ -56,30 +45,6 @@ const SIX_NODES: [(usize, &[u8]); 29] = [
     (8_248, b"w"),
     (8_264, &[0, 0, 0, 25]),
     (8_268, &[0, 0, 0, 0]),
-];
-
-/// What has no head, by what is put into that of six nodes.
-const REFUSED: [(usize, &[u8]); 14] = [
-    // The journal has 3 pages, and 1,025.
-    (24, &[0, 0, 0, 3]),
-    (24, &[0, 0, 4, 1]),
-    // Layout 3, and state format 3.
-    (8, &[3]),
-    (9, &[3]),
-    // One node less, and one more; one bidder less, and one more.
-    (10, &[5]),
-    (10, &[7]),
-    (11, &[3]),
-    (11, &[5]),
-    // A percentage behind those of the stages, and a stage without one.
-    (13, &[1]),
-    (13, &[3]),
-    // A name with more behind its end, and in capitals.
-    (4_146, b"a"),
-    (4_144, b"A"),
-    // A node's parent is the node itself, and a kind that there isn't.
-    (4_160, &[2]),
-    (4_161, &[2]),
 ];
 
 /// The head of six nodes and a journal of 1,024 pages.
@@ -227,61 +192,6 @@ fn each_byte_of_page_0_counts(rt: HostRuntime) -> Result<(), Fail> {
         bytes[at] = !bytes[at];
     }
     assert!(rt; decoded(alloc, &bytes)?.is_some());
-    Ok(())
-}
-
-/// Whether a byte of the head of six nodes is one of a licence's units or opening, or of a bidder's units.
-fn is_number(at: usize) -> bool {
-    match at {
-        LICENCES..LICENCES_END => (at - LICENCES) % 32 >= 20,
-        BIDDERS..BIDDERS_END => matches!((at - BIDDERS) % 24, 16..=19),
-        _ => false,
-    }
-}
-
-/// How many bytes of the head of six nodes have to be zero between two places. None, where there is still a head with
-/// 0xFF in place of one of them.
-fn zeros_that_count(alloc: Global, from: usize, to: usize) -> Result<Option<usize>, AllocError> {
-    let mut bytes = written_out(alloc)?;
-    let mut tried = 0;
-    for at in 0..bytes.len() {
-        if at < from || at >= to || bytes[at] != 0 || is_number(at) {
-            continue;
-        }
-        bytes[at] = 0xff;
-        if decoded(alloc, &bytes)?.is_some() {
-            return Ok(None);
-        }
-        bytes[at] = 0;
-        tried += 1;
-    }
-    Ok(Some(tried))
-}
-
-#[test]
-fn each_zero_byte_of_page_1_counts(rt: HostRuntime) -> Result<(), Fail> {
-    // 4,096 bytes, less 11 of names, 8 of parents and kinds, and 12 of each of 4 licences.
-    let tried = zeros_that_count(rt.alloc(), NODES, BIDDERS)?;
-    assert_eq!(rt; tried, Some(4_029));
-    Ok(())
-}
-
-#[test]
-fn each_zero_byte_of_page_2_counts(rt: HostRuntime) -> Result<(), Fail> {
-    // 4,096 bytes, less 4 of names, and 4 of each of 4 bidders.
-    let tried = zeros_that_count(rt.alloc(), BIDDERS, HEAD_SIZE)?;
-    assert_eq!(rt; tried, Some(4_076));
-    Ok(())
-}
-
-#[test]
-fn no_heads(rt: HostRuntime) -> Result<(), Fail> {
-    let alloc = rt.alloc();
-    for (at, put) in &REFUSED {
-        let mut bytes = written_out(alloc)?;
-        change(&mut bytes, &[(*at, *put)]);
-        assert!(rt; decoded(alloc, &bytes)?.is_none(), "{at}");
-    }
     Ok(())
 }
 

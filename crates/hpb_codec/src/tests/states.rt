@@ -224,49 +224,6 @@ fn chunks_are_pages(rt: HostRuntime) -> Result<(), Fail> {
     Ok(())
 }
 
-/// The first zero byte of a range of the empty auction's body that says something if it is 1, and shouldn't, or the other
-/// way round.
-fn first_loose(alloc: Global, from: usize, to: usize) -> Result<Option<usize>, Fail> {
-    let definition = six_nodes(alloc)?;
-    let mut saved = blank();
-    let mut bytes = body_with(alloc, STATE_SIZE, &EMPTY)?;
-    let bytes = bytes.as_mut_slice();
-    for at in from..to {
-        if at >= bytes.len() {
-            return Ok(Some(at));
-        }
-        if bytes[at] != 0 {
-            continue;
-        }
-        bytes[at] = 1;
-        let is = index_of(bytes, &definition, &mut saved).is_some();
-        bytes[at] = 0;
-        // An auction may be over from the beginning, and may have accepted bids that don't stand any more.
-        if is != matches!(at, 2 | 9..=11) {
-            return Ok(Some(at));
-        }
-    }
-    Ok(None)
-}
-
-#[test]
-fn zero_bytes_to_the_nodes(rt: HostRuntime) -> Result<(), Fail> {
-    assert_eq!(rt; first_loose(rt.alloc(), 0, 3_096)?, None);
-    Ok(())
-}
-
-#[test]
-fn zero_bytes_of_bidders(rt: HostRuntime) -> Result<(), Fail> {
-    assert_eq!(rt; first_loose(rt.alloc(), 3_096, 6_168)?, None);
-    Ok(())
-}
-
-#[test]
-fn zero_bytes_behind_the_tables(rt: HostRuntime) -> Result<(), Fail> {
-    assert_eq!(rt; first_loose(rt.alloc(), 6_168, STATE_SIZE)?, None);
-    Ok(())
-}
-
 /// Whether a body of these parts, with changes, is one.
 fn is_state_with(
     alloc: Global,
@@ -402,56 +359,4 @@ fn conditions_of_a_state(rt: HostRuntime) -> Result<(), Fail> {
     let definition = six_nodes(alloc)?;
     change_each(&rt, alloc, &definition, &AFTER_A_CLOSE, &HEAD_CHANGES)?;
     change_each(&rt, alloc, &definition, &AFTER_A_CLOSE, &ENTRY_CHANGES)
-}
-
-/// Changes of a body after a bidder waived, under a definition with one waiver.
-const WAIVER_CHANGES: [Changes; 19] = [
-    (&[], true),
-    // At most one waiver is left, and who waived has one less; who didn't may.
-    (&[(3_108, &[1])], false),
-    (&[(3_108, &[1, 0])], true),
-    (&[(3_108, &[2, 0])], false),
-    (&[(3_109, &[0])], true),
-    (&[(3_157, &[1])], false),
-    (&[(3_156, &[0, 1])], true),
-    // The flag is 0 or 1, and two bytes are zero.
-    (&[(3_109, &[2])], false),
-    (&[(3_110, &[1])], false),
-    (&[(3_111, &[1])], false),
-    // Where the auction is over nobody waived in an open round.
-    (&[(2, &[1])], false),
-    (&[(2, &[1]), (3_109, &[0])], true),
-    // A waiver's record has its bidder, no node and no amount.
-    (&[(3_113, &[1])], false),
-    (&[(3_114, &[1])], false),
-    (&[(3_115, &[1])], false),
-    (&[(3_127, &[1])], false),
-    // The first format has no waivers: it is none under this definition, also where none is left.
-    (&[(0, &[1])], false),
-    (
-        &[
-            (3_100, &[0; 20]),
-            (3_156, &[0]),
-            (3_204, &[0]),
-            (3_252, &[0]),
-        ],
-        true,
-    ),
-    (
-        &[
-            (0, &[1]),
-            (3_100, &[0; 20]),
-            (3_156, &[0]),
-            (3_204, &[0]),
-            (3_252, &[0]),
-        ],
-        false,
-    ),
-];
-
-#[test]
-fn conditions_of_waivers(rt: HostRuntime) -> Result<(), Fail> {
-    let alloc = rt.alloc();
-    let definition = six_nodes_with(alloc, 1)?;
-    change_each(&rt, alloc, &definition, &WAIVED, &WAIVER_CHANGES)
 }

@@ -1,14 +1,15 @@
 //! Calls that first see that they stay within the device.
 
 use crate::{Disk, gate_is_open};
-use std::alloc::Global;
-use std::test::Fail;
 
-/// All bytes of a device.
-pub(super) fn all_of<D: Disk>(alloc: Global, disk: &mut D) -> Result<Vec<u8>, Fail> {
-    let mut bytes = vec![in alloc; 0; disk.len()]?;
-    disk.read_into(0, &mut bytes)?;
-    Ok(bytes)
+/// Whether these bytes, eight at most, are all of a device.
+pub(super) fn has<D: Disk>(disk: &mut D, bytes: &[u8]) -> bool {
+    let mut found = [0; 8];
+    let len = disk.len();
+    if len != bytes.len() || len > 8 {
+        return false;
+    }
+    disk.read_into(0, &mut found[..len]).is_ok() && found.starts_with(bytes)
 }
 
 /// Two bytes of it, where the read succeeds.

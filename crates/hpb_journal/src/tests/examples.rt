@@ -6,48 +6,53 @@ use hpb_tree::{BidderDraft, Definition, Draft, NodeDraft, TermsDraft};
 use std::alloc::{AllocError, Global};
 use std::test::Fail;
 
-fn node(
-    alloc: Global,
-    name: &str,
-    parent: Option<u64>,
-    terms: Option<TermsDraft>,
-) -> Result<NodeDraft, AllocError> {
-    Ok(NodeDraft {
-        name: String::from_str(alloc, name)?,
-        parent,
-        terms,
-    })
+/// Six licences of 10 units each.
+fn nodes(alloc: Global) -> Result<Vec<NodeDraft>, AllocError> {
+    let mut nodes = Vec::new(alloc);
+    for name in ["a", "b", "c", "d", "e", "f"] {
+        nodes.push(NodeDraft {
+            name: String::from_str(alloc, name)?,
+            parent: None,
+            terms: Some(TermsDraft {
+                units: 10,
+                opening: 100,
+            }),
+        })?;
+    }
+    Ok(nodes)
 }
 
-fn of_units(units: u64) -> Option<TermsDraft> {
-    Some(TermsDraft {
-        units,
-        opening: 100,
-    })
+/// Four bidders with 10 units each.
+fn bidders(alloc: Global) -> Result<Vec<BidderDraft>, AllocError> {
+    let mut bidders = Vec::new(alloc);
+    for name in ["x", "y", "z", "w"] {
+        let name = String::from_str(alloc, name)?;
+        bidders.push(BidderDraft { name, units: 10 })?;
+    }
+    Ok(bidders)
 }
 
-/// Six nodes and four bidders: `all` 0 has `east` 1 and the licence `c` 4, `east` has the licences `a` 2 and `b` 3, and the
-/// licence `d` 5 stands alone.
-pub(crate) fn six_nodes(alloc: Global) -> Result<Definition, Fail> {
-    let mut draft = Draft {
+/// Six licences and four bidders.
+pub(crate) fn six_licences(alloc: Global) -> Result<Box<Definition>, Fail> {
+    let stages = vec![in alloc; 80, 95]?;
+    let nodes = nodes(alloc)?;
+    let bidders = bidders(alloc)?;
+    let draft = Draft {
         step: 10,
         percent: 10,
-        stages: vec![in alloc; 80, 95]?,
+        stages,
         waivers: 0,
-        nodes: Vec::new(alloc),
-        bidders: Vec::new(alloc),
+        nodes,
+        bidders,
     };
-    draft.nodes.push(node(alloc, "all", None, None)?)?;
-    draft.nodes.push(node(alloc, "east", Some(0), None)?)?;
-    draft.nodes.push(node(alloc, "a", Some(1), of_units(10))?)?;
-    draft.nodes.push(node(alloc, "b", Some(1), of_units(10))?)?;
-    draft.nodes.push(node(alloc, "c", Some(0), of_units(20))?)?;
-    draft.nodes.push(node(alloc, "d", None, of_units(5))?)?;
-    for (name, units) in [("x", 10), ("y", 10), ("z", 40), ("w", 25)] {
-        let name = String::from_str(alloc, name)?;
-        draft.bidders.push(BidderDraft { name, units })?;
-    }
-    Ok(Definition::check(alloc, &draft)?)
+    let definition = Definition::check(alloc, &draft);
+    drop(draft);
+    Ok(Box::new(alloc, definition?)?)
+}
+
+/// A device of zeros.
+pub(crate) fn zeros(alloc: Global, len: usize) -> Result<Box<MemoryDisk>, Fail> {
+    Ok(Box::new(alloc, MemoryDisk::zeros(alloc, len)?)?)
 }
 
 /// A batch of one command, a first bid of bidder 0: 100 on node 2.
@@ -113,43 +118,37 @@ pub(crate) fn is_closed<F: Frames, D: Disk>(frames: &F, disk: &mut D, index: u64
     frames.close_frame(disk, index, true).is_ok() && disk.sync().is_ok()
 }
 
-/// What is said of a frame, in a word.
-#[derive(Clone, Copy, Debug, PartialEq, Eq)]
-pub(crate) enum Word {
-    Failed,
-    Closed,
-    Other,
-    /// The batch's index and the number of its first command.
-    Batch(u64, u64),
-    Damaged,
-}
-
-/// What the frame of a batch says.
+/// What the frame of a batch says: a word, and of a batch its index and the number of its first command.
 pub(crate) fn said<F: Frames, D: Disk>(
     frames: &F,
     disk: &mut D,
     index: u64,
     definition: &Definition,
-) -> Word {
+) -> (&'static str, u64, u64) {
     if disk.len() < frames.device_len() {
-        return Word::Failed;
+        return FAILED;
     }
     match frames.read_frame(disk, index, definition) {
-        Err(_) => Word::Failed,
-        Ok(Frame::Closed) => Word::Closed,
-        Ok(Frame::Other) => Word::Other,
-        Ok(Frame::Batch(batch)) => Word::Batch(batch.index, batch.first),
-        Ok(Frame::Damaged) => Word::Damaged,
+        Err(_) => FAILED,
+        Ok(Frame::Closed) => CLOSED,
+        Ok(Frame::Other) => OTHER,
+        Ok(Frame::Batch(batch)) => ("batch", batch.index, batch.first),
+        Ok(Frame::Damaged) => DAMAGED,
     }
 }
 
-/// Whether a byte was written into the page of the first frame, and synced.
-pub(crate) fn is_changed(disk: &mut MemoryDisk, at: usize, byte: u8) -> bool {
+const FAILED: (&str, u64, u64) = ("failed", 0, 0);
+
+pub(crate) const CLOSED: (&str, u64, u64) = ("closed", 0, 0);
+
+pub(crate) const OTHER: (&str, u64, u64) = ("other", 0, 0);
+
+pub(crate) const DAMAGED: (&str, u64, u64) = ("damaged", 0, 0);
+
+/// Whether a byte was written at an offset of a device, and synced.
+pub(crate) fn is_set(disk: &mut MemoryDisk, at: usize, byte: u8) -> bool {
     let len = disk.len();
-    at < 4_096
-        && len >= 57_344
-        && disk.write_at(53_248 + at, &[byte]).is_ok()
-        && disk.sync().is_ok()
+    at < len && disk.write_at(at, &[byte]).is_ok() && disk.sync().is_ok()
 }
 
 /// The bytes of a device from an offset on, as many as fit.

@@ -10,7 +10,7 @@ use std::alloc::{AllocError, Global};
 use std::test::Fail;
 
 /// The bytes of a device with the shortest journal.
-pub(crate) const DEVICE: usize = 69_632;
+const DEVICE: usize = 69_632;
 
 const NO_BID: SavedNode = SavedNode {
     high: None,
@@ -28,34 +28,53 @@ const fn with_units(eligibility: u32) -> SavedBidder {
     }
 }
 
-fn licence(alloc: Global, name: &str, units: u64) -> Result<NodeDraft, AllocError> {
-    Ok(NodeDraft {
-        name: String::from_str(alloc, name)?,
-        parent: None,
-        terms: Some(TermsDraft {
-            units,
-            opening: 100,
-        }),
-    })
+/// Two licences of 10 units each.
+fn nodes(alloc: Global) -> Result<Vec<NodeDraft>, AllocError> {
+    let mut nodes = Vec::new(alloc);
+    for name in ["a", "b"] {
+        nodes.push(NodeDraft {
+            name: String::from_str(alloc, name)?,
+            parent: None,
+            terms: Some(TermsDraft {
+                units: 10,
+                opening: 100,
+            }),
+        })?;
+    }
+    Ok(nodes)
+}
+
+/// Two bidders with 10 units each.
+fn bidders(alloc: Global) -> Result<Vec<BidderDraft>, AllocError> {
+    let mut bidders = Vec::new(alloc);
+    for name in ["x", "y"] {
+        let name = String::from_str(alloc, name)?;
+        bidders.push(BidderDraft { name, units: 10 })?;
+    }
+    Ok(bidders)
 }
 
 /// Two licences, and two bidders of 10 units each.
-pub(crate) fn two_licences(alloc: Global) -> Result<Definition, Fail> {
-    let mut draft = Draft {
+pub(crate) fn two_licences(alloc: Global) -> Result<Box<Definition>, Fail> {
+    let stages = vec![in alloc; 80]?;
+    let nodes = nodes(alloc)?;
+    let bidders = bidders(alloc)?;
+    let draft = Draft {
         step: 10,
         percent: 10,
-        stages: vec![in alloc; 80]?,
+        stages,
         waivers: 0,
-        nodes: Vec::new(alloc),
-        bidders: Vec::new(alloc),
+        nodes,
+        bidders,
     };
-    draft.nodes.push(licence(alloc, "a", 10)?)?;
-    draft.nodes.push(licence(alloc, "b", 10)?)?;
-    for name in ["x", "y"] {
-        let name = String::from_str(alloc, name)?;
-        draft.bidders.push(BidderDraft { name, units: 10 })?;
-    }
-    Ok(Definition::check(alloc, &draft)?)
+    let definition = Definition::check(alloc, &draft);
+    drop(draft);
+    Ok(Box::new(alloc, definition?)?)
+}
+
+/// A device of zeros, with room for the shortest journal.
+pub(crate) fn zeros(alloc: Global) -> Result<Box<MemoryDisk>, Fail> {
+    Ok(Box::new(alloc, MemoryDisk::zeros(alloc, DEVICE)?)?)
 }
 
 /// What is saved where so many commands were accepted and no bid stands.

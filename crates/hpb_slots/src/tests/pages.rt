@@ -1,6 +1,5 @@
-use crate::tests::examples::{DEVICE, is_opened, is_there, is_written, quiet, room};
+use crate::tests::examples::{is_opened, is_there, is_written, quiet, room, zeros};
 use crate::{SLOTS_AT, SLOTS_END, Slot};
-use hpb_disk::MemoryDisk;
 use std::test::*;
 
 /// What stands at some offsets after a state with index 3 and count 5 was put into both slots.
@@ -30,11 +29,11 @@ fn slots_byte_by_byte(rt: HostRuntime) -> Result<(), Fail> {
     let alloc = rt.alloc();
     assert_eq!(rt; SLOTS_AT, 12_288);
     assert_eq!(rt; SLOTS_END, 53_248);
-    let mut disk = MemoryDisk::zeros(alloc, DEVICE)?;
+    let mut disk = zeros(alloc)?;
     let mut body = room(alloc)?;
     for slot in [Slot::First, Slot::Second] {
-        assert!(rt; is_written(&mut disk, slot, &quiet(5), 3, &mut body));
-        assert!(rt; is_opened(&mut disk, slot));
+        assert!(rt; is_written(&mut *disk, slot, &quiet(5), 3, &mut body));
+        assert!(rt; is_opened(&mut *disk, slot));
     }
     for (at, wanted) in PLACES {
         assert!(rt; is_there(&mut disk, at, &wanted), "at {at}");

@@ -1,5 +1,5 @@
 use Rattle.std.proofs.Common.{◌≡◌, ◌<◌, ◌≤◌, length}
-use Rattle.hpb_server.proofs.tests_of_batches.apply_some.Given as goal
+use Rattle.hpb_server.proofs.tests.batches.apply_some.Given as goal
 
 -- the definition stays, and the first command has its reply
 abbrev pub invariant-loop-command : goal.invariant-loop-command

@@ -1,7 +1,5 @@
-use super::*;
 use crate::tests::{DEFINITION, run_all};
 use std::alloc::Global;
-use std::process::Abort;
 use std::test::Fail;
 
 /// Commands of which most are refused, by the definition of six nodes.
@@ -65,31 +63,21 @@ hpb: 15 gap: the next ticket of the auctioneer is 2
 hpb: 15 gap: the next ticket of x is 2
 ";
 
-/// What a script of these lines is answered, and what its errors are told.
-fn run_at(alloc: Global, is_terminal: bool) -> Result<(Vec<u8>, Vec<u8>), Fail> {
+/// What a script of these lines is answered at a terminal, and what its errors are told.
+fn run_at_terminal(alloc: Global) -> Result<(Vec<u8>, Vec<u8>), Fail> {
     let mut text = DEFINITION.to_vec(alloc)?;
     text.extend_from_slice(LINES)?;
     let mut input = text.as_slice();
     let mut output = Vec::new(alloc);
     let mut errors = Vec::new(alloc);
-    let _ = run_all(alloc, &mut input, &mut output, &mut errors, is_terminal)?;
+    let _ = run_all(alloc, &mut input, &mut output, &mut errors, true)?;
     Ok((output, errors))
-}
-
-/// A script has the same answers, and its errors are told this.
-fn tell_at(rt: &impl Abort, alloc: Global, is_terminal: bool, told: &str) -> Result<(), Fail> {
-    let (output, errors) = run_at(alloc, is_terminal)?;
-    assert_eq!(rt; output.as_slice(), ANSWERS.as_bytes());
-    assert_eq!(rt; errors.as_slice(), told.as_bytes());
-    Ok(())
 }
 
 #[test]
 fn a_terminal_is_told_what_would_be_taken(rt: HostRuntime) -> Result<(), Fail> {
-    tell_at(&rt, rt.alloc(), true, TOLD)
-}
-
-#[test]
-fn a_pipe_is_told_nothing_more(rt: HostRuntime) -> Result<(), Fail> {
-    tell_at(&rt, rt.alloc(), false, "")
+    let (output, errors) = run_at_terminal(rt.alloc())?;
+    assert_eq!(rt; output.as_slice(), ANSWERS.as_bytes());
+    assert_eq!(rt; errors.as_slice(), TOLD.as_bytes());
+    Ok(())
 }

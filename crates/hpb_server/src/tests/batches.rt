@@ -3,13 +3,13 @@ ghost use Rattle.std.proofs.Common.{arith};
 
 use crate::desk::Desk;
 use crate::fault::Fault;
-use crate::tests::{Counts, FailingReader, Lines, Talk, new_auction, new_desk, serve_all};
+use crate::tests::{Counts, Lines, Talk, new_auction, serve_all};
 use hpb_auction::Auction;
 use hpb_rules::{Commands, MOST_LETTERS, Replies};
 use hpb_tree::Definition;
 use std::alloc::{AllocError, Global};
 use std::cell::Cell;
-use std::io::{Read, Write};
+use std::io::Read;
 use std::process::Abort;
 use std::test::Fail;
 
@@ -178,150 +178,94 @@ const FRONTS: [&[u8]; 9] = [
     b"OK 1\nOK 2\nOK 3\nROUND 1 STAGE 1 OPEN REVENUE 0 COUNT 3\nOK 4\nERR 10 line\nOK 4\nOK 5\n",
 ];
 
-/// Serves a reader, and keeps what is written.
-fn serve_kept<R: Read>(
-    alloc: Global,
-    reader: &mut R,
-    desk: &mut BatchDesk,
-) -> (Result<(), Fault>, Vec<u8>) {
-    let mut written = Vec::new(alloc);
-    let result = serve_all(alloc, reader, &mut written, desk);
-    (result, written)
-}
-
 /// The lines at once: how a session of them ended, and what was written.
 fn serve_lines(alloc: Global, desk: &mut BatchDesk) -> (Result<(), Fault>, Vec<u8>) {
     let mut reader = LINES;
-    serve_kept(alloc, &mut reader, desk)
+    let mut written = Vec::new(alloc);
+    let result = serve_all(alloc, &mut reader, &mut written, desk);
+    (result, written)
 }
 
-/// A session of a desk ends so, and so many lines are answered.
+/// A desk that ends after so many replies, and is refused memory for this batch or this rest, ends so, and so many lines
+/// are answered by then.
 fn end_so(
     rt: &impl Abort,
     alloc: Global,
-    desk: &mut BatchDesk,
+    (together, left, batch, rest): (usize, usize, usize, usize),
     end: Result<(), Fault>,
     lines: usize,
-) {
-    let (result, written) = serve_lines(alloc, desk);
-    let together = desk.together;
+) -> Result<(), Fail> {
+    let mut desk = desk_with(alloc, together, left, batch, rest)?;
+    let (result, written) = serve_lines(alloc, &mut *desk);
     assert_eq!(rt; result, end, "{together} {lines}");
     assert_eq!(rt;
         Some(written.as_slice()),
         FRONTS.get(lines).copied(),
         "{together} {lines}"
     );
+    Ok(())
 }
 
-/// A desk that is asked for so many commands together is asked for so many each time.
-fn ask_together(
+/// Serves a reader, and counts what is written.
+fn serve_counted<R: Read>(
+    alloc: Global,
+    reader: &mut R,
+    talk: &Talk,
+    desk: &mut BatchDesk,
+) -> Result<(), Fault> {
+    serve_all(alloc, reader, &mut Counts { talk }, desk)
+}
+
+/// A desk that is asked for so many commands together is asked for so many each time, and as often is written: before
+/// each batch but the first, and at the end.
+fn leave_together(
     rt: &impl Abort,
     alloc: Global,
     together: usize,
     batches: &[usize],
 ) -> Result<(), Fail> {
     let mut desk = desk(alloc, together)?;
-    end_so(rt, alloc, &mut desk, Ok(()), 8);
-    assert_eq!(rt; desk.batches.as_slice(), batches, "{together}");
-    Ok(())
-}
-
-#[test]
-fn a_queue_is_asked_once_it_is_long_enough_and_before_any_other_line(
-    rt: HostRuntime,
-) -> Result<(), Fail> {
-    let alloc = rt.alloc();
-    ask_together(&rt, alloc, 1, &[1, 1, 1, 1, 1, 1])?;
-    ask_together(&rt, alloc, 2, &[2, 1, 1, 2])?;
-    ask_together(&rt, alloc, 3, &[3, 1, 2])?;
-    ask_together(&rt, alloc, 64, &[3, 1, 2])
-}
-
-/// Serves the lines at once, and counts what is written.
-fn serve_counted<D: Desk>(alloc: Global, talk: &Talk, desk: &mut D) -> Result<(), Fault> {
-    let mut reader = LINES;
-    serve_all(alloc, &mut reader, &mut Counts { talk }, desk)
-}
-
-/// Where so many commands are asked together, so often is written: before each batch but the first, and at the end.
-fn leave_together(
-    rt: &impl Abort,
-    alloc: Global,
-    together: usize,
-    writes: usize,
-) -> Result<(), Fail> {
-    let mut desk = desk(alloc, together)?;
     let talk = Talk::new();
-    let result = serve_counted(alloc, &talk, &mut *desk);
+    let mut reader = LINES;
+    let result = serve_counted(alloc, &mut reader, &talk, &mut *desk);
     assert_eq!(rt; result, Ok(()), "{together}");
-    assert_eq!(rt; desk.batches.len(), writes, "{together}");
-    assert_eq!(rt; talk.writes.get(), writes, "{together}");
+    assert_eq!(rt; desk.batches.as_slice(), batches, "{together}");
+    assert_eq!(rt; talk.writes.get(), batches.len(), "{together}");
     assert_eq!(rt; talk.flushed.get(), 8, "{together}");
     Ok(())
 }
 
+/// How many are asked together at most, and each time: once they are long enough, and before any other line.
+const BATCHES: [(usize, &[usize]); 4] = [
+    (1, &[1, 1, 1, 1, 1, 1]),
+    (2, &[2, 1, 1, 2]),
+    (3, &[3, 1, 2]),
+    (64, &[3, 1, 2]),
+];
+
 #[test]
 fn answers_leave_batch_by_batch(rt: HostRuntime) -> Result<(), Fail> {
-    for (together, writes) in [(1, 6), (2, 4), (3, 3), (64, 3)] {
-        leave_together(&rt, rt.alloc(), together, writes)?;
+    for (together, batches) in BATCHES {
+        leave_together(&rt, rt.alloc(), together, batches)?;
     }
     Ok(())
 }
 
-#[test]
-fn answers_are_gathered_where_no_desk_waits(rt: HostRuntime) -> Result<(), Fail> {
-    let mut desk = new_desk(rt.alloc())?;
-    let talk = Talk::new();
-    assert_eq!(rt; serve_counted(rt.alloc(), &talk, &mut *desk), Ok(()));
-    assert_eq!(rt; talk.writes.get(), 1);
-    assert_eq!(rt; talk.flushed.get(), 8);
-    Ok(())
-}
-
-/// Serves the lines one by one, and counts what is written.
-fn serve_in_turn(alloc: Global, talk: &Talk, desk: &mut BatchDesk) -> Result<(), Fault> {
-    let mut reader = Lines { talk, rest: LINES };
-    serve_all(alloc, &mut reader, &mut Counts { talk }, desk)
-}
-
 /// No command waits when more is read, and the desk rests before each read.
-fn ask_before_reading(rt: &impl Abort, alloc: Global, desk: &mut BatchDesk) {
+#[test]
+fn a_queue_is_asked_before_more_is_read(rt: HostRuntime) -> Result<(), Fail> {
+    let mut desk = desk(rt.alloc(), 64)?;
     let talk = Talk::new();
-    assert_eq!(rt; serve_in_turn(alloc, &talk, desk), Ok(()));
+    let mut reader = Lines {
+        talk: &talk,
+        rest: LINES,
+    };
+    let result = serve_counted(rt.alloc(), &mut reader, &talk, &mut *desk);
+    assert_eq!(rt; result, Ok(()));
     assert!(rt; !talk.early.get());
     assert_eq!(rt; talk.flushed.get(), 8);
     assert_eq!(rt; desk.batches.as_slice(), [1, 1, 1, 1, 1, 1].as_slice());
     assert_eq!(rt; desk.rests.get(), 9);
-}
-
-/// A reader that fails has left no command unasked.
-fn ask_before_a_failure(rt: &impl Abort, alloc: Global, desk: &mut BatchDesk) {
-    let mut reader = FailingReader {
-        rest: LINES,
-        reads: 3,
-    };
-    let (result, written) = serve_kept(alloc, &mut reader, desk);
-    assert_eq!(rt; result, Err(Fault::Reader));
-    assert_eq!(rt; written.as_slice(), FRONTS[3]);
-}
-
-#[test]
-fn a_queue_is_asked_before_more_is_read(rt: HostRuntime) -> Result<(), Fail> {
-    ask_before_reading(&rt, rt.alloc(), &mut *desk(rt.alloc(), 64)?);
-    ask_before_a_failure(&rt, rt.alloc(), &mut *desk(rt.alloc(), 64)?);
-    Ok(())
-}
-
-/// A desk ends after so many replies, and so many lines are answered by then.
-fn end_in_batch(
-    rt: &impl Abort,
-    alloc: Global,
-    together: usize,
-    left: usize,
-    lines: usize,
-) -> Result<(), Fail> {
-    let mut desk = desk_with(alloc, together, left, usize::MAX, usize::MAX)?;
-    end_so(rt, alloc, &mut desk, Ok(()), lines);
     Ok(())
 }
 
@@ -329,33 +273,24 @@ fn end_in_batch(
 fn a_desk_ends_in_the_midst_of_a_batch(rt: HostRuntime) -> Result<(), Fail> {
     for (left, lines) in [(1, 1), (2, 2), (3, 3), (4, 5), (5, 7), (6, 8)] {
         for together in [1, 2, 64] {
-            end_in_batch(&rt, rt.alloc(), together, left, lines)?;
+            let desk = (together, left, usize::MAX, usize::MAX);
+            end_so(&rt, rt.alloc(), desk, Ok(()), lines)?;
         }
     }
     Ok(())
 }
 
-/// Memory is refused for this batch of two, or for this rest, and so many lines are answered by then.
-fn refuse_memory(
-    rt: &impl Abort,
-    alloc: Global,
-    batch: usize,
-    rest: usize,
-    lines: usize,
-) -> Result<(), Fail> {
-    let mut desk = desk_with(alloc, 2, usize::MAX, batch, rest)?;
-    end_so(rt, alloc, &mut desk, Err(Fault::Memory), lines);
-    Ok(())
-}
-
 #[test]
 fn memory_is_refused_to_a_desk(rt: HostRuntime) -> Result<(), Fail> {
+    let refused = Err(Fault::Memory);
     for (batch, lines) in [(0, 0), (1, 2), (2, 4), (3, 6)] {
-        refuse_memory(&rt, rt.alloc(), batch, usize::MAX, lines)?;
+        let desk = (2, usize::MAX, batch, usize::MAX);
+        end_so(&rt, rt.alloc(), desk, refused, lines)?;
     }
     // The desk rests once nothing is read, and once all is answered.
     for (rest, lines) in [(0, 0), (1, 8)] {
-        refuse_memory(&rt, rt.alloc(), usize::MAX, rest, lines)?;
+        let desk = (2, usize::MAX, usize::MAX, rest);
+        end_so(&rt, rt.alloc(), desk, refused, lines)?;
     }
     Ok(())
 }

@@ -2,7 +2,7 @@ use Rattle.std.proofs.Common.{◌≡◌, ◌<◌, ◌≤◌, Bool, true, false, 
 use Rattle.hpb_rules.specs.declared.command.Command.{Command}
 use Rattle.hpb_rules.specs.declared.reply.Reply.{Reply}
 use Rattle.hpb_server.specs.Desk.{AsksAll}
-use Rattle.hpb_server.proofs.tests_of_batches.BatchDeskDesk.ask.Goals as goal
+use Rattle.hpb_server.proofs.tests.batches.BatchDeskDesk.ask.Goals as goal
 
 -- any replies will do, one for each command up to the one that ends the session
 any_asked : {State : Type 0} (asks : State → Command → Reply → State → Type 0) (over : State → Bool) (old new : State) → ((command : Command) (reply : Reply) → asks old command reply old) → ((command : Command) (reply : Reply) → asks old command reply new)
