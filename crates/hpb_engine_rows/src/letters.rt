@@ -5,7 +5,7 @@ ghost use Rattle.hpb_rules.specs.declared.limits.TheConstants.{MOST_COMMANDS};
 ghost use Rattle.hpb_rules.specs.declared.reply.Reply.TheVariants as replies;
 ghost use Rattle.hpb_engine_rows.specs.Places.{bidder_place, node_place, auctioneer_seat};
 
-use hpb_rules::{Answer, BidderId, Command, Letter, Letters, MOST_LETTERS, NodeId, Refusal, Reply};
+use hpb_rules::{Answer, BidderId, Command, Letter, Letters, NodeId, Refusal, Reply};
 
 /// A bidder.
 #[derive(Clone, Copy, Debug, PartialEq, Eq)]
@@ -118,15 +118,6 @@ pub fn in_round(place: u32) -> Letter {
     }
 }
 
-/// So many of them, from the first on. Each is accepted.
-pub fn first_of_rounds(count: u32) -> Letters {
-    let mut letters = Letters::new();
-    for place in 0..count {
-        let _ = letters.push(in_round(place));
-    }
-    letters
-}
-
 /// The bids of three bidders and the close of the first round.
 pub fn four() -> [Letter; 4] {
     [
@@ -159,11 +150,6 @@ pub fn one(letter: Letter) -> Letters {
 /// Two letters.
 pub fn two(first: Letter, second: Letter) -> Letters {
     list_of(&[first, second])
-}
-
-/// As many letters as a list has room for, all the same.
-pub fn full_of(letter: Letter) -> Letters {
-    list_of(&[letter; MOST_LETTERS])
 }
 
 /// The answer to a letter that is accepted as the next after so many.

@@ -1,13 +1,13 @@
 //! What is answered to a batch, and when.
 
-use crate::calls::{Turn, commit, count, steps_retiring, steps_to_whole};
+use crate::calls::{Turn, count, steps_retiring, steps_to_whole};
 use crate::devices::new_engine;
 use crate::expecting::{
     answers_at_once, commits, commits_one, hands_back, steps, takes, turns, turns_last,
 };
 use crate::letters::Bidder::{X, Y};
 use crate::letters::Node::{A, B};
-use crate::letters::{accepted, bid, close, full_of, in_round, list_of, one, refused, two};
+use crate::letters::{accepted, bid, in_round, list_of, one, refused, two};
 use crate::over_layouts;
 use hpb_codec::JournalShape;
 use hpb_disk::{Disk, MemoryDisk};
@@ -65,11 +65,13 @@ fn repeated_at(at: u32) -> Answer {
     }
 }
 
+/// A repeat, and no letter at all, are answered at once and without a call of the device.
 fn repeat(rt: &impl Abort, engine: &mut Engine<MemoryDisk>) {
     let wanted = [accepted(first(), 0), accepted(second(), 1)];
     assert!(rt; commits(engine, two(first(), second()), &wanted));
     let calls = engine.disk.calls();
     assert!(rt; answers_at_once(engine, one(first()), &[repeated_at(2)]));
+    assert!(rt; answers_at_once(engine, list_of(&[]), &[]));
     assert!(rt; turns(engine, Ok(Turn::Idle)));
     assert_eq!(rt; engine.disk.calls(), calls);
     assert_eq!(rt; count(engine), 2);
@@ -78,44 +80,6 @@ fn repeat(rt: &impl Abort, engine: &mut Engine<MemoryDisk>) {
 #[test]
 fn repeat_makes_no_device_call(rt: HostRuntime) -> Result<(), Fail> {
     over_layouts!(shape => repeat(&rt, &mut *new_engine(rt.alloc(), shape)?));
-    Ok(())
-}
-
-/// A bid below the minimum.
-fn low() -> Letter {
-    bid(X, 1, A, 90)
-}
-
-fn offer_nothing_new(rt: &impl Abort, engine: &mut Engine<MemoryDisk>) {
-    assert!(rt; answers_at_once(engine, list_of(&[]), &[]));
-    let both = [
-        refused(low(), 0, Refusal::Low),
-        refused(close(2), 0, Refusal::Gap),
-    ];
-    assert!(rt; answers_at_once(engine, two(low(), close(2)), &both));
-    assert!(rt; turns(engine, Ok(Turn::Idle)));
-    assert!(rt; steps(engine, Ok(Rest::Idle)));
-}
-
-#[test]
-fn letters_without_a_new_command(rt: HostRuntime) -> Result<(), Fail> {
-    over_layouts!(shape => offer_nothing_new(&rt, &mut *new_engine(rt.alloc(), shape)?));
-    Ok(())
-}
-
-fn fill_batch(rt: &impl Abort, engine: &mut Engine<MemoryDisk>) {
-    let answers = commit(engine, full_of(first()));
-    assert_eq!(rt; answers.len(), 64);
-    assert_eq!(rt; answers.get(0), Some(accepted(first(), 0)));
-    for answer in answers.as_slice().iter().skip(1) {
-        assert_eq!(rt; *answer, repeated_at(1));
-    }
-    assert_eq!(rt; count(engine), 1);
-}
-
-#[test]
-fn greatest_batch(rt: HostRuntime) -> Result<(), Fail> {
-    over_layouts!(shape => fill_batch(&rt, &mut *new_engine(rt.alloc(), shape)?));
     Ok(())
 }
 

@@ -1,17 +1,15 @@
 //! Devices that were made when states had their first format, and the checkpoints that are made of them.
 
 use crate::calls::{commit, steps_to_whole};
-use crate::devices::{FATES, bytes_of, engine_over, new_device, new_engine, opened_or_cause};
-use crate::expecting::{commits_one, steps};
+use crate::devices::{FATES, bytes_of, engine_over, new_engine, opened_or_cause};
 use crate::letters::Bidder::{W, X, Y, Z};
 use crate::letters::Node::{A, All, B, C};
-use crate::letters::{accepted, bid, close, list_of};
+use crate::letters::{bid, close, list_of};
 use crate::over_layouts;
 use crate::states::{same, state_after};
 use hpb_auction::Auction;
 use hpb_codec::JournalShape;
 use hpb_disk::{Fate, FuseDisk, MemoryDisk};
-use hpb_engine::{Engine, Rest};
 use hpb_recover::Opened;
 use hpb_rules::{Letter, NodeId};
 use hpb_slots::Slot;
@@ -152,7 +150,12 @@ fn cut_at(rt: &impl Abort, alloc: Global, old: &[u8], opening: u64, call: u64) -
     Ok(())
 }
 
-/// A checkpoint is cut at each of its calls, and then at none.
+/// The formats of the states in the first and in the second slot.
+fn formats_in(bytes: &[u8]) -> (Option<u8>, Option<u8>) {
+    (bytes.get(IN_FIRST).copied(), bytes.get(IN_SECOND).copied())
+}
+
+/// A checkpoint is cut at each of its calls, and then at none: then the second slot has the second format.
 fn cut_each(rt: &impl Abort, alloc: Global, shape: JournalShape) -> Result<(), Fail> {
     let old = old_device(alloc, shape)?;
     let opened = opened_bytes(alloc, &old)?;
@@ -161,62 +164,14 @@ fn cut_each(rt: &impl Abort, alloc: Global, shape: JournalShape) -> Result<(), F
     for call in 1..12 {
         cut_at(rt, alloc, &old, opening, call)?;
     }
-    Ok(())
-}
-
-/// The formats of the states in the first and in the second slot.
-fn formats_in(bytes: &[u8]) -> (Option<u8>, Option<u8>) {
-    (bytes.get(IN_FIRST).copied(), bytes.get(IN_SECOND).copied())
-}
-
-/// Two whole checkpoints of an old device, with a command between them: each writes the second format into its slot.
-fn write_second_format(
-    rt: &impl Abort,
-    alloc: Global,
-    engine: &mut Engine<MemoryDisk>,
-) -> Result<(), Fail> {
-    assert_eq!(rt; steps_to_whole(engine, 20), 11);
-    let bytes = bytes_of(alloc, engine.disk.after_stop(alloc, &[])?)?;
+    let (_, whole) = cut(alloc, &old, opening.saturating_add(11))?;
+    let bytes = bytes_of(alloc, whole)?;
     assert_eq!(rt; formats_in(&bytes), (Some(1), Some(2)));
-    assert!(rt; commits_one(engine, accepted(bid(W, 2, C, 250), 5)));
-    assert_eq!(rt; steps_to_whole(engine, 20), 11);
-    Ok(())
-}
-
-/// Both slots have the second format then, and the head is the same.
-fn write_both(rt: &impl Abort, alloc: Global, shape: JournalShape) -> Result<(), Fail> {
-    let old = old_device(alloc, shape)?;
-    let mut engine = engine_over(alloc, MemoryDisk::of(alloc, old.to_vec(alloc)?)?)?;
-    write_second_format(rt, alloc, &mut engine)?;
-    let bytes = bytes_of(alloc, Box::into_inner(engine).finish())?;
-    assert_eq!(rt; formats_in(&bytes), (Some(2), Some(2)));
-    assert!(rt; bytes.get(..HEAD_END) == old.get(..HEAD_END));
     Ok(())
 }
 
 #[test]
 fn old_device_checkpointed(rt: HostRuntime) -> Result<(), Fail> {
     over_layouts!(shape => cut_each(&rt, rt.alloc(), shape)?);
-    Ok(())
-}
-
-#[test]
-fn old_device_checkpointed_twice(rt: HostRuntime) -> Result<(), Fail> {
-    over_layouts!(shape => write_both(&rt, rt.alloc(), shape)?);
-    Ok(())
-}
-
-/// An old device without a command has no checkpoint to make.
-fn rest(rt: &impl Abort, alloc: Global, shape: JournalShape) -> Result<(), Fail> {
-    let old = made_old(alloc, new_device(alloc, shape)?)?;
-    let mut engine = engine_over(alloc, MemoryDisk::of(alloc, old.to_vec(alloc)?)?)?;
-    assert!(rt; steps(&mut engine, Ok(Rest::Idle)));
-    assert!(rt; bytes_of(alloc, Box::into_inner(engine).finish())? == old);
-    Ok(())
-}
-
-#[test]
-fn old_device_at_rest(rt: HostRuntime) -> Result<(), Fail> {
-    over_layouts!(shape => rest(&rt, rt.alloc(), shape)?);
     Ok(())
 }

@@ -132,11 +132,11 @@ fn retires_two<D: Disk + Drop>(engine: &mut Engine<D>) -> bool {
 /// How many frames may be open after a stop while the four are retired, of which the first is closed.
 const OLD: u32 = 3;
 
-/// A device with a checkpoint of the four batches: so many frames aren't clean.
-fn covering_four(shape: JournalShape, unclean: u32) -> Found {
+/// A device with a checkpoint of the four batches: these frames aren't clean.
+fn covering_four(shape: JournalShape) -> Found {
     Found {
         count: 4,
-        clean: u64::from(shape.frames.saturating_sub(unclean)),
+        clean: u64::from(shape.frames.saturating_sub(OLD)),
         covered: 4,
         slot: Slot::Second,
     }
@@ -152,7 +152,7 @@ fn stop_retiring(
     let mut engine = new_engine(alloc, shape)?;
     assert!(rt; retires_two(&mut engine));
     let opened = opened_after(alloc, &engine, &[Fate::Kept, Fate::Lost])?;
-    assert_eq!(rt; found_in(&opened), covering_four(shape, OLD));
+    assert_eq!(rt; found_in(&opened), covering_four(shape));
     let state = state_after(alloc, &four())?;
     assert!(rt; same(opened.auction(), &state));
     Ok(opened)
@@ -179,39 +179,5 @@ fn go_on(rt: &impl Abort, alloc: Global, shape: JournalShape) -> Result<(), Fail
 #[test]
 fn stop_while_retiring(rt: HostRuntime) -> Result<(), Fail> {
     over_layouts!(shape => go_on(&rt, rt.alloc(), shape)?);
-    Ok(())
-}
-
-/// The three frames that may be open are retired without a new checkpoint.
-fn retire(rt: &impl Abort, engine: &mut Engine<MemoryDisk>) {
-    for _ in 0..OLD {
-        assert!(rt; steps(engine, Ok(Rest::Went(Part::Retired))));
-    }
-    assert!(rt; steps(engine, Ok(Rest::Whole)));
-    assert!(rt; steps(engine, Ok(Rest::Idle)));
-}
-
-/// All frames are clean.
-fn find_clean(
-    rt: &impl Abort,
-    alloc: Global,
-    engine: &mut Engine<MemoryDisk>,
-    shape: JournalShape,
-) -> Result<(), Fail> {
-    retire(rt, engine);
-    let opened = opened_after(alloc, engine, &[])?;
-    assert_eq!(rt; found_in(&opened), covering_four(shape, 0));
-    Ok(())
-}
-
-/// The engine retires what is left after such a stop.
-fn retire_on(rt: &impl Abort, alloc: Global, shape: JournalShape) -> Result<(), Fail> {
-    let opened = stop_retiring(rt, alloc, shape)?;
-    find_clean(rt, alloc, &mut *started(alloc, opened)?, shape)
-}
-
-#[test]
-fn retirement_alone(rt: HostRuntime) -> Result<(), Fail> {
-    over_layouts!(shape => retire_on(&rt, rt.alloc(), shape)?);
     Ok(())
 }

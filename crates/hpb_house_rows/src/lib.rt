@@ -20,8 +20,6 @@ mod rows_of_faults;
 #[cfg(test)]
 mod rows_of_points;
 #[cfg(test)]
-mod rows_of_views;
-#[cfg(test)]
 mod script;
 #[cfg(test)]
 mod turns;

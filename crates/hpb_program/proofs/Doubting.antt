@@ -17,14 +17,15 @@ use Rattle.hpb_recover.specs.declared.cause.Cause.{Cause}
 use Rattle.hpb_recover.specs.declared.cause.Cause.TheVariants as opening
 use Rattle.hpb_serve.specs.declared.fault.ServeFault.{ServeFault}
 use Rattle.hpb_serve.specs.declared.fault.ServeFault.TheVariants as serving
-use Rattle.hpb_program.specs.declared.job_fault.JobFault.{JobFault}
-use Rattle.hpb_program.specs.declared.job_fault.JobFault.TheVariants as faults
+use Rattle.hpb_words.specs.declared.job_fault.JobFault.{JobFault}
+use Rattle.hpb_words.specs.declared.job_fault.JobFault.TheVariants as faults
 use Rattle.hpb_program.specs.Doubts.{doubts_text, IsOfMachine, TellsDoubts, TellsImage, TellsKept, TellsStopped}
 use Rattle.hpb_server.specs.Telling.{Says}
-use Rattle.hpb_program.specs.Jobs.{made_of_file, made_of_opening, made_of_serving, Checks, ShowsKept}
+use Rattle.hpb_program.specs.Jobs.{made_of_serving, Checks, ShowsKept}
+use Rattle.hpb_words.specs.Faults.{made_of_file, made_of_opening}
 use Rattle.hpb_program.specs.Keeping.{IsNotOpened}
 use Rattle.hpb_program.specs.Serving.{IsOfDescriptors}
-use Rattle.hpb_program.specs.Telling.{IsCutBy}
+use Rattle.hpb_words.specs.Telling.{IsCutBy}
 use Rattle.hpb_program.proofs.Files.{of_each_file}
 
 -- a device that was only read since leaves what it left

@@ -22,11 +22,12 @@ use Rattle.hpb_format.specs.declared.fault.FormatCause.{FormatCause}
 use Rattle.hpb_format.specs.declared.fault.FormatCause.TheVariants as formatting
 use Rattle.hpb_server.specs.Streams.{Streams}
 use Rattle.hpb_server.specs.Writing.{Puts}
-use Rattle.hpb_program.specs.declared.job_fault.JobFault.{JobFault}
-use Rattle.hpb_program.specs.declared.job_fault.JobFault.TheVariants as faults
-use Rattle.hpb_program.specs.Jobs.{check_text, line_of_journal, made_by, made_of_definition, made_of_file, made_of_formatting, nodes_text, Formats, GivesText, IsDefined, IsFormatted, IsKept, IsOfFile, IsRefused, MayFormat, ShowsKept}
+use Rattle.hpb_words.specs.declared.job_fault.JobFault.{JobFault}
+use Rattle.hpb_words.specs.declared.job_fault.JobFault.TheVariants as faults
+use Rattle.hpb_program.specs.Jobs.{check_text, line_of_journal, nodes_text, Formats, GivesText, IsDefined, IsFormatted, IsKept, IsOfFile, IsRefused, MayFormat, ShowsKept}
+use Rattle.hpb_words.specs.Faults.{made_by, made_of_definition, made_of_file, made_of_formatting}
 use Rattle.hpb_program.specs.Program.{TellsEnd, TellsFault}
-use Rattle.hpb_program.specs.Telling.{IsCutBy}
+use Rattle.hpb_words.specs.Telling.{IsCutBy}
 use Rattle.hpb_server.proofs.Fronts.{put_front}
 use Rattle.hpb_program.proofs.Files.{of_each_file, of_each_made}
 

@@ -3,9 +3,10 @@ use Rattle.std.proofs.Common.{◌≡◌, sym, subst}
 use Rattle.hpb_disk.specs.declared.fault.FileFault.{FileFault}
 use Rattle.hpb_disk.specs.declared.fault.FileFault.TheVariants as files
 use Rattle.hpb_format.specs.declared.fault.FormatCause.{FormatCause}
-use Rattle.hpb_program.specs.declared.job_fault.JobFault.{JobFault}
-use Rattle.hpb_program.specs.declared.job_fault.JobFault.TheVariants as faults
-use Rattle.hpb_program.specs.Jobs.{made_of_file, IsOfFile}
+use Rattle.hpb_words.specs.declared.job_fault.JobFault.{JobFault}
+use Rattle.hpb_words.specs.declared.job_fault.JobFault.TheVariants as faults
+use Rattle.hpb_program.specs.Jobs.{IsOfFile}
+use Rattle.hpb_words.specs.Faults.{made_of_file}
 
 -- what is so of both is so of the fault that a file's fault becomes
 pub of_each_file : (Is : JobFault → Type 0) → Is faults.Memory → ((fault : FileFault) → Is (faults.File fault)) → (fault : FileFault) (made : JobFault) → made ≡ made_of_file fault → Is made

@@ -16,9 +16,9 @@ use Rattle.hpb_recover.specs.Causes.{IsCauseAt}
 use Rattle.hpb_run.specs.Running.{RunsFrom, ServesFrom}
 use Rattle.hpb_server.specs.declared.fault.Fault.{Fault}
 use Rattle.hpb_server.specs.Streams.{AreKept, Streams, streams}
-use Rattle.hpb_program.specs.declared.job_fault.JobFault.{JobFault}
-use Rattle.hpb_program.specs.declared.job_fault.JobFault.TheVariants as faults
-use Rattle.hpb_program.specs.Jobs.{made_of_file, made_of_opening}
+use Rattle.hpb_words.specs.declared.job_fault.JobFault.{JobFault}
+use Rattle.hpb_words.specs.declared.job_fault.JobFault.TheVariants as faults
+use Rattle.hpb_words.specs.Faults.{made_of_file, made_of_opening}
 use Rattle.hpb_program.specs.Keeping.{IsNotOpened, IsOfOpening, IsRun}
 use Rattle.hpb_program.proofs.Files.{of_each_file}
 

@@ -3,6 +3,5 @@ mod Cutting
 mod Doubting
 mod Ends
 mod Kept
-mod Lines
 mod Served
 mod Taking

@@ -8,9 +8,10 @@ use Rattle.hpb_serve.specs.Announcing.{listening_line, Announces}
 use Rattle.hpb_serve.specs.declared.fault.ServeFault.{ServeFault}
 use Rattle.hpb_serve.specs.declared.fault.ServeFault.TheVariants as serving
 use Rattle.hpb_serve.specs.declared.serving.Served.{Served}
-use Rattle.hpb_program.specs.declared.job_fault.JobFault.{JobFault}
-use Rattle.hpb_program.specs.declared.job_fault.JobFault.TheVariants as faults
-use Rattle.hpb_program.specs.Jobs.{made_of_file, made_of_serving}
+use Rattle.hpb_words.specs.declared.job_fault.JobFault.{JobFault}
+use Rattle.hpb_words.specs.declared.job_fault.JobFault.TheVariants as faults
+use Rattle.hpb_program.specs.Jobs.{made_of_serving}
+use Rattle.hpb_words.specs.Faults.{made_of_file}
 use Rattle.hpb_program.specs.Keeping.{IsNotOpened}
 use Rattle.hpb_program.specs.Serving.{IsOfDescriptors, IsReadable, IsUnserved, ServesFile}
 use Rattle.hpb_program.proofs.Files.{of_each_file}

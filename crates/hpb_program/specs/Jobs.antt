@@ -1,87 +1,36 @@
 -- What jobs on files read and write.
-use Rattle.std.specs.Prelude.{◌≡◌, ◌⊎◌, ℕ, Bool, true, false, zero, suc, ◌+◌, ◌/◌, ◌<◌, ◌≤◌, List, [], ◌++◌, length, codes, decimal, Option, Result, Ok, Err, ⊤}
+use Rattle.std.specs.Prelude.{◌≡◌, ◌⊎◌, ℕ, Bool, true, false, zero, suc, ◌+◌, ◌<◌, ◌≤◌, List, [], ◌++◌, length, codes, decimal, Option, Result, Ok, Err, ⊤}
 use Rattle.std.specs.Io.KnownBytes.{Appends, Consumes, IsAtEnd, Keeps}
 use Rattle.hpb_rules.specs.declared.command.Command.{Command}
 use Rattle.hpb_rules.specs.declared.limits.TheConstants.{MOST_DEFINITION_BYTES}
-use Rattle.hpb_rules.specs.declared.refusal.Refusal.{Refusal}
-use Rattle.hpb_rules.specs.declared.refusal.Refusal.TheVariants as refusals
 use Rattle.hpb_rules.specs.AuctionValue.{AuctionValue, Shows}
 use Rattle.hpb_rules.specs.Fronts.{IsFront}
 use Rattle.hpb_rules.specs.Text.{line_of}
 use Rattle.hpb_rules.specs.Tree.{Rules}
 use Rattle.hpb_rules.specs.ValueText.{shown_in, node_shown_in}
-use Rattle.hpb_define.specs.declared.fault.DefineCause.{DefineCause}
-use Rattle.hpb_define.specs.declared.fault.DefineCause.TheVariants as defining
 use Rattle.hpb_define.specs.declared.fault.DefineFault.{DefineFault}
-use Rattle.hpb_define.specs.Fault as definitions
 use Rattle.hpb_define.specs.Text.{Answers}
 use Rattle.hpb_disk.specs.FileDisks.{file_left}
 use Rattle.hpb_disk.specs.Images.{Within}
 use Rattle.hpb_disk.specs.declared.file.FileDisk.{FileDisk}
-use Rattle.hpb_disk.specs.declared.fault.FileFault.{FileFault}
-use Rattle.hpb_disk.specs.declared.fault.FileFault.TheVariants as files
-use Rattle.hpb_format.specs.declared.fault.FormatCause.{FormatCause}
-use Rattle.hpb_format.specs.declared.fault.FormatCause.TheVariants as formatting
-use Rattle.hpb_format.specs.Outcomes as formats
 use Rattle.hpb_format.specs.Outcomes.{IsNew}
 use Rattle.hpb_recover.specs.Flaws.{HasFlaw}
 use Rattle.hpb_recover.specs.Standing.{Stands}
 use Rattle.hpb_house.specs.declared.starting.StartCause.TheVariants as starting
 use Rattle.hpb_codec.specs.Layouts.{IsShape}
 use Rattle.hpb_codec.specs.declared.layout.JournalShape.{JournalShape}
-use Rattle.hpb_recover.specs.declared.limits.TheConstants.{PAGE_BYTES}
-use Rattle.hpb_journal.specs.Shapes.{shaped}
-use Rattle.hpb_recover.specs.declared.cause.Cause.{Cause}
 use Rattle.hpb_recover.specs.declared.cause.Cause.TheVariants as opening
-use Rattle.hpb_recover.specs.Causes as causes
 use Rattle.hpb_program.specs.declared.formatting.TheConstants.{KEPT_BYTES}
-use Rattle.hpb_program.specs.declared.job_fault.JobFault.{JobFault}
-use Rattle.hpb_program.specs.declared.job_fault.JobFault.TheVariants as faults
+use Rattle.hpb_words.specs.Faults.{made_of_definition}
+use Rattle.hpb_words.specs.Pages.{pages_of}
+use Rattle.hpb_words.specs.declared.job_fault.JobFault.{JobFault}
+use Rattle.hpb_words.specs.declared.job_fault.JobFault.TheVariants as faults
 use Rattle.hpb_program.specs.Doubts.{TellsIll, TellsImage}
 use Rattle.hpb_serve.specs.declared.fault.ServeFault.{ServeFault}
 use Rattle.hpb_serve.specs.declared.fault.ServeFault.TheVariants as serving
 use Rattle.hpb_server.specs.Streams.{Streams}
 
--- The refusal that a fault is told by.
-abbrev pub refusal_of : JobFault → Refusal
-refusal_of faults.Memory = refusals.Memory
-refusal_of faults.Reader = refusals.Stream
-refusal_of faults.Writer = refusals.Stream
-refusal_of (faults.Definition fault) = definitions.refusal_of fault.cause
-refusal_of faults.Journal = refusals.Length
-refusal_of (faults.File fault) = refusals.Device
-refusal_of (faults.Format cause) = formats.refusal_of cause
-refusal_of (faults.Open cause) = causes.refusal_of cause
-refusal_of (faults.Port at error) = refusals.Stream
-refusal_of (faults.Descriptors sessions wanted error) = refusals.Stream
-refusal_of faults.Place = refusals.Place
-refusal_of faults.Order = refusals.Order
-refusal_of faults.Counts = refusals.Counts
-
--- The fault of a job where its definition was refused.
-abbrev pub made_by : DefineCause → DefineFault → JobFault
-made_by defining.Memory fault = faults.Memory
-made_by cause fault = faults.Definition fault
-
-abbrev pub made_of_definition : DefineFault → JobFault
-made_of_definition fault = made_by fault.cause fault
-
--- The same where its file was not opened or made,
-abbrev pub made_of_file : FileFault → JobFault
-made_of_file (files.Memory refused) = faults.Memory
-made_of_file fault = faults.File fault
-
--- where it was not formatted,
-abbrev pub made_of_formatting : FormatCause → JobFault
-made_of_formatting formatting.Memory = faults.Memory
-made_of_formatting cause = faults.Format cause
-
--- where what it holds was not opened,
-abbrev pub made_of_opening : Cause → JobFault
-made_of_opening opening.Memory = faults.Memory
-made_of_opening cause = faults.Open cause
-
--- and where it was not served, or not to its end.
+-- The fault of a job whose file was not served, or not to its end.
 abbrev pub made_of_serving : {D : Type 0} → ServeFault D → JobFault
 made_of_serving serving.Memory = faults.Memory
 made_of_serving serving.Writer = faults.Writer
@@ -168,10 +117,6 @@ pub record IsRefused (old new : Option (List ℕ)) (fault : DefineFault) : Type 
   pub gives : GivesText old new text
   pub answers : Answers text (Err fault.cause)
   pub told : made_of_definition fault ≡ faults.Definition fault
-
--- How many pages a device has whose journal has this shape.
-abbrev pub pages_of : JournalShape → ℕ
-pages_of journal = (shaped journal).size / PAGE_BYTES
 
 -- The line of a formatted file with a journal of this shape.
 abbrev pub line_of_journal : JournalShape → List ℕ

@@ -12,9 +12,9 @@ use Rattle.hpb_run.specs.Running.{ServesFrom}
 use Rattle.hpb_server.specs.declared.fault.Fault.{Fault}
 use Rattle.hpb_server.specs.Streams.{AreKept, Streams}
 use Rattle.hpb_server.specs.Telling.{ExplainsAt}
-use Rattle.hpb_program.specs.declared.job_fault.JobFault.{JobFault}
-use Rattle.hpb_program.specs.declared.job_fault.JobFault.TheVariants as faults
-use Rattle.hpb_program.specs.declared.run_end.RunEnd.{RunEnd}
+use Rattle.hpb_words.specs.declared.job_fault.JobFault.{JobFault}
+use Rattle.hpb_words.specs.declared.job_fault.JobFault.TheVariants as faults
+use Rattle.hpb_words.specs.declared.run_end.RunEnd.{RunEnd}
 use Rattle.hpb_program.specs.Doubts.{TellsIll, TellsImage, TellsStopped}
 use Rattle.hpb_program.specs.Jobs.{IsKept}
 

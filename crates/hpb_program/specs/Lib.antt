@@ -1,4 +1,3 @@
-pub mod Telling
 pub mod Jobs
 pub mod Keeping
 pub mod Doubts

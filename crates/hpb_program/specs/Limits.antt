@@ -3,8 +3,8 @@ use Rattle.std.specs.Prelude.{◌≡◌, ◌-◌, ◌^◌, length}
 use Rattle.hpb_codec.specs.declared.layout.JournalLayout.TheVariants.{Pages, Cells}
 use Rattle.hpb_program.specs.declared.formatting.TheConstants.{KEPT_BYTES}
 use Rattle.hpb_program.specs.declared.serving.TheConstants.{CLOSED_BYTES}
-use Rattle.hpb_program.specs.Jobs.{pages_of}
 use Rattle.hpb_program.specs.Serving.{closed_line}
+use Rattle.hpb_words.specs.Pages.{pages_of}
 
 -- Each limit of the code is the one that the documents name.
 pub record LimitsAre : Type 0 where

@@ -9,17 +9,18 @@ use Rattle.hpb_words.specs.declared.words.Job.{Job}
 use Rattle.hpb_words.specs.declared.words.Job.TheVariants.{Script, Format, Check, Run, Serve}
 use Rattle.hpb_words.specs.declared.words.WordsFault.{WordsFault}
 use Rattle.hpb_words.specs.declared.words.WordsFault.TheVariants.{Memory, Refused}
-use Rattle.hpb_program.specs.declared.job_fault.JobFault.{JobFault}
-use Rattle.hpb_program.specs.declared.job_fault.JobFault.TheVariants as faults
-use Rattle.hpb_program.specs.declared.run_end.RunEnd.{RunEnd}
+use Rattle.hpb_words.specs.declared.job_fault.JobFault.{JobFault}
+use Rattle.hpb_words.specs.declared.job_fault.JobFault.TheVariants as faults
+use Rattle.hpb_words.specs.declared.run_end.RunEnd.{RunEnd}
 use Rattle.hpb_program.specs.declared.serving.FileEnd.{FileEnd}
 use Rattle.hpb_program.specs.Doubts.{TellsServing}
 use Rattle.hpb_program.specs.Keeping.{RunsFile}
 use Rattle.hpb_program.specs.Serving.{ServesFile}
-use Rattle.hpb_program.specs.Telling.{IsTaken, TellsLine, TellsUnled}
+use Rattle.hpb_words.specs.Faults.{refusal_of}
+use Rattle.hpb_words.specs.Telling.{AnswersJob, IsTaken, TellsLine, TellsUnled}
 use Rattle.hpb_words.specs.Hints.{hint_text}
 use Rattle.hpb_words.specs.Words.{AsksFor, HasFile, HasStatus}
-use Rattle.hpb_program.specs.Jobs.{refusal_of, Checks, Formats}
+use Rattle.hpb_program.specs.Jobs.{Checks, Formats}
 use Rattle.hpb_server.specs.Fault as sessions
 use Rattle.hpb_server.specs.Script.{RunsScript}
 use Rattle.hpb_server.specs.Streams.{Streams}
@@ -47,12 +48,7 @@ abbrev pub AnswersFault : (cut : Bool) (old new : Option (List ℕ)) → WordsFa
 AnswersFault cut old new Memory = TellsLine cut old new refusals.Memory
 AnswersFault cut old new (Refused text status) = Keeps old new
 
--- What the output is told of a job on a file that was not done: the line of its refusal, all of it unless the output was cut; or nothing where the output failed, since a front of another line may stand there.
-abbrev pub AnswersJob : (cut : Bool) (old new : Option (List ℕ)) → JobFault → Type 0
-AnswersJob cut old new faults.Writer = Keeps old new
-AnswersJob cut old new fault = TellsLine cut old new (refusal_of fault)
-
--- What both outputs are told of it, and its status: that line, and why.
+-- What both outputs are told of a job on a file that was not done, and its status: the line of its refusal, and why.
 abbrev pub TellsFault : (cut : Bool) (old new errors_old errors_new : Option (List ℕ)) → JobFault → ℕ → Type 0
 TellsFault cut old new errors_old errors_new fault status = AnswersJob cut old new fault × TellsOf errors_old errors_new (refusal_of fault) × (status ≡ ILL)
 

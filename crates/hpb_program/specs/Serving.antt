@@ -12,8 +12,8 @@ use Rattle.hpb_serve.specs.declared.serving.Served.{Served}
 use Rattle.hpb_serve.specs.Ended.{EndsAll}
 use Rattle.hpb_serve.specs.Announcing.{listening_line}
 use Rattle.hpb_server.specs.Writing.{Sends}
-use Rattle.hpb_program.specs.declared.job_fault.JobFault.{JobFault}
-use Rattle.hpb_program.specs.declared.job_fault.JobFault.TheVariants as faults
+use Rattle.hpb_words.specs.declared.job_fault.JobFault.{JobFault}
+use Rattle.hpb_words.specs.declared.job_fault.JobFault.TheVariants as faults
 use Rattle.hpb_program.specs.declared.serving.FileEnd.{FileEnd}
 use Rattle.hpb_program.specs.declared.serving.ServeEnd.{ServeEnd}
 use Rattle.hpb_program.specs.declared.serving.Unsaid.{Unsaid}

@@ -2,15 +2,14 @@
 ghost use Rattle.std.specs.Prelude.{◌≡◌, IfOk};
 ghost use Rattle.hpb_program.specs.Doubts.{TellsKept};
 ghost use Rattle.hpb_program.specs.Jobs.{Checks, ShowsKept, check_text};
-ghost use Rattle.hpb_program.specs.Telling.{is_cut, IsCutBy};
+ghost use Rattle.hpb_words.specs.Telling.{is_cut, IsCutBy};
 
-use crate::job_fault::JobFault;
-use crate::noted::Noted;
 use crate::opening::open_kept;
 use hpb_auction::Auction;
 use hpb_disk::{Disk, FileDisk};
 use hpb_rules::NodeId;
 use hpb_wire::{RESPONSE_BYTES, ResponseText, node, show};
+use hpb_words::{JobFault, Noted};
 use std::alloc::{AllocError, Global};
 use std::fs::{File, Files};
 use std::io::Write;

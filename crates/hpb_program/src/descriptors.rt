@@ -2,7 +2,7 @@
 ghost use Rattle.std.specs.Prelude.{IfErr};
 ghost use Rattle.hpb_program.specs.Serving.{IsOfDescriptors};
 
-use crate::job_fault::JobFault;
+use hpb_words::JobFault;
 use std::alloc::Global;
 use std::fs::{File, Files};
 use std::io;

@@ -4,21 +4,19 @@ ghost use Rattle.hpb_codec.specs.Layouts.{IsShape};
 ghost use Rattle.hpb_disk.specs.FileDisks.{file_left};
 ghost use Rattle.hpb_disk.specs.Images.{Within};
 ghost use Rattle.hpb_format.specs.Outcomes.{IsNew};
-ghost use Rattle.hpb_program.specs.Jobs.{Formats, GivesText, IsOfFile, ReadsPart, StopsPart, StopsReading, formatted_line, pages_of};
-ghost use Rattle.hpb_program.specs.Telling.{is_cut, IsCutBy};
+ghost use Rattle.hpb_program.specs.Jobs.{Formats, GivesText, IsOfFile, ReadsPart, StopsPart, StopsReading, formatted_line};
+ghost use Rattle.hpb_words.specs.Telling.{is_cut, IsCutBy};
 ghost use Rattle.hpb_server.specs.Streams.{streams};
 
-use crate::job_fault::JobFault;
-use crate::noted::Noted;
 use hpb_codec::JournalShape;
 use hpb_define::read_definition;
 use hpb_disk::{FileDisk, FileFault};
 use hpb_format::{FormatCause, format_layout};
 use hpb_journal::{AnyFrames, Frames};
-use hpb_recover::PAGE_BYTES;
 use hpb_rules::MOST_DEFINITION_BYTES;
 use hpb_server::read_some;
 use hpb_tree::Definition;
+use hpb_words::{JobFault, Noted, pages_of};
 use std::alloc::{AllocError, Global};
 use std::fs::{File, Files};
 use std::io;
@@ -106,14 +104,6 @@ fn read_part<R: Read>(input: &mut R, text: &mut Vec<u8>) -> Result<bool, JobFaul
             Err(_) => Err(JobFault::Memory),
         },
     }
-}
-
-/// How many pages a device has whose journal has this shape.
-pub(crate) fn pages_of(journal: JournalShape) -> usize
-    requires { IsShape journal }
-    ensures { result ≡ pages_of journal }
-{
-    AnyFrames::new(journal).device_len() / PAGE_BYTES
 }
 
 fn line_of_pages(alloc: Global, pages: usize) -> Result<String, AllocError>

@@ -9,12 +9,11 @@ ghost use Rattle.hpb_program.specs.Doubts.{TellsKept};
 ghost use Rattle.hpb_program.specs.Keeping.{IsNotOpened, IsRun, RunsFile, TellsRunning};
 ghost use Rattle.hpb_server.specs.Streams.{streams, AreKept};
 
-use crate::job_fault::JobFault;
 use crate::opening::open_kept;
-use crate::run_end::RunEnd;
 use hpb_disk::{Disk, FileDisk};
 use hpb_engine::Engine;
 use hpb_run::{Ran, run_engine};
+use hpb_words::{JobFault, RunEnd};
 use std::alloc::Global;
 use std::fs::{File, Files};
 use std::io::{Read, Write};

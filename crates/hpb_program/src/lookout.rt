@@ -1,9 +1,9 @@
 //! What happens beside sessions that are served, told to people.
 
-use crate::notices::{Change, ChangeNotice, FailedNotice, SeatNotice, notify};
 use hpb_disk::{FileDisk, FileFault};
 use hpb_recover::PAGE_BYTES;
 use hpb_serve::Watch;
+use hpb_words::{Change, ChangeNotice, FailedNotice, SeatNotice, notify};
 use std::alloc::{AllocError, Global};
 use std::fs::{File, Files};
 use std::io;

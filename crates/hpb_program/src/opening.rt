@@ -11,11 +11,11 @@ ghost use Rattle.hpb_recover.specs.Plans.{IsPlan, IsPlanOf};
 ghost use Rattle.hpb_program.specs.Doubts.{damaged_text, doubts_text, doubts_line, frame_text, later_text, slot_text, IsOfMachine, TellsDoubts};
 ghost use Rattle.hpb_program.specs.Keeping.{IsNotOpened};
 
-use crate::job_fault::JobFault;
 use hpb_disk::Disk;
 use hpb_journal::Frame;
 use hpb_recover::{Doubts, Later, Opened, Plan, find_doubts, open};
 use hpb_server::say;
+use hpb_words::JobFault;
 use std::alloc::{AllocError, Global};
 use std::fmt;
 use std::io::Write;

@@ -2,26 +2,24 @@ ghost use Rattle.std.specs.Prelude.{◌≡◌, ◌≢◌, ◌≤◌, true, IfErr
 ghost use Rattle.std.specs.Io.KnownBytes.{Keeps};
 ghost use Rattle.std.specs.IoError.{error_kind};
 ghost use Rattle.hpb_program.specs.Program.{AnswersFault, RunsAsked, RunsJob, RunsProgram, SaysFault, TellsEnd, TellsEnded, TellsFault, TellsRun, TellsScript, TellsServed, status_of_fault, status_of_script};
-ghost use Rattle.hpb_program.specs.Telling.{is_cut, IsCutBy, IsTaken};
+ghost use Rattle.hpb_words.specs.Telling.{is_cut, IsCutBy, IsTaken};
 ghost use Rattle.hpb_server.specs.Streams.{streams};
 ghost use Rattle.hpb_rules.specs.declared.refusal.Refusal.TheVariants as refusals;
 ghost use Rattle.hpb_words.specs.Words.{HasRanges, HasStatus};
 ghost use Rattle.hpb_server.specs.Telling.{Says, TellsOf};
 
-use crate::advice::{EndAdvice, JobAdvice, ScriptAdvice, StreamsAdvice};
 use crate::checking::run_check;
 use crate::formatting::run_format;
-use crate::job_fault::JobFault;
 use crate::keeping::run_file;
-use crate::known::{Known, SeenFile, trouble_of};
-use crate::noted::{Failures, Noted};
-use crate::run_end::RunEnd;
 use crate::serving::{FileEnd, serve_file};
 use crate::streams::{Led, refuse_led};
-use crate::telling::{advise, answer_memory, hint, tell_job, tell_memory};
 use hpb_rules::Refusal;
 use hpb_server::{Fault, ScriptEnd, run_script, say};
-use hpb_words::{ILL, Job, WELL, WRONG_WORDS, WordsFault, read_words};
+use hpb_words::{
+    EndAdvice, Failures, ILL, Job, JobAdvice, JobFault, Known, Noted, RunEnd, ScriptAdvice,
+    StreamsAdvice, WELL, WRONG_WORDS, WordsFault, advise, answer_memory, hint, known_of,
+    read_words, tell_job, tell_memory,
+};
 use std::alloc::Global;
 use std::convert::AsStr;
 use std::fs::{File, Files};
@@ -182,31 +180,6 @@ fn run_job<
             let known = known_of(rt, alloc, job, &end, Failures::of(input, output));
             tell_served(alloc, known, end, output, errors)
         }
-    }
-}
-
-/// What is known of a job beside how it ended. A file whose bytes or whose length were refused, or of which a call
-/// failed, is looked at once more.
-fn known_of<'a, H: Files<File = File>, T>(
-    rt: &H,
-    alloc: Global,
-    job: Job<'a>,
-    end: &Result<T, JobFault>,
-    failures: Failures,
-) -> Known<'a> {
-    let seen = match (end, job.file()) {
-        (Err(fault), Some(file)) if fault.is_of_bytes() => SeenFile::of(rt, alloc, file),
-        _ => None,
-    };
-    let trouble = match (end, job.file()) {
-        (Err(fault), Some(file)) if fault.is_of_calls() => trouble_of(rt, file),
-        _ => None,
-    };
-    Known {
-        job,
-        failures,
-        seen,
-        trouble,
     }
 }
 

@@ -1,21 +1,21 @@
 //! Serving sessions with the auction that a file keeps.
 ghost use Rattle.std.specs.Prelude.{◌≡◌, ◌≤◌, [], IfOk, MatchResult, string_bytes};
 ghost use Rattle.hpb_program.specs.Doubts.{TellsKept, TellsServing};
+ghost use Rattle.hpb_program.specs.Jobs.{made_of_serving};
 ghost use Rattle.hpb_program.specs.Serving.{ServesFile, ServesKept, ServesUnsaid, closed_line};
-ghost use Rattle.hpb_program.specs.Telling.{is_cut, IsTaken};
+ghost use Rattle.hpb_words.specs.Telling.{is_cut, IsTaken};
 ghost use Rattle.hpb_server.specs.Writing.{Sends};
 
 use crate::descriptors::look_for_descriptors;
-use crate::job_fault::JobFault;
 use crate::lookout::Lookout;
-use crate::noted::Noted;
 use crate::opening::open_kept;
 use hpb_auction::Auction;
 use hpb_disk::{Disk, FileDisk};
-use hpb_house::Closing;
+use hpb_house::{Closing, StartCause};
 use hpb_rings::Report;
-use hpb_serve::{Served, Unwatched, Watch, serve_watched};
+use hpb_serve::{ServeFault, Served, Unwatched, Watch, serve_watched};
 use hpb_server::Fault;
+use hpb_words::{JobFault, Noted};
 use std::alloc::{AllocError, Global};
 use std::fs::{File, Files};
 use std::io;
@@ -197,8 +197,24 @@ fn serve_device<
         Ok(listener) => listener,
         Err(error) => return Err(JobFault::Port { port, error }),
     };
-    let served = serve_watched(rt, alloc, opened, listener, port, sessions, output, watch)?;
+    let served = match serve_watched(rt, alloc, opened, listener, port, sessions, output, watch) {
+        Ok(served) => served,
+        Err(fault) => return Err(fault_of_serving(fault)),
+    };
     Ok(Unsaid { served, room })
+}
+
+/// The fault of a job whose file was not served, or not to its end.
+fn fault_of_serving<D: Disk + Drop>(fault: ServeFault<D>) -> JobFault
+    ensures { result ≡ made_of_serving fault }
+{
+    match fault {
+        ServeFault::Memory | ServeFault::Start(StartCause::Memory) => JobFault::Memory,
+        ServeFault::Writer => JobFault::Writer,
+        ServeFault::Start(StartCause::Place) => JobFault::Place,
+        ServeFault::Order(_) => JobFault::Order,
+        ServeFault::Counts(_) => JobFault::Counts,
+    }
 }
 
 /// A port of 127.0.0.1 that can be connected to.

@@ -2,14 +2,11 @@
 ghost use Rattle.std.specs.Prelude.{◌≡◌, ◌≤◌, true, false, codes};
 ghost use Rattle.hpb_words.specs.declared.status.TheConstants.{ILL};
 ghost use Rattle.hpb_rules.specs.declared.refusal.Refusal.TheVariants as refusals;
-ghost use Rattle.hpb_program.specs.Telling.{is_cut, TellsUnled};
+ghost use Rattle.hpb_words.specs.Telling.{is_cut, TellsUnled};
 ghost use Rattle.hpb_server.specs.Telling.{TellsOf};
 
-use crate::advice::LedAdvice;
-use crate::noted::Noted;
-use crate::telling::{advise, tell};
 use hpb_rules::Refusal;
-use hpb_words::ILL;
+use hpb_words::{ILL, LedAdvice, Noted, advise, tell};
 use std::alloc::Global;
 use std::fs::{self, File, Files, Metadata};
 use std::io;

@@ -1,165 +1,176 @@
-mod definitions;
-mod doubts;
-mod files;
-mod interruptions;
-mod runs;
-mod serves;
-mod using;
+//! A file that is made and shown; and what no clause says, and no run from outside shows: calls of streams that signals
+//! interrupt many times in a row, and a file that is replaced while it is opened.
 
 use super::*;
-use hpb_words::Escaped;
-use std::fs::{File, Files};
-use std::io;
-use std::io::ErrorKind;
+use crate::lookout::Lookout;
+use hpb_disk::{FileDisk, FileFault};
+use std::fs::{File, Files, Permissions};
+use std::io::{ErrorKind, Read, Write};
 use std::net::{Net, TcpListener, TcpStream};
-use std::os::fd::AsRawFd;
+use std::os::unix::fs::PermissionsExt;
 use std::sync::Wait;
 use std::test::Fail;
 use std::thread::Threads;
-use using::{SIX_NODES, run_at, run_on};
+use std::{fs, io};
 
-/// Bytes that are no definition.
-const NO_DEFINITION: &[u8] = b"{";
+/// How often in a row each call of a stream is interrupted before it is made: more often than whoever gives up would
+/// wait for.
+const INTERRUPTIONS: u32 = 300;
 
-/// Whether the program, run by these words on bytes that are no definition, refuses them as such.
-fn refuses_no_definition<
+/// Whether the next call is interrupted, by how often that was so since the last one was made.
+#[derive(Clone, Copy)]
+struct Signals {
+    since: u32,
+}
+
+impl Signals {
+    fn meet(&mut self) -> io::Result<()> {
+        if self.since < INTERRUPTIONS {
+            self.since += 1;
+            return Err(ErrorKind::Interrupted.into());
+        }
+        self.since = 0;
+        Ok(())
+    }
+}
+
+/// A text of which each read is interrupted so often, and then gives some bytes.
+#[derive(Drop)]
+struct InterruptedReader<'a> {
+    text: &'a [u8],
+    signals: Signals,
+}
+
+impl Read for InterruptedReader<'_> {
+    fn read(&mut self, buffer: &mut [u8]) -> io::Result<usize> {
+        self.signals.meet()?;
+        let all = self.text;
+        let count = all.len().min(buffer.len()).min(7);
+        buffer[..count].copy_from_slice(&all[..count]);
+        self.text = &all[count..];
+        Ok(count)
+    }
+}
+
+/// A writer of which each write and each flush is interrupted so often, and then takes some bytes.
+#[derive(Drop)]
+struct InterruptedWriter {
+    bytes: Vec<u8>,
+    signals: Signals,
+}
+
+impl Write for InterruptedWriter {
+    fn write(&mut self, bytes: &[u8]) -> io::Result<usize> {
+        self.signals.meet()?;
+        let count = bytes.len().min(5);
+        self.bytes.extend_from_slice(&bytes[..count])?;
+        Ok(count)
+    }
+
+    fn flush(&mut self) -> io::Result<()> {
+        self.signals.meet()
+    }
+}
+
+/// What the program answers over an input and an output of which each call is interrupted so often, where it ends well
+/// and says nothing.
+fn answers<
     H: Files<File = File>
         + Net<Listener = TcpListener, Stream = TcpStream>
         + Threads
         + Wait
         + Sync
         + AllocGlobal,
->(rt: &H, words: &[&str]) -> Result<bool, Fail> {
-    let (ran, left) = run_on(rt, words, NO_DEFINITION)?;
-    Ok(
-        ran.status == 1
-            && left == 0
-            && ran.output.as_str() == "ERR 60 json\n"
-            && ran.errors.starts_with("hpb: 60 json: "),
-    )
-}
-
-#[test]
-fn a_script_is_run_without_words(rt: HostRuntime) -> Result<(), Fail> {
-    assert!(rt; refuses_no_definition(&rt, &["hpb"])?);
-    assert!(rt; refuses_no_definition(&rt, &[])?);
-    Ok(())
-}
-
-#[test]
-fn a_terminal_is_told_what_to_type(rt: HostRuntime) -> Result<(), Fail> {
-    let (ran, _) = run_at(&rt, &["hpb"], SIX_NODES, true)?;
-    assert_eq!(rt; ran.status, 0);
-    assert!(rt; ran.output.is_empty());
-    assert!(rt;
-        ran.errors
-            .starts_with("hpb: standard input is a terminal: "),
-        "{}",
-        ran.errors
-    );
-    assert!(rt;
-        ran.errors.ends_with("hpb: the definition is accepted: type commands and questions\n"),
-        "{}",
-        ran.errors
-    );
-    let (ran, _) = run_at(&rt, &["hpb"], NO_DEFINITION, true)?;
-    assert_eq!(rt; ran.output.as_str(), "ERR 60 json\n");
-    assert!(rt; !ran.errors.contains("accepted"), "{}", ran.errors);
-    let (ran, _) = run_at(
-        &rt,
-        &["hpb", "check", "--file", "hpb_program_none"],
-        b"",
-        true,
-    )?;
-    assert!(rt;
-        ran.errors.starts_with("hpb: 91 device: "),
-        "{}",
-        ran.errors
-    );
-    Ok(())
-}
-
-#[test]
-fn wrong_words_are_told(rt: HostRuntime) -> Result<(), Fail> {
-    let table: [(&[&str], u8, &str); 3] = [
-        (&["hpb", "--help"], 0, "Usage: hpb"),
-        (&["hpb", "bogus"], 2, "error: "),
-        (&["hpb", "check", "--file="], 2, "error: "),
-    ];
-    for (words, want, said) in table {
-        let (ran, left) = run_on(&rt, words, NO_DEFINITION)?;
-        assert_eq!(rt; ran.status, want, "{words:?}");
-        assert_eq!(rt; left, NO_DEFINITION.len(), "{words:?}");
-        assert!(rt; ran.output.is_empty(), "{words:?}");
-        assert!(rt; ran.errors.contains(said), "{words:?} gives {}", ran.errors);
-    }
-    Ok(())
-}
-
-#[test]
-fn names_of_files_are_escaped(rt: HostRuntime) -> Result<(), Fail> {
-    for letter in ["\u{1b}", "\u{202e}"] {
-        let alloc = rt.alloc();
-        let name = format!(in alloc; "no{letter}file")?;
-        let (ran, _) = run_at(&rt, &["hpb", "check", "--file", name.as_str()], b"", false)?;
-        assert_eq!(rt; ran.output.as_str(), "ERR 91 device\n");
-        let shown = Escaped(name.as_str());
-        let said = format!(in alloc; "{shown} could not be opened")?;
-        assert!(rt; ran.errors.contains(said.as_str()), "{}", ran.errors);
-        assert!(rt; !ran.errors.contains(letter), "{}", ran.errors);
-    }
-    Ok(())
-}
-
-#[test]
-fn long_names_of_files_are_cut(rt: HostRuntime) -> Result<(), Fail> {
+>(rt: &H, words: &[&str], text: &[u8]) -> Result<String, Fail> {
     let alloc = rt.alloc();
-    let name = "n".repeat(alloc, 100)?;
-    let (ran, _) = run_at(&rt, &["hpb", "check", "--file", name.as_str()], b"", false)?;
-    let said = format!(in alloc; "{name} could not be opened")?;
-    assert!(rt; ran.errors.contains(said.as_str()), "{}", ran.errors);
-    let longer = format!(in alloc; "{name}n")?;
-    let (ran, _) = run_at(
-        &rt,
-        &["hpb", "check", "--file", longer.as_str()],
-        b"",
+    let signals = Signals { since: 0 };
+    let mut input = Noted::new(InterruptedReader { text, signals });
+    let bytes = Vec::new(alloc);
+    let mut output = Noted::new(InterruptedWriter { bytes, signals });
+    let mut errors = Vec::new(alloc);
+    let status = program(
+        rt,
+        alloc,
+        words,
+        &mut input,
+        &mut output,
+        &mut errors,
         false,
+    );
+    if status != 0 || output.is_cut() || !errors.is_empty() {
+        return Err("it ended ill".into());
+    }
+    Ok(String::from_utf8(output.stream.bytes)?)
+}
+
+const SIX_NODES: &[u8] =
+    b"{\"step\":10,\"percent\":10,\"stages\":[80,95],\"nodes\":[{\"name\":\"all\",\"parent\":null},{\"name\":\"east\",\"parent\":\"all\"},{\"name\":\"a\",\"parent\":\"east\",\"units\":10,\"opening\":100},{\"name\":\"b\",\"parent\":\"east\",\"units\":10,\"opening\":100},{\"name\":\"c\",\"parent\":\"all\",\"units\":20,\"opening\":100},{\"name\":\"d\",\"parent\":null,\"units\":5,\"opening\":100}],\"bidders\":[{\"name\":\"x\",\"units\":10},{\"name\":\"y\",\"units\":10},{\"name\":\"z\",\"units\":40},{\"name\":\"w\",\"units\":25}]}\n";
+
+/// Commands of one batch, and a question.
+const LINES: &[u8] = b"BID x 1 a 100\nBID y 1 b 150\nCLOSE 1\nSHOW\n";
+
+const ANSWERS: &str = "OK 1\nOK 2\nOK 3\nROUND 2 STAGE 1 OPEN REVENUE 250 COUNT 3\n";
+
+/// What is shown of six nodes before the first command.
+const NEW: &str = "ROUND 1 STAGE 1 OPEN REVENUE 0 COUNT 0
+NODE all HIGH 0 - PRICE 0 MIN 300 WIN no
+NODE east HIGH 0 - PRICE 0 MIN 200 WIN no
+NODE a HIGH 0 - PRICE 0 MIN 100 WIN no
+NODE b HIGH 0 - PRICE 0 MIN 100 WIN no
+NODE c HIGH 0 - PRICE 0 MIN 100 WIN no
+NODE d HIGH 0 - PRICE 0 MIN 100 WIN no
+";
+
+#[test]
+fn format_then_check(rt: HostRuntime) -> Result<(), Fail> {
+    let path = "hpb_program_new";
+    let _ = fs::remove_file(&rt, path);
+    let words = ["hpb", "format", "--file", path, "--journal", "4"];
+    let made = answers(&rt, &words, SIX_NODES)?;
+    assert_eq!(rt; made.as_str(), "FORMATTED 17\n");
+    let before = fs::read(&rt, path)?;
+    assert_eq!(rt; before.len(), 69_632);
+    fs::set_permissions(&rt, path, Permissions::from_mode(0o400))?;
+    let shown = answers(&rt, &["hpb", "check", "--file", path], b"")?;
+    assert_eq!(rt; shown.as_str(), NEW);
+    assert_eq!(rt; fs::read(&rt, path)?, before);
+    fs::remove_file(&rt, path)?;
+    Ok(())
+}
+
+#[test]
+fn many_interruptions_in_a_row_change_nothing(rt: HostRuntime) -> Result<(), Fail> {
+    let path = "hpb_program_interrupted";
+    let _ = fs::remove_file(&rt, path);
+    let made = answers(
+        &rt,
+        &["hpb", "format", "--file", path, "--journal", "4"],
+        SIX_NODES,
     )?;
-    let said = format!(in alloc; "{name}.. could not be opened")?;
-    assert!(rt; ran.errors.contains(said.as_str()), "{}", ran.errors);
+    assert_eq!(rt; made.as_str(), "FORMATTED 17\n");
+    let run = answers(&rt, &["hpb", "run", "--file", path, "--batch", "3"], LINES)?;
+    assert_eq!(rt; run.as_str(), ANSWERS);
+    fs::remove_file(&rt, path)?;
+    let mut script = SIX_NODES.to_vec(rt.alloc())?;
+    script.extend_from_slice(LINES)?;
+    let read = answers(&rt, &["hpb"], script.as_slice())?;
+    assert_eq!(rt; read.as_str(), ANSWERS);
     Ok(())
 }
 
+/// Whoever replaces a file while it is opened is not taken for it: what is watched would be another one than what is
+/// served.
 #[test]
-fn words_that_are_no_text_are_refused(rt: HostRuntime) -> Result<(), Fail> {
+fn a_watch_is_of_the_file_that_was_opened(rt: HostRuntime) -> Result<(), Fail> {
     let alloc = rt.alloc();
-    let mut errors = Vec::new(alloc);
-    let status = refuse_words(&ErrorKind::InvalidData.into(), &mut errors);
-    assert_eq!(rt; status, 2);
-    assert!(rt; String::from_utf8(errors)?.starts_with("hpb: "));
-    let mut errors = Vec::new(alloc);
-    let status = refuse_words(&ErrorKind::OutOfMemory.into(), &mut errors);
-    assert_eq!(rt; status, 1);
-    assert_eq!(rt;
-        errors.as_slice(),
-        b"hpb: 90 memory: memory was refused\n".as_slice()
-    );
-    Ok(())
-}
-
-#[test]
-fn closed_streams_are_held(rt: HostRuntime) -> Result<(), Fail> {
-    libc::close(libc::STDIN_FILENO);
-    hold_streams(&rt)?;
-    let next = File::open(&rt, "/")?;
-    assert!(rt; next.as_raw_fd() > libc::STDERR_FILENO);
-    let mut errors = Vec::new(rt.alloc());
-    let missing = io::Error::from_raw_os_error(libc::ENOENT);
-    assert_eq!(rt; refuse_streams(rt.alloc(), &missing, &mut errors), 1);
-    let told = String::from_utf8(errors)?;
-    assert!(rt;
-        told.starts_with("hpb: 92 stream: a standard stream is closed"),
-        "{told}"
-    );
+    let (path, other) = ("hpb_program_watched", "hpb_program_unwatched");
+    let held = FileDisk::open_or_make(&rt, alloc, path, 4_096)?;
+    drop(FileDisk::open_or_make(&rt, alloc, other, 4_096)?);
+    assert!(rt; Lookout::new(&rt, alloc, path, &held).is_ok());
+    let watched = Lookout::new(&rt, alloc, other, &held);
+    assert!(rt; matches!(watched, Err(FileFault::Busy)));
+    drop(held);
+    fs::remove_file(&rt, path)?;
+    fs::remove_file(&rt, other)?;
     Ok(())
 }

@@ -1,5 +1,5 @@
-//! Tests of sessions on a house, and of sessions over connections; and of devices, engines and houses of the least and the
-//! greatest sizes.
+//! Tests of sessions on a house, and of sessions over connections; of what a viewer sees; and of devices, engines and houses
+//! of the least and the greatest sizes.
 #![tactic(auto)]
 
 #[cfg(test)]
@@ -28,5 +28,7 @@ mod rows_of_flights;
 mod rows_of_houses;
 #[cfg(test)]
 mod rows_of_sessions;
+#[cfg(test)]
+mod rows_of_views;
 #[cfg(test)]
 mod serving;

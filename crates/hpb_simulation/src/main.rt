@@ -1,27 +1,36 @@
-//! A house without its threads: clients, rings, board, engine and a device that fails and stops, one step after another
-//! as a seed picks them. It tells what was sent and what came of it; `bench/simulate` holds that against the rules.
+//! Random events, the same for a seed each time. A walk takes an engine through them beside a plain model, with a stop
+//! after each call of the device. A house is taken through them without its threads: clients, rings, board, engine and
+//! a device that fails and stops, one step after another. What was sent and what came of it is told; `bench/simulate`
+//! holds that against the rules.
 #![tactic(auto)]
 
 mod bidding;
-mod life;
+mod house;
 mod random;
-mod senders;
-mod simulation;
-mod tale;
+mod walk;
 
-use crate::simulation::{new_world, simulate};
+use crate::house::{new_world, simulate};
+use crate::walk::walk_from;
 use anyhow::{Error, Result, bail};
+use hpb_codec::JournalShape;
+use hpb_engine_rows::over_layouts;
 use std::alloc::Global;
 use std::process::ExitCode;
 use std::sync::Wait;
+
+/// How many stops a walk makes over devices of a layout.
+const STOPS: u64 = 10_000;
+
+/// How many seeds a house is taken through where no words say so.
+const SEEDS: u64 = 100;
 
 /// What the words ask for.
 #[derive(Clone, Copy)]
 struct Asked {
     first: u64,
     count: u64,
-    /// Whether it tells only how many seeds there were.
-    is_quiet: bool,
+    /// Whether there are no words: walks come first, and of the seeds it tells only how many there were.
+    is_all: bool,
 }
 
 fn main(rt: HostRuntime) -> ExitCode {
@@ -40,32 +49,51 @@ fn failed(rt: &HostRuntime, error: &Error) -> ExitCode {
     ExitCode::FAILURE
 }
 
-/// The first seed, how many, and any third word to be quiet.
+/// The first seed, and how many.
 fn read_words(rt: &HostRuntime) -> Result<Asked> {
     let words: Vec<String> = std::env::args(rt)?.collect(rt.alloc())?;
-    let (Some(first), Some(count)) = (words.get(1), words.get(2)) else {
-        bail!("the first seed, and how many");
-    };
-    Ok(Asked {
-        first: first.parse::<u64>()?,
-        count: count.parse::<u64>()?,
-        is_quiet: words.len() > 3,
-    })
+    match (words.get(1), words.get(2)) {
+        (None, _) => Ok(Asked {
+            first: 1,
+            count: SEEDS,
+            is_all: true,
+        }),
+        (Some(_), None) => bail!("the first seed, and how many"),
+        (Some(first), Some(count)) => Ok(Asked {
+            first: first.parse::<u64>()?,
+            count: count.parse::<u64>()?,
+            is_all: false,
+        }),
+    }
 }
 
-/// Goes through the seeds.
+/// Makes the walks, where all is asked for, and goes through the seeds.
 fn run<R: Wait + Print>(rt: &R, alloc: Global, asked: Asked) -> Result<()> {
+    if asked.is_all {
+        over_layouts!(shape => walk_over(rt, alloc, shape)?);
+    }
     for place in 0..asked.count {
         let seed = asked.first.wrapping_add(place);
         let mut world = new_world(alloc, seed)?;
         let ended = simulate(rt, &mut world, seed);
-        if !asked.is_quiet {
-            print!(rt; "{}", world.tale.text())?;
+        if !asked.is_all {
+            print!(rt; "{}", world.tale.text.as_str())?;
         }
         ended?;
     }
-    if asked.is_quiet {
+    if asked.is_all {
         println!(rt; "{} seeds", asked.count)?;
     }
+    Ok(())
+}
+
+/// Walks over devices with such a journal, and prints how many stops were made. All that can happen has to have
+/// happened often.
+fn walk_over<P: Print>(rt: &P, alloc: Global, shape: JournalShape) -> Result<()> {
+    let tally = walk_from(alloc, shape, STOPS, 1)?;
+    if !tally.is_full() {
+        bail!("too seldom: {tally}");
+    }
+    println!(rt; "{} stops", tally.stops)?;
     Ok(())
 }

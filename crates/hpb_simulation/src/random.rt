@@ -70,22 +70,17 @@ impl Random {
         }
     }
 
-    /// What becomes of a write.
+    /// What becomes of a write. Bytes of an open gate are not seldom.
     fn fate(&mut self, stop: Stop) -> Fate {
         match stop {
             Stop::Kept => Fate::Kept,
             Stop::Lost => Fate::Lost,
-            Stop::Torn => self.torn(),
-        }
-    }
-
-    /// Bytes of an open gate are not seldom.
-    fn torn(&mut self) -> Fate {
-        match self.below(6) {
-            0 | 1 => Fate::Kept,
-            2 | 3 => Fate::Lost,
-            4 => Fate::Filled(0xa5),
-            _ => Fate::Filled(self.below(256) as u8),
+            Stop::Torn => match self.below(6) {
+                0 | 1 => Fate::Kept,
+                2 | 3 => Fate::Lost,
+                4 => Fate::Filled(0xa5),
+                _ => Fate::Filled(self.below(256) as u8),
+            },
         }
     }
 

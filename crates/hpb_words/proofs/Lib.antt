@@ -1,3 +1,4 @@
 mod Asking
+mod Lines
 mod Options
 mod ValueTexts

@@ -3,7 +3,7 @@ use Rattle.std.proofs.KnownBytes.{Keeps-refl}
 use Rattle.hpb_server.specs.Streams.{streams}
 use Rattle.hpb_words.specs.declared.words.Job.{Job}
 use Rattle.hpb_program.specs.Program.{RunsJob}
-use Rattle.hpb_program.specs.Telling.{is_cut}
+use Rattle.hpb_words.specs.Telling.{is_cut}
 use Rattle.hpb_program.proofs.running.run_job.Goals as goal
 
 pub returns-in-Format-clause-streams : goal.returns-in-Format-clause-streams

@@ -1,9 +1,9 @@
 use Rattle.std.proofs.Common.{sym, subst}
 use Rattle.std.specs.Bool.{⊤}
 use Rattle.std.specs.Prelude.{Result}
-use Rattle.hpb_program.specs.declared.job_fault.JobFault.{JobFault}
+use Rattle.hpb_words.specs.declared.job_fault.JobFault.{JobFault}
 use Rattle.hpb_program.specs.Program.{TellsEnd}
-use Rattle.hpb_program.specs.Telling.{is_cut, IsCutBy}
+use Rattle.hpb_words.specs.Telling.{is_cut, IsCutBy}
 use Rattle.hpb_program.proofs.Ends.{told_end}
 use Rattle.hpb_program.proofs.running.tell_end.Goals as goal
 

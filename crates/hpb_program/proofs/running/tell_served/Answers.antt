@@ -1,10 +1,10 @@
 use Rattle.std.proofs.Common.{sym, subst}
 use Rattle.std.specs.Prelude.{IfOk, Result}
 use Rattle.std.proofs.KnownBytes.{Keeps-refl}
-use Rattle.hpb_program.specs.declared.job_fault.JobFault.{JobFault}
+use Rattle.hpb_words.specs.declared.job_fault.JobFault.{JobFault}
 use Rattle.hpb_program.specs.declared.serving.FileEnd.{FileEnd}
 use Rattle.hpb_program.specs.Program.{TellsServed}
-use Rattle.hpb_program.specs.Telling.{is_cut, IsTaken}
+use Rattle.hpb_words.specs.Telling.{is_cut, IsTaken}
 use Rattle.hpb_program.proofs.running.tell_served.Goals as goal
 
 pub returns-in-Ok-clause-told : goal.returns-in-Ok-clause-told

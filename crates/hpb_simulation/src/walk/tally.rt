@@ -1,0 +1,61 @@
+//! How often things happened.
+
+use std::fmt;
+
+/// How often all that a walk is about has to happen, at least.
+const LEAST: u64 = 21;
+
+/// How often things happened in a walk.
+#[derive(Clone, Copy, Debug, Default, PartialEq, Eq)]
+pub(crate) struct Tally {
+    /// Stops, those after which the batch in flight had landed, and those after which the walk went on with what was
+    /// left.
+    pub(crate) stops: u64,
+    pub(crate) landed: u64,
+    pub(crate) restarts: u64,
+    /// Batches that were acknowledged, and offers that were answered at once, or handed back.
+    pub(crate) done: u64,
+    pub(crate) old: u64,
+    pub(crate) full: u64,
+    pub(crate) busy: u64,
+    /// Checkpoints that became whole, and steps with nothing to do.
+    pub(crate) whole: u64,
+    pub(crate) idle: u64,
+}
+
+impl Tally {
+    /// Whether all of them happened often.
+    pub(crate) fn is_full(&self) -> bool {
+        self.landed >= LEAST
+            && self.restarts >= LEAST
+            && self.done >= LEAST
+            && self.old >= LEAST
+            && self.full >= LEAST
+            && self.busy >= LEAST
+            && self.whole >= LEAST
+            && self.idle >= LEAST
+    }
+}
+
+/// Counts one more.
+pub(crate) fn count_one(counter: &mut u64) {
+    *counter = counter.saturating_add(1);
+}
+
+impl fmt::Display for Tally {
+    fn fmt<W: fmt::Write>(&self, f: &mut fmt::Formatter<W>) -> fmt::Result {
+        write!(
+            f,
+            "{} stops, {} landed, {} restarts, {} done, {} old, {} full, {} busy, {} whole, {} idle",
+            self.stops,
+            self.landed,
+            self.restarts,
+            self.done,
+            self.old,
+            self.full,
+            self.busy,
+            self.whole,
+            self.idle
+        )
+    }
+}

@@ -1,0 +1,45 @@
+-- What the output is told, whole unless it was cut.
+use Rattle.std.specs.Prelude.{◌≡◌, ℕ, Bool, true, false, List, Option, Result, Ok, Err, ⊤}
+use Rattle.std.specs.Io.KnownBytes.{Appends, Keeps}
+use Rattle.hpb_rules.specs.declared.refusal.Refusal.{Refusal}
+use Rattle.hpb_rules.specs.Rendering.{refusal_text}
+use Rattle.hpb_rules.specs.Text.{line_of}
+use Rattle.hpb_server.specs.declared.fault.Fault.{Fault}
+use Rattle.hpb_server.specs.Telling.{Says}
+use Rattle.hpb_words.specs.Faults.{refusal_of}
+use Rattle.hpb_words.specs.declared.job_fault.JobFault.{JobFault}
+use Rattle.hpb_words.specs.declared.job_fault.JobFault.TheVariants as faults
+use Rattle.hpb_words.specs.declared.noted.Noted.{Noted}
+
+-- Whether a stream failed, or took nothing, at the last text that it was to take.
+abbrev pub is_cut : {S : Type 0} → Noted S → Bool
+is_cut noted = noted.cut
+
+-- A text was written, all of it; or a front of it where the output was cut.
+abbrev pub Tells : (cut : Bool) (old new : Option (List ℕ)) → List ℕ → Type 0
+Tells false old new text = Appends old new text
+Tells true old new text = Says old new text
+
+-- The one line of a refusal was.
+abbrev pub TellsLine : (cut : Bool) (old new : Option (List ℕ)) → Refusal → Type 0
+TellsLine cut old new refusal = Tells cut old new (line_of (refusal_text refusal))
+
+-- So was it, unless the output leads to the file of the job: then nothing was written.
+abbrev pub TellsUnled : (leads cut : Bool) (old new : Option (List ℕ)) → Refusal → Type 0
+TellsUnled false cut old new refusal = TellsLine cut old new refusal
+TellsUnled true cut old new refusal = Keeps old new
+
+-- The output is told to have failed exactly where it was cut.
+abbrev pub IsTaken : (cut : Bool) → Result ⊤ Fault → Type 0
+IsTaken cut (Ok done) = cut ≡ false
+IsTaken cut (Err fault) = cut ≡ true
+
+-- A job on a file that ends since the output failed has an output that was cut.
+abbrev pub IsCutBy : (cut : Bool) → Result ⊤ JobFault → Type 0
+IsCutBy cut (Err faults.Writer) = cut ≡ true
+IsCutBy cut end = Unit {0}
+
+-- What the output is told of a job on a file that was not done: the line of its refusal, all of it unless the output was cut; or nothing where the output failed, since a front of another line may stand there.
+abbrev pub AnswersJob : (cut : Bool) (old new : Option (List ℕ)) → JobFault → Type 0
+AnswersJob cut old new faults.Writer = Keeps old new
+AnswersJob cut old new fault = TellsLine cut old new (refusal_of fault)

@@ -1,0 +1,168 @@
+//! What is told where a fault hardly comes, whole. What is told where one can be had, `examples/` hold.
+
+use crate::*;
+use hpb_disk::FileFault;
+use hpb_format::FormatCause;
+use hpb_recover::Cause;
+use hpb_server::Fault;
+use std::alloc::{AllocError, Global};
+use std::io;
+use std::test::Fail;
+
+/// What is known of a job of which no call of a stream failed, and nothing was seen.
+fn known(job: Job<'_>) -> Known<'_> {
+    Known {
+        job,
+        failures: Failures {
+            reading: None,
+            writing: None,
+        },
+        seen: None,
+        trouble: None,
+    }
+}
+
+/// What is known where a.hpb was served.
+fn known_of_serving() -> Known<'static> {
+    known(Job::Serve {
+        file: "a.hpb",
+        port: 5_000,
+        sessions: 8,
+    })
+}
+
+/// What is told of a fault where a.hpb was served.
+fn told_of(alloc: Global, fault: JobFault) -> Result<String, AllocError> {
+    let advice = JobAdvice {
+        fault: &fault,
+        known: known_of_serving(),
+    };
+    format!(in alloc; "{advice}")
+}
+
+#[test]
+fn faults_of_serving_are_told(rt: HostRuntime) -> Result<(), Fail> {
+    let too_many = JobFault::Descriptors {
+        sessions: 32,
+        wanted: 38,
+        error: io::Error::from_raw_os_error(libc::EMFILE),
+    };
+    for (fault, wanted) in [
+        (
+            too_many,
+            "32 sessions want 38 files and connections at a time: Too many open files (os error 24): let the process have as many (ulimit -n), or give fewer to --sessions",
+        ),
+        (
+            JobFault::Place,
+            "a session has no place in memory: free some, or give fewer to --sessions",
+        ),
+        (
+            JobFault::Order,
+            "a session was given another answer than the one that it waited for, which is a fault of hpb: see what a.hpb keeps by `hpb check --file a.hpb`, and hold it against what was answered",
+        ),
+        (
+            JobFault::Counts,
+            "what the sessions were answered isn't what the file keeps, which is a fault of hpb: see what a.hpb keeps by `hpb check --file a.hpb`, and hold it against what was answered",
+        ),
+    ] {
+        assert_eq!(rt; told_of(rt.alloc(), fault)?.as_str(), wanted);
+    }
+    Ok(())
+}
+
+#[test]
+fn faults_of_files_are_told(rt: HostRuntime) -> Result<(), Fail> {
+    let denied = FileFault::System(io::Error::from_raw_os_error(libc::EACCES));
+    for (fault, wanted) in [
+        (
+            JobFault::File(FileFault::Stream),
+            "a standard stream leads to a.hpb: let it lead elsewhere",
+        ),
+        (
+            JobFault::File(denied),
+            "a.hpb could not be opened: Permission denied (os error 13): see that you may use it, and read its folder",
+        ),
+        (
+            JobFault::Format(FormatCause::Device),
+            "a.hpb could not be read, written or synced. See to its disk: a full one wants room. Then see by `hpb check --file a.hpb` whether the file keeps the auction, and if it doesn't, try again",
+        ),
+        (
+            JobFault::Open(Cause::Device),
+            "a.hpb could not be read or synced: see to its disk, and try again",
+        ),
+    ] {
+        assert_eq!(rt; told_of(rt.alloc(), fault)?.as_str(), wanted);
+    }
+    Ok(())
+}
+
+const DISK: &str =
+    "the disk of a.hpb failed. All that was answered by OK is kept. See to the disk first: a full one wants room, and then the same file goes on; from one that breaks copy a.hpb to another, and take the copy. Then go on by `hpb serve --file a.hpb --port 5000 --sessions 8`, and send again, in their order, the commands that were answered by 93, or not at all: one that was kept gets its old number, or 13 where its sender has a later one that was kept";
+
+const UNSAID: &str =
+    "writing: nothing more was taken. All sessions have ended, and all that was answered by OK is kept. See a.hpb by `hpb check --file a.hpb`";
+
+#[test]
+fn ends_are_told(rt: HostRuntime) -> Result<(), Fail> {
+    let alloc = rt.alloc();
+    let known = known_of_serving();
+    let mut end = RunEnd {
+        end: Ok(()),
+        failed: true,
+        code: None,
+    };
+    assert_eq!(rt;
+        format!(in alloc; "{}", EndAdvice { end, known })?.as_str(),
+        DISK
+    );
+    end.end = Err(Fault::Writer);
+    end.failed = false;
+    assert_eq!(rt;
+        format!(in alloc; "{}", EndAdvice { end, known })?.as_str(),
+        UNSAID
+    );
+    Ok(())
+}
+
+#[test]
+fn a_command_has_its_file_in_quotes(rt: HostRuntime) -> Result<(), Fail> {
+    let known = known(Job::Run {
+        file: "-it's mine",
+        batch: 64,
+        every: 0,
+    });
+    let end = RunEnd {
+        end: Err(Fault::Memory),
+        failed: false,
+        code: None,
+    };
+    assert_eq!(rt;
+        format!(in rt.alloc(); "{}", EndAdvice { end, known })?.as_str(),
+        "memory was refused. All that was answered by OK is kept. Then go on by `hpb run --file './-it'\\''s mine' --batch 64 --every 0`, and send again, in their order, the lines that have no answer"
+    );
+    Ok(())
+}
+
+#[test]
+fn a_disk_that_fails_while_it_is_served_is_told(rt: HostRuntime) -> Result<(), Fail> {
+    assert_eq!(rt;
+        format!(in rt.alloc(); "{}", FailedNotice("a b"))?.as_str(),
+        "91 device: a call of the disk of a b failed. From now on no command is accepted, and questions are answered still. All that was answered by OK is kept. End all sessions: then it is said here why, and what to do"
+    );
+    Ok(())
+}
+
+#[test]
+fn each_line_of_a_fault_is_told(rt: HostRuntime) -> Result<(), Fail> {
+    for (fault, line) in [
+        (JobFault::Place, "ERR 94 place\n"),
+        (JobFault::Order, "ERR 95 order\n"),
+        (JobFault::Counts, "ERR 96 counts\n"),
+    ] {
+        let mut output = Noted::new(Vec::new(rt.alloc()));
+        tell_job(&fault, &mut output);
+        assert!(rt; !output.is_cut());
+        assert_eq!(rt; output.stream.as_slice(), line.as_bytes());
+    }
+    Ok(())
+}
