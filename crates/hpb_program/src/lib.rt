@@ -1,4 +1,4 @@
-//! The program: the jobs that its words ask for, what is told of them, and its status.
+//! The program: does the jobs that its words ask for, with what they print, and gives its status.
 #![tactic(auto)]
 
 mod checking;

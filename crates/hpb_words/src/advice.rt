@@ -1,4 +1,5 @@
-//! What people are told of how a job ended ill: why, and what to do. Each text of that kind stands here.
+//! What people are told of how a job ended ill: why, and what to do. Each text of that kind stands here, but for what is wrong
+//! with a definition, which `hpb_reasons` says.
 
 use crate::escaped::{Escaped, Pasted};
 use crate::job_fault::JobFault;
@@ -19,7 +20,9 @@ use std::{fmt, io};
 /// What is said of a job on a file that was not done: why, and what to do.
 #[derive(Clone, Copy)]
 pub struct JobAdvice<'a> {
+    /// Why it was not done.
     pub fault: &'a JobFault,
+    /// What is known of it beside that.
     pub known: Known<'a>,
 }
 
@@ -324,7 +327,9 @@ fn advise_of_layout<W: fmt::Write>(f: &mut fmt::Formatter<W>, known: Known<'_>) 
 /// What is said of a run or of serving that ended ill and had begun: why, and what to do.
 #[derive(Clone, Copy)]
 pub struct EndAdvice<'a> {
+    /// How it ended.
     pub end: RunEnd,
+    /// What is known of it beside that.
     pub known: Known<'a>,
 }
 
@@ -403,7 +408,9 @@ fn advise_of_fault<W: fmt::Write>(
 /// What is said of a script that a fault ended.
 #[derive(Clone, Copy)]
 pub struct ScriptAdvice {
+    /// What ended it.
     pub fault: Fault,
+    /// How its input and its output failed.
     pub failures: Failures,
 }
 
@@ -450,7 +457,9 @@ impl fmt::Display for StreamsAdvice<'_> {
 /// What is said of a standard stream that leads to a job's file.
 #[derive(Clone, Copy)]
 pub struct LedAdvice<'a> {
+    /// Which one, in words: as standard input.
     pub stream: &'static str,
+    /// The path of the job's file.
     pub file: &'a str,
 }
 

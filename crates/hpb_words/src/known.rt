@@ -20,10 +20,13 @@ use std::os::unix::fs::FileExt;
 /// A job, with what failed of its streams, and what was seen of its file after it was refused.
 #[derive(Clone, Copy)]
 pub struct Known<'a> {
+    /// What was asked for.
     pub job: Job<'a>,
+    /// How its input and its output failed.
     pub failures: Failures,
+    /// Its file as it is now, where that was looked at and could be opened.
     pub seen: Option<SeenFile>,
-    /// What the system said of its disk.
+    /// What the system said of the file's disk, where a call of that failed before and fails again.
     pub trouble: Option<io::Error>,
 }
 
@@ -62,7 +65,9 @@ pub fn known_of<'a, H: Files<File = File>, T>(
 /// The length of a file, and what its first pages are.
 #[derive(Clone, Copy, Debug, PartialEq, Eq)]
 pub struct SeenFile {
+    /// Its length in bytes.
     pub bytes: u64,
+    /// What its first pages are.
     pub head: SeenHead,
 }
 

@@ -7,7 +7,9 @@ use std::io::{Read, Write};
 /// A stream, and the failure of its last call, where that failed.
 #[derive(Drop)]
 pub struct Noted<S> {
+    /// The stream itself.
     pub stream: S,
+    /// How its last call failed.
     pub failure: Option<io::Error>,
     /// Whether its last write or flush failed or took nothing. Nobody else sets it.
     cut: bool,
@@ -127,7 +129,9 @@ impl<W: Write> Write for Noted<W> {
 /// The failures of a job's input and output.
 #[derive(Clone, Copy)]
 pub struct Failures {
+    /// How the last read of the input failed.
     pub reading: Option<io::Error>,
+    /// How the last write or flush of the output failed.
     pub writing: Option<io::Error>,
 }
 
