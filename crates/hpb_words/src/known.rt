@@ -45,7 +45,10 @@ pub fn known_of<'a, H: Files<File = File>, T>(
     job: Job<'a>,
     end: &Result<T, JobFault>,
     failures: Failures,
-) -> Known<'a> {
+) -> Known<'a>
+    ensures job { result.job ≡ job }
+    ensures failures { result.failures ≡ failures }
+{
     let seen = match (end, job.file()) {
         (Err(fault), Some(file)) if fault.is_of_bytes() => SeenFile::of(rt, alloc, file),
         _ => None,
