@@ -134,14 +134,18 @@ impl<D: Disk + Drop> Engine<D> {
         }
     }
 
-    /// Makes a turn as `commit_step` does, and puts the answers that leave where there is none yet.
-    pub(crate) fn make_turn(&mut self, leaving: &mut Answers) -> Result<Turned, Fault>
-        requires none { leaving.old ≡ [] }
+    /// Makes a turn as `commit_step` does, with the answers that leave in a list of the caller's: those of the batch after its
+    /// last turn, and after any other call none, whatever was in the list. A caller that makes all turns needs one list for them.
+    ///
+    /// 91 `device`: the call failed. 93 `failed`: an earlier call failed; the device has to be opened again.
+    pub fn make_turn(&mut self, leaving: &mut Answers) -> Result<Turned, Fault>
         // What is kept before a turn is kept after it, by the machine's turn, and its answers leave with it.
         ensures keeps { (machine : Machine) → Keeps D.seen D.may_leave self.old.disk self.old.progress self.old.failed machine
             → Keeps D.seen D.may_leave self.new.disk self.new.progress self.new.failed (turn_by (step_of result leaving.new) machine).machine }
         ensures leaving { (machine : Machine) → Keeps D.seen D.may_leave self.old.disk self.old.progress self.old.failed machine
             → leaving.new ≡ (turn_by (step_of result leaving.new) machine).leaving }
+        // Answers leave with the last turn, and with no other.
+        ensures last { leaving.new ≡ leaving_with (step_of result leaving.new) }
         // An image since the call began stands for what a stop of the machine may leave, before the turn or after it.
         ensures since { (machine : Machine) → Keeps D.seen D.may_leave self.old.disk self.old.progress self.old.failed machine
             → LeavesOnly (D.moment self.old.disk) (D.moment self.new.disk) (D.left_since self.old.disk) (D.left_since self.new.disk)
@@ -155,6 +159,7 @@ impl<D: Disk + Drop> Engine<D> {
         ensures idle { result ≡ Ok Turned.Idle → self.new.disk ≡ self.old.disk }
     {
         laws_below();
+        leaving.clear();
         self.turn(leaving)
     }
 

@@ -29,4 +29,4 @@ pub use event::Event;
 pub use laws::laws_below;
 pub use progress::{Checkpoint, Commit, Progress, Retirement, Ring};
 pub use promise::{Survived, drive_opened, drive_then_open};
-pub use step::{Fault, Part, Rest, Step};
+pub use step::{Fault, Part, Rest, Step, Turned};

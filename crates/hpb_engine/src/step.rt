@@ -15,7 +15,7 @@ pub enum Step {
 
 /// What a turn of a commit did, apart from the answers that leave with it.
 #[derive(Clone, Copy)]
-pub(crate) enum Turned {
+pub enum Turned {
     /// No batch is in flight.
     Idle,
     /// The batch in flight had a turn.

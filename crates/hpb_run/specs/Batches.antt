@@ -1,5 +1,5 @@
 -- What a commit of letters and a checkpoint come to.
-use Rattle.std.specs.Prelude.{◌≡◌, ℕ, ◌<◌, ◌≤◌, Bool, true, false, List, [], ◌++◌, Option, Some, None, Result, Ok, Err}
+use Rattle.std.specs.Prelude.{◌≡◌, ℕ, ◌<◌, ◌≤◌, Bool, true, false, List, ◌++◌, Option, Some, None, Result, Ok, Err}
 use Rattle.hpb_rules.specs.declared.command.Command.{Command}
 use Rattle.hpb_rules.specs.declared.letter.Answer.{Answer}
 use Rattle.hpb_rules.specs.declared.letter.Letter.{Letter}
@@ -15,14 +15,9 @@ use Rattle.hpb_engine.specs.declared.step.Fault.TheVariants as faults
 abbrev pub HasRoom : Progress → Type 0
 HasRoom s = s.ring.next < s.ring.clean_end
 
--- The answers that letters were given: none where a fault came.
-abbrev pub answers_of : Result (List Answer) Fault → List Answer
-answers_of (Ok answers) = answers
-answers_of (Err fault) = []
-
--- The fault that tells why they were not answered, if one came.
-abbrev pub fault_of : Result (List Answer) Fault → Option Fault
-fault_of (Ok answers) = None
+-- The fault that tells why letters were not answered, if one came.
+abbrev pub fault_of : {T : Type 0} → Result T Fault → Option Fault
+fault_of (Ok told) = None
 fault_of (Err fault) = Some fault
 
 -- **A batch as a whole.** What letters with these answers by the rules come to after a history: all are answered, and what they accept is

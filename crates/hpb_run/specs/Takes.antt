@@ -1,6 +1,5 @@
 -- What a checkpoint and a batch take: calls of the device, and frames of the journal.
-use Rattle.std.specs.Prelude.{◌≡◌, ◌⊎◌, ℕ, ◌+◌, ◌<◌, ◌≤◌, Bool, true, false, List, Option, Some, None, Result, Ok, Err}
-use Rattle.hpb_rules.specs.declared.letter.Answer.{Answer}
+use Rattle.std.specs.Prelude.{◌≡◌, ◌⊎◌, ℕ, ◌+◌, ◌<◌, ◌≤◌, Bool, true, false, List, Option, Some, None}
 use Rattle.hpb_rules.specs.declared.letter.Letter.{Letter}
 use Rattle.hpb_engine.specs.declared.progress.Progress.{Progress}
 use Rattle.hpb_engine.specs.declared.step.Fault.{Fault}
@@ -30,9 +29,9 @@ pub record HasTaken (batches : ℕ) (s t : Progress) : Type 0 where
   pub retirement : t.retirement ≡ s.retirement
 
 -- A batch in flight is landed by the turns that are left of its four, with a call each; where one of these calls fails (91), it is the last.
-abbrev pub Lands : Result (List Answer) Fault → (s t : Progress) (before after : ℕ) → Type 0
-Lands (Ok answers) s t before after = (t ≡ acknowledged s) × (after + s.commit.turns ≡ before + 4)
-Lands (Err fault) s t before after = (fault ≡ faults.Device) × ((turns : ℕ) × (t ≡ turned s turns)) × (before < after) × (after + s.commit.turns ≤ before + 4)
+abbrev pub Lands : Option Fault → (s t : Progress) (before after : ℕ) → Type 0
+Lands None s t before after = (t ≡ acknowledged s) × (after + s.commit.turns ≡ before + 4)
+Lands (Some fault) s t before after = (fault ≡ faults.Device) × ((turns : ℕ) × (t ≡ turned s turns)) × (before < after) × (after + s.commit.turns ≤ before + 4)
 
 -- Letters that find room: where none is new they take no call of the device, and else one frame and four calls. Where one of these four fails it is the last, and a device that had failed has none.
 abbrev pub BatchTakes : Option Fault → List Letter → (s t : Progress) (before after : ℕ) → Type 0

@@ -6,12 +6,12 @@ ghost use Rattle.hpb_rules.specs.Machine.{at_rest, in_flight};
 ghost use Rattle.hpb_engine.specs.Keeping.{Keeps};
 ghost use Rattle.hpb_engine.specs.Offers.{CanTake};
 ghost use Rattle.hpb_engine.specs.declared.step.Fault.TheVariants as faults;
-ghost use Rattle.hpb_run.specs.Batches.{KeepsAnswered, KeepsEnded, StaysRefused, TellsFailures, answers_of, fault_of};
+ghost use Rattle.hpb_run.specs.Batches.{KeepsAnswered, KeepsEnded, StaysRefused, TellsFailures, fault_of};
 ghost use Rattle.hpb_run.specs.Takes.{BatchTakes, Lands, LettersTake};
 
 use crate::checkpoint::checkpoint;
 use hpb_disk::Disk;
-use hpb_engine::{Bar, Engine, Fault, Step};
+use hpb_engine::{Bar, Engine, Fault, Turned};
 use hpb_rules::{Answer, Answers, Letters, MOST_LETTERS};
 use std::alloc::{AllocError, Global};
 
@@ -25,55 +25,66 @@ pub struct Ended {
     pub fault: Option<Fault>,
 }
 
-/// Makes the turns that are left of the batch in flight. All its answers leave with the fourth; where a call of the device
-/// fails (91), it stays in flight.
-fn land<D: Disk + Drop>(engine: &mut Engine<D>) -> Result<Answers, Fault>
+/// Makes the turns that are left of the batch in flight, and puts its answers, which leave with the fourth, in place of those
+/// that are there; where a call of the device fails (91), it stays in flight.
+fn land<D: Disk + Drop>(engine: &mut Engine<D>, answers: &mut Answers) -> Result<(), Fault>
     requires busy { engine.old.progress.commit.busy ≡ true }
     requires works { engine.old.failed ≡ false }
     ensures keeps { (history : List Command) (given : List Answer)
         → Keeps D.seen D.may_leave engine.old.disk engine.old.progress engine.old.failed (in_flight history given engine.old.progress.commit.turns)
         → KeepsAnswered D.seen D.may_leave engine.new.disk engine.new.progress engine.new.failed
-        engine.old.progress.committed.rules history given (answers_of result) (fault_of result) }
-    ensures lands { Lands result engine.old.progress engine.new.progress (D.moment engine.old.disk) (D.moment engine.new.disk) }
+        engine.old.progress.committed.rules history given answers.new (fault_of result) }
+    ensures lands { Lands (fault_of result) engine.old.progress engine.new.progress (D.moment engine.old.disk) (D.moment engine.new.disk) }
     ensures cause { TellsFailures (fault_of result) (D.failures engine.old.disk) (D.failures engine.new.disk) }
 {
-    match engine.commit_step()? {
-        Step::Done(answers) => Ok(answers),
-        Step::Went => land(engine),
-        Step::Idle => unreachable!(),
+    match engine.make_turn(answers)? {
+        Turned::Done => Ok(()),
+        Turned::Went => land(engine, answers),
+        Turned::Idle => unreachable!(),
     }
 }
 
 /// Commits letters that nothing bars: they are answered at once where none is new, and else once their turns are made.
-fn commit_clear<D: Disk + Drop>(engine: &mut Engine<D>, letters: &Letters) -> Result<Answers, Fault>
+fn commit_clear<D: Disk + Drop>(
+    engine: &mut Engine<D>,
+    letters: &Letters,
+    answers: &mut Answers,
+) -> Result<(), Fault>
     requires clear { CanTake engine.old.failed engine.old.progress letters.now }
     ensures commits { (history : List Command) → Keeps D.seen D.may_leave engine.old.disk engine.old.progress engine.old.failed (at_rest history)
         → KeepsEnded D.seen D.may_leave engine.new.disk engine.new.progress engine.new.failed
-        engine.old.progress.committed.rules history letters.now (answers_of result) (fault_of result) }
+        engine.old.progress.committed.rules history letters.now answers.new (fault_of result) }
     ensures takes { BatchTakes (fault_of result) letters.now engine.old.progress engine.new.progress (D.moment engine.old.disk) (D.moment engine.new.disk) }
     ensures now { result ≡ Err faults.Failed → ⊥ }
     ensures cause { TellsFailures (fault_of result) (D.failures engine.old.disk) (D.failures engine.new.disk) }
 {
     match engine.take(letters) {
-        Some(answers) => Ok(answers),
-        None => land(engine),
+        Some(told) => {
+            *answers = told;
+            Ok(())
+        }
+        None => land(engine, answers),
     }
 }
 
 /// Commits letters, after a whole checkpoint where no clean frame is left for them. It takes no memory.
-fn commit_all<D: Disk + Drop>(engine: &mut Engine<D>, letters: &Letters) -> Result<Answers, Fault>
+fn commit_all<D: Disk + Drop>(
+    engine: &mut Engine<D>,
+    letters: &Letters,
+    answers: &mut Answers,
+) -> Result<(), Fault>
     ensures commits { (history : List Command) → Keeps D.seen D.may_leave engine.old.disk engine.old.progress engine.old.failed (at_rest history)
         → KeepsEnded D.seen D.may_leave engine.new.disk engine.new.progress engine.new.failed
-        engine.old.progress.committed.rules history letters.now (answers_of result) (fault_of result)
+        engine.old.progress.committed.rules history letters.now answers.new (fault_of result)
         × LettersTake letters.now engine.old.progress engine.new.progress (D.moment engine.old.disk) (D.moment engine.new.disk)
         engine.old.failed (D.failures engine.old.disk) (D.failures engine.new.disk) (fault_of result) }
     ensures cause { TellsFailures (fault_of result) (D.failures engine.old.disk) (D.failures engine.new.disk) }
 {
     match engine.bars(letters) {
-        None => commit_clear(engine, letters),
+        None => commit_clear(engine, letters, answers),
         Some(Bar::Failed | Bar::Busy) => Err(Fault::Failed),
         Some(Bar::Full) => match checkpoint(engine) {
-            None => commit_clear(engine, letters),
+            None => commit_clear(engine, letters, answers),
             Some(_) => Err(Fault::Failed),
         },
     }
@@ -104,8 +115,9 @@ pub fn commit_letters<D: Disk + Drop>(
         × StaysRefused (D.failures engine.old.disk) (D.failures engine.new.disk) engine.old.progress engine.new.progress engine.old.failed engine.new.failed) }
 {
     let mut answers = Vec::with_capacity(alloc, MOST_LETTERS)?;
-    match commit_all(engine, &letters) {
-        Ok(told) => {
+    let mut told = Answers::new();
+    match commit_all(engine, &letters, &mut told) {
+        Ok(()) => {
             let added = answers.extend_from_slice(told.as_slice());
             prove!(added.is_ok());
             Ok(Ended {
