@@ -113,7 +113,14 @@ device_alike s t third other false is = alike s (other (λ two. absurd (grind (a
 idle : {A : Type 0} {busy : Bool} → busy ≡ false → busy ≡ true → A
 idle free now = absurd (cc (free, now))
 
--- a step that isn't the last one of a commit
+-- the last step of a commit
+abbrev pub IsDone : Result Step Fault → Type 0
+IsDone (Ok steps.Idle) = ⊥
+IsDone (Ok steps.Went) = ⊥
+IsDone (Ok (steps.Done answers)) = Unit {0}
+IsDone (Err fault) = ⊥
+
+-- any other
 abbrev pub IsNotDone : Result Step Fault → Type 0
 IsNotDone (Ok steps.Idle) = Unit {0}
 IsNotDone (Ok steps.Went) = Unit {0}
@@ -249,12 +256,12 @@ module _ {D : Type 0} (seen : D → List ℕ) (may_leave : D → List ℕ → Ty
       ))
 
   -- the batch in flight is acknowledged
-  pub done_kept : JudgedIsShown → JudgedJoin → {k k' : Keeping D} → IsKept seen may_leave k → k'.image ≡ k.image
+  acknowledged_kept : JudgedIsShown → JudgedJoin → {k k' : Keeping D} → IsKept seen may_leave k → k'.image ≡ k.image
       → k'.board.opened ≡ k.board.opened → k'.board.list ≡ k.board.list ++ k.board.pending → k'.board.pending ≡ []
       → k.progress.commit.busy ≡ true → k.progress.commit.turns ≡ 3 → k'.progress ≡ acknowledged k.progress
       → ((machine : Machine) → Keeps seen may_leave k.disk k.progress k.failed machine → Keeps seen may_leave k'.disk k'.progress k'.failed (turn true machine).machine)
       → IsKept seen may_leave k'
-  done_kept shown_law join {k} {k'} is image opened list pending busy turns next keeps =
+  acknowledged_kept shown_law join {k} {k'} is image opened list pending busy turns next keeps =
       let letters = letters_of k.progress.commit.answers in
       let grown : k'.board.list ≡ k.board.list ++ letters ∷ [] = list ∙ ap (λ (l : List (List Letter)). k.board.list ++ l) (is.prepared ∙ busy_pending k.progress.commit busy) in
       grown_kept join letters is image opened grown pending (ap (λ (s : Progress). s.commit.busy) next) (sym (is.working busy) ∙ sym (ap (λ (s : Progress). s.committed) next))
@@ -269,6 +276,18 @@ module _ {D : Type 0} (seen : D → List ℕ) (may_leave : D → List ℕ → Ty
       let so : k.progress.commit.answers ≡ judged k.board.opened.rules (acknowledged_by k history) letters =
       is.judged busy ∙ answered_so shown_law k is.shown (acknowledged_by k history) before.shows letters in
       ((turn true m).machine, gives ∙ ap (λ (answers : List Answer). acknowledged_by k history ++ new_commands answers) so, keeps m before))
+
+  -- the last turn, by which what was prepared is published
+  pub done_kept : JudgedIsShown → JudgedJoin → {k k' : Keeping D} (result : Result Step Fault) → IsDone result → IsKept seen may_leave k → k'.image ≡ k.image
+      → k'.board.opened ≡ k.board.opened → k'.board.list ≡ k.board.list ++ k.board.pending → k'.board.pending ≡ []
+      → TurnLeads k.failed result k.progress k'.progress
+      → ((machine : Machine) → Keeps seen may_leave k.disk k.progress k.failed machine → Keeps seen may_leave k'.disk k'.progress k'.failed (turn_by result machine).machine)
+      → IsKept seen may_leave k'
+  done_kept shown_law join (Ok steps.Idle) done is image opened list pending leads keeps = absurd done
+  done_kept shown_law join (Ok steps.Went) done is image opened list pending leads keeps = absurd done
+  done_kept shown_law join (Ok (steps.Done answers)) done is image opened list pending leads keeps =
+      acknowledged_kept shown_law join is image opened list pending leads.1 leads.2 leads.4 keeps
+  done_kept shown_law join (Err fault) done is image opened list pending leads keeps = absurd done
 
   -- a turn that isn't the last one
   pub turned_kept : {k k' : Keeping D} (result : Result Step Fault) → IsNotDone result → IsKept seen may_leave k → k'.image ≡ k.image → k'.board ≡ k.board

@@ -33,11 +33,11 @@ module _ (history : List Command) (given : List Answer) where
   stays : (n : ℕ) → (turn false (in_flight history given n)).machine ≡ in_flight history given (if n == 2 then 3 else n)
   stays n = grind (arith, nat_tests)
 
-  pub failed_turn : {D : Type 0} {seen : D → List ℕ} {may_leave : D → List ℕ → Type 0} {disk : D} {t : Progress} {failed after : Bool} {answers : List Answer} (s : Progress) (n : ℕ) (fault : Fault) → failed ≡ false
+  pub failed_turn : {D : Type 0} {seen : D → List ℕ} {may_leave : D → List ℕ → Type 0} {disk : D} {t : Progress} {failed after : Bool} (s : Progress) (n : ℕ) (answers : List Answer) (fault : Fault) → failed ≡ false
       → after ≡ true → TurnLeads failed (Err fault) s t → Keeps seen may_leave disk t after (turn_by (Err fault) (in_flight history given n)).machine
       → t.committed.rules ≡ s.committed.rules → KeepsAnswered seen may_leave disk t after s.committed.rules history given answers (Some fault)
-  failed_turn s n faults.Device works off leads kept rules = (_, kept, (off, _, stays n), rules)
-  failed_turn s n faults.Failed works off leads kept rules = absurd (let not = leads.0 in cc)
+  failed_turn s n answers faults.Device works off leads kept rules = (_, kept, (off, _, stays n), rules)
+  failed_turn s n answers faults.Failed works off leads kept rules = absurd (let not = leads.0 in cc)
 
 pub failed_is : {T : Type 0} (result : Result T Fault) → fault_of result ≡ Some faults.Failed → result ≡ Err faults.Failed
 failed_is (Ok told) is = absurd (cc)

@@ -33,4 +33,4 @@ returns-in_err-make_turn-clause-keeps g t c history given keeps =
     let told = c.in_err-make_turn.ensures in
     let old = c.args.engine.now.progress in
     let p = err_from_is_err_and c.from_residual.result c.from_residual.ensures.1 in
-    rw (p.1, p.2) (failed_turn history given old old.commit.turns _ c.requires.works told.device.fails told.leads (told.keeps (in_flight history given old.commit.turns) keeps) told.rules)
+    rw (p.1, p.2) (failed_turn history given old old.commit.turns c.make_turn.new.leaving _ c.requires.works told.device.fails told.leads (told.keeps (in_flight history given old.commit.turns) keeps) told.rules)
