@@ -46,7 +46,7 @@ pub fn known_of<'a, H: Files<File = File>, T>(
     end: &Result<T, JobFault>,
     failures: Failures,
 ) -> Known<'a>
-    ensures job { result.job ≡ job }
+    ensures job { result.job ≡ job.entry }
     ensures failures { result.failures ≡ failures }
 {
     let seen = match (end, job.file()) {
