@@ -2,14 +2,12 @@
 
 use anyhow::{Result, bail};
 use hpb_auction::Auction;
-use hpb_codec::{BATCH_SIZE, Batch, STATE_SIZE, encode_batch, encode_state};
+use hpb_codec::{BATCH_SIZE, Batch, PAGE_BYTES, STATE_SIZE, encode_batch, encode_state};
 use hpb_disk::{Disk, MemoryDisk};
 use hpb_format::format;
 use hpb_rules::Saved;
 use hpb_tree::Definition;
 use std::alloc::{AllocError, Global};
-
-pub(crate) const PAGE: usize = 4_096;
 
 /// The byte of an open gate.
 pub(crate) const OPEN: u8 = 0xa5;
@@ -42,7 +40,7 @@ pub(crate) fn all_of<D: Disk>(alloc: Global, disk: &mut D) -> Result<Vec<u8>> {
 /// The bytes of a new device.
 pub(crate) fn new_device(alloc: Global, definition: &Definition, frames: u16) -> Result<Vec<u8>> {
     let pages = JOURNAL + usize::from(frames);
-    let disk = MemoryDisk::zeros(alloc, pages * PAGE)?;
+    let disk = MemoryDisk::zeros(alloc, pages * PAGE_BYTES)?;
     match format(alloc, disk, definition, u32::from(frames)) {
         Ok(mut disk) => all_of(alloc, &mut disk),
         Err(_) => bail!("not formatted"),
@@ -58,7 +56,10 @@ pub(crate) fn put_batch(
 ) -> Result<(), AllocError> {
     let mut body = vec![in alloc; 0; BATCH_SIZE]?;
     encode_batch(batch, &mut body);
-    if let Some(page) = bytes.chunks_mut(PAGE).nth(JOURNAL + usize::from(frame)) {
+    if let Some(page) = bytes
+        .chunks_mut(PAGE_BYTES)
+        .nth(JOURNAL + usize::from(frame))
+    {
         put(page, 0, &[OPEN]);
         put(page, BODY, &body);
     }
@@ -67,7 +68,7 @@ pub(crate) fn put_batch(
 
 /// Closes the gates of so many frames.
 pub(crate) fn close_frames(bytes: &mut [u8], frames: u16) {
-    let pages = bytes.chunks_mut(PAGE).skip(JOURNAL);
+    let pages = bytes.chunks_mut(PAGE_BYTES).skip(JOURNAL);
     for page in pages.take(usize::from(frames)) {
         put(page, 0, &[0]);
     }
@@ -87,6 +88,6 @@ pub(crate) fn put_state(
     encode_state(&saved, covered, &mut body);
     let at = if is_second { SECOND_SLOT } else { FIRST_SLOT };
     put(bytes, at, &[OPEN]);
-    put(bytes, at + PAGE, &body);
+    put(bytes, at + PAGE_BYTES, &body);
     Ok(())
 }

@@ -1,8 +1,9 @@
 //! Devices that nobody wrote.
 
-use crate::bytes::{BODY, JOURNAL, OPEN, PAGE, put};
+use crate::bytes::{BODY, JOURNAL, OPEN, put};
 use crate::dice::Dice;
 use crate::good::OF_A_KIND;
+use hpb_codec::PAGE_BYTES;
 use std::alloc::{AllocError, Global};
 
 /// How a device is made.
@@ -57,11 +58,11 @@ fn another(dice: &mut Dice, place: usize, count: usize) -> usize {
 fn fill_from_a_page(bytes: &mut Vec<u8>, dice: &mut Dice) -> Result<(), AllocError> {
     match dice.below(16) {
         0 => bytes.truncate(dice.below(bytes.len() + 1)),
-        1 => bytes.resize(bytes.len() + dice.below(PAGE), 0)?,
+        1 => bytes.resize(bytes.len() + dice.below(PAGE_BYTES), 0)?,
         _ => {}
     }
     let kept = dice.below(22);
-    for (page, part) in bytes.chunks_mut(PAGE).enumerate().skip(kept) {
+    for (page, part) in bytes.chunks_mut(PAGE_BYTES).enumerate().skip(kept) {
         dice.fill(part);
         if dice.once_in(2) {
             put(part, 0, &[OPEN]);
@@ -77,13 +78,13 @@ fn fill_from_a_page(bytes: &mut Vec<u8>, dice: &mut Dice) -> Result<(), AllocErr
 /// One to eight bytes are changed, most of them near the beginning of a page.
 fn flip_some(bytes: &mut [u8], dice: &mut Dice) {
     for _ in 0..1 + dice.below(8) {
-        let page = dice.below(bytes.len() / PAGE + 1);
+        let page = dice.below(bytes.len() / PAGE_BYTES + 1);
         let at = if dice.once_in(4) {
-            dice.below(PAGE)
+            dice.below(PAGE_BYTES)
         } else {
             dice.below(64)
         };
-        if let Some(part) = bytes.chunks_mut(PAGE).nth(page) {
+        if let Some(part) = bytes.chunks_mut(PAGE_BYTES).nth(page) {
             if let Some(byte) = part.get_mut(at) {
                 *byte ^= 1 + dice.below(255) as u8;
             }
@@ -93,15 +94,15 @@ fn flip_some(bytes: &mut [u8], dice: &mut Dice) {
 
 /// Some pages become those of the other device, a few of them from another place.
 fn splice(bytes: &mut [u8], other: &[u8], dice: &mut Dice) {
-    let pages = other.len() / PAGE + 1;
-    for (page, part) in bytes.chunks_mut(PAGE).enumerate() {
+    let pages = other.len() / PAGE_BYTES + 1;
+    for (page, part) in bytes.chunks_mut(PAGE_BYTES).enumerate() {
         let from = if dice.once_in(10) {
             dice.below(pages)
         } else {
             page
         };
         if dice.once_in(4) {
-            if let Some(given) = other.chunks(PAGE).nth(from) {
+            if let Some(given) = other.chunks(PAGE_BYTES).nth(from) {
                 put(part, 0, given);
             }
         }

@@ -4,6 +4,7 @@ use Rattle.hpb_codec.specs.Limits.{LimitsAre}
 
 pub limits_are : LimitsAre
 limits_are = record {
+  page_bytes = refl;
   record_bytes = refl;
   batch_bytes = refl;
   cells_bytes = refl;

@@ -7,7 +7,9 @@ ghost use Rattle.hpb_rules.specs.Units.{bidder_units};
 ghost use Rattle.hpb_tree.specs.Draft.{bidder_said, bidders_said};
 ghost use Rattle.hpb_codec.specs.Numbers.{before};
 ghost use Rattle.hpb_codec.specs.BidderPages.{entry_of, bidder_of, bidder_page_of, HasEntry};
+ghost use Rattle.hpb_codec.specs.declared.layout.TheConstants.{PAGE_BYTES};
 
+use crate::layout::PAGE_BYTES;
 use crate::name::{name_in, put_name};
 use crate::reader::{front_bytes, front_u32};
 use crate::writer::{fill_zeros, put_u32, put_zeros};
@@ -15,14 +17,12 @@ use hpb_rules::{BidderId, MOST_BIDDERS, MOST_NAME_BYTES};
 use hpb_tree::{BidderDraft, Definition};
 use std::alloc::{AllocError, Global};
 
-const PAGE_SIZE: usize = 4_096;
-
 /// How many bytes a bidder has.
 const ENTRY_SIZE: usize = 24;
 
 /// Writes the page, every byte of it.
 pub(crate) fn put_bidders(page: &mut [u8], definition: &Definition)
-    requires { length page.old ≡ PAGE_SIZE }
+    requires { length page.old ≡ PAGE_BYTES }
     ensures { page.new ≡ bidder_page_of definition.now.bidders }
 {
     let mut at = 0;
@@ -51,7 +51,7 @@ pub(crate) fn bidders_in(
     page: &[u8],
     count: usize,
 ) -> Result<Option<Vec<BidderDraft>>, AllocError>
-    requires page { length page.now ≡ PAGE_SIZE }
+    requires page { length page.now ≡ PAGE_BYTES }
     requires count { count ≤ MOST_BIDDERS }
     ensures { (bidders : List Bidder) → length bidders ≡ count → AllByRecursion HasEntry bidders → page.now ≡ bidder_page_of bidders
         → IfOk result (λ found. IsSomeAnd found (λ drafts. bidders_said drafts.items ≡ bidders)) }

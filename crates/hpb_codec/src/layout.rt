@@ -16,6 +16,9 @@ pub struct JournalShape {
     pub frames: u32,
 }
 
+/// How many bytes a page has.
+pub const PAGE_BYTES: usize = 4_096;
+
 /// How many frames a journal has at least.
 pub const LEAST_FRAMES: u32 = 4;
 

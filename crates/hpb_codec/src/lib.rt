@@ -34,6 +34,7 @@ pub use laws::{
 };
 pub use layout::{
     CELL_FRAMES_STEP, JournalLayout, JournalShape, LEAST_CELL_FRAMES, LEAST_FRAMES, MOST_FRAMES,
+    PAGE_BYTES,
 };
 pub use record::RECORD_SIZE;
 pub use state::{

@@ -6,15 +6,15 @@ ghost use Rattle.hpb_rules.specs.Text.{node_name};
 ghost use Rattle.hpb_tree.specs.Draft.{node_said, nodes_said};
 ghost use Rattle.hpb_codec.specs.Numbers.{before};
 ghost use Rattle.hpb_codec.specs.NodePages.{entry_of, node_fields, node_of, node_page_of, parent_byte, HasEntry};
+ghost use Rattle.hpb_codec.specs.declared.layout.TheConstants.{PAGE_BYTES};
 
+use crate::layout::PAGE_BYTES;
 use crate::name::{name_in, put_name};
 use crate::reader::{front_bytes, front_u8, front_u32, front_u64};
 use crate::writer::{fill_zeros, put_u8, put_u32, put_u64, put_zeros};
 use hpb_rules::{MOST_NAME_BYTES, MOST_NODES, NodeId};
 use hpb_tree::{Definition, NodeDraft, TermsDraft};
 use std::alloc::{AllocError, Global};
-
-const PAGE_SIZE: usize = 4_096;
 
 /// How many bytes a node has.
 const ENTRY_SIZE: usize = 32;
@@ -28,7 +28,7 @@ const LICENCE: u8 = 1;
 
 /// Writes the page, every byte of it.
 pub(crate) fn put_nodes(page: &mut [u8], definition: &Definition)
-    requires { length page.old ≡ PAGE_SIZE }
+    requires { length page.old ≡ PAGE_BYTES }
     ensures { page.new ≡ node_page_of definition.now.nodes }
 {
     let mut at = 0;
@@ -93,7 +93,7 @@ pub(crate) fn nodes_in(
     page: &[u8],
     count: usize,
 ) -> Result<Option<Vec<NodeDraft>>, AllocError>
-    requires page { length page.now ≡ PAGE_SIZE }
+    requires page { length page.now ≡ PAGE_BYTES }
     requires count { count ≤ MOST_NODES }
     ensures { (nodes : List Node) → length nodes ≡ count → AllByRecursion HasEntry nodes → page.now ≡ node_page_of nodes
         → IfOk result (λ found. IsSomeAnd found (λ drafts. nodes_said drafts.items ≡ nodes)) }

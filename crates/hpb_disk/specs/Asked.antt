@@ -2,7 +2,7 @@
 use Rattle.std.specs.Prelude.{◌≡◌, ℕ, ◌==◌, List, [], ◌∷◌, ◌++◌, Result, Ok, Err, MatchResult, if◌then◌else◌}
 use Rattle.hpb_disk.specs.Events.{Event}
 
--- A write of these bytes at an offset, or a sync, whether it was done or not; and the mark of a call that failed, a read too, before the call itself.
+-- A write of these bytes at an offset, or a sync, whether it was done or not; and a note of a call that failed, a read too, before the call itself.
 pub data Asked : Type 0 where
   writes : ℕ → List ℕ → Asked
   syncs : Asked

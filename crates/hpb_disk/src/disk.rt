@@ -30,7 +30,7 @@ pub trait Disk {
     /// How many calls have failed.
     ghost failures: { Self → ℕ };
 
-    /// The writes and syncs that it was asked for, the newest first, and before each call that failed a mark.
+    /// The writes and syncs that it was asked for, the newest first, and before each call that failed a note of that.
     ghost asked: { Self → List Asked };
 
     fn len(&self) -> usize

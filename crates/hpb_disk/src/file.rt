@@ -5,12 +5,12 @@ ghost use Rattle.hpb_disk.specs.Asked.{Asks};
 ghost use Rattle.hpb_disk.specs.Calls.{calls_of, seen_of};
 ghost use Rattle.hpb_disk.specs.Devices as devices;
 
-use crate::mark::FileMark;
 use crate::memory::overwrite;
 use crate::opening::{
     Share, are_same, beside, check_descriptor, check_limit, fill_and_name, forget_beside, lock,
     look_at, open_beside, open_folder, settle, sync_names,
 };
+use crate::stamp::FileStamp;
 use crate::trace::Trace;
 use crate::{Disk, DiskFailed, FileFault};
 use std::alloc::Global;
@@ -191,8 +191,8 @@ impl FileDisk {
     }
 
     /// Which file it is, and how long.
-    pub fn mark(&self) -> io::Result<FileMark> {
-        Ok(FileMark::of(&self.file.metadata()?))
+    pub fn stamp(&self) -> io::Result<FileStamp> {
+        Ok(FileStamp::of(&self.file.metadata()?))
     }
 }
 

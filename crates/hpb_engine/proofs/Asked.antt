@@ -26,18 +26,18 @@ module _ {failed : Bool} (s : Progress) (works : failed ≡ false) where
       → (checkpoint_calls failed s ≡ 1) × (step_asks s ≡ writes_chunk (other_of s.checkpoint.newest) (s.checkpoint.steps - 2) s.checkpoint.body.items ∷ [])
   at_chunk from to = (grind (arith, nat_tests), grind (arith, nat_tests))
 
-  pub at_begin : s.checkpoint.steps ≡ 0 → s.retirement.going ≡ false → s.ring.covered < s.ring.next → (may : Bool) → s.checkpoint.other_open ≡ may
+  pub at_begin : s.checkpoint.steps ≡ 0 → s.retirement.going ≡ false → s.window.covered < s.window.next → (may : Bool) → s.checkpoint.other_open ≡ may
       → (checkpoint_calls failed s ≡ if may then 1 else 0) × (step_asks s ≡ if may then closes_slot (other_of s.checkpoint.newest) ∷ [] else [])
   at_begin steps idle some may is = (grind (arith, nat_tests), grind (arith, nat_tests))
 
   -- With nothing going, and all frames clean up to the end, there is no call.
-  pub at_rest : s.checkpoint.steps ≡ 0 → s.retirement.going ≡ false → s.ring.covered ≡ s.ring.next → s.retirement.upto ≡ end_of s.ring → (checkpoint_calls failed s ≡ 0) × (step_asks s ≡ [])
+  pub at_rest : s.checkpoint.steps ≡ 0 → s.retirement.going ≡ false → s.window.covered ≡ s.window.next → s.retirement.upto ≡ end_of s.window → (checkpoint_calls failed s ≡ 0) × (step_asks s ≡ [])
   at_rest steps off covered done = (grind (arith, nat_tests), grind (arith, nat_tests))
 
-pub at_retire : (s : Progress) (may : Bool) → may_be_open s.ring s.retirement.upto ≡ may
-    → ◌≡◌ {A = ℕ} (if may_be_open s.ring s.retirement.upto then 1 else 0) (if may then 1 else 0)
-    × (retire_asks s.ring s.retirement.upto ≡ if may then closes_frame (shape_of s.ring.frames) s.retirement.upto ∷ [] else [])
+pub at_retire : (s : Progress) (may : Bool) → may_be_open s.window s.retirement.upto ≡ may
+    → ◌≡◌ {A = ℕ} (if may_be_open s.window s.retirement.upto then 1 else 0) (if may then 1 else 0)
+    × (retire_asks s.window s.retirement.upto ≡ if may then closes_frame (shape_of s.window.frames) s.retirement.upto ∷ [] else [])
 at_retire s may is = (
   ap (λ (b : Bool). if b then 1 else 0) is,
-  ap (λ (b : Bool). if b then closes_frame (shape_of s.ring.frames) s.retirement.upto ∷ [] else []) is,
+  ap (λ (b : Bool). if b then closes_frame (shape_of s.window.frames) s.retirement.upto ∷ [] else []) is,
 )

@@ -49,16 +49,16 @@ other_differs Second is = absurd (cc)
 
 -- The snapshot of a committed auction is one of all acknowledged commands.
 pub snapshot_fits : (s : Progress) (k : Cut) → Fits s k → (body : List ℕ)
-    → ((history : List Command) → Shows s.committed history → s.ring.next ≤ length history → IsSnapshot s.committed.rules body s.ring.next history)
-    → IsSnapshot k.rules body s.ring.next (all k)
+    → ((history : List Command) → Shows s.committed history → s.window.next ≤ length history → IsSnapshot s.committed.rules body s.window.next history)
+    → IsSnapshot k.rules body s.window.next (all k)
 snapshot_fits s k fits body taken =
-    let enough : s.ring.next ≤ length (all k) =
-    subst (λ (commands : List Command). s.ring.next ≤ length commands) (upto_all k (length k.batches) refl) (omega (arith, fits.enough (length k.batches) (omega arith), fits.next)) in
-    subst (λ (rules : Rules). IsSnapshot rules body s.ring.next (all k)) fits.rules (taken (all k) fits.shows enough)
+    let enough : s.window.next ≤ length (all k) =
+    subst (λ (commands : List Command). s.window.next ≤ length commands) (upto_all k (length k.batches) refl) (omega (arith, fits.enough (length k.batches) (omega arith), fits.next)) in
+    subst (λ (rules : Rules). IsSnapshot rules body s.window.next (all k)) fits.rules (taken (all k) fits.shows enough)
 
 module _ (laws : Laws) (s : Progress) (k : Cut) (fits : Fits s k) where
-  journal : IsJournal (layout_of s.ring)
-  journal = laws.shapes (shape_of s.ring.frames) (shape_is_allowed s.ring.frames)
+  journal : IsJournal (layout_of s.window)
+  journal = laws.shapes (shape_of s.window.frames) (shape_is_allowed s.window.frames)
 
   not_going : 1 ≤ s.checkpoint.steps → s.retirement.going ≡ false
   not_going begun = false_from_ne_true s.retirement.going (λ on. omega (arith, begun, fits.safe.retirement.alone on))
@@ -66,39 +66,39 @@ module _ (laws : Laws) (s : Progress) (k : Cut) (fits : Fits s k) where
   -- The slots are written: frames and head stay.
   module _ (old new : List ℕ) where
     module _ (same : SameFrom JOURNAL_AT old new) where
-      frame : (b : ℕ) → SameFrame (layout_of s.ring) b old new
+      frame : (b : ℕ) → SameFrame (layout_of s.window) b old new
       frame b = journal.is.behind b old new same
 
-      closed_stays : (b : ℕ) → IsClosedFrame (layout_of s.ring) b old → IsClosedFrame (layout_of s.ring) b new
+      closed_stays : (b : ℕ) → IsClosedFrame (layout_of s.window) b old → IsClosedFrame (layout_of s.window) b new
       closed_stays b closed is_open = closed (sym (frame b).gate ∙ is_open)
 
-      says_stays : Says (layout_of s.ring) k.rules s.commit.batch old → Says (layout_of s.ring) k.rules s.commit.batch new
-      says_stays = subst (λ (bytes : List ℕ). (layout_of s.ring).spells k.rules bytes s.commit.batch) (sym (frame s.commit.batch.index).body)
+      says_stays : Says (layout_of s.window) k.rules s.commit.batch old → Says (layout_of s.window) k.rules s.commit.batch new
+      says_stays = subst (λ (bytes : List ℕ). (layout_of s.window).spells k.rules bytes s.commit.batch) (sym (frame s.commit.batch.index).body)
 
-      frames_stay : InJournal k.rules s.ring s.commit k old → InJournal k.rules s.ring s.commit k new
+      frames_stay : InJournal k.rules s.window s.commit k old → InJournal k.rules s.window s.commit k new
       frames_stay was = record {
-        kept = journal.stays k.rules s.ring.covered (suc (length k.before)) k.batches old new (λ b from below. frame b) was.kept;
+        kept = journal.stays k.rules s.window.covered (suc (length k.before)) k.batches old new (λ b from below. frame b) was.kept;
         clean = λ b from below early. closed_stays b (was.clean b from below early);
-        stale = λ b from below may has. was.stale b from below may (sym (ap (layout_of s.ring).index (frame b).body) ∙ has);
+        stale = λ b from below may has. was.stale b from below may (sym (ap (layout_of s.window).index (frame b).body) ∙ has);
         shut = λ b from below not. closed_stays b (was.shut b from below not);
         staged = λ late. says_stays (was.staged late);
       }
 
-      commit_stays : ReadsCommit k.rules s.ring s.commit old → ReadsCommit k.rules s.ring s.commit new
-      commit_stays was = record { written = λ late. says_stays (was.written late); opened = λ late. (frame s.ring.next).gate ∙ was.opened late }
+      commit_stays : ReadsCommit k.rules s.window s.commit old → ReadsCommit k.rules s.window s.commit new
+      commit_stays was = record { written = λ late. says_stays (was.written late); opened = λ late. (frame s.window.next).gate ∙ was.opened late }
 
-      retirement_stays : ReadsRetirement s.ring s.retirement old → ReadsRetirement s.ring s.retirement new
+      retirement_stays : ReadsRetirement s.window s.retirement old → ReadsRetirement s.window s.retirement new
       retirement_stays was = record { retired = λ b from below. closed_stays b (was.retired b from below) }
 
     -- The gate of the other slot.
     module _ (facts : Facts s k old) (changes : ChangesGate (other_of s.checkpoint.newest) old new) where
-      gate_head : InHead (head_of s.ring k.rules) new
-      gate_head = head_stays (head_of s.ring k.rules) old new changes.before changes.size facts.head
+      gate_head : InHead (head_of s.window k.rules) new
+      gate_head = head_stays (head_of s.window k.rules) old new changes.before changes.size facts.head
 
-      gate_holds : Holds k.rules s.checkpoint.newest s.ring.covered facts.slots.saved new
+      gate_holds : Holds k.rules s.checkpoint.newest s.window.covered facts.slots.saved new
       gate_holds = (
         changes.gates s.checkpoint.newest (other_differs s.checkpoint.newest) ∙ facts.slots.holds.0,
-        subst (λ (bytes : List ℕ). SpellsState k.rules bytes facts.slots.saved s.ring.covered) (sym (changes.bodies s.checkpoint.newest)) facts.slots.holds.1,
+        subst (λ (bytes : List ℕ). SpellsState k.rules bytes facts.slots.saved s.window.covered) (sym (changes.bodies s.checkpoint.newest)) facts.slots.holds.1,
       )
 
       gate_spells : (i : ℕ) (older : Saved) → SpellsState k.rules (body_of (other_of s.checkpoint.newest) new) older i → SpellsState k.rules (body_of (other_of s.checkpoint.newest) old) older i
@@ -106,10 +106,10 @@ module _ (laws : Laws) (s : Progress) (k : Cut) (fits : Fits s k) where
 
     -- A chunk of its body.
     module _ (i : ℕ) (facts : Facts s k old) (changes : ChangesChunk (other_of s.checkpoint.newest) i old new) where
-      chunk_holds : Holds k.rules s.checkpoint.newest s.ring.covered facts.slots.saved new
+      chunk_holds : Holds k.rules s.checkpoint.newest s.window.covered facts.slots.saved new
       chunk_holds = (
         changes.gates s.checkpoint.newest ∙ facts.slots.holds.0,
-        subst (λ (bytes : List ℕ). SpellsState k.rules bytes facts.slots.saved s.ring.covered)
+        subst (λ (bytes : List ℕ). SpellsState k.rules bytes facts.slots.saved s.window.covered)
             (sym (changes.bodies s.checkpoint.newest (other_differs s.checkpoint.newest))) facts.slots.holds.1,
       )
 
@@ -117,11 +117,11 @@ module _ (laws : Laws) (s : Progress) (k : Cut) (fits : Fits s k) where
       chunk_closed closed is_open = closed (sym (changes.gates (other_of s.checkpoint.newest)) ∙ is_open)
 
   -- A checkpoint goes on: nothing else changes.
-  goes_on : (next : Checkpoint) → CheckpointFits s.ring next → (s.retirement.going ≡ true → next.steps ≡ 0)
-      → (1 ≤ next.steps → IsSnapshot k.rules next.body.items next.covers (upto k (next.covers - s.ring.covered))) → Fits (record s { checkpoint = next }) k
-  goes_on next numbers alone = let retirement = fits.safe.retirement in refitted s k fits s.ring.clean_end s.commit next s.retirement
+  goes_on : (next : Checkpoint) → CheckpointFits s.window next → (s.retirement.going ≡ true → next.steps ≡ 0)
+      → (1 ≤ next.steps → IsSnapshot k.rules next.body.items next.covers (upto k (next.covers - s.window.covered))) → Fits (record s { checkpoint = next }) k
+  goes_on next numbers alone = let retirement = fits.safe.retirement in refitted s k fits s.window.clean_end s.commit next s.retirement
       (record {
-        ring = fits.safe.ring;
+        window = fits.safe.window;
         commit = fits.safe.commit;
         checkpoint = numbers;
         retirement = record { alone = alone; idle = retirement.idle; some = retirement.some; from = retirement.from; to = retirement.to };
@@ -130,15 +130,15 @@ module _ (laws : Laws) (s : Progress) (k : Cut) (fits : Fits s k) where
       fits.flight
 
   -- A checkpoint is begun.
-  pub snapped_fits : s.checkpoint.steps ≡ 0 → s.retirement.going ≡ false → s.ring.covered < s.ring.next
-      → (other : Progress) → length other.checkpoint.body.items ≡ STATE_SIZE → IsSnapshot k.rules other.checkpoint.body.items s.ring.next (all k) → Fits (snapped s other) k
+  pub snapped_fits : s.checkpoint.steps ≡ 0 → s.retirement.going ≡ false → s.window.covered < s.window.next
+      → (other : Progress) → length other.checkpoint.body.items ≡ STATE_SIZE → IsSnapshot k.rules other.checkpoint.body.items s.window.next (all k) → Fits (snapped s other) k
   snapped_fits steps idle some other size snapshot = goes_on (snapped s other).checkpoint (record {
     steps = omega arith;
     size = size;
     new = λ _. some;
     old = λ _. omega arith;
     closed = λ late. absurd (omega (arith, late));
-  }) (λ on. absurd (cc)) (λ _. subst (IsSnapshot k.rules other.checkpoint.body.items s.ring.next) (sym (upto_all k (s.ring.next - s.ring.covered) (omega (arith, fits.next)))) snapshot)
+  }) (λ on. absurd (cc)) (λ _. subst (IsSnapshot k.rules other.checkpoint.body.items s.window.next) (sym (upto_all k (s.window.next - s.window.covered) (omega (arith, fits.next)))) snapshot)
 
   module _ (steps : s.checkpoint.steps ≡ 0) where
     -- The gate of the other slot is closed where it may be open.
@@ -250,7 +250,7 @@ module _ (laws : Laws) (s : Progress) (k : Cut) (fits : Fits s k) where
     module _ (old new : List ℕ) (facts : Facts s k old) where
       pub chunk_torn : ChangesChunk (other_of s.checkpoint.newest) (s.checkpoint.steps - 2) old new → Facts (stepped s (s.checkpoint.steps + 1)) k new
       chunk_torn changes = record {
-        head = head_stays (head_of s.ring k.rules) old new changes.before changes.size facts.head;
+        head = head_stays (head_of s.window k.rules) old new changes.before changes.size facts.head;
         slots = record {
           saved = facts.slots.saved;
           holds = chunk_holds old new (s.checkpoint.steps - 2) facts changes;
@@ -344,12 +344,12 @@ module _ (laws : Laws) (s : Progress) (k : Cut) (fits : Fits s k) where
   module _ (steps : s.checkpoint.steps ≡ 8) where
     -- So many batches more are covered.
     abbrev more : ℕ
-    more = s.checkpoint.covers - s.ring.covered
+    more = s.checkpoint.covers - s.window.covered
 
-    new : s.ring.covered < s.checkpoint.covers
+    new : s.window.covered < s.checkpoint.covers
     new = fits.safe.checkpoint.new (omega (arith, steps))
 
-    old : s.checkpoint.covers ≤ s.ring.next
+    old : s.checkpoint.covers ≤ s.window.next
     old = fits.safe.checkpoint.old (omega (arith, steps))
 
     within : more ≤ length k.batches
@@ -357,18 +357,18 @@ module _ (laws : Laws) (s : Progress) (k : Cut) (fits : Fits s k) where
 
     renewed_safe : IsSafe (renewed s)
     renewed_safe =
-        let ring = fits.safe.ring in
+        let window = fits.safe.window in
         let commit = fits.safe.commit in
         let still = fits.safe.retirement.idle (not_going (omega (arith, steps))) in
         record {
-          ring = record {
-            least = ring.least;
-            most = ring.most;
-            gates = ring.gates;
-            opened = omega (arith, ring.opened, new);
+          window = record {
+            least = window.least;
+            most = window.most;
+            gates = window.gates;
+            opened = omega (arith, window.opened, new);
             covered = old;
-            clean = ring.clean;
-            end = omega (arith, ring.end, new);
+            clean = window.clean;
+            end = omega (arith, window.end, new);
           };
           commit = record { turns = commit.turns; idle = commit.idle; rest = commit.rest; rules = commit.rules; room = commit.room; more = commit.more };
           checkpoint = record {
@@ -381,9 +381,9 @@ module _ (laws : Laws) (s : Progress) (k : Cut) (fits : Fits s k) where
           retirement = record {
             alone = λ _. refl;
             idle = λ off. absurd (cc);
-            some = λ _. omega (arith, ring.end, new);
+            some = λ _. omega (arith, window.end, new);
             from = omega (arith, still);
-            to = omega (arith, still, ring.end, new);
+            to = omega (arith, still, window.end, new);
           };
           few = fits.safe.few;
         }
@@ -398,35 +398,35 @@ module _ (laws : Laws) (s : Progress) (k : Cut) (fits : Fits s k) where
           shows = subst (Shows s.committed) (sym (all_shortened k more)) fits.shows;
           enough = λ n le. subst (λ (l : List Command). s.checkpoint.covers + n ≤ length l) (sym (upto_shortened k more n))
               (omega (arith, fits.enough (more + n) (omega (arith, le, count, new, old, fits.next)), new));
-          flight = λ busy. subst (λ (l : List Command). IsFlight k.rules s.ring.next s.committed l s.commit) (sym (all_shortened k more)) (fits.flight busy);
+          flight = λ busy. subst (λ (l : List Command). IsFlight k.rules s.window.next s.committed l s.commit) (sym (all_shortened k more)) (fits.flight busy);
           snapshot = λ late. absurd (omega (arith, late));
         }
 
     module _ (image : List ℕ) (facts : Facts s k image) where
-      kept_rest : Kept (layout_of s.ring) k.rules s.checkpoint.covers (suc (length (upto k more))) (drop more k.batches) image
+      kept_rest : Kept (layout_of s.window) k.rules s.checkpoint.covers (suc (length (upto k more))) (drop more k.batches) image
       kept_rest =
-          let parts = subst (λ (l : List (List Command)). Kept (layout_of s.ring) k.rules s.ring.covered (suc (length k.before)) l image)
+          let parts = subst (λ (l : List (List Command)). Kept (layout_of s.window) k.rules s.window.covered (suc (length k.before)) l image)
           (sym (take_drop more k.batches)) facts.journal.kept in
-          let rest = (journal.cut k.rules s.ring.covered (suc (length k.before)) (take more k.batches) (drop more k.batches) image parts).1 in
-          let index : s.ring.covered + length (take more k.batches) ≡ s.checkpoint.covers = omega (arith, length-take-le more k.batches within, new) in
+          let rest = (journal.cut k.rules s.window.covered (suc (length k.before)) (take more k.batches) (drop more k.batches) image parts).1 in
+          let index : s.window.covered + length (take more k.batches) ≡ s.checkpoint.covers = omega (arith, length-take-le more k.batches within, new) in
           let first : suc (length k.before) + length (joined (take more k.batches)) ≡ suc (length (upto k more)) = omega (arith, length-append k.before (joined (take more k.batches))) in
-          subst (λ (n : ℕ). Kept (layout_of s.ring) k.rules n (suc (length (upto k more))) (drop more k.batches) image) index
-          (subst (λ (n : ℕ). Kept (layout_of s.ring) k.rules (s.ring.covered + length (take more k.batches)) n (drop more k.batches) image) first rest)
+          subst (λ (n : ℕ). Kept (layout_of s.window) k.rules n (suc (length (upto k more))) (drop more k.batches) image) index
+          (subst (λ (n : ℕ). Kept (layout_of s.window) k.rules (s.window.covered + length (take more k.batches)) n (drop more k.batches) image) first rest)
 
       -- The frame of a batch that is covered now has that batch's index.
-      in_use : (b : ℕ) → end_of s.ring ≤ b → b < s.checkpoint.covers + (count_of s.ring) → HasIndex (layout_of s.ring) b image → ⊥
+      in_use : (b : ℕ) → end_of s.window ≤ b → b < s.checkpoint.covers + (count_of s.window) → HasIndex (layout_of s.window) b image → ⊥
       in_use b far below has =
-          let count = (count_of s.ring) in
-          let own = (journal.own k.rules s.ring.covered (suc (length k.before)) k.batches image facts.journal.kept).0 (b - count) (omega (arith, far)) (omega (arith, far, below, old, fits.next)) in
+          let count = (count_of s.window) in
+          let own = (journal.own k.rules s.window.covered (suc (length k.before)) k.batches image facts.journal.kept).0 (b - count) (omega (arith, far)) (omega (arith, far, below, old, fits.next)) in
           let sum : b - count + count ≡ b = omega (arith, far) in
           let same : b % count ≡ (b - count) % count = ap (λ (n : ℕ). n % count) (sym sum) ∙ add-mod_right (b - count) count in
           let body = (journal.is.shared b (b - count) image same).1 in
-          let one : b ≡ b - count = sym has ∙ ap (layout_of s.ring).index body ∙ own.1 in
-          omega (arith, one, far, fits.safe.ring.least)
+          let one : b ≡ b - count = sym has ∙ ap (layout_of s.window).index body ∙ own.1 in
+          omega (arith, one, far, fits.safe.window.least)
 
       -- The frame of a batch so far on had another batch since the device was opened, so its gate may be open.
-      may_be : (b : ℕ) → end_of s.ring ≤ b → may_be_open s.ring b ≡ false → ⊥
-      may_be b far off = omega (arith, far, fits.safe.ring.opened, not_less b (s.ring.opened_at + (count_of s.ring)) (left _ _ off))
+      may_be : (b : ℕ) → end_of s.window ≤ b → may_be_open s.window b ≡ false → ⊥
+      may_be b far off = omega (arith, far, fits.safe.window.opened, not_less b (s.window.opened_at + (count_of s.window)) (left _ _ off))
         where
           left : (a c : Bool) → (a || c) ≡ false → a ≡ false
           left false c off = refl
@@ -441,7 +441,7 @@ module _ (laws : Laws) (s : Progress) (k : Cut) (fits : Fits s k) where
             shows = snapshot.shows;
             behind = λ _ i older spells.
                 let here : SpellsState k.rules (body_of s.checkpoint.newest image) older i = subst (λ (slot : Slot). SpellsState k.rules (body_of slot image) older i) (other_back s.checkpoint.newest) spells in
-                let one = (laws.holds_one k.rules s.checkpoint.newest s.ring.covered i facts.slots.saved older image facts.slots.holds (facts.slots.holds.0, here)).0 in
+                let one = (laws.holds_one k.rules s.checkpoint.newest s.window.covered i facts.slots.saved older image facts.slots.holds (facts.slots.holds.0, here)).0 in
                 inl (omega (arith, one, new));
             shut = λ early off. absurd (cc);
             whole = λ late. absurd (omega (arith, late));
@@ -454,11 +454,11 @@ module _ (laws : Laws) (s : Progress) (k : Cut) (fits : Fits s k) where
         journal = record {
           kept = kept_rest;
           clean = facts.journal.clean;
-          stale = λ b from below may has. elim (cases_lt b (end_of s.ring)) [
+          stale = λ b from below may has. elim (cases_lt b (end_of s.window)) [
             | inl near ↦ facts.journal.stale b from near may has
             | inr far ↦ in_use b far below has
           ];
-          shut = λ b from below not. elim (cases_lt b (end_of s.ring)) [
+          shut = λ b from below not. elim (cases_lt b (end_of s.window)) [
             | inl near ↦ facts.journal.shut b from near not
             | inr far ↦ absurd (may_be b far not)
           ];

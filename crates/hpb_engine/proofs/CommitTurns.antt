@@ -34,14 +34,14 @@ frame_of layout rules batch b first image index number is_open says = (
 
 module _ (laws : Laws) (s : Progress) (k : Cut) (fits : Fits s k) where
   -- The pages are a journal.
-  journal : IsJournal (layout_of s.ring)
-  journal = laws.shapes (shape_of s.ring.frames) (shape_is_allowed s.ring.frames)
+  journal : IsJournal (layout_of s.window)
+  journal = laws.shapes (shape_of s.window.frames) (shape_is_allowed s.window.frames)
 
   -- The numbers of a turn.
   pub turned_fits : (turns : ℕ) → turns ≤ 3 → s.commit.busy ≡ true → Fits (turned s turns) k
-  turned_fits turns most busy = let safe = fits.safe in refitted s k fits s.ring.clean_end (turned s turns).commit s.checkpoint s.retirement
+  turned_fits turns most busy = let safe = fits.safe in refitted s k fits s.window.clean_end (turned s turns).commit s.checkpoint s.retirement
       (record {
-        ring = safe.ring;
+        window = safe.window;
         commit = record { turns = most; idle = λ free. absurd (cc); rest = safe.commit.rest; rules = safe.commit.rules; room = safe.commit.room; more = safe.commit.more };
         checkpoint = safe.checkpoint;
         retirement = safe.retirement;
@@ -51,52 +51,52 @@ module _ (laws : Laws) (s : Progress) (k : Cut) (fits : Fits s k) where
       fits.snapshot
 
   -- Another frame than that of the batch in flight has its own place.
-  apart_from : s.commit.busy ≡ true → (b : ℕ) → s.ring.covered ≤ b → b < end_of s.ring → b ≢ s.ring.next → AreApart (layout_of s.ring) s.ring.next b
+  apart_from : s.commit.busy ≡ true → (b : ℕ) → s.window.covered ≤ b → b < end_of s.window → b ≢ s.window.next → AreApart (layout_of s.window) s.window.next b
   apart_from busy b from below other =
       let safe = fits.safe in
-      elim (cases_lt b s.ring.next) [
-        | inl before ↦ (journal.near b s.ring.next before (omega (arith, safe.commit.room busy, safe.ring.end, from))).1
-        | inr after ↦ (journal.near s.ring.next b (omega (arith, after, other)) (omega (arith, below, safe.ring.covered))).0
+      elim (cases_lt b s.window.next) [
+        | inl before ↦ (journal.near b s.window.next before (omega (arith, safe.commit.room busy, safe.window.end, from))).1
+        | inr after ↦ (journal.near s.window.next b (omega (arith, after, other)) (omega (arith, below, safe.window.covered))).0
       ]
 
   -- Where the other frames stay, what is so of them stays, too.
-  module _ (busy : s.commit.busy ≡ true) (old new : List ℕ) (same : (b : ℕ) → s.ring.covered ≤ b → b < end_of s.ring → b ≢ s.ring.next → SameFrame (layout_of s.ring) b old new) where
-    journal_stays : (turns : ℕ) → InJournal k.rules s.ring s.commit k old → (turns < 3 → IsClosed (layout_of s.ring) s.ring.next new)
-        → (2 ≤ turns → Says (layout_of s.ring) k.rules s.commit.batch new) → InJournal k.rules s.ring (turned s turns).commit k new
+  module _ (busy : s.commit.busy ≡ true) (old new : List ℕ) (same : (b : ℕ) → s.window.covered ≤ b → b < end_of s.window → b ≢ s.window.next → SameFrame (layout_of s.window) b old new) where
+    journal_stays : (turns : ℕ) → InJournal k.rules s.window s.commit k old → (turns < 3 → IsClosed (layout_of s.window) s.window.next new)
+        → (2 ≤ turns → Says (layout_of s.window) k.rules s.commit.batch new) → InJournal k.rules s.window (turned s turns).commit k new
     journal_stays turns was shut says =
         let safe = fits.safe in
         let room = safe.commit.room busy in
-        let same_behind : (b : ℕ) → s.ring.clean_end ≤ b → b < end_of s.ring → SameFrame (layout_of s.ring) b old new =
-        λ b from below. same b (omega (arith, from, room, safe.ring.covered)) below (omega (arith, from, room)) in
+        let same_behind : (b : ℕ) → s.window.clean_end ≤ b → b < end_of s.window → SameFrame (layout_of s.window) b old new =
+        λ b from below. same b (omega (arith, from, room, safe.window.covered)) below (omega (arith, from, room)) in
         record {
-          kept = journal.stays k.rules s.ring.covered (suc (length k.before)) k.batches old new
-              (λ b from below. same b from (omega (arith, below, fits.next, room, safe.ring.end)) (omega (arith, below, fits.next))) was.kept;
-          clean = λ b from below early. elim (cases_eq b s.ring.next) [
-            | inl is ↦ subst (λ (i : ℕ). IsClosed (layout_of s.ring) i new) (sym is) (shut (early is))
+          kept = journal.stays k.rules s.window.covered (suc (length k.before)) k.batches old new
+              (λ b from below. same b from (omega (arith, below, fits.next, room, safe.window.end)) (omega (arith, below, fits.next))) was.kept;
+          clean = λ b from below early. elim (cases_eq b s.window.next) [
+            | inl is ↦ subst (λ (i : ℕ). IsClosed (layout_of s.window) i new) (sym is) (shut (early is))
             | inr other ↦ λ is_open. was.clean b from below (λ is. absurd (other is))
-                (sym (same b (omega (arith, from, safe.ring.covered)) (omega (arith, below, safe.ring.end)) other).gate ∙ is_open)
+                (sym (same b (omega (arith, from, safe.window.covered)) (omega (arith, below, safe.window.end)) other).gate ∙ is_open)
           ];
-          stale = λ b from below may index. was.stale b from below may (sym (ap (layout_of s.ring).index (same_behind b from below).body) ∙ index);
+          stale = λ b from below may index. was.stale b from below may (sym (ap (layout_of s.window).index (same_behind b from below).body) ∙ index);
           shut = λ b from below may is_open. was.shut b from below may (sym (same_behind b from below).gate ∙ is_open);
           staged = says;
         }
 
   -- The body is written: behind the closed gate it may be anything.
-  pub body_torn : s.commit.busy ≡ true → s.commit.turns ≡ 0 → (old new : List ℕ) → Facts s k old → ChangesBody (layout_of s.ring) s.commit.batch.index old new → Facts (turned s 1) k new
+  pub body_torn : s.commit.busy ≡ true → s.commit.turns ≡ 0 → (old new : List ℕ) → Facts s k old → ChangesBody (layout_of s.window) s.commit.batch.index old new → Facts (turned s 1) k new
   body_torn busy turns old new facts changes =
-      let here = subst (λ (b : ℕ). ChangesBody (layout_of s.ring) b old new) (fits.flight busy).index changes in
-      let same : (b : ℕ) → s.ring.covered ≤ b → b < end_of s.ring → b ≢ s.ring.next → SameFrame (layout_of s.ring) b old new =
+      let here = subst (λ (b : ℕ). ChangesBody (layout_of s.window) b old new) (fits.flight busy).index changes in
+      let same : (b : ℕ) → s.window.covered ≤ b → b < end_of s.window → b ≢ s.window.next → SameFrame (layout_of s.window) b old new =
       λ b from below other. record { gate = here.gates b; body = here.bodies b (apart_from busy b from below other) } in
-      let shut : IsClosed (layout_of s.ring) s.ring.next new =
-      λ is_open. facts.journal.clean s.ring.next (omega arith) (fits.safe.commit.room busy) (λ is. omega (arith, turns)) (sym (here.gates s.ring.next) ∙ is_open) in
+      let shut : IsClosed (layout_of s.window) s.window.next new =
+      λ is_open. facts.journal.clean s.window.next (omega arith) (fits.safe.commit.room busy) (λ is. omega (arith, turns)) (sym (here.gates s.window.next) ∙ is_open) in
       record {
-        head = head_stays (head_of s.ring k.rules) old new (before_slots old new here.before) here.size facts.head;
-        slots = slots_stay laws old new here.before k.rules s.ring.covered s.checkpoint k.before facts.slots;
+        head = head_stays (head_of s.window k.rules) old new (before_slots old new here.before) here.size facts.head;
+        slots = slots_stay laws old new here.before k.rules s.window.covered s.checkpoint k.before facts.slots;
         journal = journal_stays busy old new same 1 facts.journal (λ early. shut) (λ late. absurd (omega (arith, late)));
       }
 
-  pub body_reads : s.commit.busy ≡ true → s.commit.turns ≡ 0 → (old new : List ℕ) → Facts s k old → Reads s k old → ChangesBody (layout_of s.ring) s.commit.batch.index old new
-      → Says (layout_of s.ring) k.rules s.commit.batch new → Reads (turned s 1) k new
+  pub body_reads : s.commit.busy ≡ true → s.commit.turns ≡ 0 → (old new : List ℕ) → Facts s k old → Reads s k old → ChangesBody (layout_of s.window) s.commit.batch.index old new
+      → Says (layout_of s.window) k.rules s.commit.batch new → Reads (turned s 1) k new
   body_reads busy turns old new facts reads changes says = record {
     commit = record { written = λ some. says; opened = λ late. absurd (omega (arith, late)) };
     checkpoint = checkpoint_stays laws old new changes.before s.checkpoint reads.checkpoint;
@@ -138,22 +138,22 @@ module _ (laws : Laws) (s : Progress) (k : Cut) (fits : Fits s k) where
     retirement = reads.retirement;
   }
 
-  says_still : (old new : List ℕ) → ChangesGate (layout_of s.ring) s.ring.next old new → Says (layout_of s.ring) k.rules s.commit.batch old → Says (layout_of s.ring) k.rules s.commit.batch new
-  says_still old new changes says = subst (λ (bytes : List ℕ). (layout_of s.ring).spells k.rules bytes s.commit.batch) (sym (changes.bodies s.commit.batch.index)) says
+  says_still : (old new : List ℕ) → ChangesGate (layout_of s.window) s.window.next old new → Says (layout_of s.window) k.rules s.commit.batch old → Says (layout_of s.window) k.rules s.commit.batch new
+  says_still old new changes says = subst (λ (bytes : List ℕ). (layout_of s.window).spells k.rules bytes s.commit.batch) (sym (changes.bodies s.commit.batch.index)) says
 
   -- The gate is written: the batch is whole, so open or closed is all one.
-  pub gate_torn : s.commit.busy ≡ true → s.commit.turns ≡ 2 → (old new : List ℕ) → Facts s k old → ChangesGate (layout_of s.ring) s.ring.next old new → Facts (turned s 3) k new
+  pub gate_torn : s.commit.busy ≡ true → s.commit.turns ≡ 2 → (old new : List ℕ) → Facts s k old → ChangesGate (layout_of s.window) s.window.next old new → Facts (turned s 3) k new
   gate_torn busy turns old new facts changes =
-      let same : (b : ℕ) → s.ring.covered ≤ b → b < end_of s.ring → b ≢ s.ring.next → SameFrame (layout_of s.ring) b old new =
+      let same : (b : ℕ) → s.window.covered ≤ b → b < end_of s.window → b ≢ s.window.next → SameFrame (layout_of s.window) b old new =
       λ b from below other. record { gate = changes.gates b (apart_from busy b from below other); body = changes.bodies b } in
       record {
-        head = head_stays (head_of s.ring k.rules) old new (before_slots old new changes.before) changes.size facts.head;
-        slots = slots_stay laws old new changes.before k.rules s.ring.covered s.checkpoint k.before facts.slots;
+        head = head_stays (head_of s.window k.rules) old new (before_slots old new changes.before) changes.size facts.head;
+        slots = slots_stay laws old new changes.before k.rules s.window.covered s.checkpoint k.before facts.slots;
         journal = journal_stays busy old new same 3 facts.journal (λ early. absurd (omega (arith, early))) (λ late. says_still old new changes (facts.journal.staged (omega (arith, turns))));
       }
 
-  pub gate_reads : s.commit.busy ≡ true → s.commit.turns ≡ 2 → (old new : List ℕ) → Facts s k old → Reads s k old → ChangesGate (layout_of s.ring) s.ring.next old new
-      → IsOpen (layout_of s.ring) s.ring.next new → Reads (turned s 3) k new
+  pub gate_reads : s.commit.busy ≡ true → s.commit.turns ≡ 2 → (old new : List ℕ) → Facts s k old → Reads s k old → ChangesGate (layout_of s.window) s.window.next old new
+      → IsOpen (layout_of s.window) s.window.next new → Reads (turned s 3) k new
   gate_reads busy turns old new facts reads changes is_open =
       let safe = fits.safe in
       let room = safe.commit.room busy in
@@ -162,23 +162,23 @@ module _ (laws : Laws) (s : Progress) (k : Cut) (fits : Fits s k) where
         checkpoint = checkpoint_stays laws old new changes.before s.checkpoint reads.checkpoint;
         retirement = record {
           retired = λ b from below up. reads.retirement.retired b from below
-              (sym (changes.gates b (apart_from busy b (omega (arith, from, room, safe.ring.covered)) (omega (arith, below, safe.retirement.to)) (omega (arith, from, room)))) ∙ up);
+              (sym (changes.gates b (apart_from busy b (omega (arith, from, room, safe.window.covered)) (omega (arith, below, safe.retirement.to)) (omega (arith, from, room)))) ∙ up);
         };
       }
 
   -- After the new batch there are as many commands as batches, at least.
   still_enough : s.commit.busy ≡ true → (count : ℕ) → count ≤ length (landed k s.commit.batch.commands).batches
-      → s.ring.covered + count ≤ length (upto (landed k s.commit.batch.commands) count)
+      → s.window.covered + count ≤ length (upto (landed k s.commit.batch.commands) count)
   still_enough busy count le =
       let commands = s.commit.batch.commands in
       let size : length (k.batches ++ commands ∷ []) ≡ length k.batches + 1 = omega (arith, length-append k.batches (commands ∷ [])) in
       elim (cases_lt (length k.batches) count) [
-        | inr old ↦ subst (λ (l : List Command). s.ring.covered + count ≤ length l) (sym (upto_landed k commands count old)) (fits.enough count old)
+        | inr old ↦ subst (λ (l : List Command). s.window.covered + count ≤ length l) (sym (upto_landed k commands count old)) (fits.enough count old)
         | inl new ↦
             let is : upto (landed k commands) count ≡ all k ++ commands = upto_all (landed k commands) count (omega (arith, new, le, size)) ∙ all_landed k commands in
-            let was : s.ring.covered + length k.batches ≤ length (all k) =
-            subst (λ (l : List Command). s.ring.covered + length k.batches ≤ length l) (upto_all k (length k.batches) refl) (fits.enough (length k.batches) (omega arith)) in
-            subst (λ (l : List Command). s.ring.covered + count ≤ length l) (sym is)
+            let was : s.window.covered + length k.batches ≤ length (all k) =
+            subst (λ (l : List Command). s.window.covered + length k.batches ≤ length l) (upto_all k (length k.batches) refl) (fits.enough (length k.batches) (omega arith)) in
+            subst (λ (l : List Command). s.window.covered + count ≤ length l) (sym is)
             (omega (arith, was, (fits.flight busy).kept.some, length-append (all k) commands, le, size))
       ]
 
@@ -192,14 +192,14 @@ module _ (laws : Laws) (s : Progress) (k : Cut) (fits : Fits s k) where
       subst (λ (v : AuctionValue). Shows v (all k ++ commands)) (sym flight.after) (laws.rest_is_shown s.committed (all k) commands fits.shows flight.accepted) in
       record {
         safe = record {
-          ring = record {
-            least = safe.ring.least;
-            most = safe.ring.most;
-            gates = safe.ring.gates;
-            opened = safe.ring.opened;
-            covered = omega (arith, safe.ring.covered);
+          window = record {
+            least = safe.window.least;
+            most = safe.window.most;
+            gates = safe.window.gates;
+            opened = safe.window.opened;
+            covered = omega (arith, safe.window.covered);
             clean = omega (arith, safe.commit.room busy);
-            end = safe.ring.end;
+            end = safe.window.end;
           };
           commit = record {
             turns = omega arith;
@@ -225,25 +225,25 @@ module _ (laws : Laws) (s : Progress) (k : Cut) (fits : Fits s k) where
         enough = still_enough busy;
         flight = λ no. absurd (cc);
         snapshot = λ late.
-            let covered : s.checkpoint.covers - s.ring.covered ≤ length k.batches = omega (arith, fits.safe.checkpoint.old late, fits.next) in
-            subst (IsSnapshot k.rules s.checkpoint.body.items s.checkpoint.covers) (sym (upto_landed k commands (s.checkpoint.covers - s.ring.covered) covered)) (fits.snapshot late);
+            let covered : s.checkpoint.covers - s.window.covered ≤ length k.batches = omega (arith, fits.safe.checkpoint.old late, fits.next) in
+            subst (IsSnapshot k.rules s.checkpoint.body.items s.checkpoint.covers) (sym (upto_landed k commands (s.checkpoint.covers - s.window.covered) covered)) (fits.snapshot late);
       }
 
   -- Where the gate is open the batch counts.
-  pub gate_opened : s.commit.busy ≡ true → s.commit.turns ≡ 3 → (image : List ℕ) → Facts s k image → IsOpen (layout_of s.ring) s.ring.next image
+  pub gate_opened : s.commit.busy ≡ true → s.commit.turns ≡ 3 → (image : List ℕ) → Facts s k image → IsOpen (layout_of s.window) s.window.next image
       → Facts (acknowledged s) (landed k s.commit.batch.commands) image
   gate_opened busy turns image facts is_open =
       let commands = s.commit.batch.commands in
       let flight = fits.flight busy in
       let first : s.commit.batch.first ≡ suc (length k.before) + length (joined k.batches) = omega (arith, flight.first, length-append k.before (joined k.batches)) in
-      let here : IsOpen (layout_of s.ring) (s.ring.covered + length k.batches) image = subst (λ (b : ℕ). IsOpen (layout_of s.ring) b image) fits.next is_open in
-      let frame = frame_of (layout_of s.ring) k.rules s.commit.batch (s.ring.covered + length k.batches) (suc (length k.before) + length (joined k.batches)) image
+      let here : IsOpen (layout_of s.window) (s.window.covered + length k.batches) image = subst (λ (b : ℕ). IsOpen (layout_of s.window) b image) fits.next is_open in
+      let frame = frame_of (layout_of s.window) k.rules s.commit.batch (s.window.covered + length k.batches) (suc (length k.before) + length (joined k.batches)) image
       (flight.index ∙ fits.next) first here (facts.journal.staged (omega (arith, turns))) in
       record {
         head = facts.head;
         slots = facts.slots;
         journal = record {
-          kept = journal.goes_on k.rules s.ring.covered (suc (length k.before)) k.batches commands image facts.journal.kept frame;
+          kept = journal.goes_on k.rules s.window.covered (suc (length k.before)) k.batches commands image facts.journal.kept frame;
           clean = λ b from below early. facts.journal.clean b (omega (arith, from)) below (λ same. absurd (omega (arith, from, same)));
           stale = facts.journal.stale;
           shut = facts.journal.shut;
@@ -263,12 +263,12 @@ module _ (laws : Laws) (s : Progress) (k : Cut) (fits : Fits s k) where
 
   -- A batch is put in flight.
   module _ (free : s.commit.busy ≡ false) where
-    module _ (room : s.ring.next < s.ring.clean_end) (batch : Batch) (answers : List Answer) (working : AuctionValue) (rules : working.rules ≡ s.committed.rules)
-        (flight : IsFlight k.rules s.ring.next s.committed (all k) (begun s batch answers working).commit) where
+    module _ (room : s.window.next < s.window.clean_end) (batch : Batch) (answers : List Answer) (working : AuctionValue) (rules : working.rules ≡ s.committed.rules)
+        (flight : IsFlight k.rules s.window.next s.committed (all k) (begun s batch answers working).commit) where
       pub begun_fits : Fits (begun s batch answers working) k
-      begun_fits = let safe = fits.safe in refitted s k fits s.ring.clean_end (begun s batch answers working).commit s.checkpoint s.retirement
+      begun_fits = let safe = fits.safe in refitted s k fits s.window.clean_end (begun s batch answers working).commit s.checkpoint s.retirement
           (record {
-            ring = safe.ring;
+            window = safe.window;
             commit = record {
               turns = omega arith;
               idle = λ no. refl;

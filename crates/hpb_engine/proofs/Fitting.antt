@@ -11,7 +11,7 @@ use Rattle.hpb_engine.specs.Numbers.{IsSafe}
 -- A progress with another end of its clean frames, batch in flight, checkpoint and retirement.
 abbrev pub beside : Progress → ℕ → Commit → Checkpoint → Retirement → Progress
 beside s clean_end commit checkpoint retirement = record s {
-  ring = record s.ring { clean_end = clean_end };
+  window = record s.window { clean_end = clean_end };
   commit = commit;
   checkpoint = checkpoint;
   retirement = retirement;
@@ -20,8 +20,8 @@ beside s clean_end commit checkpoint retirement = record s {
 -- It goes with the same acknowledged commands.
 pub refitted : (s : Progress) (k : Cut) → Fits s k → (clean_end : ℕ) (commit : Commit) (checkpoint : Checkpoint) (retirement : Retirement)
     → IsSafe (beside s clean_end commit checkpoint retirement)
-    → (commit.busy ≡ true → IsFlight k.rules s.ring.next s.committed (all k) commit)
-    → (1 ≤ checkpoint.steps → IsSnapshot k.rules checkpoint.body.items checkpoint.covers (upto k (checkpoint.covers - s.ring.covered)))
+    → (commit.busy ≡ true → IsFlight k.rules s.window.next s.committed (all k) commit)
+    → (1 ≤ checkpoint.steps → IsSnapshot k.rules checkpoint.body.items checkpoint.covers (upto k (checkpoint.covers - s.window.covered)))
     → Fits (beside s clean_end commit checkpoint retirement) k
 refitted s k fits clean_end commit checkpoint retirement safe flight snapshot = record {
   safe = safe;

@@ -36,21 +36,21 @@ use Rattle.hpb_engine.proofs.Standing.{kept_inside}
 no_flight : (s : Progress) (plan : Plan) → IsFresh s plan → s.commit.busy ≡ true → ⊥
 no_flight s plan fresh busy = let free = fresh.commit.busy in cc
 
-same_count : (s : Progress) (plan : Plan) → IsFresh s plan → count_of s.ring ≡ (shape_of plan.frames).frames
-same_count s plan fresh = ap (λ (j : JournalShape). j.frames) fresh.ring.frames
+same_count : (s : Progress) (plan : Plan) → IsFresh s plan → count_of s.window ≡ (shape_of plan.frames).frames
+same_count s plan fresh = ap (λ (j : JournalShape). j.frames) fresh.window.frames
 
 module _ (s : Progress) (plan : Plan) (image : List ℕ) (fresh : IsFresh s plan) (is : IsPlan plan image) where
   -- Whether the image stands for a history or not.
   pub fresh_safe : IsSafe s
   fresh_safe = record {
-    ring = record {
-      least = omega (arith, (shape_is_allowed s.ring.frames).least, four_at_least (shape_of s.ring.frames).layout);
-      most = (shape_is_allowed s.ring.frames).most;
-      gates = ap (λ (l : List Bool). length l) fresh.ring.gates ∙ is.all ∙ sym (same_count s plan fresh);
-      opened = omega (arith, fresh.ring.opened_at, fresh.ring.covered);
-      covered = omega (arith, fresh.ring.covered, fresh.ring.next, is.follows);
-      clean = omega (arith, fresh.ring.next, fresh.ring.clean_end, is.clean.from);
-      end = omega (arith, fresh.ring.covered, same_count s plan fresh, fresh.ring.clean_end, is.clean.to);
+    window = record {
+      least = omega (arith, (shape_is_allowed s.window.frames).least, four_at_least (shape_of s.window.frames).layout);
+      most = (shape_is_allowed s.window.frames).most;
+      gates = ap (λ (l : List Bool). length l) fresh.window.gates ∙ is.all ∙ sym (same_count s plan fresh);
+      opened = omega (arith, fresh.window.opened_at, fresh.window.covered);
+      covered = omega (arith, fresh.window.covered, fresh.window.next, is.follows);
+      clean = omega (arith, fresh.window.next, fresh.window.clean_end, is.clean.from);
+      end = omega (arith, fresh.window.covered, same_count s plan fresh, fresh.window.clean_end, is.clean.to);
     };
     commit = record {
       turns = omega (arith, fresh.commit.turns);
@@ -69,12 +69,12 @@ module _ (s : Progress) (plan : Plan) (image : List ℕ) (fresh : IsFresh s plan
     };
     retirement = record {
       alone = λ _. fresh.checkpoint.steps;
-      idle = λ _. fresh.retirement.upto ∙ sym fresh.ring.clean_end;
+      idle = λ _. fresh.retirement.upto ∙ sym fresh.window.clean_end;
       some = λ on. absurd (cc fresh.retirement.going);
-      from = omega (arith, fresh.retirement.upto, fresh.ring.clean_end);
-      to = omega (arith, fresh.ring.covered, same_count s plan fresh, fresh.retirement.upto, is.clean.to);
+      from = omega (arith, fresh.retirement.upto, fresh.window.clean_end);
+      to = omega (arith, fresh.window.covered, same_count s plan fresh, fresh.retirement.upto, is.clean.to);
     };
-    few = omega (arith, fresh.ring.next, is.clean.from, is.clean.to, is.few, (shape_is_allowed plan.frames).most);
+    few = omega (arith, fresh.window.next, is.clean.from, is.clean.to, is.few, (shape_is_allowed plan.frames).most);
   }
 
 module _ (s : Progress) (plan : Plan) (fresh : IsFresh s plan) where
@@ -90,7 +90,7 @@ module _ (s : Progress) (plan : Plan) (fresh : IsFresh s plan) where
       copied = λ late. absurd (omega (arith, late, fresh.checkpoint.steps));
       shown = λ late. absurd (omega (arith, late, fresh.checkpoint.steps));
     };
-    retirement = record { retired = λ b from below. absurd (omega (arith, from, below, fresh.retirement.upto, fresh.ring.clean_end)) };
+    retirement = record { retired = λ b from below. absurd (omega (arith, from, below, fresh.retirement.upto, fresh.window.clean_end)) };
   }
 
 -- Each batch that is kept has a command.
@@ -126,30 +126,30 @@ module _ (laws : Laws) (s : Progress) (plan : Plan) (history : List Command) (im
   of : IsPlanOf plan found
   of = is.reads found found_reads
 
-  frames_are : shape_of s.ring.frames ≡ stands.head.journal
-  frames_are = fresh.ring.frames ∙ of.frames
+  frames_are : shape_of s.window.frames ≡ stands.head.journal
+  frames_are = fresh.window.frames ∙ of.frames
 
   newest_is : s.checkpoint.newest ≡ stands.slot
   newest_is = fresh.checkpoint.newest ∙ of.slot
 
-  covered_is : s.ring.covered ≡ stands.covered
-  covered_is = fresh.ring.covered ∙ of.covered
+  covered_is : s.window.covered ≡ stands.covered
+  covered_is = fresh.window.covered ∙ of.covered
 
-  next_is : s.ring.next ≡ s.ring.covered + length stands.batches
-  next_is = omega (arith, fresh.ring.next, of.next, covered_is)
+  next_is : s.window.next ≡ s.window.covered + length stands.batches
+  next_is = omega (arith, fresh.window.next, of.next, covered_is)
 
   safe : IsSafe s
   safe = fresh_safe s plan image fresh is
 
-  journal : IsJournal (layout_of s.ring)
-  journal = laws.shapes (shape_of s.ring.frames) (shape_is_allowed s.ring.frames)
+  journal : IsJournal (layout_of s.window)
+  journal = laws.shapes (shape_of s.window.frames) (shape_is_allowed s.window.frames)
 
-  kept_here : Kept (layout_of s.ring) stands.head.definition s.ring.covered (suc (length stands.before)) stands.batches image
+  kept_here : Kept (layout_of s.window) stands.head.definition s.window.covered (suc (length stands.before)) stands.batches image
   kept_here =
-      subst (λ (j : JournalShape). Kept (shaped j) stands.head.definition s.ring.covered (suc (length stands.before)) stands.batches image) (sym frames_are)
+      subst (λ (j : JournalShape). Kept (shaped j) stands.head.definition s.window.covered (suc (length stands.before)) stands.batches image) (sym frames_are)
       (subst (λ (b : ℕ). Kept (layout_by stands.head) stands.head.definition b (suc (length stands.before)) stands.batches image) (sym covered_is) stands.kept)
 
-  within : s.ring.covered ≤ length stands.before
+  within : s.window.covered ≤ length stands.before
   within = omega (arith, covered_is, stands.newest.holds.1.1.covered, shown_count (checkpoint found) stands.before stands.shows)
 
   pub fresh_fits : Fits s (cut_of history image stands)
@@ -163,7 +163,7 @@ module _ (laws : Laws) (s : Progress) (plan : Plan) (history : List Command) (im
         omega (
           arith,
           within,
-          counted (layout_of s.ring) journal stands.head.definition image s.ring.covered (suc (length stands.before)) stands.batches kept_here count le,
+          counted (layout_of s.window) journal stands.head.definition image s.window.covered (suc (length stands.before)) stands.batches kept_here count le,
           length-append stands.before (joined (take count stands.batches)),
         );
     flight = λ busy. absurd (no_flight s plan fresh busy);
@@ -179,10 +179,10 @@ module _ (laws : Laws) (s : Progress) (plan : Plan) (history : List Command) (im
       let on : plan.other_open ≡ true = is.other.1 (subst (λ (slot : Slot). IsOpenSlot (other_of slot) image) fresh.checkpoint.newest up) in
       absurd (let same = fresh.checkpoint.other_open in cc)
 
-  fresh_slots : InSlots stands.head.definition s.ring.covered s.checkpoint stands.before image
+  fresh_slots : InSlots stands.head.definition s.window.covered s.checkpoint stands.before image
   fresh_slots = record {
     saved = stands.saved;
-    holds = subst (λ (slot : Slot). Holds stands.head.definition slot s.ring.covered stands.saved image) (sym newest_is)
+    holds = subst (λ (slot : Slot). Holds stands.head.definition slot s.window.covered stands.saved image) (sym newest_is)
         (subst (λ (b : ℕ). Holds stands.head.definition stands.slot b stands.saved image) (sym covered_is) stands.newest.holds);
     shows = stands.shows;
     behind = λ up i older spells.
@@ -194,39 +194,39 @@ module _ (laws : Laws) (s : Progress) (plan : Plan) (history : List Command) (im
   }
 
   -- A frame that isn't clean may be open exactly where it is.
-  known : (b : ℕ) → s.ring.clean_end ≤ b → b < end_of s.ring → may_be_open s.ring b ≡ slice_index_or plan.gates.items (b - plan.covered) false
-  known b late below = left (nat_le (s.ring.opened_at + count_of s.ring) b) (slice_index_or s.ring.gates.items (b - s.ring.opened_at) false)
+  known : (b : ℕ) → s.window.clean_end ≤ b → b < end_of s.window → may_be_open s.window b ≡ slice_index_or plan.gates.items (b - plan.covered) false
+  known b late below = left (nat_le (s.window.opened_at + count_of s.window) b) (slice_index_or s.window.gates.items (b - s.window.opened_at) false)
       (slice_index_or plan.gates.items (b - plan.covered) false) far same
     where
       left : (a c d : Bool) → a ≡ false → c ≡ d → (a || c) ≡ d
       left false c d off is = is
       left true c d off is = absurd (cc)
 
-      far : nat_le (s.ring.opened_at + count_of s.ring) b ≡ false
-      far = grind (arith, nat_tests, below, fresh.ring.opened_at, fresh.ring.covered)
+      far : nat_le (s.window.opened_at + count_of s.window) b ≡ false
+      far = grind (arith, nat_tests, below, fresh.window.opened_at, fresh.window.covered)
 
-      same : slice_index_or s.ring.gates.items (b - s.ring.opened_at) false ≡ slice_index_or plan.gates.items (b - plan.covered) false
-      same = ap (λ (l : List Bool). slice_index_or l (b - s.ring.opened_at) false) fresh.ring.gates ∙ ap (λ (n : ℕ). slice_index_or plan.gates.items (b - n) false) fresh.ring.opened_at
+      same : slice_index_or s.window.gates.items (b - s.window.opened_at) false ≡ slice_index_or plan.gates.items (b - plan.covered) false
+      same = ap (λ (l : List Bool). slice_index_or l (b - s.window.opened_at) false) fresh.window.gates ∙ ap (λ (n : ℕ). slice_index_or plan.gates.items (b - n) false) fresh.window.opened_at
 
   -- Its gate is as it was read.
-  gate_is : (b : ℕ) → s.ring.clean_end ≤ b → b < end_of s.ring → (may_be_open s.ring b ≡ true) ↔ IsOpen (layout_of s.ring) b image
+  gate_is : (b : ℕ) → s.window.clean_end ≤ b → b < end_of s.window → (may_be_open s.window b ≡ true) ↔ IsOpen (layout_of s.window) b image
   gate_is b late below =
-      let from : plan.covered ≤ b = omega (arith, late, fresh.ring.clean_end, is.clean.from, is.follows) in
+      let from : plan.covered ≤ b = omega (arith, late, fresh.window.clean_end, is.clean.from, is.follows) in
       let sum : plan.covered + (b - plan.covered) ≡ b = omega (arith, from) in
-      let inside : b - plan.covered < length plan.gates.items = omega (arith, from, below, is.all, fresh.ring.covered, same_count s plan fresh) in
+      let inside : b - plan.covered < length plan.gates.items = omega (arith, from, below, is.all, fresh.window.covered, same_count s plan fresh) in
       let read = is.gates (b - plan.covered) inside in (
-        λ may. subst (λ (j : JournalShape). IsOpen (shaped j) b image) (sym fresh.ring.frames)
+        λ may. subst (λ (j : JournalShape). IsOpen (shaped j) b image) (sym fresh.window.frames)
             (subst (λ (n : ℕ). IsOpen (shaped (shape_of plan.frames)) n image) sum (read.0 (sym (known b late below) ∙ may))),
-        λ up. known b late below ∙ read.1 (subst (λ (n : ℕ). IsOpen (shaped (shape_of plan.frames)) n image) (sym sum) (subst (λ (j : JournalShape). IsOpen (shaped j) b image) fresh.ring.frames up)),
+        λ up. known b late below ∙ read.1 (subst (λ (n : ℕ). IsOpen (shaped (shape_of plan.frames)) n image) (sym sum) (subst (λ (j : JournalShape). IsOpen (shaped j) b image) fresh.window.frames up)),
       )
 
-  fresh_journal : InJournal stands.head.definition s.ring s.commit (cut_of history image stands) image
+  fresh_journal : InJournal stands.head.definition s.window s.commit (cut_of history image stands) image
   fresh_journal = record {
     kept = kept_here;
     clean = λ b from below early up.
-        is.clean.shut b (omega (arith, from, fresh.ring.next)) (omega (arith, below, fresh.ring.clean_end)) (subst (λ (j : JournalShape). IsOpen (shaped j) b image) fresh.ring.frames up);
+        is.clean.shut b (omega (arith, from, fresh.window.next)) (omega (arith, below, fresh.window.clean_end)) (subst (λ (j : JournalShape). IsOpen (shaped j) b image) fresh.window.frames up);
     stale = λ b late below may has.
-        stands.ends b (omega (arith, late, safe.ring.clean, next_is, covered_is)) (omega (arith, below, covered_is, ap (λ (j : JournalShape). j.frames) frames_are))
+        stands.ends b (omega (arith, late, safe.window.clean, next_is, covered_is)) (omega (arith, below, covered_is, ap (λ (j : JournalShape). j.frames) frames_are))
         (subst (λ (j : JournalShape). IsOwn (shaped j) b image) frames_are ((gate_is b late below).0 may, has));
     shut = λ b late below not up. absurd (let may = (gate_is b late below).1 up in cc);
     staged = λ late. absurd (omega (arith, late, fresh.commit.turns));

@@ -30,13 +30,13 @@ some_of [] not = absurd (not refl)
 some_of (command ∷ commands) not = omega arith
 
 -- What judging letters says of the commands that are new among them.
-module _ (laws : Laws) (s : Progress) (free : s.commit.busy ≡ false) (rest : s.commit.working ≡ s.committed) (letters : List Letter) (new : AreOld s letters → ⊥) (room : s.ring.next < s.ring.clean_end)
+module _ (laws : Laws) (s : Progress) (free : s.commit.busy ≡ false) (rest : s.commit.working ≡ s.committed) (letters : List Letter) (new : AreOld s letters → ⊥) (room : s.window.next < s.window.clean_end)
     {answers : List Answer} {commands : List Command} {after : AuctionValue} (value : answers ≡ judged_in s.commit.working letters) (commands_are : commands ≡ new_commands answers)
     (accepted : AllAccepted s.commit.working commands) (leads : after ≡ value_after s.commit.working commands) (ruled : after.rules ≡ s.commit.working.rules)
     (tickets : AllByRecursion HasTicket commands) (known : AllByRecursion (λ command. unknown s.commit.working.rules command ≡ None) commands)
     {first : ℕ} (numbered : first ≡ suc s.committed.count) where
   abbrev pub flying : Progress
-  flying = begun s (record { index = s.ring.next; first = first; commands = commands }) answers after
+  flying = begun s (record { index = s.window.next; first = first; commands = commands }) answers after
 
   same : answers ≡ judged_in s.committed letters
   same = value ∙ ap (λ (value : AuctionValue). judged_in value letters) rest
@@ -44,7 +44,7 @@ module _ (laws : Laws) (s : Progress) (free : s.commit.busy ≡ false) (rest : s
   are_new : commands ≡ [] → ⊥
   are_new none = new (ap new_commands (sym same) ∙ sym commands_are ∙ none)
 
-  flight : (k : Cut) → Fits s k → IsFlight k.rules s.ring.next s.committed (all k) flying.commit
+  flight : (k : Cut) → Fits s k → IsFlight k.rules s.window.next s.committed (all k) flying.commit
   flight k fits =
       let by_rules : s.commit.working.rules ≡ k.rules = ap (λ (value : AuctionValue). value.rules) rest ∙ fits.rules in
       let count : s.committed.count ≡ length (all k) = ap (λ (value : AuctionValue). value.count) fits.shows.1 ∙ length-reverse (all k) in

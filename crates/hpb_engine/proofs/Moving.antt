@@ -27,12 +27,12 @@ use Rattle.hpb_engine.specs.declared.progress.Progress.{Progress}
 use Rattle.hpb_engine.specs.Numbers.{end_of, may_be_open}
 use Rattle.hpb_engine.specs.Checkpoints.{CheckpointLeads, checkpoint_calls, step_calls}
 use Rattle.hpb_engine.specs.Steps.{turn_calls}
-use Rattle.hpb_engine.specs.Runs.{Drove, Follows, Holds, IsStepped, IsTurned, Mark, Ran, StandsAtOne}
+use Rattle.hpb_engine.specs.Runs.{Drove, Follows, Holds, IsStepped, IsTurned, Pause, Ran, StandsAtOne}
 use Rattle.hpb_engine.specs.Runs as runs
-use Rattle.hpb_engine.specs.Points.{Point, IsMove, GoesOn, Go, start_at, last_of, machine_at, told_at, acknowledged_at, AreMarked, MayStandAt, IsCounted, IsKept, Survives}
+use Rattle.hpb_engine.specs.Points.{Point, IsMove, GoesOn, Go, start_at, last_of, machine_at, told_at, acknowledged_at, AreOfPauses, MayStandAt, IsCounted, IsKept, Survives}
 
 -- What an event does to the machine is what moves do.
-record Moved (rules : Rules) (event : Event) (before after : Mark) (leaving : List Answer) (fault : Option Fault) : Type 0 where
+record Moved (rules : Rules) (event : Event) (before after : Pause) (leaving : List Answer) (fault : Option Fault) : Type 0 where
   moves : List machine.Event
   is : IsMove event moves
   becomes : after.machine ≡ (run rules before.machine moves).machine
@@ -53,11 +53,11 @@ one_turn failed s = if_one failed 0 (if s.commit.busy then 1 else 0) (omega arit
 one_step : (failed : Bool) (s : Progress) → checkpoint_calls failed s ≤ 1
 one_step failed s = if_one failed 0 (step_calls s) (omega arith)
     (if_one (not (s.checkpoint.steps == 0)) 1 _ (omega arith)
-    (if_one (not s.retirement.going && not (s.ring.covered == s.ring.next)) _ _ (if_one s.checkpoint.other_open 1 0 (omega arith) (omega arith))
-    (if_one (s.retirement.upto == end_of s.ring) _ _ (if_one s.retirement.going 1 0 (omega arith) (omega arith))
-    (if_one (may_be_open s.ring s.retirement.upto) 1 0 (omega arith) (omega arith)))))
+    (if_one (not s.retirement.going && not (s.window.covered == s.window.next)) _ _ (if_one s.checkpoint.other_open 1 0 (omega arith) (omega arith))
+    (if_one (s.retirement.upto == end_of s.window) _ _ (if_one s.retirement.going 1 0 (omega arith) (omega arith))
+    (if_one (may_be_open s.window s.retirement.upto) 1 0 (omega arith) (omega arith)))))
 
-module _ (rules : Rules) (before after : Mark) (leaving : List Answer) (fault : Option Fault) where
+module _ (rules : Rules) (before after : Pause) (leaving : List Answer) (fault : Option Fault) where
   -- Letters that are handed back are no move.
   handed_back : (letters : List Letter) → after.machine ≡ before.machine → leaving ≡ [] → after.progress.committed.rules ≡ rules → after.moment ≡ before.moment → after.failed ≡ false
       → Moved rules (events.Offer letters) before after leaving fault
@@ -115,7 +115,7 @@ module _ (rules : Rules) (before after : Mark) (leaving : List Answer) (fault : 
     works = works;
   }
 
-moved : (rules : Rules) (event : Event) (before after : Mark) (leaving : List Answer) (fault : Option Fault)
+moved : (rules : Rules) (event : Event) (before after : Pause) (leaving : List Answer) (fault : Option Fault)
     → before.failed ≡ false → before.progress.committed.rules ≡ rules → Follows event before after leaving fault → Moved rules event before after leaving fault
 moved rules (events.Offer letters) before after leaving fault works ruled (begun.Failed back, told, none) =
     handed_back rules before after leaving fault letters told.machine told.answers (ap (λ (p : _). p.committed.rules) told.stays ∙ ruled) told.moment (told.failed ∙ works)
@@ -141,66 +141,66 @@ moved rules events.Checkpoint before after leaving fault works ruled (Err faults
 moved rules events.Checkpoint before after leaving fault works ruled (Err faults.Failed, told, none) =
     absurd ((subst (λ (f : Bool). CheckpointLeads f (Err faults.Failed) before.progress after.progress) works told.leads).1 refl)
 
-abbrev point_of : Mark → List machine.Event → Point
-point_of mark moves = record { moment = mark.moment; moves = moves }
+abbrev point_of : Pause → List machine.Event → Point
+point_of pause moves = record { moment = pause.moment; moves = moves }
 
 module _ (run_joins : RunJoins) (rules : Rules) (first : List Command) where
-  record Followed (events : List Event) (mark : Mark) (moves : List machine.Event) (marks : List Mark) (answers : List Answer) (fault : Option Fault) : Type 0 where
+  record Followed (events : List Event) (pause : Pause) (moves : List machine.Event) (pauses : List Pause) (answers : List Answer) (fault : Option Fault) : Type 0 where
     points : List Point
-    go : Go events (point_of mark moves) points
-    same : AreMarked rules first (mark ∷ marks) (point_of mark moves ∷ points)
+    go : Go events (point_of pause moves) points
+    same : AreOfPauses rules first (pause ∷ pauses) (point_of pause moves ∷ points)
     all : fault ≡ None → length points ≡ length events
-    told : told_at rules first (point_of mark moves) ++ answers ≡ told_at rules first (last_of (point_of mark moves) points)
-    ends : (last_of (point_of mark moves) points).moment ≡ (runs.last_of mark marks).moment
+    told : told_at rules first (point_of pause moves) ++ answers ≡ told_at rules first (last_of (point_of pause moves) points)
+    ends : (last_of (point_of pause moves) points).moment ≡ (runs.last_of pause pauses).moment
 
   -- After an event more the machine is at its next point.
-  module _ (event : Event) (mark after : Mark) (moves : List machine.Event) (leaving : List Answer) (fault : Option Fault) (is : machine_at rules first (point_of mark moves) ≡ mark.machine)
-      (it : Moved rules event mark after leaving fault) where
+  module _ (event : Event) (pause after : Pause) (moves : List machine.Event) (leaving : List Answer) (fault : Option Fault) (is : machine_at rules first (point_of pause moves) ≡ pause.machine)
+      (it : Moved rules event pause after leaving fault) where
     joins : machine_at rules first (point_of after (moves ++ it.moves)) ≡ after.machine
     joins = (run_joins rules (at_rest first) moves it.moves).1 ∙ ap (λ (m : Machine). (run rules m it.moves).machine) is ∙ sym it.becomes
 
-    tells : told_at rules first (point_of after (moves ++ it.moves)) ≡ told_at rules first (point_of mark moves) ++ leaving
+    tells : told_at rules first (point_of after (moves ++ it.moves)) ≡ told_at rules first (point_of pause moves) ++ leaving
     tells = (run_joins rules (at_rest first) moves it.moves).0
-        ∙ ap (λ (l : List Answer). told_at rules first (point_of mark moves) ++ l) (ap (λ (m : Machine). (run rules m it.moves).leaving) is ∙ sym it.leaves)
+        ∙ ap (λ (l : List Answer). told_at rules first (point_of pause moves) ++ l) (ap (λ (m : Machine). (run rules m it.moves).leaving) is ∙ sym it.leaves)
 
-    goes : GoesOn event (point_of mark moves) (point_of after (moves ++ it.moves))
+    goes : GoesOn event (point_of pause moves) (point_of after (moves ++ it.moves))
     goes = record { added = it.moves; is = it.is; moves = refl; later = it.later; next = it.next }
 
-  followed : (events : List Event) (mark : Mark) (moves : List machine.Event) (marks : List Mark) (answers : List Answer) (fault : Option Fault)
-      → mark.failed ≡ false → mark.progress.committed.rules ≡ rules → machine_at rules first (point_of mark moves) ≡ mark.machine → Drove events mark marks answers fault
-      → Followed events mark moves marks answers fault
-  followed [] mark moves [] answers fault works ruled is drove = record {
+  followed : (events : List Event) (pause : Pause) (moves : List machine.Event) (pauses : List Pause) (answers : List Answer) (fault : Option Fault)
+      → pause.failed ≡ false → pause.progress.committed.rules ≡ rules → machine_at rules first (point_of pause moves) ≡ pause.machine → Drove events pause pauses answers fault
+      → Followed events pause moves pauses answers fault
+  followed [] pause moves [] answers fault works ruled is drove = record {
     points = [];
     go = tt;
     same = (refl, is, tt);
     all = λ none. refl;
-    told = ap (λ (l : List Answer). told_at rules first (point_of mark moves) ++ l) drove.0 ∙ append-nil (told_at rules first (point_of mark moves));
+    told = ap (λ (l : List Answer). told_at rules first (point_of pause moves) ++ l) drove.0 ∙ append-nil (told_at rules first (point_of pause moves));
     ends = refl;
   }
-  followed [] mark moves (after ∷ marks) answers fault works ruled is drove = absurd drove
-  followed (event ∷ events) mark moves [] answers fault works ruled is drove = absurd drove
-  followed (event ∷ events) mark moves (after ∷ marks) answers fault works ruled is (inl it) =
-      let step = moved rules event mark after it.0 None works ruled it.2 in
-      let rest = followed events after (moves ++ step.moves) marks it.1 fault (step.works refl) step.ruled (joins event mark after moves it.0 None is step) it.3 in
+  followed [] pause moves (after ∷ pauses) answers fault works ruled is drove = absurd drove
+  followed (event ∷ events) pause moves [] answers fault works ruled is drove = absurd drove
+  followed (event ∷ events) pause moves (after ∷ pauses) answers fault works ruled is (inl it) =
+      let step = moved rules event pause after it.0 None works ruled it.2 in
+      let rest = followed events after (moves ++ step.moves) pauses it.1 fault (step.works refl) step.ruled (joins event pause after moves it.0 None is step) it.3 in
       record {
         points = point_of after (moves ++ step.moves) ∷ rest.points;
-        go = (goes event mark after moves it.0 None is step, rest.go);
+        go = (goes event pause after moves it.0 None is step, rest.go);
         same = (refl, is, rest.same);
         all = λ none. ap suc (rest.all none);
-        told = ap (λ (l : List Answer). told_at rules first (point_of mark moves) ++ l) it.4 ∙ sym (append_assoc (told_at rules first (point_of mark moves)) it.0 it.1)
-            ∙ ap (λ (l : List Answer). l ++ it.1) (sym (tells event mark after moves it.0 None is step)) ∙ rest.told;
+        told = ap (λ (l : List Answer). told_at rules first (point_of pause moves) ++ l) it.4 ∙ sym (append_assoc (told_at rules first (point_of pause moves)) it.0 it.1)
+            ∙ ap (λ (l : List Answer). l ++ it.1) (sym (tells event pause after moves it.0 None is step)) ∙ rest.told;
         ends = rest.ends;
       }
-  followed (event ∷ events) mark moves (after ∷ marks) answers fault works ruled is (inr it) =
-      let step = moved rules event mark after answers (Some it.0) works ruled it.1 in
+  followed (event ∷ events) pause moves (after ∷ pauses) answers fault works ruled is (inr it) =
+      let step = moved rules event pause after answers (Some it.0) works ruled it.1 in
       record {
         points = point_of after (moves ++ step.moves) ∷ [];
-        go = (goes event mark after moves answers (Some it.0) is step, tt);
-        same = subst (λ (ms : List Mark). AreMarked rules first (mark ∷ after ∷ ms) (point_of mark moves ∷ point_of after (moves ++ step.moves) ∷ [])) (sym it.2)
-            (refl, is, (refl, joins event mark after moves answers (Some it.0) is step, tt));
+        go = (goes event pause after moves answers (Some it.0) is step, tt);
+        same = subst (λ (ms : List Pause). AreOfPauses rules first (pause ∷ after ∷ ms) (point_of pause moves ∷ point_of after (moves ++ step.moves) ∷ [])) (sym it.2)
+            (refl, is, (refl, joins event pause after moves answers (Some it.0) is step, tt));
         all = λ none. absurd (let no = sym none ∙ it.3 in cc);
-        told = sym (tells event mark after moves answers (Some it.0) is step);
-        ends = ap (λ (ms : List Mark). (runs.last_of after ms).moment) (sym it.2);
+        told = sym (tells event pause after moves answers (Some it.0) is step);
+        ends = ap (λ (ms : List Pause). (runs.last_of after ms).moment) (sym it.2);
       }
 
 -- ---- what the machine keeps
@@ -226,21 +226,21 @@ module _ (run_joins : RunJoins) (run_is_moves : RunIsMoves) (rest_is_sound : Res
   begins_at (event ∷ events) p (q ∷ later) history go (inr there) =
       front_trans (acknowledged_at rules first p) (acknowledged_at rules first q) history (grows_on event p q go.0) (begins_at events q later history go.1 there)
 
-  among : (marks : List Mark) (points : List Point) (image : List ℕ) → AreMarked rules first marks points → StandsAtOne marks image
+  among : (pauses : List Pause) (points : List Point) (image : List ℕ) → AreOfPauses rules first pauses points → StandsAtOne pauses image
       → (history : List Command) × MayStandAt rules first points history × Stands history image
   among [] points image same stands = absurd stands
-  among (mark ∷ marks) [] image same stands = absurd same
-  among (mark ∷ marks) (p ∷ points) image same (inl here) = (here.0, inl (subst (λ (m : Machine). MayStand m here.0) (sym same.1) here.1), here.2)
-  among (mark ∷ marks) (p ∷ points) image same (inr there) =
-      let found = among marks points image same.2 there in (found.0, inr found.1, found.2)
+  among (pause ∷ pauses) [] image same stands = absurd same
+  among (pause ∷ pauses) (p ∷ points) image same (inl here) = (here.0, inl (subst (λ (m : Machine). MayStand m here.0) (sym same.1) here.1), here.2)
+  among (pause ∷ pauses) (p ∷ points) image same (inr there) =
+      let found = among pauses points image same.2 there in (found.0, inr found.1, found.2)
 
-  holds_here : (now : ℕ) (since : ℕ → List ℕ → Type 0) (mark : Mark) (marks : List Mark) → Holds now since mark marks → (image : List ℕ) → since mark.moment image → StandsAtOne (mark ∷ marks) image
-  holds_here now since mark [] holds image left = holds.1 image left
-  holds_here now since mark (next ∷ marks) holds image left = holds.1 image left
+  holds_here : (now : ℕ) (since : ℕ → List ℕ → Type 0) (pause : Pause) (pauses : List Pause) → Holds now since pause pauses → (image : List ℕ) → since pause.moment image → StandsAtOne (pause ∷ pauses) image
+  holds_here now since pause [] holds image left = holds.1 image left
+  holds_here now since pause (next ∷ pauses) holds image left = holds.1 image left
 
-  kept_here : (now : ℕ) (since : ℕ → List ℕ → Type 0) (events : List Event) (mark : Mark) (marks : List Mark) (p : Point) (points : List Point)
-      → Holds now since mark marks → Go events p points → AreMarked rules first (mark ∷ marks) (p ∷ points) → IsKept rules first since p points
-  kept_here now since events mark marks p points holds go same =
+  kept_here : (now : ℕ) (since : ℕ → List ℕ → Type 0) (events : List Event) (pause : Pause) (pauses : List Pause) (p : Point) (points : List Point)
+      → Holds now since pause pauses → Go events p points → AreOfPauses rules first (pause ∷ pauses) (p ∷ points) → IsKept rules first since p points
+  kept_here now since events pause pauses p points holds go same =
       let d = durable p.moves in
       let acknowledged = acknowledged_at rules first p in
       let told = told_at rules first p in
@@ -250,7 +250,7 @@ module _ (run_joins : RunJoins) (run_is_moves : RunIsMoves) (rest_is_sound : Res
         true_of = d.fits;
         counted = λ k answered less. counts rules acknowledged (slice_index_or told k answered) (d.fits k answered less);
         finds = λ image left.
-            let found = among (mark ∷ marks) (p ∷ points) image same (holds_here now since mark marks holds image (subst (λ (t : ℕ). since t image) same.0 left)) in
+            let found = among (pause ∷ pauses) (p ∷ points) image same (holds_here now since pause pauses holds image (subst (λ (t : ℕ). since t image) same.0 left)) in
             let begins = begins_at events p points found.0 go found.1 in
             record {
               history = found.0;
@@ -262,37 +262,37 @@ module _ (run_joins : RunJoins) (run_is_moves : RunIsMoves) (rest_is_sound : Res
             };
       }
 
-  kept_all : (now : ℕ) (since : ℕ → List ℕ → Type 0) (events : List Event) (mark : Mark) (marks : List Mark) (p : Point) (points : List Point)
-      → Holds now since mark marks → Go events p points → AreMarked rules first (mark ∷ marks) (p ∷ points)
+  kept_all : (now : ℕ) (since : ℕ → List ℕ → Type 0) (events : List Event) (pause : Pause) (pauses : List Pause) (p : Point) (points : List Point)
+      → Holds now since pause pauses → Go events p points → AreOfPauses rules first (pause ∷ pauses) (p ∷ points)
       → (before : List Point) (point : Point) (later : List Point) → p ∷ points ≡ before ++ point ∷ later → IsKept rules first since point later
-  kept_all now since events mark marks p points holds go same [] point later cut =
+  kept_all now since events pause pauses p points holds go same [] point later cut =
       let one : p ≡ point = cc in
       let rest : points ≡ later = cc in
-      subst (λ (l : List Point). IsKept rules first since point l) rest (subst (λ (q : Point). IsKept rules first since q points) one (kept_here now since events mark marks p points holds go same))
-  kept_all now since events mark marks p [] holds go same (b ∷ []) point later cut = absurd (cc)
-  kept_all now since events mark marks p [] holds go same (b ∷ d ∷ before) point later cut = absurd (cc)
-  kept_all now since events mark [] p (q ∷ points) holds go same (b ∷ before) point later cut = absurd same.2
-  kept_all now since [] mark (next ∷ marks) p (q ∷ points) holds go same (b ∷ before) point later cut = absurd go
-  kept_all now since (event ∷ events) mark (next ∷ marks) p (q ∷ points) holds go same (b ∷ before) point later cut =
+      subst (λ (l : List Point). IsKept rules first since point l) rest (subst (λ (q : Point). IsKept rules first since q points) one (kept_here now since events pause pauses p points holds go same))
+  kept_all now since events pause pauses p [] holds go same (b ∷ []) point later cut = absurd (cc)
+  kept_all now since events pause pauses p [] holds go same (b ∷ d ∷ before) point later cut = absurd (cc)
+  kept_all now since events pause [] p (q ∷ points) holds go same (b ∷ before) point later cut = absurd same.2
+  kept_all now since [] pause (next ∷ pauses) p (q ∷ points) holds go same (b ∷ before) point later cut = absurd go
+  kept_all now since (event ∷ events) pause (next ∷ pauses) p (q ∷ points) holds go same (b ∷ before) point later cut =
       let rest : q ∷ points ≡ before ++ point ∷ later = cc in
-      kept_all now since events next marks q points holds.2 go.1 same.2 before point later rest
+      kept_all now since events next pauses q points holds.2 go.1 same.2 before point later rest
 
   -- A run of an engine that keeps the first commands at rest.
   pub survived : {D : Type 0} (seen : D → List ℕ) (may_leave : D → List ℕ → Type 0) (moment : D → ℕ) (left_since : D → ℕ → List ℕ → Type 0)
       (at : ℕ) (s t : Progress) (after : Bool) (events : List Event) (disk : D) (answers : List Answer) (fault : Option Fault) → s.committed.rules ≡ rules
       → (ran : Ran seen may_leave moment left_since (record { moment = at; progress = s; failed = false; machine = at_rest first }) events disk t after answers fault)
       → (run : Survives rules first at (moment disk) (left_since disk) events answers fault)
-      × AreMarked rules first (record { moment = at; progress = s; failed = false; machine = at_rest first } ∷ ran.marks) (start_at at ∷ run.points)
+      × AreOfPauses rules first (record { moment = at; progress = s; failed = false; machine = at_rest first } ∷ ran.pauses) (start_at at ∷ run.points)
   survived seen may_leave moment left_since at s t after events disk answers fault ruled ran =
-      let start : Mark = record { moment = at; progress = s; failed = false; machine = at_rest first } in
-      let it = followed run_joins rules first events start [] ran.marks answers fault refl ruled refl ran.drove in (
+      let start : Pause = record { moment = at; progress = s; failed = false; machine = at_rest first } in
+      let it = followed run_joins rules first events start [] ran.pauses answers fault refl ruled refl ran.drove in (
         record {
           points = it.points;
           go = it.go;
           all = it.all;
           ends = it.ends ∙ ran.at_end;
           told = it.told;
-          kept = kept_all (moment disk) (left_since disk) events start ran.marks (point_of start []) it.points ran.holds it.go it.same;
+          kept = kept_all (moment disk) (left_since disk) events start ran.pauses (point_of start []) it.points ran.holds it.go it.same;
         },
         it.same,
       )

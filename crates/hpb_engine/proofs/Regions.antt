@@ -6,7 +6,8 @@ use Rattle.hpb_codec.specs.Heads.{SpellsHead}
 use Rattle.hpb_codec.specs.States.{SpellsState}
 use Rattle.hpb_codec.specs.declared.state.TheConstants.{CHUNK_SIZE}
 use Rattle.hpb_disk.specs.Images.{SameBefore}
-use Rattle.hpb_recover.specs.declared.limits.TheConstants.{PAGE_BYTES, HEAD_AT, MAGIC_BYTES, LEAST_PAGES}
+use Rattle.hpb_codec.specs.declared.layout.TheConstants.{PAGE_BYTES}
+use Rattle.hpb_recover.specs.declared.limits.TheConstants.{HEAD_AT, MAGIC_BYTES, LEAST_PAGES}
 use Rattle.hpb_journal.specs.declared.limits.TheConstants.{JOURNAL_AT}
 use Rattle.hpb_rules.specs.declared.command.Command.{Command}
 use Rattle.hpb_rules.specs.Tree.{Rules}

@@ -18,19 +18,19 @@ use Rattle.hpb_engine.specs.declared.step.Turned.{Turned}
 use Rattle.hpb_engine.specs.declared.step.Turned.TheVariants as turns
 use Rattle.hpb_engine.specs.Numbers.{IsSafe}
 use Rattle.hpb_engine.specs.Offers.{begun_of, weight_of}
-use Rattle.hpb_engine.specs.Runs.{Drove, failed_by, fault_in, Follows, HasFailed, Holds, IsTold, Mark, Ran, StandsAtOne, Took, last_of}
+use Rattle.hpb_engine.specs.Runs.{Drove, failed_by, fault_in, Follows, HasFailed, Holds, IsTold, Pause, Ran, StandsAtOne, Took, last_of}
 use Rattle.hpb_engine.specs.Steps.{OnDevice, step_of}
 
-abbrev pub mark_of : {D : Type 0} (moment : D → ℕ) → D → Progress → Bool → Machine → Mark
-mark_of moment disk s failed machine = record { moment = moment disk; progress = s; failed = failed; machine = machine }
+abbrev pub pause_of : {D : Type 0} (moment : D → ℕ) → D → Progress → Bool → Machine → Pause
+pause_of moment disk s failed machine = record { moment = moment disk; progress = s; failed = failed; machine = machine }
 
 module _ {D : Type 0} {seen : D → List ℕ} {may_leave : D → List ℕ → Type 0} {moment : D → ℕ} {left_since : D → ℕ → List ℕ → Type 0}
     (only_now : (disk : D) (image : List ℕ) → left_since disk (moment disk) image → may_leave disk image) where
   -- Without an event.
   pub ran_none : {disk : D} {s : Progress} {failed : Bool} {machine : Machine} → Keeps seen may_leave disk s failed machine
-      → Ran seen may_leave moment left_since (mark_of moment disk s failed machine) [] disk s failed [] None
+      → Ran seen may_leave moment left_since (pause_of moment disk s failed machine) [] disk s failed [] None
   ran_none keeps = record {
-    marks = [];
+    pauses = [];
     drove = (refl, refl);
     holds = (omega arith, λ image left. inl (keeps.images image (only_now _ image left)));
     at_end = refl;
@@ -39,95 +39,95 @@ module _ {D : Type 0} {seen : D → List ℕ} {may_leave : D → List ℕ → Ty
     keeps = keeps;
   }
 
--- What is told at a mark whose machine is kept.
+-- What is told at a pause whose machine is kept.
 pub told_of : {D : Type 0} {seen : D → List ℕ} {may_leave : D → List ℕ → Type 0} {disk : D} {now : ℕ} {s : Progress} {failed : Bool} {machine : Machine} → IsSafe s
     → Keeps seen may_leave disk s failed machine → IsTold (record { moment = now; progress = s; failed = failed; machine = machine })
 told_of safe keeps = record { safe = safe; shows = keeps.shows; flight = keeps.flight }
 
--- An image of the last mark, or of one after it, is one of a mark.
-stands_later : (mark next : Mark) (marks : List Mark) (image : List ℕ) → StandsFor (last_of mark marks).machine image ⊎ StandsFor next.machine image → StandsAtOne (mark ∷ (marks ++ next ∷ [])) image
-stands_later mark next [] image (inl last) = inl last
-stands_later mark next [] image (inr new) = inr (inl new)
-stands_later mark next (m ∷ marks) image stands = inr (stands_later m next marks image stands)
+-- An image of the last pause, or of one after it, is one of a pause.
+stands_later : (pause next : Pause) (pauses : List Pause) (image : List ℕ) → StandsFor (last_of pause pauses).machine image ⊎ StandsFor next.machine image → StandsAtOne (pause ∷ (pauses ++ next ∷ [])) image
+stands_later pause next [] image (inl last) = inl last
+stands_later pause next [] image (inr new) = inr (inl new)
+stands_later pause next (m ∷ pauses) image stands = inr (stands_later m next pauses image stands)
 
-stands_still : (next : Mark) (marks : List Mark) (image : List ℕ) → StandsAtOne marks image → StandsAtOne (marks ++ next ∷ []) image
+stands_still : (next : Pause) (pauses : List Pause) (image : List ℕ) → StandsAtOne pauses image → StandsAtOne (pauses ++ next ∷ []) image
 stands_still next [] image none = absurd none
-stands_still next (m ∷ marks) image (inl here) = inl here
-stands_still next (m ∷ marks) image (inr later) = inr (stands_still next marks image later)
+stands_still next (m ∷ pauses) image (inl here) = inl here
+stands_still next (m ∷ pauses) image (inr later) = inr (stands_still next pauses image later)
 
--- What holds since each mark holds after an event more, and since the mark after it.
-module _ (before now : ℕ) (past since : ℕ → List ℕ → Type 0) (left images : List ℕ → Type 0) (leaves : LeavesOnly before now past since left images) (next : Mark)
+-- What holds since each pause holds after an event more, and since the pause after it.
+module _ (before now : ℕ) (past since : ℕ → List ℕ → Type 0) (left images : List ℕ → Type 0) (leaves : LeavesOnly before now past since left images) (next : Pause)
     (here : next.moment ≡ now) (only : (image : List ℕ) → since next.moment image → StandsFor next.machine image) where
-  pub holds_on : (mark : Mark) (marks : List Mark) → ((image : List ℕ) → images image → StandsFor (last_of mark marks).machine image ⊎ StandsFor next.machine image)
-      → Holds before past mark marks → Holds now since mark (marks ++ next ∷ [])
-  holds_on mark [] each holds = (
+  pub holds_on : (pause : Pause) (pauses : List Pause) → ((image : List ℕ) → images image → StandsFor (last_of pause pauses).machine image ⊎ StandsFor next.machine image)
+      → Holds before past pause pauses → Holds now since pause (pauses ++ next ∷ [])
+  holds_on pause [] each holds = (
     omega (arith, holds.0, leaves.later),
-    λ image left_then. ⊎_elim (λ was. stands_still next (mark ∷ []) image (holds.1 image was)) (λ new. stands_later mark next [] image (each image new)) (leaves.nothing_else mark.moment image holds.0 left_then),
+    λ image left_then. ⊎_elim (λ was. stands_still next (pause ∷ []) image (holds.1 image was)) (λ new. stands_later pause next [] image (each image new)) (leaves.nothing_else pause.moment image holds.0 left_then),
     (omega (arith, here), λ image left_then. inl (only image left_then)),
   )
-  holds_on mark (m ∷ marks) each holds = (
+  holds_on pause (m ∷ pauses) each holds = (
     omega (arith, holds.0, leaves.later),
-    λ image left_then. ⊎_elim (λ was. stands_still next (mark ∷ m ∷ marks) image (holds.1 image was)) (λ new. stands_later mark next (m ∷ marks) image (each image new)) (leaves.nothing_else mark.moment image holds.0 left_then),
-    holds_on m marks each holds.2,
+    λ image left_then. ⊎_elim (λ was. stands_still next (pause ∷ m ∷ pauses) image (holds.1 image was)) (λ new. stands_later pause next (m ∷ pauses) image (each image new)) (leaves.nothing_else pause.moment image holds.0 left_then),
+    holds_on m pauses each holds.2,
   )
 
-last_more : (mark next : Mark) (marks : List Mark) → last_of mark (marks ++ next ∷ []) ≡ next
-last_more mark next [] = refl
-last_more mark next (m ∷ marks) = last_more m next marks
+last_more : (pause next : Pause) (pauses : List Pause) → last_of pause (pauses ++ next ∷ []) ≡ next
+last_more pause next [] = refl
+last_more pause next (m ∷ pauses) = last_more m next pauses
 
 -- A run that meets no fault goes on with another.
-drove_on : (events rest : List Event) (mark : Mark) (marks more : List Mark) (answers leaving : List Answer) (told : Option Fault)
-    → Drove events mark marks answers None → Drove rest (last_of mark marks) more leaving told → Drove (events ++ rest) mark (marks ++ more) (answers ++ leaving) told
-drove_on [] rest mark [] more answers leaving told drove next = subst (λ (l : List Answer). Drove rest mark more (l ++ leaving) told) (sym drove.0) next
-drove_on [] rest mark (m ∷ marks) more answers leaving told drove next = absurd drove
-drove_on (e ∷ events) rest mark [] more answers leaving told drove next = absurd drove
-drove_on (e ∷ events) rest mark (m ∷ marks) more answers leaving told (inl it) next =
-    inl (it.0, it.1 ++ leaving, it.2, drove_on events rest m marks more it.1 leaving told it.3 next, ap (λ (l : List Answer). l ++ leaving) it.4 ∙ append_assoc it.0 it.1 leaving)
-drove_on (e ∷ events) rest mark (m ∷ marks) more answers leaving told (inr it) next = absurd (let no = it.3 in cc)
+drove_on : (events rest : List Event) (pause : Pause) (pauses more : List Pause) (answers leaving : List Answer) (told : Option Fault)
+    → Drove events pause pauses answers None → Drove rest (last_of pause pauses) more leaving told → Drove (events ++ rest) pause (pauses ++ more) (answers ++ leaving) told
+drove_on [] rest pause [] more answers leaving told drove next = subst (λ (l : List Answer). Drove rest pause more (l ++ leaving) told) (sym drove.0) next
+drove_on [] rest pause (m ∷ pauses) more answers leaving told drove next = absurd drove
+drove_on (e ∷ events) rest pause [] more answers leaving told drove next = absurd drove
+drove_on (e ∷ events) rest pause (m ∷ pauses) more answers leaving told (inl it) next =
+    inl (it.0, it.1 ++ leaving, it.2, drove_on events rest m pauses more it.1 leaving told it.3 next, ap (λ (l : List Answer). l ++ leaving) it.4 ∙ append_assoc it.0 it.1 leaving)
+drove_on (e ∷ events) rest pause (m ∷ pauses) more answers leaving told (inr it) next = absurd (let no = it.3 in cc)
 
 module _ {D : Type 0} {seen : D → List ℕ} {may_leave : D → List ℕ → Type 0} {moment : D → ℕ} {left_since : D → ℕ → List ℕ → Type 0}
     (only_now : (disk : D) (image : List ℕ) → left_since disk (moment disk) image → may_leave disk image)
-    {start : Mark} {events : List Event} {event : Event} {old new : D} {s t : Progress} {failed after_failed : Bool} {answers leaving : List Answer}
+    {start : Pause} {events : List Event} {event : Event} {old new : D} {s t : Progress} {failed after_failed : Bool} {answers leaving : List Answer}
     (ran : Ran seen may_leave moment left_since start events old s failed answers None)
-    {fault : Option Fault} (took : Took seen may_leave moment left_since event old new s t failed after_failed (last_of start ran.marks).machine leaving fault) where
-  abbrev next : Mark
-  next = mark_of moment new t after_failed took.after
+    {fault : Option Fault} (took : Took seen may_leave moment left_since event old new s t failed after_failed (last_of start ran.pauses).machine leaving fault) where
+  abbrev next : Pause
+  next = pause_of moment new t after_failed took.after
 
-  last_is : mark_of moment old s failed (last_of start ran.marks).machine ≡ last_of start ran.marks
+  last_is : pause_of moment old s failed (last_of start ran.pauses).machine ≡ last_of start ran.pauses
   last_is =
-      let m = last_of start ran.marks in
+      let m = last_of start ran.pauses in
       ap (λ (i : ℕ). record { moment = i; progress = s; failed = failed; machine = m.machine }) (sym ran.at_end)
       ∙ ap (λ (p : Progress). record { moment = m.moment; progress = p; failed = failed; machine = m.machine }) (sym ran.progress_is)
       ∙ ap (λ (b : Bool). record { moment = m.moment; progress = m.progress; failed = b; machine = m.machine }) (sym ran.failed_is)
 
-  follows : Follows event (last_of start ran.marks) next leaving fault
-  follows = subst (λ (m : Mark). Follows event m next leaving fault) last_is took.follows
+  follows : Follows event (last_of start ran.pauses) next leaving fault
+  follows = subst (λ (m : Pause). Follows event m next leaving fault) last_is took.follows
 
-  holds : Holds (moment new) (left_since new) start (ran.marks ++ next ∷ [])
-  holds = holds_on (moment old) (moment new) (left_since old) (left_since new) (may_leave new) (StandsEither (last_of start ran.marks).machine took.after) took.since next refl
-      (λ image left. took.keeps.images image (only_now new image left)) start ran.marks (λ image stands. stands) ran.holds
+  holds : Holds (moment new) (left_since new) start (ran.pauses ++ next ∷ [])
+  holds = holds_on (moment old) (moment new) (left_since old) (left_since new) (may_leave new) (StandsEither (last_of start ran.pauses).machine took.after) took.since next refl
+      (λ image left. took.keeps.images image (only_now new image left)) start ran.pauses (λ image stands. stands) ran.holds
 
-  after_last : last_of start (ran.marks ++ next ∷ []) ≡ next
-  after_last = last_more start next ran.marks
+  after_last : last_of start (ran.pauses ++ next ∷ []) ≡ next
+  after_last = last_more start next ran.pauses
 
-  more : (rest : List Event) (told : Option Fault) → Drove rest (last_of start ran.marks) (next ∷ []) leaving told → Ran seen may_leave moment left_since start (events ++ rest) new t after_failed (answers ++ leaving) told
+  more : (rest : List Event) (told : Option Fault) → Drove rest (last_of start ran.pauses) (next ∷ []) leaving told → Ran seen may_leave moment left_since start (events ++ rest) new t after_failed (answers ++ leaving) told
   more rest told drove = record {
-    marks = ran.marks ++ next ∷ [];
-    drove = drove_on events rest start ran.marks (next ∷ []) answers leaving told ran.drove drove;
+    pauses = ran.pauses ++ next ∷ [];
+    drove = drove_on events rest start ran.pauses (next ∷ []) answers leaving told ran.drove drove;
     holds = holds;
-    at_end = ap (λ (m : Mark). m.moment) after_last;
-    progress_is = ap (λ (m : Mark). m.progress) after_last;
-    failed_is = ap (λ (m : Mark). m.failed) after_last;
-    keeps = subst (λ (m : Mark). Keeps seen may_leave new t after_failed m.machine) (sym after_last) took.keeps;
+    at_end = ap (λ (m : Pause). m.moment) after_last;
+    progress_is = ap (λ (m : Pause). m.progress) after_last;
+    failed_is = ap (λ (m : Pause). m.failed) after_last;
+    keeps = subst (λ (m : Pause). Keeps seen may_leave new t after_failed m.machine) (sym after_last) took.keeps;
   }
 
   -- It goes on with an event that works.
   pub ran_on : fault ≡ None → Ran seen may_leave moment left_since start (events ++ event ∷ []) new t after_failed (answers ++ leaving) None
-  ran_on none = more (event ∷ []) None (inl (leaving, [], subst (Follows event (last_of start ran.marks) next leaving) none follows, (refl, refl), sym (append-nil leaving)))
+  ran_on none = more (event ∷ []) None (inl (leaving, [], subst (Follows event (last_of start ran.pauses) next leaving) none follows, (refl, refl), sym (append-nil leaving)))
 
   -- It ends with one at which the device fails; the others aren't taken.
   pub ran_off : (others : List Event) (why : Fault) → fault ≡ Some why → Ran seen may_leave moment left_since start (events ++ event ∷ others) new t after_failed (answers ++ leaving) (Some why)
-  ran_off others why some = more (event ∷ others) (Some why) (inr (why, subst (Follows event (last_of start ran.marks) next leaving) some follows, refl, refl))
+  ran_off others why some = more (event ∷ others) (Some why) (inr (why, subst (Follows event (last_of start ran.pauses) next leaving) some follows, refl, refl))
 
 -- Whether there is a fault.
 pub none_of : (fault : Option Fault) → is_some fault ≡ false → fault ≡ None

@@ -32,9 +32,9 @@ same_or_other Second Second = inl refl
 
 module _ (laws : Laws) (s : Progress) (k : Cut) (image : List ℕ) (fits : Fits s k) (facts : Facts s k image) where
   -- Where neither a batch in flight nor a new slot shows.
-  module _ (no_next : s.commit.turns ≡ 3 → IsClosed (layout_of s.ring) s.ring.next image) (no_other : s.checkpoint.steps ≡ 8 → IsClosedSlot (other_of s.checkpoint.newest) image) where
+  module _ (no_next : s.commit.turns ≡ 3 → IsClosed (layout_of s.window) s.window.next image) (no_other : s.checkpoint.steps ≡ 8 → IsClosedSlot (other_of s.checkpoint.newest) image) where
     older : (i : ℕ) (saved : Saved) → Holds k.rules (other_of s.checkpoint.newest) i saved image → (flag : Bool) → s.checkpoint.other_open ≡ flag
-        → (i < s.ring.covered) ⊎ ((i ≡ s.ring.covered) × (place_of s.checkpoint.newest ≤ place_of (other_of s.checkpoint.newest)))
+        → (i < s.window.covered) ⊎ ((i ≡ s.window.covered) × (place_of s.checkpoint.newest ≤ place_of (other_of s.checkpoint.newest)))
     older i saved has true was = facts.slots.behind was i saved has.1
     older i saved has false was = elim (cases_lt s.checkpoint.steps 8) [
       | inl early ↦ absurd (facts.slots.shut early was has.0)
@@ -42,42 +42,42 @@ module _ (laws : Laws) (s : Progress) (k : Cut) (image : List ℕ) (fits : Fits 
     ]
 
     greatest : (other : Slot) (i : ℕ) (saved : Saved) → Holds k.rules other i saved image
-        → (i < s.ring.covered) ⊎ ((i ≡ s.ring.covered) × (place_of s.checkpoint.newest ≤ place_of other))
+        → (i < s.window.covered) ⊎ ((i ≡ s.window.covered) × (place_of s.checkpoint.newest ≤ place_of other))
     greatest other i saved has = elim (same_or_other s.checkpoint.newest other) [
       | inl same ↦
           let here : Holds k.rules s.checkpoint.newest i saved image = subst (λ (slot : Slot). Holds k.rules slot i saved image) same has in
-          let one = laws.holds_one k.rules s.checkpoint.newest s.ring.covered i facts.slots.saved saved image facts.slots.holds here in
+          let one = laws.holds_one k.rules s.checkpoint.newest s.window.covered i facts.slots.saved saved image facts.slots.holds here in
           inr (sym one.0, subst (λ (slot : Slot). place_of s.checkpoint.newest ≤ place_of slot) (sym same) (omega arith))
       | inr is ↦
-          subst (λ (slot : Slot). (i < s.ring.covered) ⊎ ((i ≡ s.ring.covered) × (place_of s.checkpoint.newest ≤ place_of slot))) (sym is)
+          subst (λ (slot : Slot). (i < s.window.covered) ⊎ ((i ≡ s.window.covered) × (place_of s.checkpoint.newest ≤ place_of slot))) (sym is)
           (older i saved (subst (λ (slot : Slot). Holds k.rules slot i saved image) is has) s.checkpoint.other_open refl)
     ]
 
-    ended_clean : (b : ℕ) → s.ring.next ≤ b → b < s.ring.clean_end → IsOwn (layout_of s.ring) b image → ⊥
-    ended_clean b from early own = elim (cases_eq b s.ring.next) [
+    ended_clean : (b : ℕ) → s.window.next ≤ b → b < s.window.clean_end → IsOwn (layout_of s.window) b image → ⊥
+    ended_clean b from early own = elim (cases_eq b s.window.next) [
       | inr ne ↦ facts.journal.clean b from early (λ same. absurd (ne same)) own.0
       | inl same ↦ elim (cases_lt s.commit.turns 3) [
         | inl before ↦ facts.journal.clean b from early (λ _. before) own.0
-        | inr after ↦ no_next (omega (arith, after, fits.safe.commit.turns)) (subst (λ (n : ℕ). IsOpen (layout_of s.ring) n image) same own.0)
+        | inr after ↦ no_next (omega (arith, after, fits.safe.commit.turns)) (subst (λ (n : ℕ). IsOpen (layout_of s.window) n image) same own.0)
       ]
     ]
 
-    ended_stale : (b : ℕ) → s.ring.clean_end ≤ b → b < end_of s.ring → IsOwn (layout_of s.ring) b image → (flag : Bool) → may_be_open s.ring b ≡ flag → ⊥
+    ended_stale : (b : ℕ) → s.window.clean_end ≤ b → b < end_of s.window → IsOwn (layout_of s.window) b image → (flag : Bool) → may_be_open s.window b ≡ flag → ⊥
     ended_stale b late below own true may = facts.journal.stale b late below may own.1
     ended_stale b late below own false may = facts.journal.shut b late below may own.0
 
-    ended : (b : ℕ) → s.ring.next ≤ b → b < end_of s.ring → IsOwn (layout_of s.ring) b image → (b < s.ring.clean_end) ⊎ (s.ring.clean_end ≤ b) → ⊥
+    ended : (b : ℕ) → s.window.next ≤ b → b < end_of s.window → IsOwn (layout_of s.window) b image → (b < s.window.clean_end) ⊎ (s.window.clean_end ≤ b) → ⊥
     ended b from below own (inl early) = ended_clean b from early own
-    ended b from below own (inr late) = ended_stale b late below own (may_be_open s.ring b) refl
+    ended b from below own (inr late) = ended_stale b late below own (may_be_open s.window b) refl
 
     at_rest : Stands (all k) image
     at_rest = record {
       formatted = facts.head.formatted;
-      head = head_of s.ring k.rules;
+      head = head_of s.window k.rules;
       laid = facts.head.laid;
       allowed = subst (λ (rules : Rules). IsHistory rules (all k)) fits.rules fits.shows.0;
       slot = s.checkpoint.newest;
-      covered = s.ring.covered;
+      covered = s.window.covered;
       saved = facts.slots.saved;
       newest = record { holds = facts.slots.holds; greatest = greatest };
       before = k.before;
@@ -85,18 +85,18 @@ module _ (laws : Laws) (s : Progress) (k : Cut) (image : List ℕ) (fits : Fits 
       batches = k.batches;
       cuts = refl;
       kept = facts.journal.kept;
-      ends = λ b from below own. ended b (omega (arith, from, fits.next)) below own (cases_lt b s.ring.clean_end);
+      ends = λ b from below own. ended b (omega (arith, from, fits.next)) below own (cases_lt b s.window.clean_end);
     }
 
 -- Where no batch in flight shows; a checkpoint changes nothing of it.
-settled : (laws : Laws) (s : Progress) (k : Cut) (image : List ℕ) → Fits s k → Facts s k image → (s.commit.turns ≡ 3 → IsClosed (layout_of s.ring) s.ring.next image)
+settled : (laws : Laws) (s : Progress) (k : Cut) (image : List ℕ) → Fits s k → Facts s k image → (s.commit.turns ≡ 3 → IsClosed (layout_of s.window) s.window.next image)
     → Stands (all k) image
 settled laws s k image fits facts no_next = elim (cases_eq s.checkpoint.steps 8) [
   | inr early ↦ at_rest laws s k image fits facts no_next (λ late. absurd (early late))
   | inl late ↦ elim (laws.open_or_closed (other_of s.checkpoint.newest) image) [
     | inr closed ↦ at_rest laws s k image fits facts no_next (λ _. closed)
     | inl shown ↦
-        let count : ℕ = s.checkpoint.covers - s.ring.covered in
+        let count : ℕ = s.checkpoint.covers - s.window.covered in
         subst (λ (history : List Command). Stands history image) (all_shortened k count)
         (at_rest laws (renewed s) (shortened k count) image (renewed_fits laws s k fits late) (renewed_opened laws s k fits late image facts shown) no_next
         (λ is. absurd (omega (arith, is))))
@@ -108,7 +108,7 @@ pub stands_either : (laws : Laws) (s : Progress) (k : Cut) (image : List ℕ) �
     → Stands (all k) image ⊎ ((s.commit.turns ≡ 3) × Stands (all k ++ s.commit.batch.commands) image)
 stands_either laws s k image fits facts busy = elim (cases_eq s.commit.turns 3) [
   | inr early ↦ inl (settled laws s k image fits facts (λ late. absurd (early late)))
-  | inl late ↦ elim (is_open_byte ((layout_of s.ring).gate s.ring.next image)) [
+  | inl late ↦ elim (is_open_byte ((layout_of s.window).gate s.window.next image)) [
     | inr closed ↦ inl (settled laws s k image fits facts (λ _. closed))
     | inl opened ↦ inr (
       late,

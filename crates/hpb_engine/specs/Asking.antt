@@ -8,14 +8,14 @@ use Rattle.hpb_slots.specs.Slots.{other_of}
 use Rattle.hpb_slots.specs.Writes.{writes_chunk, opens_slot, closes_slot}
 use Rattle.hpb_engine.specs.declared.progress.Progress.{Progress}
 use Rattle.hpb_engine.specs.declared.progress.Checkpoint.{Checkpoint}
-use Rattle.hpb_engine.specs.declared.progress.Ring.{Ring}
+use Rattle.hpb_engine.specs.declared.progress.Window.{Window}
 use Rattle.hpb_engine.specs.Numbers.{end_of, may_be_open}
 
 -- A turn of a batch in flight: at the first its body is written, at the third the gate of its frame; at the second and the fourth there is a sync.
 abbrev pub turn_in_flight : Progress → Asked
 turn_in_flight s =
-    if s.commit.turns == 0 then writes_body (shape_of s.ring.frames) s.commit.batch else
-    (if s.commit.turns == 2 then opens_frame (shape_of s.ring.frames) s.ring.next else syncs)
+    if s.commit.turns == 0 then writes_body (shape_of s.window.frames) s.commit.batch else
+    (if s.commit.turns == 2 then opens_frame (shape_of s.window.frames) s.window.next else syncs)
 
 -- A turn of a commit: with nothing in flight, nothing is asked for.
 abbrev pub turn_asks : Progress → List Asked
@@ -35,13 +35,13 @@ abbrev pub begin_asks : Checkpoint → List Asked
 begin_asks checkpoint = if checkpoint.other_open then closes_slot (other_of checkpoint.newest) ∷ [] else []
 
 -- A frame is retired: its gate is closed, unless it is already.
-abbrev pub retire_asks : Ring → ℕ → List Asked
-retire_asks ring b = if may_be_open ring b then closes_frame (shape_of ring.frames) b ∷ [] else []
+abbrev pub retire_asks : Window → ℕ → List Asked
+retire_asks window b = if may_be_open window b then closes_frame (shape_of window.frames) b ∷ [] else []
 
 -- A step of a checkpoint: it is written, or begun; or frames that are free are retired, with a sync behind the last one; or all is at rest.
 abbrev pub step_asks : Progress → List Asked
 step_asks s =
     if not (s.checkpoint.steps == 0) then step_of_writing s.checkpoint ∷ [] else
-    (if not s.retirement.going && not (s.ring.covered == s.ring.next) then begin_asks s.checkpoint else
-    (if s.retirement.upto == end_of s.ring then (if s.retirement.going then syncs ∷ [] else []) else
-    retire_asks s.ring s.retirement.upto))
+    (if not s.retirement.going && not (s.window.covered == s.window.next) then begin_asks s.checkpoint else
+    (if s.retirement.upto == end_of s.window then (if s.retirement.going then syncs ∷ [] else []) else
+    retire_asks s.window s.retirement.upto))

@@ -17,35 +17,35 @@ use Rattle.hpb_engine.specs.declared.step.Rest.TheVariants as rests
 pub record SameCore (s t : Progress) : Type 0 where
   pub committed : t.committed ≡ s.committed
   pub commit : t.commit ≡ s.commit
-  pub next : t.ring.next ≡ s.ring.next
-  pub frames : t.ring.frames ≡ s.ring.frames
+  pub next : t.window.next ≡ s.window.next
+  pub frames : t.window.frames ≡ s.window.frames
 
 -- At rest: no checkpoint is begun, the newest one covers all, and all other frames are clean.
 pub record IsSettled (s : Progress) : Type 0 where
   pub begun : s.checkpoint.steps ≡ 0
   pub retiring : s.retirement.going ≡ false
-  pub covered : s.ring.covered ≡ s.ring.next
-  pub clean : s.ring.clean_end ≡ end_of s.ring
+  pub covered : s.window.covered ≡ s.window.next
+  pub clean : s.window.clean_end ≡ end_of s.window
 
 -- How many batches the checkpoint that is on its way covers; without one, how many the next would.
 abbrev pub aim : Progress → ℕ
-aim s = if s.retirement.going then s.ring.covered else (if s.checkpoint.steps == 0 then s.ring.next else s.checkpoint.covers)
+aim s = if s.retirement.going then s.window.covered else (if s.checkpoint.steps == 0 then s.window.next else s.checkpoint.covers)
 
 -- How many frames it has yet to retire.
 abbrev pub to_retire : Progress → ℕ
-to_retire s = aim s + count_of s.ring - s.retirement.upto
+to_retire s = aim s + count_of s.window - s.retirement.upto
 
 -- How many steps it takes to the last one: nine for the state, one for each frame to retire, and a sync. None where all is covered and clean.
 abbrev pub steps_left : Progress → ℕ
 steps_left s =
     if s.retirement.going then suc (to_retire s) else
-    (if (s.checkpoint.steps == 0) && (s.ring.covered == s.ring.next) then (if to_retire s == 0 then 0 else suc (to_retire s)) else 10 - s.checkpoint.steps + to_retire s)
+    (if (s.checkpoint.steps == 0) && (s.window.covered == s.window.next) then (if to_retire s == 0 then 0 else suc (to_retire s)) else 10 - s.checkpoint.steps + to_retire s)
 
 -- The part that is next.
 abbrev pub part_of : Progress → Part
 part_of s =
     if nat_le 2 s.checkpoint.steps && nat_le s.checkpoint.steps 5 then parts.Chunk (s.checkpoint.steps - 2) else
-    (if (s.checkpoint.steps == 0) && (s.retirement.going || (s.ring.covered == s.ring.next)) then parts.Retired else parts.Other)
+    (if (s.checkpoint.steps == 0) && (s.retirement.going || (s.window.covered == s.window.next)) then parts.Retired else parts.Other)
 
 -- Where a step leads.
 abbrev pub StepLeads : Result Rest Fault → Progress → Progress → Type 0
@@ -53,7 +53,7 @@ StepLeads (Ok rests.Idle) s t = IsSettled s × (t ≡ s)
 -- one of the steps that are left, which isn't the last one
 StepLeads (Ok (rests.Went part)) s t = (part ≡ part_of s) × (steps_left s ≡ suc (steps_left t)) × (1 ≤ steps_left t) × (aim t ≡ aim s)
 -- the last one: the newest checkpoint covers what it was to cover, and all other frames are clean
-StepLeads (Ok rests.Whole) s t = (steps_left s ≡ 1) × (t.ring.covered ≡ aim s) × (t.ring.clean_end ≡ end_of t.ring) × (t.checkpoint.steps ≡ 0) × (t.retirement.going ≡ false)
+StepLeads (Ok rests.Whole) s t = (steps_left s ≡ 1) × (t.window.covered ≡ aim s) × (t.window.clean_end ≡ end_of t.window) × (t.checkpoint.steps ≡ 0) × (t.retirement.going ≡ false)
 StepLeads (Err fault) s t = IsSettled s → ⊥
 
 -- The same after a fault too: then there is no step.
@@ -65,9 +65,9 @@ CheckpointLeads false result s t = StepLeads result s t × (result ≡ Err fault
 abbrev pub step_calls : Progress → ℕ
 step_calls s =
     if not (s.checkpoint.steps == 0) then 1 else
-    (if not s.retirement.going && not (s.ring.covered == s.ring.next) then (if s.checkpoint.other_open then 1 else 0) else
-    (if s.retirement.upto == end_of s.ring then (if s.retirement.going then 1 else 0) else
-    (if may_be_open s.ring s.retirement.upto then 1 else 0)))
+    (if not s.retirement.going && not (s.window.covered == s.window.next) then (if s.checkpoint.other_open then 1 else 0) else
+    (if s.retirement.upto == end_of s.window then (if s.retirement.going then 1 else 0) else
+    (if may_be_open s.window s.retirement.upto then 1 else 0)))
 
 -- The same after a fault too: then there is none.
 abbrev pub checkpoint_calls : (failed : Bool) → Progress → ℕ

@@ -19,7 +19,7 @@ use Rattle.hpb_engine.specs.declared.progress.Checkpoint.{Checkpoint}
 use Rattle.hpb_engine.specs.declared.progress.Commit.{Commit}
 use Rattle.hpb_engine.specs.declared.progress.Progress.{Progress}
 use Rattle.hpb_engine.specs.declared.progress.Retirement.{Retirement}
-use Rattle.hpb_engine.specs.declared.progress.Ring.{Ring}
+use Rattle.hpb_engine.specs.declared.progress.Window.{Window}
 use Rattle.hpb_engine.specs.Cuts.{Cut, all, upto}
 use Rattle.hpb_engine.specs.Numbers.{IsSafe, end_of, layout_of, may_be_open}
 
@@ -42,16 +42,16 @@ pub record IsSnapshot (rules : Rules) (body : List ℕ) (covers : ℕ) (history 
 pub record Fits (s : Progress) (cut : Cut) : Type 0 where
   pub safe : IsSafe s
   pub rules : s.committed.rules ≡ cut.rules
-  pub next : s.ring.next ≡ s.ring.covered + length cut.batches
+  pub next : s.window.next ≡ s.window.covered + length cut.batches
   pub shows : Shows s.committed (all cut)
   -- so many batches have at least so many commands
-  pub enough : (count : ℕ) → count ≤ length cut.batches → s.ring.covered + count ≤ length (upto cut count)
-  pub flight : s.commit.busy ≡ true → IsFlight cut.rules s.ring.next s.committed (all cut) s.commit
-  pub snapshot : 1 ≤ s.checkpoint.steps → IsSnapshot cut.rules s.checkpoint.body.items s.checkpoint.covers (upto cut (s.checkpoint.covers - s.ring.covered))
+  pub enough : (count : ℕ) → count ≤ length cut.batches → s.window.covered + count ≤ length (upto cut count)
+  pub flight : s.commit.busy ≡ true → IsFlight cut.rules s.window.next s.committed (all cut) s.commit
+  pub snapshot : 1 ≤ s.checkpoint.steps → IsSnapshot cut.rules s.checkpoint.body.items s.checkpoint.covers (upto cut (s.checkpoint.covers - s.window.covered))
 
 -- The head of the device.
-abbrev pub head_of : Ring → Rules → Head
-head_of ring rules = record { definition = rules; journal = shape_of ring.frames }
+abbrev pub head_of : Window → Rules → Head
+head_of window rules = record { definition = rules; journal = shape_of window.frames }
 
 -- The device is formatted, with this head.
 pub record InHead (head : Head) (image : List ℕ) : Type 0 where
@@ -70,23 +70,23 @@ pub record InSlots (rules : Rules) (covered : ℕ) (checkpoint : Checkpoint) (be
 
 -- The batches after it are whole. Clean frames are closed, but for that of a batch whose gate is written; and no other frame has its own index
 -- where it may be open.
-pub record InJournal (rules : Rules) (ring : Ring) (commit : Commit) (cut : Cut) (image : List ℕ) : Type 0 where
-  pub kept : Kept (layout_of ring) rules ring.covered (suc (length cut.before)) cut.batches image
-  pub clean : (b : ℕ) → ring.next ≤ b → b < ring.clean_end → (b ≡ ring.next → commit.turns < 3) → IsClosed (layout_of ring) b image
-  pub stale : (b : ℕ) → ring.clean_end ≤ b → b < end_of ring → may_be_open ring b ≡ true → HasIndex (layout_of ring) b image → ⊥
-  pub shut : (b : ℕ) → ring.clean_end ≤ b → b < end_of ring → may_be_open ring b ≡ false → IsClosed (layout_of ring) b image
-  pub staged : 2 ≤ commit.turns → Says (layout_of ring) rules commit.batch image
+pub record InJournal (rules : Rules) (window : Window) (commit : Commit) (cut : Cut) (image : List ℕ) : Type 0 where
+  pub kept : Kept (layout_of window) rules window.covered (suc (length cut.before)) cut.batches image
+  pub clean : (b : ℕ) → window.next ≤ b → b < window.clean_end → (b ≡ window.next → commit.turns < 3) → IsClosed (layout_of window) b image
+  pub stale : (b : ℕ) → window.clean_end ≤ b → b < end_of window → may_be_open window b ≡ true → HasIndex (layout_of window) b image → ⊥
+  pub shut : (b : ℕ) → window.clean_end ≤ b → b < end_of window → may_be_open window b ≡ false → IsClosed (layout_of window) b image
+  pub staged : 2 ≤ commit.turns → Says (layout_of window) rules commit.batch image
 
 -- What is so of each image that a crash may leave, of its head, its slots and its journal.
 pub record Facts (s : Progress) (cut : Cut) (image : List ℕ) : Type 0 where
-  pub head : InHead (head_of s.ring cut.rules) image
-  pub slots : InSlots cut.rules s.ring.covered s.checkpoint cut.before image
-  pub journal : InJournal cut.rules s.ring s.commit cut image
+  pub head : InHead (head_of s.window cut.rules) image
+  pub slots : InSlots cut.rules s.window.covered s.checkpoint cut.before image
+  pub journal : InJournal cut.rules s.window s.commit cut image
 
 -- The parts of a batch in flight that are written.
-pub record ReadsCommit (rules : Rules) (ring : Ring) (commit : Commit) (seen : List ℕ) : Type 0 where
-  pub written : 1 ≤ commit.turns → Says (layout_of ring) rules commit.batch seen
-  pub opened : 3 ≤ commit.turns → IsOpen (layout_of ring) ring.next seen
+pub record ReadsCommit (rules : Rules) (window : Window) (commit : Commit) (seen : List ℕ) : Type 0 where
+  pub written : 1 ≤ commit.turns → Says (layout_of window) rules commit.batch seen
+  pub opened : 3 ≤ commit.turns → IsOpen (layout_of window) window.next seen
 
 -- The parts of a checkpoint that are written. After the second step each writes one chunk more.
 pub record ReadsCheckpoint (checkpoint : Checkpoint) (seen : List ℕ) : Type 0 where
@@ -95,11 +95,11 @@ pub record ReadsCheckpoint (checkpoint : Checkpoint) (seen : List ℕ) : Type 0 
   pub shown : 8 ≤ checkpoint.steps → IsOpenSlot (other_of checkpoint.newest) seen
 
 -- The gates of retired frames that are closed.
-pub record ReadsRetirement (ring : Ring) (retirement : Retirement) (seen : List ℕ) : Type 0 where
-  pub retired : (b : ℕ) → ring.clean_end ≤ b → b < retirement.upto → IsClosed (layout_of ring) b seen
+pub record ReadsRetirement (window : Window) (retirement : Retirement) (seen : List ℕ) : Type 0 where
+  pub retired : (b : ℕ) → window.clean_end ≤ b → b < retirement.upto → IsClosed (layout_of window) b seen
 
 -- What a read gives beside the facts of each image: the parts that were written are there.
 pub record Reads (s : Progress) (cut : Cut) (seen : List ℕ) : Type 0 where
-  pub commit : ReadsCommit cut.rules s.ring s.commit seen
+  pub commit : ReadsCommit cut.rules s.window s.commit seen
   pub checkpoint : ReadsCheckpoint s.checkpoint seen
-  pub retirement : ReadsRetirement s.ring s.retirement seen
+  pub retirement : ReadsRetirement s.window s.retirement seen

@@ -22,13 +22,13 @@ turned s turns = record s { commit = record s.commit { turns = turns } }
 abbrev pub acknowledged : Progress → Progress
 acknowledged s = record s {
   committed = s.commit.working;
-  ring = record s.ring { next = s.ring.next + 1 };
+  window = record s.window { next = s.window.next + 1 };
   commit = record s.commit { busy = false; turns = 0; answers = [] };
 }
 
 -- A checkpoint of all that is acknowledged is begun, with the bytes of another progress, and the other slot's gate is written.
 abbrev pub snapped : Progress → Progress → Progress
-snapped s other = record s { checkpoint = record s.checkpoint { steps = 1; covers = s.ring.next; body = other.checkpoint.body } }
+snapped s other = record s { checkpoint = record s.checkpoint { steps = 1; covers = s.window.next; body = other.checkpoint.body } }
 
 -- The other slot is closed.
 abbrev pub emptied : Progress → Progress
@@ -41,7 +41,7 @@ stepped s steps = record s { checkpoint = record s.checkpoint { steps = steps } 
 -- The checkpoint is the newest state. Frames that it covers are to be retired.
 abbrev pub renewed : Progress → Progress
 renewed s = record s {
-  ring = record s.ring { covered = s.checkpoint.covers };
+  window = record s.window { covered = s.checkpoint.covers };
   checkpoint = record s.checkpoint { newest = other_of s.checkpoint.newest; other_open = true; steps = 0 };
   retirement = record s.retirement { going = true };
 }
@@ -53,6 +53,6 @@ retired s = record s { retirement = record { going = true; upto = s.retirement.u
 -- All frames that aren't in use are clean.
 abbrev pub cleaned : Progress → Progress
 cleaned s = record s {
-  ring = record s.ring { clean_end = end_of s.ring };
-  retirement = record { going = false; upto = end_of s.ring };
+  window = record s.window { clean_end = end_of s.window };
+  retirement = record { going = false; upto = end_of s.window };
 }

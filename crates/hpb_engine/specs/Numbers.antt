@@ -10,65 +10,65 @@ use Rattle.hpb_engine.specs.declared.progress.Checkpoint.{Checkpoint}
 use Rattle.hpb_engine.specs.declared.progress.Commit.{Commit}
 use Rattle.hpb_engine.specs.declared.progress.Progress.{Progress}
 use Rattle.hpb_engine.specs.declared.progress.Retirement.{Retirement}
-use Rattle.hpb_engine.specs.declared.progress.Ring.{Ring}
+use Rattle.hpb_engine.specs.declared.progress.Window.{Window}
 
 -- How many frames there are.
-abbrev pub count_of : Ring → ℕ
-count_of ring = (shape_of ring.frames).frames
+abbrev pub count_of : Window → ℕ
+count_of window = (shape_of window.frames).frames
 
 -- Where they stand.
-abbrev pub layout_of : Ring → Layout
-layout_of ring = shaped (shape_of ring.frames)
+abbrev pub layout_of : Window → Layout
+layout_of window = shaped (shape_of window.frames)
 
 -- The end of the frames that serve the batches from the newest slot's index on: that index and the number of frames.
-abbrev pub end_of : Ring → ℕ
-end_of ring = ring.covered + count_of ring
+abbrev pub end_of : Window → ℕ
+end_of window = window.covered + count_of window
 
 -- Whether the gate of a frame that isn't clean may be open: that of a batch that was there when the device was opened, or
 -- was committed since, is; any other is as it was then.
-abbrev pub may_be_open : Ring → ℕ → Bool
-may_be_open ring b = nat_le (ring.opened_at + count_of ring) b || slice_index_or ring.gates.items (b - ring.opened_at) false
+abbrev pub may_be_open : Window → ℕ → Bool
+may_be_open window b = nat_le (window.opened_at + count_of window) b || slice_index_or window.gates.items (b - window.opened_at) false
 
 -- The indexes follow each other, and all frames up to the end of the clean ones serve them.
-pub record RingFits (ring : Ring) : Type 0 where
-  pub least : LEAST_FRAMES ≤ count_of ring
-  pub most : count_of ring ≤ MOST_FRAMES
-  pub gates : length ring.gates.items ≡ count_of ring
-  pub opened : ring.opened_at ≤ ring.covered
-  pub covered : ring.covered ≤ ring.next
-  pub clean : ring.next ≤ ring.clean_end
-  pub end : ring.clean_end ≤ end_of ring
+pub record WindowFits (window : Window) : Type 0 where
+  pub least : LEAST_FRAMES ≤ count_of window
+  pub most : count_of window ≤ MOST_FRAMES
+  pub gates : length window.gates.items ≡ count_of window
+  pub opened : window.opened_at ≤ window.covered
+  pub covered : window.covered ≤ window.next
+  pub clean : window.next ≤ window.clean_end
+  pub end : window.clean_end ≤ end_of window
 
 -- A batch in flight has a clean frame, and the auction after it has a command more at least. Without one the working auction is the committed one.
-pub record CommitFits (ring : Ring) (committed : AuctionValue) (commit : Commit) : Type 0 where
+pub record CommitFits (window : Window) (committed : AuctionValue) (commit : Commit) : Type 0 where
   pub turns : commit.turns ≤ 3
   pub idle : commit.busy ≡ false → commit.turns ≡ 0
   pub rest : commit.busy ≡ false → commit.working ≡ committed
   pub rules : commit.working.rules ≡ committed.rules
-  pub room : commit.busy ≡ true → ring.next < ring.clean_end
+  pub room : commit.busy ≡ true → window.next < window.clean_end
   pub more : commit.busy ≡ true → suc committed.count ≤ commit.working.count
 
 -- A checkpoint covers more batches than the newest slot, at most all.
-pub record CheckpointFits (ring : Ring) (checkpoint : Checkpoint) : Type 0 where
+pub record CheckpointFits (window : Window) (checkpoint : Checkpoint) : Type 0 where
   pub steps : checkpoint.steps ≤ 8
   pub size : length checkpoint.body.items ≡ STATE_SIZE
-  pub new : 1 ≤ checkpoint.steps → ring.covered < checkpoint.covers
-  pub old : 1 ≤ checkpoint.steps → checkpoint.covers ≤ ring.next
+  pub new : 1 ≤ checkpoint.steps → window.covered < checkpoint.covers
+  pub old : 1 ≤ checkpoint.steps → checkpoint.covers ≤ window.next
   pub closed : 2 ≤ checkpoint.steps → checkpoint.other_open ≡ false
 
 -- Frames are retired while no checkpoint is written, and only where some aren't clean.
-pub record RetirementFits (ring : Ring) (checkpoint : Checkpoint) (retirement : Retirement) : Type 0 where
+pub record RetirementFits (window : Window) (checkpoint : Checkpoint) (retirement : Retirement) : Type 0 where
   pub alone : retirement.going ≡ true → checkpoint.steps ≡ 0
-  pub idle : retirement.going ≡ false → retirement.upto ≡ ring.clean_end
-  pub some : retirement.going ≡ true → ring.clean_end < end_of ring
-  pub from : ring.clean_end ≤ retirement.upto
-  pub to : retirement.upto ≤ end_of ring
+  pub idle : retirement.going ≡ false → retirement.upto ≡ window.clean_end
+  pub some : retirement.going ≡ true → window.clean_end < end_of window
+  pub from : window.clean_end ≤ retirement.upto
+  pub to : retirement.upto ≤ end_of window
 
 -- The numbers and values of a progress fit each other, whatever is on the device: indexes in their order, turns up to 3, steps up to 8, and no index
 -- beyond all bounds. As each batch has a command, no index is beyond all bounds.
 pub record IsSafe (s : Progress) : Type 0 where
-  pub ring : RingFits s.ring
-  pub commit : CommitFits s.ring s.committed s.commit
-  pub checkpoint : CheckpointFits s.ring s.checkpoint
-  pub retirement : RetirementFits s.ring s.checkpoint s.retirement
-  pub few : s.ring.next ≤ MOST_COMMANDS + MOST_FRAMES + s.committed.count
+  pub window : WindowFits s.window
+  pub commit : CommitFits s.window s.committed s.commit
+  pub checkpoint : CheckpointFits s.window s.checkpoint
+  pub retirement : RetirementFits s.window s.checkpoint s.retirement
+  pub few : s.window.next ≤ MOST_COMMANDS + MOST_FRAMES + s.committed.count

@@ -27,8 +27,8 @@ abbrev pub Weighs : (failed : Bool) → Progress → List Letter → Weight → 
 Weighs failed s letters weights.Failed = failed ≡ true
 Weighs failed s letters weights.Busy = (failed ≡ false) × (s.commit.busy ≡ true)
 Weighs failed s letters weights.Old = (failed ≡ false) × (s.commit.busy ≡ false) × AreOld s letters
-Weighs failed s letters weights.Full = (failed ≡ false) × (s.commit.busy ≡ false) × (AreOld s letters → ⊥) × (s.ring.next ≡ s.ring.clean_end)
-Weighs failed s letters weights.New = (failed ≡ false) × (s.commit.busy ≡ false) × (AreOld s letters → ⊥) × (s.ring.next < s.ring.clean_end)
+Weighs failed s letters weights.Full = (failed ≡ false) × (s.commit.busy ≡ false) × (AreOld s letters → ⊥) × (s.window.next ≡ s.window.clean_end)
+Weighs failed s letters weights.New = (failed ≡ false) × (s.commit.busy ≡ false) × (AreOld s letters → ⊥) × (s.window.next < s.window.clean_end)
 
 -- Letters that are barred, by their weight.
 abbrev pub weight_by : Bar → Weight
@@ -38,7 +38,7 @@ weight_by bars.Full = weights.Full
 
 -- Nothing bars letters: no call has failed, no batch is in flight, and, where one of them is new, a clean frame is left.
 abbrev pub CanTake : (failed : Bool) → Progress → List Letter → Type 0
-CanTake failed s letters = (failed ≡ false) × (s.commit.busy ≡ false) × ((AreOld s letters → ⊥) → s.ring.next < s.ring.clean_end)
+CanTake failed s letters = (failed ≡ false) × (s.commit.busy ≡ false) × ((AreOld s letters → ⊥) → s.window.next < s.window.clean_end)
 
 -- What letters that nothing bars come to: answers leave, or they are in flight.
 abbrev pub taken : Option (List Answer) → Begun

@@ -16,7 +16,7 @@ use Rattle.hpb_recover.specs.Standing.{Stands}
 use Rattle.hpb_engine.specs.declared.event.Event.{Event}
 use Rattle.hpb_engine.specs.declared.event.Event.TheVariants as events
 use Rattle.hpb_engine.specs.declared.step.Fault.{Fault}
-use Rattle.hpb_engine.specs.Runs.{Mark, Ran}
+use Rattle.hpb_engine.specs.Runs.{Pause, Ran}
 use Rattle.hpb_engine.specs.Starts.{IsStarted}
 use Rattle.hpb_engine.specs.declared.progress.Progress.{Progress}
 use Rattle.hpb_recover.specs.declared.plan.Plan.{Plan}
@@ -76,12 +76,12 @@ module _ (rules : Rules) (first : List Command) where
   abbrev pub acknowledged_at : Point → List Command
   acknowledged_at point = (machine_at point).acknowledged
 
-  -- The points of a run are those of the engine's own marks: each has the moment of its mark, and the machine that the engine keeps there.
-  abbrev pub AreMarked : List Mark → List Point → Type 0
-  AreMarked [] [] = Unit {0}
-  AreMarked [] (point ∷ points) = ⊥
-  AreMarked (mark ∷ marks) [] = ⊥
-  AreMarked (mark ∷ marks) (point ∷ points) = (point.moment ≡ mark.moment) × (machine_at point ≡ mark.machine) × AreMarked marks points
+  -- The points of a run are those of the engine's own pauses: each has the moment of its pause, and the machine that the engine keeps there.
+  abbrev pub AreOfPauses : List Pause → List Point → Type 0
+  AreOfPauses [] [] = Unit {0}
+  AreOfPauses [] (point ∷ points) = ⊥
+  AreOfPauses (pause ∷ pauses) [] = ⊥
+  AreOfPauses (pause ∷ pauses) (point ∷ points) = (point.moment ≡ pause.moment) × (machine_at point ≡ pause.machine) × AreOfPauses pauses points
 
   -- **What a crash leaves of a run.** Whatever a stop left since a point stands for a history that begins with all that was acknowledged there. It is
   -- whole batches: what may stand after a stop at that point or at a later one. And each answer that had left by the point is true of it.
@@ -148,4 +148,4 @@ pub record AreOfRun {D : Type 0} (seen : D → List ℕ) (may_leave : D → List
   pub begun : Progress
   pub started : IsStarted begun plan
   pub ran : Ran seen may_leave moment left_since (record { moment = start.moment; progress = begun; failed = false; machine = at_rest first }) events disk progress failed answers fault
-  pub marked : AreMarked plan.auction.rules first (record { moment = start.moment; progress = begun; failed = false; machine = at_rest first } ∷ ran.marks) (start ∷ points)
+  pub marked : AreOfPauses plan.auction.rules first (record { moment = start.moment; progress = begun; failed = false; machine = at_rest first } ∷ ran.pauses) (start ∷ points)

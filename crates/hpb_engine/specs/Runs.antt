@@ -19,12 +19,12 @@ use Rattle.hpb_engine.specs.Checkpoints.{CheckpointLeads, SameCore, checkpoint_c
 use Rattle.hpb_engine.specs.Offers.{StaysUnlessInFlight, Weighs, offer_by, weight_of}
 use Rattle.hpb_engine.specs.Steps.{TurnLeads, turn_by, turn_calls}
 
--- **Runs.** A mark is where an engine is between two events. One event leads from a mark to the next: letters are offered, a turn or a step is made,
--- with what leaves and whether the device fails. A run has a mark after each event that was taken; the first at which the device fails (91) is the
+-- **Runs.** A pause is where an engine is between two events. One event leads from a pause to the next: letters are offered, a turn or a step is made,
+-- with what leaves and whether the device fails. A run has a pause after each event that was taken; the first at which the device fails (91) is the
 -- last.
 --
 -- Where an engine is between two events: the moment, its progress, whether the device has failed, and the state of the machine without a disk that it keeps.
-pub record Mark : Type 0 where
+pub record Pause : Type 0 where
   pub moment : ℕ
   pub progress : Progress
   pub failed : Bool
@@ -46,14 +46,14 @@ abbrev pub HasFailed : Option Fault → (before after : ℕ) → Type 0
 HasFailed None before after = after ≡ before
 HasFailed (Some fault) before after = (fault ≡ faults.Device) × (before < after)
 
--- At a mark the committed auction shows the acknowledged commands, the batch in flight is the machine's, and the numbers of batches and frames fit each other.
-pub record IsTold (mark : Mark) : Type 0 where
-  pub safe : IsSafe mark.progress
-  pub shows : Shows mark.progress.committed mark.machine.acknowledged
-  pub flight : mark.machine.flight ≡ flight_of mark.progress.commit
+-- At a pause the committed auction shows the acknowledged commands, the batch in flight is the machine's, and the numbers of batches and frames fit each other.
+pub record IsTold (pause : Pause) : Type 0 where
+  pub safe : IsSafe pause.progress
+  pub shows : Shows pause.progress.committed pause.machine.acknowledged
+  pub flight : pause.machine.flight ≡ flight_of pause.progress.commit
 
 -- Letters are offered: the machine takes them, or they are dropped, by their weight.
-pub record IsOffered (letters : List Letter) (begun : Begun) (before after : Mark) (leaving : List Answer) : Type 0 where
+pub record IsOffered (letters : List Letter) (begun : Begun) (before after : Pause) (leaving : List Answer) : Type 0 where
   pub weight : Weighs before.failed before.progress letters (weight_of begun)
   pub stays : StaysUnlessInFlight begun before.progress after.progress
   pub machine : after.machine ≡ (offer_by begun before.progress.committed.rules before.machine letters).machine
@@ -63,7 +63,7 @@ pub record IsOffered (letters : List Letter) (begun : Begun) (before after : Mar
   pub failed : after.failed ≡ before.failed
 
 -- A turn is made: the machine makes it, unless the device failed before.
-pub record IsTurned (result : Result Step Fault) (before after : Mark) (leaving : List Answer) : Type 0 where
+pub record IsTurned (result : Result Step Fault) (before after : Pause) (leaving : List Answer) : Type 0 where
   pub leads : TurnLeads before.failed result before.progress after.progress
   pub machine : after.machine ≡ (turn_by result before.machine).machine
   pub answers : leaving ≡ (turn_by result before.machine).leaving
@@ -74,61 +74,61 @@ pub record IsTurned (result : Result Step Fault) (before after : Mark) (leaving 
   pub call : after.moment ≡ before.moment + turn_calls before.failed before.progress
 
 -- A step of a checkpoint is made: the machine stays, and no answer leaves.
-pub record IsStepped (result : Result Rest Fault) (before after : Mark) (leaving : List Answer) : Type 0 where
+pub record IsStepped (result : Result Rest Fault) (before after : Pause) (leaving : List Answer) : Type 0 where
   pub leads : CheckpointLeads before.failed result before.progress after.progress
   pub same : SameCore before.progress after.progress
   pub machine : after.machine ≡ before.machine
   pub answers : leaving ≡ []
-  pub clean : before.progress.ring.clean_end ≤ after.progress.ring.clean_end
+  pub clean : before.progress.window.clean_end ≤ after.progress.window.clean_end
   pub told : IsTold after
   pub failed : after.failed ≡ failed_by result
   pub later : before.moment ≤ after.moment
   pub call : after.moment ≡ before.moment + checkpoint_calls before.failed before.progress
 
 -- One event: what leaves with it, and whether the device fails in it.
-abbrev pub Follows : Event → Mark → Mark → List Answer → Option Fault → Type 0
+abbrev pub Follows : Event → Pause → Pause → List Answer → Option Fault → Type 0
 Follows (events.Offer letters) before after leaving fault = (begun : Begun) × IsOffered letters begun before after leaving × (fault ≡ None)
 Follows events.Commit before after leaving fault = (result : Result Step Fault) × IsTurned result before after leaving × (fault ≡ fault_in result)
 Follows events.Checkpoint before after leaving fault = (result : Result Rest Fault) × IsStepped result before after leaving × (fault ≡ fault_in result)
 
--- Events one after another, with a mark after each. The first at which the device fails is the last that is taken.
-abbrev pub Drove : List Event → Mark → List Mark → List Answer → Option Fault → Type 0
+-- Events one after another, with a pause after each. The first at which the device fails is the last that is taken.
+abbrev pub Drove : List Event → Pause → List Pause → List Answer → Option Fault → Type 0
 Drove [] before [] answers fault = (answers ≡ []) × (fault ≡ None)
-Drove [] before (after ∷ marks) answers fault = ⊥
+Drove [] before (after ∷ pauses) answers fault = ⊥
 Drove (event ∷ events) before [] answers fault = ⊥
-Drove (event ∷ events) before (after ∷ marks) answers fault =
-    ((leaving more : List Answer) × Follows event before after leaving None × Drove events after marks more fault × (answers ≡ leaving ++ more))
-    ⊎ ((told : Fault) × Follows event before after answers (Some told) × (marks ≡ []) × (fault ≡ Some told))
+Drove (event ∷ events) before (after ∷ pauses) answers fault =
+    ((leaving more : List Answer) × Follows event before after leaving None × Drove events after pauses more fault × (answers ≡ leaving ++ more))
+    ⊎ ((told : Fault) × Follows event before after answers (Some told) × (pauses ≡ []) × (fault ≡ Some told))
 
--- The last of the marks.
-abbrev pub last_of : Mark → List Mark → Mark
-last_of mark [] = mark
-last_of mark (next ∷ marks) = last_of next marks
+-- The last of the pauses.
+abbrev pub last_of : Pause → List Pause → Pause
+last_of pause [] = pause
+last_of pause (next ∷ pauses) = last_of next pauses
 
--- An image stands for what a stop may leave at one of the marks.
-abbrev pub StandsAtOne : List Mark → List ℕ → Type 0
+-- An image stands for what a stop may leave at one of the pauses.
+abbrev pub StandsAtOne : List Pause → List ℕ → Type 0
 StandsAtOne [] image = ⊥
-StandsAtOne (mark ∷ marks) image = StandsFor mark.machine image ⊎ StandsAtOne marks image
+StandsAtOne (pause ∷ pauses) image = StandsFor pause.machine image ⊎ StandsAtOne pauses image
 
--- Since each mark every image that a crash may have left stands for what a stop may leave at that mark or at a later one. As acknowledged commands
--- only grow from mark to mark, it holds all that were acknowledged at that one.
-abbrev pub Holds : (now : ℕ) (since : ℕ → List ℕ → Type 0) → Mark → List Mark → Type 0
-Holds now since mark [] = (mark.moment ≤ now) × ((image : List ℕ) → since mark.moment image → StandsAtOne (mark ∷ []) image)
-Holds now since mark (next ∷ marks) = (mark.moment ≤ now) × ((image : List ℕ) → since mark.moment image → StandsAtOne (mark ∷ next ∷ marks) image) × Holds now since next marks
+-- Since each pause every image that a crash may have left stands for what a stop may leave at that pause or at a later one. As acknowledged commands
+-- only grow from pause to pause, it holds all that were acknowledged at that one.
+abbrev pub Holds : (now : ℕ) (since : ℕ → List ℕ → Type 0) → Pause → List Pause → Type 0
+Holds now since pause [] = (pause.moment ≤ now) × ((image : List ℕ) → since pause.moment image → StandsAtOne (pause ∷ []) image)
+Holds now since pause (next ∷ pauses) = (pause.moment ≤ now) × ((image : List ℕ) → since pause.moment image → StandsAtOne (pause ∷ next ∷ pauses) image) × Holds now since next pauses
 
--- What is so after a run from a mark.
+-- What is so after a run from a pause.
 pub record Ran {D : Type 0} (seen : D → List ℕ) (may_leave : D → List ℕ → Type 0) (moment : D → ℕ) (left_since : D → ℕ → List ℕ → Type 0)
-    (start : Mark) (events : List Event) (disk : D) (progress : Progress) (failed : Bool) (answers : List Answer) (fault : Option Fault) : Type 0 where
-  pub marks : List Mark
+    (start : Pause) (events : List Event) (disk : D) (progress : Progress) (failed : Bool) (answers : List Answer) (fault : Option Fault) : Type 0 where
+  pub pauses : List Pause
   -- Each event does what it does to the machine without a disk, and these are the answers that leave, in order.
-  pub drove : Drove events start marks answers fault
-  -- Since each mark nothing that was acknowledged at it is lost.
-  pub holds : Holds (moment disk) (left_since disk) start marks
-  -- The last mark is that of the end, and what it says is kept.
-  pub at_end : (last_of start marks).moment ≡ moment disk
-  pub progress_is : (last_of start marks).progress ≡ progress
-  pub failed_is : (last_of start marks).failed ≡ failed
-  pub keeps : Keeps seen may_leave disk progress failed (last_of start marks).machine
+  pub drove : Drove events start pauses answers fault
+  -- Since each pause nothing that was acknowledged at it is lost.
+  pub holds : Holds (moment disk) (left_since disk) start pauses
+  -- The last pause is that of the end, and what it says is kept.
+  pub at_end : (last_of start pauses).moment ≡ moment disk
+  pub progress_is : (last_of start pauses).progress ≡ progress
+  pub failed_is : (last_of start pauses).failed ≡ failed
+  pub keeps : Keeps seen may_leave disk progress failed (last_of start pauses).machine
 
 -- One event of an engine: the machine afterwards, which it keeps, and what a crash may have left since.
 pub record Took {D : Type 0} (seen : D → List ℕ) (may_leave : D → List ℕ → Type 0) (moment : D → ℕ) (left_since : D → ℕ → List ℕ → Type 0)

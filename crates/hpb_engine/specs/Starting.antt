@@ -9,17 +9,17 @@ use Rattle.hpb_engine.specs.declared.progress.Checkpoint.{Checkpoint}
 use Rattle.hpb_engine.specs.declared.progress.Commit.{Commit}
 use Rattle.hpb_engine.specs.declared.progress.Progress.{Progress}
 use Rattle.hpb_engine.specs.declared.progress.Retirement.{Retirement}
-use Rattle.hpb_engine.specs.declared.progress.Ring.{Ring}
+use Rattle.hpb_engine.specs.declared.progress.Window.{Window}
 use Rattle.hpb_engine.specs.Cuts.{Cut}
 
 -- The frames are those of the plan.
-pub record IsFreshRing (ring : Ring) (plan : Plan) : Type 0 where
-  pub frames : shape_of ring.frames ≡ shape_of plan.frames
-  pub covered : ring.covered ≡ plan.covered
-  pub next : ring.next ≡ plan.next
-  pub clean_end : ring.clean_end ≡ plan.clean_end
-  pub opened_at : ring.opened_at ≡ plan.covered
-  pub gates : ring.gates.items ≡ plan.gates.items
+pub record IsFreshWindow (window : Window) (plan : Plan) : Type 0 where
+  pub frames : shape_of window.frames ≡ shape_of plan.frames
+  pub covered : window.covered ≡ plan.covered
+  pub next : window.next ≡ plan.next
+  pub clean_end : window.clean_end ≡ plan.clean_end
+  pub opened_at : window.opened_at ≡ plan.covered
+  pub gates : window.gates.items ≡ plan.gates.items
 
 -- No batch is in flight.
 pub record IsFreshCommit (commit : Commit) (plan : Plan) : Type 0 where
@@ -42,7 +42,7 @@ pub record IsFreshRetirement (retirement : Retirement) (plan : Plan) : Type 0 wh
 -- A progress is where a plan says, with nothing on its way.
 pub record IsFresh (s : Progress) (plan : Plan) : Type 0 where
   pub committed : s.committed ≡ plan.auction
-  pub ring : IsFreshRing s.ring plan
+  pub window : IsFreshWindow s.window plan
   pub commit : IsFreshCommit s.commit plan
   pub checkpoint : IsFreshCheckpoint s.checkpoint plan
   pub retirement : IsFreshRetirement s.retirement plan

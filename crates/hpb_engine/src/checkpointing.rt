@@ -18,7 +18,7 @@ impl<D: Disk + Drop> Engine<D> {
     pub(crate) fn begin_checkpoint(&mut self) -> Result<(), Fault>
         requires steps { self.old.progress.checkpoint.steps ≡ 0 }
         requires rest { self.old.progress.retirement.going ≡ false }
-        requires new { self.old.progress.ring.covered < self.old.progress.ring.next }
+        requires new { self.old.progress.window.covered < self.old.progress.window.next }
         requires works { self.old.failed ≡ false }
         ensures progress { self.new.progress ≡ snapped self.old.progress self.new.progress }
         ensures fault { IfErr result (λ fault. fault ≡ Fault.Device) }
@@ -27,10 +27,10 @@ impl<D: Disk + Drop> Engine<D> {
         laws_below();
         take_snapshot(
             &self.progress.committed,
-            self.progress.ring.next,
+            self.progress.window.next,
             &mut self.progress.checkpoint.body,
         );
-        self.progress.checkpoint.covers = self.progress.ring.next;
+        self.progress.checkpoint.covers = self.progress.window.next;
         self.progress.checkpoint.steps = 1;
         if !self.progress.checkpoint.other_open {
             return Ok(());
@@ -116,7 +116,7 @@ impl<D: Disk + Drop> Engine<D> {
         laws_below();
         sync(&mut self.disk, &mut self.failed)?;
         let progress = &mut self.progress;
-        progress.ring.covered = progress.checkpoint.covers;
+        progress.window.covered = progress.checkpoint.covers;
         progress.checkpoint.newest = progress.checkpoint.newest.other();
         progress.checkpoint.other_open = true;
         progress.checkpoint.steps = 0;

@@ -30,7 +30,7 @@ impl<D: Disk + Drop> Engine<D> {
         laws_below();
         let progress = &self.progress;
         let done = progress
-            .ring
+            .window
             .frames
             .write_body(&mut self.disk, &progress.commit.batch);
         tell(done, &mut self.failed)?;
@@ -65,8 +65,8 @@ impl<D: Disk + Drop> Engine<D> {
     {
         laws_below();
         self.progress.commit.turns = 3;
-        let ring = &self.progress.ring;
-        let done = ring.frames.open_frame(&mut self.disk, ring.next);
+        let window = &self.progress.window;
+        let done = window.frames.open_frame(&mut self.disk, window.next);
         tell(done, &mut self.failed)
     }
 
@@ -87,7 +87,7 @@ impl<D: Disk + Drop> Engine<D> {
         sync(&mut self.disk, &mut self.failed)?;
         let count = self.progress.committed.count();
         prove!(count <= MOST_COMMANDS);
-        self.progress.ring.next += 1;
+        self.progress.window.next += 1;
         self.progress
             .committed
             .copy_from(&self.progress.commit.working);

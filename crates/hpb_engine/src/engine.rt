@@ -18,7 +18,7 @@ pub struct Engine<D: Disk + Drop> {
     /// Whether a call of the device has failed.
     pub failed: bool,
     pub ghost safe: { IsSafe progress },
-    pub ghost sized: { length (D.seen disk) ≡ (layout_of progress.ring).size },
+    pub ghost sized: { length (D.seen disk) ≡ (layout_of progress.window).size },
 }
 
 impl<D: Disk + Drop> Engine<D> {

@@ -27,6 +27,6 @@ pub use driving::{Driven, Run, drive};
 pub use engine::Engine;
 pub use event::Event;
 pub use laws::laws_below;
-pub use progress::{Checkpoint, Commit, Progress, Retirement, Ring};
+pub use progress::{Checkpoint, Commit, Progress, Retirement, Window};
 pub use promise::{Survived, drive_opened, drive_then_open};
 pub use step::{Fault, Part, Rest, Step, Turned};

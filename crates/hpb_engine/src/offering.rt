@@ -26,7 +26,7 @@ impl<D: Disk + Drop> Engine<D> {
         if !accepts_any(&self.progress.committed, letters) {
             return Weight::Old;
         }
-        if self.progress.ring.next >= self.progress.ring.clean_end {
+        if self.progress.window.next >= self.progress.window.clean_end {
             return Weight::Full;
         }
         Weight::New
@@ -44,7 +44,7 @@ impl<D: Disk + Drop> Engine<D> {
         if self.progress.commit.busy {
             return Some(Bar::Busy);
         }
-        if self.progress.ring.next < self.progress.ring.clean_end {
+        if self.progress.window.next < self.progress.window.clean_end {
             return None;
         }
         if accepts_any(&self.progress.committed, letters) {
@@ -76,7 +76,7 @@ impl<D: Disk + Drop> Engine<D> {
             return Some(judged.answers);
         }
         self.progress.commit.batch = Batch {
-            index: self.progress.ring.next,
+            index: self.progress.window.next,
             first,
             commands: judged.commands,
         };

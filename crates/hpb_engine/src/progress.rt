@@ -13,15 +13,15 @@ use hpb_slots::Slot;
 pub struct Progress {
     /// The auction after the acknowledged commands.
     pub committed: Auction,
-    pub ring: Ring,
+    pub window: Window,
     pub commit: Commit,
     pub checkpoint: Checkpoint,
     pub retirement: Retirement,
 }
 
-/// The frames of the journal, by the indexes of their batches.
+/// The frames of the journal by the indexes of their batches, with those that are in use and those that are clean.
 #[derive(Drop)]
-pub struct Ring {
+pub struct Window {
     /// Where the frames stand.
     pub frames: AnyFrames,
     /// How many batches the newest slot covers.
@@ -36,7 +36,7 @@ pub struct Ring {
     pub gates: Vec<bool>,
 }
 
-impl Ring {
+impl Window {
     ghost use Rattle.hpb_engine.specs.Numbers.{end_of, may_be_open};
 
     /// The end of the frames that serve the batches from `covered` on.

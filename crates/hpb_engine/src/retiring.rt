@@ -18,11 +18,11 @@ impl<D: Disk + Drop> Engine<D> {
     /// Closes the gate of the next frame, if it may be open.
     pub(crate) fn retire_frame(&mut self) -> Result<(), Fault>
         requires steps { self.old.progress.checkpoint.steps ≡ 0 }
-        requires left { self.old.progress.retirement.upto < end_of self.old.progress.ring }
+        requires left { self.old.progress.retirement.upto < end_of self.old.progress.window }
         requires works { self.old.failed ≡ false }
         ensures progress { self.new.progress ≡ retired self.old.progress }
         ensures fault { IfErr result (λ fault. fault ≡ Fault.Device) }
-        ensures called { Called D.seen D.may_leave D.moment D.left_since D.failures D.asked self.old.disk self.new.disk self.old.progress self.new.progress self.old.failed self.new.failed (outcome_of result) (λ history. history) (if may_be_open self.old.progress.ring self.old.progress.retirement.upto then 1 else 0) (retire_asks self.old.progress.ring self.old.progress.retirement.upto) }
+        ensures called { Called D.seen D.may_leave D.moment D.left_since D.failures D.asked self.old.disk self.new.disk self.old.progress self.new.progress self.old.failed self.new.failed (outcome_of result) (λ history. history) (if may_be_open self.old.progress.window self.old.progress.retirement.upto then 1 else 0) (retire_asks self.old.progress.window self.old.progress.retirement.upto) }
     {
         laws_below();
         let count = self.progress.committed.count();
@@ -30,17 +30,17 @@ impl<D: Disk + Drop> Engine<D> {
         let frame = self.progress.retirement.upto;
         self.progress.retirement.going = true;
         self.progress.retirement.upto += 1;
-        let ring = &self.progress.ring;
-        if !ring.may_be_open(frame) {
+        let window = &self.progress.window;
+        if !window.may_be_open(frame) {
             return Ok(());
         }
-        let done = ring.frames.close_frame(&mut self.disk, frame, true);
+        let done = window.frames.close_frame(&mut self.disk, frame, true);
         tell(done, &mut self.failed)
     }
 
     /// All of them are closed on the device: they are clean.
     pub(crate) fn sync_retired(&mut self) -> Result<(), Fault>
-        requires done { self.old.progress.retirement.upto ≡ end_of self.old.progress.ring }
+        requires done { self.old.progress.retirement.upto ≡ end_of self.old.progress.window }
         requires works { self.old.failed ≡ false }
         ensures ok { OnOk result (self.new.progress ≡ cleaned self.old.progress) }
         ensures err { OnErr result (self.new.progress ≡ self.old.progress) }
@@ -51,8 +51,8 @@ impl<D: Disk + Drop> Engine<D> {
         sync(&mut self.disk, &mut self.failed)?;
         let count = self.progress.committed.count();
         prove!(count <= MOST_COMMANDS);
-        let end = self.progress.ring.end();
-        self.progress.ring.clean_end = end;
+        let end = self.progress.window.end();
+        self.progress.window.clean_end = end;
         self.progress.retirement.going = false;
         self.progress.retirement.upto = end;
         Ok(())

@@ -9,7 +9,7 @@ ghost use Rattle.hpb_engine.specs.Starting.{IsFresh};
 ghost use Rattle.hpb_engine.specs.Starts.{IsStarted};
 
 use crate::engine::Engine;
-use crate::{Checkpoint, Commit, Progress, Retirement, Ring, laws_below};
+use crate::{Checkpoint, Commit, Progress, Retirement, Window, laws_below};
 use hpb_auction::Auction;
 use hpb_codec::{Batch, STATE_SIZE};
 use hpb_disk::Disk;
@@ -25,7 +25,7 @@ fn fresh(plan: Plan, working: Auction, body: Vec<u8>) -> Progress
 {
     Progress {
         committed: plan.auction,
-        ring: Ring {
+        window: Window {
             frames: plan.frames,
             covered: plan.covered,
             next: plan.next,

@@ -21,20 +21,20 @@ impl<D: Disk + Drop> Engine<D> {
         ensures leads { StepLeads result self.old.progress self.new.progress }
         ensures same { SameCore self.old.progress self.new.progress }
         ensures idle { result ≡ Ok Rest.Idle → self.new.disk ≡ self.old.disk }
-        ensures clean { self.old.progress.ring.clean_end ≤ self.new.progress.ring.clean_end }
+        ensures clean { self.old.progress.window.clean_end ≤ self.new.progress.window.clean_end }
         ensures fault { IfErr result (λ fault. fault ≡ Fault.Device) }
         ensures called { Called D.seen D.may_leave D.moment D.left_since D.failures D.asked self.old.disk self.new.disk self.old.progress self.new.progress self.old.failed self.new.failed (outcome_of result) (λ history. history) (checkpoint_calls self.old.failed self.old.progress) (step_asks self.old.progress) }
     {
         laws_below();
         let count = self.progress.committed.count();
         prove!(count <= MOST_COMMANDS);
-        let ring = &self.progress.ring;
-        let end = ring.end();
+        let window = &self.progress.window;
+        let end = window.end();
         if self.progress.retirement.going && self.progress.retirement.upto >= end {
             self.sync_retired()?;
             return Ok(Rest::Whole);
         }
-        if !self.progress.retirement.going && ring.covered < ring.next {
+        if !self.progress.retirement.going && window.covered < window.next {
             self.begin_checkpoint()?;
             return Ok(Rest::Went(Part::Other));
         }
@@ -52,7 +52,7 @@ impl<D: Disk + Drop> Engine<D> {
         ensures leads { StepLeads result self.old.progress self.new.progress }
         ensures same { SameCore self.old.progress self.new.progress }
         ensures idle { result ≡ Ok Rest.Idle → self.new.disk ≡ self.old.disk }
-        ensures clean { self.old.progress.ring.clean_end ≤ self.new.progress.ring.clean_end }
+        ensures clean { self.old.progress.window.clean_end ≤ self.new.progress.window.clean_end }
         ensures fault { IfErr result (λ fault. fault ≡ Fault.Device) }
         ensures called { Called D.seen D.may_leave D.moment D.left_since D.failures D.asked self.old.disk self.new.disk self.old.progress self.new.progress self.old.failed self.new.failed (outcome_of result) (λ history. history) (checkpoint_calls self.old.failed self.old.progress) (step_asks self.old.progress) }
     {
@@ -86,7 +86,7 @@ impl<D: Disk + Drop> Engine<D> {
     fn step(&mut self) -> Result<Rest, Fault>
         ensures leads { CheckpointLeads self.old.failed result self.old.progress self.new.progress }
         ensures same { SameCore self.old.progress self.new.progress }
-        ensures clean { self.old.progress.ring.clean_end ≤ self.new.progress.ring.clean_end }
+        ensures clean { self.old.progress.window.clean_end ≤ self.new.progress.window.clean_end }
         ensures idle { result ≡ Ok Rest.Idle → self.new.disk ≡ self.old.disk }
         ensures called { Called D.seen D.may_leave D.moment D.left_since D.failures D.asked self.old.disk self.new.disk self.old.progress self.new.progress self.old.failed self.new.failed (outcome_of result) (λ history. history) (checkpoint_calls self.old.failed self.old.progress) (step_asks self.old.progress) }
     {
@@ -119,7 +119,7 @@ impl<D: Disk + Drop> Engine<D> {
         // It is idle at rest alone, and whole after the steps that were left, and not before.
         ensures leads { CheckpointLeads self.old.failed result self.old.progress self.new.progress }
         // No frame that is clean is given up.
-        ensures clean { self.old.progress.ring.clean_end ≤ self.new.progress.ring.clean_end }
+        ensures clean { self.old.progress.window.clean_end ≤ self.new.progress.window.clean_end }
         // At most one call of the device, known beforehand, and how its failure is told.
         ensures device { OnDevice D.moment D.failures D.asked self.old.disk self.new.disk self.old.failed self.new.failed result (checkpoint_calls self.old.failed self.old.progress) (step_asks self.old.progress) }
         // A step at rest has no call.

@@ -1,7 +1,7 @@
 //! Devices in memory of each layout, engines over them, and what is opened of what is left.
 
 use anyhow::{Error, Result, bail};
-use hpb_codec::{JournalLayout, JournalShape};
+use hpb_codec::{JournalLayout, JournalShape, PAGE_BYTES};
 use hpb_disk::{Disk, Fate, MemoryDisk, OnceDisk};
 use hpb_engine::Engine;
 use hpb_format::format_layout;
@@ -38,7 +38,7 @@ const JOURNAL_AT: usize = 53_248;
 /// The bytes of a frame: a page, or three cells of 512.
 fn frame_bytes(layout: JournalLayout) -> usize {
     match layout {
-        JournalLayout::Pages => 4_096,
+        JournalLayout::Pages => PAGE_BYTES,
         JournalLayout::Cells => 1_536,
     }
 }

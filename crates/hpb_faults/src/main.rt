@@ -22,7 +22,7 @@ mod texts;
 use crate::calls::tried;
 use crate::scripts::{lines_answered, script_answered};
 use anyhow::Result;
-use hpb_server::Fault;
+use hpb_server::SessionFault;
 use std::process::ExitCode;
 use std::sync::Wait;
 
@@ -45,13 +45,13 @@ fn main(rt: HostRuntime) -> ExitCode {
 }
 
 /// The words that the program was started by.
-fn words(rt: &HostRuntime) -> Result<Vec<String>, Fault> {
+fn words(rt: &HostRuntime) -> Result<Vec<String>, SessionFault> {
     match std::env::args(rt) {
         Ok(words) => match words.collect(rt.alloc()) {
             Ok(words) => Ok(words),
-            Err(_) => Err(Fault::Memory),
+            Err(_) => Err(SessionFault::Memory),
         },
-        Err(_) => Err(Fault::Memory),
+        Err(_) => Err(SessionFault::Memory),
     }
 }
 
@@ -77,11 +77,11 @@ fn made(tried: Result<()>) -> u8 {
 }
 
 /// The status that a fault is told by.
-fn status(answered: Result<(), Fault>) -> u8 {
+fn status(answered: Result<(), SessionFault>) -> u8 {
     match answered {
         Ok(()) => WELL,
-        Err(Fault::Memory) => NO_MEMORY,
-        Err(Fault::Reader) => READER_FAILED,
-        Err(Fault::Writer) => WRITER_FAILED,
+        Err(SessionFault::Memory) => NO_MEMORY,
+        Err(SessionFault::Reader) => READER_FAILED,
+        Err(SessionFault::Writer) => WRITER_FAILED,
     }
 }

@@ -5,7 +5,7 @@ use anyhow::Result;
 use hpb_auction::Auction;
 use hpb_define::read_definition;
 use hpb_rules::Refusal;
-use hpb_server::{Fault, ScriptDesk, ScriptEnd, run_script, serve_auction};
+use hpb_server::{ScriptDesk, ScriptEnd, SessionFault, run_script, serve_auction};
 use hpb_tried::{Came, Tried, begin, definition, end, sum_of, sum_of_auction};
 use std::alloc::Global;
 
@@ -17,7 +17,7 @@ const DEFINITION: &[u8] =
 const ROOM: usize = 65_536;
 
 /// Answers the script of the input on the output.
-pub(crate) fn script_answered(rt: &HostRuntime) -> Result<(), Fault> {
+pub(crate) fn script_answered(rt: &HostRuntime) -> Result<(), SessionFault> {
     run_script(
         rt.alloc(),
         &mut rt.stdin(),
@@ -29,10 +29,10 @@ pub(crate) fn script_answered(rt: &HostRuntime) -> Result<(), Fault> {
 }
 
 /// Answers the lines of the input on the output.
-pub(crate) fn lines_answered(rt: &HostRuntime) -> Result<(), Fault> {
+pub(crate) fn lines_answered(rt: &HostRuntime) -> Result<(), SessionFault> {
     let alloc = rt.alloc();
     let Ok(definition) = read_definition(alloc, DEFINITION) else {
-        return Err(Fault::Memory);
+        return Err(SessionFault::Memory);
     };
     let mut desk = ScriptDesk::new(Auction::new(alloc, &definition)?);
     serve_auction(alloc, &mut rt.stdin(), &mut rt.stdout(), &mut desk)

@@ -10,7 +10,7 @@ use Rattle.rtrb.specs.Ring.{IsPair}
 
 -- **How clients begin.** There is one for each seat from 0 on. Each has entered what the house's own viewer has, has nothing outstanding or taken,
 -- knows of no more commands than were opened, and was told of no halt. It posts into the ring that the committer empties for its seat, and gets that
--- ring's mark.
+-- ring's halt.
 --
 -- A viewer has entered what is published.
 abbrev pub IsViewOf : Publishing → Viewing → Type 0
@@ -33,9 +33,9 @@ pub record AreBegun (eye : Viewing) (clients : List (Client Halt)) (count : ℕ)
   pub numbered : map (λ (client : Client Halt). client.seat) clients ≡ range_with_len 0 count
   pub begun : All (IsBegun eye) clients
 
--- A client posts its letters into this ring, and gets its mark out of it.
+-- A client posts its letters into this ring, and gets its halt out of it.
 abbrev pub HasRing : Client Halt → Ring Halt → Type 0
-HasRing client ring = IsPair client.letters ring.letters × IsPair ring.marks client.marks
+HasRing client ring = IsPair client.letters ring.letters × IsPair ring.halts client.halts
 
 -- Each of these has the one at the same place, and there are as many.
 abbrev pub AreOneByOne : {A B : Type 0} (has : A → B → Type 0) → List A → List B → Type 0

@@ -3,11 +3,11 @@ ghost use Rattle.std.specs.Prelude.{◌≡◌, ℕ, ◌<◌, ◌≤◌, ◌++◌
 ghost use Rattle.rtrb.specs.Ring.{sent, received};
 ghost use Rattle.hpb_rules.specs.declared.command.Command.{Command};
 ghost use Rattle.hpb_rules.specs.declared.letter.Letter.{Letter};
-ghost use Rattle.hpb_rings.specs.Gathering.{gathered, marks};
+ghost use Rattle.hpb_rings.specs.Gathering.{gathered, halts};
 ghost use Rattle.hpb_rings.specs.Slips.{ends};
 ghost use Rattle.hpb_house.specs.Committing.{Comes, IsSettled};
 ghost use Rattle.hpb_house.specs.Owing.{IsOwed};
-ghost use Rattle.hpb_house.specs.declared.committing.Turned.TheVariants.{Ended as End, Free};
+ghost use Rattle.hpb_house.specs.declared.committing.AfterTurn.TheVariants.{Ended as End, Free};
 
 use crate::gate::{Gate, Point};
 use crate::house::House;
@@ -38,7 +38,7 @@ const FEW_LOOKS: u32 = 20;
 
 /// What came of a turn of the committer.
 #[derive(Drop)]
-enum Turned {
+enum AfterTurn {
     /// It holds no letters, and expects so many: those that wait, and one more of each that was answered.
     Free { expected: usize },
     /// It holds letters that it offers again.
@@ -80,18 +80,18 @@ pub fn committer<D: Disk + Drop, W: Wait + Drop, J: Naming, G: Gate, R: Wait>(
             await_letters(&mut intake, awaited);
         }
         match turn(rt, house, &mut intake, gate, held, &mut front) {
-            Turned::Free { expected } => {
+            AfterTurn::Free { expected } => {
                 held = Letters::new();
                 awaited = expected;
             }
-            Turned::Held(letters) => held = letters,
-            Turned::Halted(halt) => {
+            AfterTurn::Held(letters) => held = letters,
+            AfterTurn::Halted(halt) => {
                 intake.halt(halt);
                 drain(rt, house, &mut intake, gate);
                 house.dismiss(rt, Over::of(&intake));
                 return Settled { intake, front };
             }
-            Turned::Ended => {
+            AfterTurn::Ended => {
                 house.dismiss(rt, Over::of(&intake));
                 return Settled { intake, front };
             }
@@ -102,7 +102,7 @@ pub fn committer<D: Disk + Drop, W: Wait + Drop, J: Naming, G: Gate, R: Wait>(
 
 /// Looks for letters until as many wait as are expected, or looking was in vain.
 fn await_letters(intake: &mut Intake<Halt>, expected: usize)
-    ensures same { (gathered intake.new.rings.items ≡ gathered intake.old.rings.items) × (marks intake.new.rings.items ≡ marks intake.old.rings.items) × (vec_len intake.new.rings ≡ vec_len intake.old.rings) }
+    ensures same { (gathered intake.new.rings.items ≡ gathered intake.old.rings.items) × (halts intake.new.rings.items ≡ halts intake.old.rings.items) × (vec_len intake.new.rings ≡ vec_len intake.old.rings) }
 {
     let mut most = 0;
     let mut left = LOOKS;
@@ -128,7 +128,7 @@ fn turn<D: Disk + Drop, W: Wait + Drop, J: Naming, G: Gate, R: Wait>(
     gate: &G,
     held: Letters,
     front: &mut Front,
-) -> Turned
+) -> AfterTurn
     requires book { front.old.trail.book ≡ J.eye.book }
     requires owed { IsOwed (gathered intake.old.rings.items) front.old.trail.log held }
     ensures rings { vec_len intake.new.rings ≡ vec_len intake.old.rings }
@@ -174,18 +174,18 @@ fn idle<D: Disk + Drop, W: Wait + Drop, J: Naming, R: Wait>(
     rt: &R,
     house: &House<D, W, J>,
     intake: &Intake<Halt>,
-) -> Turned
+) -> AfterTurn
     ensures comes { (list : List (List Letter)) → IsOwed (gathered intake.now.rings.items) list [] → Comes result (gathered intake.now.rings.items) list }
     ensures ended { result ≡ End → All (λ r. ends (received r.letters) ≡ true) intake.now.rings.items }
 {
     if intake.all_ended() {
-        return Turned::Ended;
+        return AfterTurn::Ended;
     }
     if let Some(halt) = house.halt(rt) {
-        return Turned::Halted(halt);
+        return AfterTurn::Halted(halt);
     }
     house.committing.park(rt);
-    Turned::Free { expected: 0 }
+    AfterTurn::Free { expected: 0 }
 }
 
 /// Makes the steps of a commit.
@@ -194,29 +194,29 @@ fn commit<D: Disk + Drop, W: Wait + Drop, J: Naming, G: Gate, R: Wait>(
     house: &House<D, W, J>,
     intake: &mut Intake<Halt>,
     gate: &G,
-) -> Turned
+) -> AfterTurn
     ensures rings { vec_len intake.new.rings ≡ vec_len intake.old.rings }
     ensures comes { (list : List (List Letter)) → IsOwed (gathered intake.old.rings.items) list [] → Comes result (gathered intake.new.rings.items) list }
     ensures goes_on { result ≡ End → ⊥ }
 {
     for _ in rt.forever() {
         match house.commit(rt) {
-            Ok(Step::Went) => gate.at(rt, Point::Turned),
-            Ok(Step::Idle) => return Turned::Free { expected: 0 },
+            Ok(Step::Went) => gate.at(rt, Point::BetweenTurns),
+            Ok(Step::Idle) => return AfterTurn::Free { expected: 0 },
             Ok(Step::Done(answers)) => {
                 let turned = expecting(intake, &answers);
                 wake_answered(intake, &answers);
                 gate.at(rt, Point::Committed);
                 return turned;
             }
-            Err(_) => return halted(rt, house, Turned::Free { expected: 0 }),
+            Err(_) => return halted(rt, house, AfterTurn::Free { expected: 0 }),
         }
     }
     unreachable!()
 }
 
 /// It is free, and expects a letter more for each of these answers.
-fn expecting(intake: &mut Intake<Halt>, answers: &Answers) -> Turned
+fn expecting(intake: &mut Intake<Halt>, answers: &Answers) -> AfterTurn
     ensures expects { (expected : ℕ) → result ≡ Free expected → length answers.now ≤ expected }
     ensures rings { vec_len intake.new.rings ≡ vec_len intake.old.rings }
     ensures comes { (list : List (List Letter)) → IsOwed (gathered intake.old.rings.items) list [] → Comes result (gathered intake.new.rings.items) list }
@@ -226,7 +226,7 @@ fn expecting(intake: &mut Intake<Halt>, answers: &Answers) -> Turned
         .waiting()
         .saturating_add(answers.len())
         .min(MOST_LETTERS);
-    Turned::Free { expected }
+    AfterTurn::Free { expected }
 }
 
 /// Waits until letters can be offered again.
@@ -235,12 +235,12 @@ fn hold<D: Disk + Drop, W: Wait + Drop, J: Naming, R: Wait>(
     house: &House<D, W, J>,
     letters: Letters,
     reason: Reason,
-) -> Turned
+) -> AfterTurn
     ensures comes { (came : List (List Command)) (list : List (List Letter)) → IsOwed came list letters → Comes result came list }
     ensures goes_on { result ≡ End → ⊥ }
 {
     match reason {
-        Reason::Failed => return halted(rt, house, Turned::Held(letters)),
+        Reason::Failed => return halted(rt, house, AfterTurn::Held(letters)),
         // A whole checkpoint rings the bell.
         Reason::Full => {
             house.checkpointing.unpark();
@@ -251,15 +251,15 @@ fn hold<D: Disk + Drop, W: Wait + Drop, J: Naming, R: Wait>(
             Parker::new().park_timeout(rt, Duration::from_millis(PAUSE));
         }
     }
-    Turned::Held(letters)
+    AfterTurn::Held(letters)
 }
 
 /// The engine has failed: what it says of itself, and else what would come otherwise.
 fn halted<D: Disk + Drop, W: Wait + Drop, J: Naming, R: Wait>(
     rt: &R,
     house: &House<D, W, J>,
-    other: Turned,
-) -> Turned
+    other: AfterTurn,
+) -> AfterTurn
     requires goes_on { other ≡ End → ⊥ }
     ensures comes { (came : List (List Command)) (list : List (List Letter)) → Comes other came list → Comes result came list }
     ensures goes_on { result ≡ End → ⊥ }
@@ -267,7 +267,7 @@ fn halted<D: Disk + Drop, W: Wait + Drop, J: Naming, R: Wait>(
     // The checkpointer ends with the halt at once, and not only when it is rung the next time.
     house.checkpointing.unpark();
     match house.halt(rt) {
-        Some(halt) => Turned::Halted(halt),
+        Some(halt) => AfterTurn::Halted(halt),
         None => other,
     }
 }
@@ -280,9 +280,9 @@ fn drain<D: Disk + Drop, W: Wait + Drop, J: Naming, G: Gate, R: Wait>(
     intake: &mut Intake<Halt>,
     gate: &G,
 )
-    requires told { All (λ r. length (sent r.marks) ≡ 1) intake.old.rings.items }
+    requires told { All (λ r. length (sent r.halts) ≡ 1) intake.old.rings.items }
     ensures rings { vec_len intake.new.rings ≡ vec_len intake.old.rings }
-    ensures told { All (λ r. length (sent r.marks) ≡ 1) intake.new.rings.items }
+    ensures told { All (λ r. length (sent r.halts) ≡ 1) intake.new.rings.items }
     ensures ended { All (λ r. ends (received r.letters) ≡ true) intake.new.rings.items }
     ensures lost { (list : List (List Letter)) (lost : List Letter) → IsOwed (gathered intake.old.rings.items) list lost → (more : List Letter) × IsOwed (gathered intake.new.rings.items) list more }
 {

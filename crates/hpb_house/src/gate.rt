@@ -8,7 +8,7 @@ pub enum Point {
     /// The committer has gathered letters, or found none.
     Gathered,
     /// It has made a turn of a commit that has more of them.
-    Turned,
+    BetweenTurns,
     /// It has finished a commit: the answers are published.
     Committed,
     /// The checkpointer has written the page of this place, from 0 to 3.

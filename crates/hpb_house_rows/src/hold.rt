@@ -178,7 +178,7 @@ impl Gate for Crossing {
             Point::Committed => {
                 self.commits.fetch_add(1, Ordering::SeqCst);
             }
-            Point::Turned => self.stand(rt),
+            Point::BetweenTurns => self.stand(rt),
             Point::Page(page) => self.write(rt, page),
             Point::Gathered | Point::Retired | Point::Failed => {}
         }

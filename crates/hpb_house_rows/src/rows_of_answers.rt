@@ -216,7 +216,7 @@ const REST: u32 = 1_000;
 const FEW_TURNS: u32 = 100_000;
 
 /// Waits until the committer sleeps.
-fn rest<R: Wait>(rt: &R) {
+fn linger<R: Wait>(rt: &R) {
     for _ in 0..REST {
         pause(rt);
     }
@@ -256,9 +256,9 @@ impl TwoPosts {
         ensures same { SameClient client.old client.new }
     {
         let _ = post(client, accepted_command(0));
-        rest(rt);
+        linger(rt);
         let _ = post(client, accepted_command(1));
-        rest(rt);
+        linger(rt);
         self.count_next(rt, client);
         self.count_next(rt, client);
         self.is_done.store(true, Ordering::SeqCst);

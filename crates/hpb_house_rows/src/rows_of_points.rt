@@ -66,7 +66,7 @@ impl Gate for Tally {
     fn at<R: Wait>(&self, _rt: &R, point: Point) {
         let count = match point {
             Point::Gathered => &self.gathered,
-            Point::Turned => &self.turned,
+            Point::BetweenTurns => &self.turned,
             Point::Committed => &self.committed,
             Point::Page(page) if u32::from(page) != self.pages.load(Ordering::SeqCst) => return,
             Point::Page(_) => &self.pages,

@@ -1,12 +1,13 @@
 //! Frames of one page each.
 ghost use Rattle.std.specs.Prelude.{◌≡◌, ◌+◌, ◌*◌, ◌≤◌, ◌<◌, length};
 ghost use Rattle.hpb_codec.specs.declared.layout.TheConstants.{LEAST_FRAMES, MOST_FRAMES};
-ghost use Rattle.hpb_journal.specs.declared.limits.TheConstants.{JOURNAL_AT, PAGE_BYTES};
+ghost use Rattle.hpb_codec.specs.declared.layout.TheConstants.{PAGE_BYTES};
+ghost use Rattle.hpb_journal.specs.declared.limits.TheConstants.{JOURNAL_AT};
 
-use crate::limits::{BODY_AT, JOURNAL_AT, PAGE_BYTES};
+use crate::limits::{BODY_AT, JOURNAL_AT};
 use crate::page::frame_in;
 use crate::{Frame, Frames};
-use hpb_codec::{BATCH_SIZE, Batch, batches_are_one, encode_batch};
+use hpb_codec::{BATCH_SIZE, Batch, PAGE_BYTES, batches_are_one, encode_batch};
 use hpb_disk::{
     Disk, DiskFailed, close_gate, elsewhere_stays, open_gate, put_is_read, put_is_torn,
 };

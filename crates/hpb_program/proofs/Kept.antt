@@ -14,7 +14,7 @@ use Rattle.hpb_recover.specs.declared.cause.Cause.{Cause}
 use Rattle.hpb_recover.specs.declared.cause.Cause.TheVariants as opening
 use Rattle.hpb_recover.specs.Causes.{IsCauseAt}
 use Rattle.hpb_run.specs.Running.{RunsFrom, ServesFrom}
-use Rattle.hpb_server.specs.declared.fault.Fault.{Fault}
+use Rattle.hpb_server.specs.declared.fault.SessionFault.{SessionFault}
 use Rattle.hpb_server.specs.Streams.{AreKept, Streams, streams}
 use Rattle.hpb_words.specs.declared.job_fault.JobFault.{JobFault}
 use Rattle.hpb_words.specs.declared.job_fault.JobFault.TheVariants as faults
@@ -28,7 +28,7 @@ are_kept a b = (Keeps-refl a, Keeps-refl b)
 
 -- an engine was run that has the auction which is read on a device, and keeps each history that the device stood for
 pub is_run : {D : Type 0} (seen : D → List ℕ) (may_leave : D → List ℕ → Type 0) (failures : D → ℕ) (opened : D) (before after : Streams)
-    (first : D) (start : Progress) (broken : Bool) (disk : D) (progress : Progress) (failed : Bool) (end : Result ⊤ Fault)
+    (first : D) (start : Progress) (broken : Bool) (disk : D) (progress : Progress) (failed : Bool) (end : Result ⊤ SessionFault)
     → ((found : Found) × Reads found (seen opened) × (start.committed ≡ last_value found))
     → ((history : List Command) → Stands history (seen opened) → Keeps seen may_leave first start broken (at_rest history))
     → broken ≡ false

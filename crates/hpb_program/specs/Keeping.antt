@@ -9,7 +9,7 @@ use Rattle.hpb_recover.specs.Standing.{Stands}
 use Rattle.hpb_engine.specs.declared.progress.Progress.{Progress}
 use Rattle.hpb_recover.specs.declared.cause.Cause.TheVariants as opening
 use Rattle.hpb_run.specs.Running.{ServesFrom}
-use Rattle.hpb_server.specs.declared.fault.Fault.{Fault}
+use Rattle.hpb_server.specs.declared.fault.SessionFault.{SessionFault}
 use Rattle.hpb_server.specs.Streams.{AreKept, Streams}
 use Rattle.hpb_server.specs.Telling.{ExplainsAt}
 use Rattle.hpb_words.specs.declared.job_fault.JobFault.{JobFault}
@@ -19,7 +19,7 @@ use Rattle.hpb_program.specs.Doubts.{TellsIll, TellsImage, TellsStopped}
 use Rattle.hpb_program.specs.Jobs.{IsKept}
 
 -- The auction that is read on a device was run: by each history that the device stood for the lines were answered.
-pub record IsRun {D : Type 0} (seen : D → List ℕ) (may_leave : D → List ℕ → Type 0) (failures : D → ℕ) (opened : D) (before after : Streams) (disk : D) (progress : Progress) (failed : Bool) (end : Result ⊤ Fault) : Type 0 where
+pub record IsRun {D : Type 0} (seen : D → List ℕ) (may_leave : D → List ℕ → Type 0) (failures : D → ℕ) (opened : D) (before after : Streams) (disk : D) (progress : Progress) (failed : Bool) (end : Result ⊤ SessionFault) : Type 0 where
   pub found : Found
   pub reads : Reads found (seen opened)
   pub shows : IsKept (seen opened) (last_value found)

@@ -1,7 +1,7 @@
 -- What the program does with its streams, and its status.
 use Rattle.std.specs.Prelude.{◌≡◌, ℕ, Bool, true, false, List, [], Option, Result, Ok, Err, ⊤, ◌⊎◌, string_bytes}
 use Rattle.std.specs.Io.KnownBytes.{Keeps}
-use Rattle.hpb_server.specs.declared.fault.Fault.{Fault}
+use Rattle.hpb_server.specs.declared.fault.SessionFault.{SessionFault}
 use Rattle.hpb_server.specs.declared.script.ScriptEnd.{ScriptEnd}
 use Rattle.hpb_server.specs.declared.script.ScriptEnd.TheVariants as ends
 use Rattle.hpb_words.specs.declared.status.TheConstants.{WELL, ILL, WRONG_WORDS}
@@ -28,7 +28,7 @@ use Rattle.hpb_server.specs.Telling.{Says, SaysOfScript, TellsOf}
 use Rattle.hpb_rules.specs.declared.refusal.Refusal.TheVariants as refusals
 
 -- The status by the end of a script.
-abbrev pub status_of_script : Result ScriptEnd Fault → ℕ
+abbrev pub status_of_script : Result ScriptEnd SessionFault → ℕ
 status_of_script (Ok ends.Answered) = WELL
 status_of_script (Ok (ends.Refused refusal)) = ILL
 status_of_script (Err fault) = ILL
@@ -59,12 +59,12 @@ TellsEnd cut old new errors_old errors_new (Err faults.Writer) status = (cut ≡
 TellsEnd cut old new errors_old errors_new (Err fault) status = TellsFault cut old new errors_old errors_new fault status
 
 -- What people are told at the end of a script: of the fault that ended it.
-abbrev pub TellsScript : (errors_old errors_new : Option (List ℕ)) → Result ScriptEnd Fault → Type 0
+abbrev pub TellsScript : (errors_old errors_new : Option (List ℕ)) → Result ScriptEnd SessionFault → Type 0
 TellsScript errors_old errors_new (Ok end) = Keeps errors_old errors_new
 TellsScript errors_old errors_new (Err fault) = TellsOf errors_old errors_new (sessions.refusal_of fault)
 
 -- What the errors are told of a run or of serving that had begun, and its status: by what ended it, and whether a call of the disk had failed.
-abbrev pub TellsEnded : (errors_old errors_new : Option (List ℕ)) → Result ⊤ Fault → Bool → ℕ → Type 0
+abbrev pub TellsEnded : (errors_old errors_new : Option (List ℕ)) → Result ⊤ SessionFault → Bool → ℕ → Type 0
 TellsEnded errors_old errors_new (Ok done) false status = Keeps errors_old errors_new × (status ≡ WELL)
 TellsEnded errors_old errors_new (Ok done) true status = TellsOf errors_old errors_new refusals.Device × (status ≡ ILL)
 TellsEnded errors_old errors_new (Err fault) failed status = TellsOf errors_old errors_new (sessions.refusal_of fault) × (status ≡ ILL)
@@ -82,7 +82,7 @@ TellsServed cut old new errors_old errors_new (Err fault) status = TellsFault cu
 -- What a job does with the streams and the errors, and the status that it gives. Of what a file holds that no honest file does the errors are told first. The output is cut at the end, or it isn't.
 abbrev pub RunsJob : (is_terminal : Bool) → Job → (before after : Streams) (cut : Bool) (errors_old errors_new : Option (List ℕ)) → ℕ → Type 0
 RunsJob is_terminal Script before after cut errors_old errors_new status =
-    (end : Result ScriptEnd Fault) × RunsScript before after end × (status ≡ status_of_script end)
+    (end : Result ScriptEnd SessionFault) × RunsScript before after end × (status ≡ status_of_script end)
     × (errors_said : Option (List ℕ)) × SaysOfScript is_terminal errors_old errors_said end × TellsScript errors_said errors_new end
 RunsJob is_terminal (Format file journal) before after cut errors_old errors_new status =
     (done : Streams) × (end : Result ⊤ JobFault) × Formats journal before done end

@@ -1,7 +1,7 @@
 //! What happens beside sessions that are served, told to people.
 
+use hpb_codec::PAGE_BYTES;
 use hpb_disk::{FileDisk, FileFault};
-use hpb_recover::PAGE_BYTES;
 use hpb_serve::Watch;
 use hpb_words::{Change, ChangeNotice, FailedNotice, SeatNotice, notify};
 use std::alloc::{AllocError, Global};
@@ -85,7 +85,7 @@ impl<'a> Lookout<'a> {
         path: &'a str,
         disk: &FileDisk,
     ) -> Result<Lookout<'a>, FileFault> {
-        if !disk.mark()?.is_at(rt, path) {
+        if !disk.stamp()?.is_at(rt, path) {
             return Err(FileFault::Busy);
         }
         let file = File::open(rt, path)?;

@@ -14,7 +14,7 @@ use crate::keeping::run_file;
 use crate::serving::{FileEnd, serve_file};
 use crate::streams::{Led, refuse_led};
 use hpb_rules::Refusal;
-use hpb_server::{Fault, ScriptEnd, run_script, say};
+use hpb_server::{ScriptEnd, SessionFault, run_script, say};
 use hpb_words::{
     EndAdvice, Failures, ILL, Job, JobAdvice, JobFault, Known, Noted, RunEnd, ScriptAdvice,
     StreamsAdvice, WELL, WRONG_WORDS, WordsFault, advise, answer_memory, hint, known_of,
@@ -186,7 +186,7 @@ fn run_job<
 /// Tells people which fault ended a script, and gives the program's status.
 fn tell_script<E: Write>(
     alloc: Global,
-    end: Result<ScriptEnd, Fault>,
+    end: Result<ScriptEnd, SessionFault>,
     failures: Failures,
     errors: &mut E,
 ) -> u8

@@ -14,7 +14,7 @@ use hpb_disk::{Disk, FileDisk};
 use hpb_house::{Closing, StartCause};
 use hpb_rings::Report;
 use hpb_serve::{ServeFault, Served, Unwatched, Watch, serve_watched};
-use hpb_server::Fault;
+use hpb_server::SessionFault;
 use hpb_words::{JobFault, Noted};
 use std::alloc::{AllocError, Global};
 use std::fs::{File, Files};
@@ -34,7 +34,7 @@ pub struct ServeEnd<D: Disk + Drop> {
     /// What was served, and what the house leaves.
     pub served: Served<D>,
     /// Whether the last line was written.
-    pub said: Result<(), Fault>,
+    pub said: Result<(), SessionFault>,
 }
 
 /// How serving a file ended that had begun. The file is closed.
@@ -53,7 +53,7 @@ pub struct FileEnd {
     /// The report of each session's client, from seat 0 on.
     pub reports: Vec<Report>,
     /// Whether the last line was written.
-    pub said: Result<(), Fault>,
+    pub said: Result<(), SessionFault>,
 }
 
 /// What was served, before that is told.
@@ -240,7 +240,7 @@ fn say_closed<W: Write>(
     room: String,
     count: u32,
     output: &mut Noted<W>,
-) -> Result<Result<(), Fault>, AllocError>
+) -> Result<Result<(), SessionFault>, AllocError>
     requires { string_bytes room ≡ [] }
     ensures sent { MatchResult result (λ said. Sends (W.contents output.old.stream) (W.contents output.new.stream) (closed_line count) said) (λ _. W.contents output.new.stream ≡ W.contents output.old.stream) }
     ensures taken { IfOk result (IsTaken (is_cut output.new)) }
@@ -250,12 +250,12 @@ fn say_closed<W: Write>(
 }
 
 /// Writes a line, and has it handed on.
-fn send_line<W: Write>(line: &str, output: &mut Noted<W>) -> Result<(), Fault>
+fn send_line<W: Write>(line: &str, output: &mut Noted<W>) -> Result<(), SessionFault>
     ensures sent { Sends (W.contents output.old.stream) (W.contents output.new.stream) line.now result }
     ensures taken { IsTaken (is_cut output.new) result }
 {
     match output.send(line.as_bytes()) {
         Ok(()) => Ok(()),
-        Err(_) => Err(Fault::Writer),
+        Err(_) => Err(SessionFault::Writer),
     }
 }

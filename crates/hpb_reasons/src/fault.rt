@@ -23,8 +23,8 @@ pub(crate) enum Misfit<'v> {
 
 impl<'v> Misfit<'v> {
     /// This, at a place.
-    pub(crate) fn at(self, place: Place<'v>) -> Fault<'v> {
-        Fault {
+    pub(crate) fn at(self, place: Place<'v>) -> Finding<'v> {
+        Finding {
             place,
             misfit: self,
         }
@@ -54,12 +54,12 @@ impl fmt::Display for Misfit<'_> {
 
 /// The first thing that is wrong with a definition under one rule.
 #[derive(Clone, Copy)]
-pub(crate) struct Fault<'v> {
+pub(crate) struct Finding<'v> {
     place: Place<'v>,
     misfit: Misfit<'v>,
 }
 
-impl fmt::Display for Fault<'_> {
+impl fmt::Display for Finding<'_> {
     fn fmt<W: fmt::Write>(&self, f: &mut fmt::Formatter<W>) -> fmt::Result {
         let (place, misfit) = (self.place, self.misfit);
         match place {

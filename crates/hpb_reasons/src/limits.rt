@@ -2,7 +2,7 @@
 ghost use Rattle.std.specs.Prelude.{◌≡◌, is_ok, length, nat_le};
 
 use crate::entries::{is_licence, items, place_named, text};
-use crate::fault::{Fault, Misfit};
+use crate::fault::{Finding, Misfit};
 use crate::place::{List, Place};
 use crate::shown::Limit;
 use hpb_rules::{MOST_BIDDERS, MOST_LEVELS, MOST_LICENCES, MOST_NODES, MOST_STAGES};
@@ -39,7 +39,7 @@ impl fmt::Display for LimitMisfit {
 }
 
 /// Whether no limit is passed, and else which is the first.
-pub(crate) fn check_limits(definition: &Value) -> Result<(), Fault<'_>> {
+pub(crate) fn check_limits(definition: &Value) -> Result<(), Finding<'_>> {
     let nodes = items(definition, List::Nodes);
     check_count(List::Nodes, nodes, MOST_NODES)?;
     let licences = nodes.iter().filter(|node| is_licence(node)).count();
@@ -56,7 +56,7 @@ pub(crate) fn check_limits(definition: &Value) -> Result<(), Fault<'_>> {
     check_levels(nodes)
 }
 
-fn check_count<'v>(list: List, items: &[Value], most: usize) -> Result<(), Fault<'v>>
+fn check_count<'v>(list: List, items: &[Value], most: usize) -> Result<(), Finding<'v>>
     ensures { is_ok result ≡ nat_le (length items.now) most }
 {
     let count = items.len();
@@ -67,7 +67,7 @@ fn check_count<'v>(list: List, items: &[Value], most: usize) -> Result<(), Fault
     Err(misfit.at(Place::Field(list.field())))
 }
 
-fn check_levels<'v>(nodes: &[Value]) -> Result<(), Fault<'v>> {
+fn check_levels<'v>(nodes: &[Value]) -> Result<(), Finding<'v>> {
     let mut levels = [0; MOST_NODES];
     for (index, node) in nodes.iter().enumerate() {
         let level = level_of(node, nodes, &levels);

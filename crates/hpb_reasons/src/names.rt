@@ -3,7 +3,7 @@ ghost use Rattle.std.specs.Prelude.{◌≡◌};
 ghost use Rattle.hpb_rules.specs.Drafts.{is_name_byte};
 
 use crate::entries::{items, place_named, text};
-use crate::fault::{Fault, Misfit};
+use crate::fault::{Finding, Misfit};
 use crate::place::{Item, List};
 use crate::shown::{Limit, Quoted, QuotedCharacter};
 use hpb_rules::MOST_NAME_BYTES;
@@ -42,7 +42,7 @@ impl fmt::Display for NameMisfit<'_> {
 }
 
 /// Whether each name is one, and else what is wrong with the first that isn't.
-pub(crate) fn check_names(definition: &Value) -> Result<(), Fault<'_>> {
+pub(crate) fn check_names(definition: &Value) -> Result<(), Finding<'_>> {
     for list in [List::Nodes, List::Bidders] {
         for (index, item) in items(definition, list).iter().enumerate() {
             if let Some(misfit) = text(item, "name").and_then(misfit_of_name) {
@@ -68,7 +68,7 @@ fn may_be_in_name(character: char) -> bool
 }
 
 /// Whether each name is its item's alone, and else which is the first that isn't.
-pub(crate) fn check_duplicates(definition: &Value) -> Result<(), Fault<'_>> {
+pub(crate) fn check_duplicates(definition: &Value) -> Result<(), Finding<'_>> {
     for list in [List::Nodes, List::Bidders] {
         let items = items(definition, list);
         for (index, item) in items.iter().enumerate() {

@@ -1,5 +1,5 @@
 use crate::entries::items;
-use crate::fault::{Fault, Misfit};
+use crate::fault::{Finding, Misfit};
 use crate::fields::check_fields;
 use crate::json::text_fault;
 use crate::limits::check_limits;
@@ -61,7 +61,7 @@ fn reason_of_text(alloc: Global, text: &[u8]) -> Result<Explanation, AllocError>
 }
 
 /// Whether a definition keeps the rule of a refusal, and else what is wrong at the first place where it doesn't.
-fn check<'v>(definition: &'v Value, text: &'v [u8], refusal: Refusal) -> Result<(), Fault<'v>> {
+fn check<'v>(definition: &'v Value, text: &'v [u8], refusal: Refusal) -> Result<(), Finding<'v>> {
     match refusal {
         Refusal::Empty => check_lists(definition),
         Refusal::Name => check_names(definition),
@@ -77,7 +77,7 @@ fn check<'v>(definition: &'v Value, text: &'v [u8], refusal: Refusal) -> Result<
     }
 }
 
-fn check_lists(definition: &Value) -> Result<(), Fault<'_>> {
+fn check_lists(definition: &Value) -> Result<(), Finding<'_>> {
     for list in [List::Nodes, List::Bidders, List::Stages] {
         if items(definition, list).is_empty() {
             return Err(Misfit::Empty(list).at(Place::Field(list.field())));

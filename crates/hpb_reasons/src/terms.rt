@@ -1,6 +1,6 @@
 //! The units and openings of licences.
 use crate::entries::{items, number};
-use crate::fault::{Fault, Misfit};
+use crate::fault::{Finding, Misfit};
 use crate::numbers::Range;
 use crate::place::{List, Place};
 use hpb_rules::{MOST_LICENCE_OPENING, MOST_LICENCE_UNITS};
@@ -22,7 +22,7 @@ impl fmt::Display for TermsMisfit {
 }
 
 /// Whether each licence's units and opening may be so, and else what is wrong with the first that mayn't.
-pub(crate) fn check_terms(definition: &Value) -> Result<(), Fault<'_>> {
+pub(crate) fn check_terms(definition: &Value) -> Result<(), Finding<'_>> {
     let step = number(definition, "step").unwrap_or(1);
     let most = u64::from(MOST_LICENCE_UNITS);
     for (index, node) in items(definition, List::Nodes).iter().enumerate() {
@@ -38,7 +38,7 @@ pub(crate) fn check_terms(definition: &Value) -> Result<(), Fault<'_>> {
 }
 
 /// The least opening that there can be is the step.
-fn check_opening<'v>(opening: u64, place: Place<'v>, step: u64) -> Result<(), Fault<'v>> {
+fn check_opening<'v>(opening: u64, place: Place<'v>, step: u64) -> Result<(), Finding<'v>> {
     let most = MOST_LICENCE_OPENING;
     if opening == 0 || opening > most {
         return Range { least: step, most }.check(opening, place);

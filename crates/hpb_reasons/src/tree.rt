@@ -1,6 +1,6 @@
 //! Nodes, their parents and their children.
 use crate::entries::{has_text, is_licence, items, place_named, text};
-use crate::fault::{Fault, Misfit};
+use crate::fault::{Finding, Misfit};
 use crate::place::{Item, List, Place};
 use crate::shown::Quoted;
 use hpb_rules::LEAST_CHILDREN;
@@ -67,7 +67,7 @@ impl fmt::Display for TreeMisfit<'_> {
 }
 
 /// Whether each parent stands before its node, and else what is wrong with the first that doesn't.
-pub(crate) fn check_parents(definition: &Value) -> Result<(), Fault<'_>> {
+pub(crate) fn check_parents(definition: &Value) -> Result<(), Finding<'_>> {
     let nodes = items(definition, List::Nodes);
     for (index, node) in nodes.iter().enumerate() {
         let Some(parent) = text(node, "parent") else {
@@ -95,7 +95,7 @@ fn misfit_of_parent<'v>(nodes: &[Value], index: usize, parent: &'v str) -> Optio
 }
 
 /// Whether each package has two children, and else what is wrong with the first that hasn't.
-pub(crate) fn check_packages(definition: &Value) -> Result<(), Fault<'_>> {
+pub(crate) fn check_packages(definition: &Value) -> Result<(), Finding<'_>> {
     let nodes = items(definition, List::Nodes);
     for (index, node) in nodes.iter().enumerate() {
         if is_licence(node) {
@@ -119,7 +119,7 @@ pub(crate) fn check_packages(definition: &Value) -> Result<(), Fault<'_>> {
 }
 
 /// Whether no licence has a child, and else which is the first that has, and its first child.
-pub(crate) fn check_licences(definition: &Value) -> Result<(), Fault<'_>> {
+pub(crate) fn check_licences(definition: &Value) -> Result<(), Finding<'_>> {
     let nodes = items(definition, List::Nodes);
     for (index, node) in nodes.iter().enumerate() {
         if !is_licence(node) {

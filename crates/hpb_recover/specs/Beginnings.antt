@@ -3,7 +3,8 @@ use Rattle.std.specs.Prelude.{◌≡◌, ℕ, ◌*◌, ◌%◌, ◌≤◌, List,
 use Rattle.hpb_codec.specs.declared.head.TheConstants.{HEAD_SIZE}
 use Rattle.hpb_disk.specs.Gates.{HasOpenGate}
 use Rattle.hpb_disk.specs.Images.{part}
-use Rattle.hpb_recover.specs.declared.limits.TheConstants.{PAGE_BYTES, HEAD_AT, LEAST_PAGES}
+use Rattle.hpb_codec.specs.declared.layout.TheConstants.{PAGE_BYTES}
+use Rattle.hpb_recover.specs.declared.limits.TheConstants.{HEAD_AT, LEAST_PAGES}
 
 -- The image has this length, whole pages, enough of them, an open gate, and these bytes behind it.
 pub record Begins (bytes : List ℕ) (len : ℕ) (image : List ℕ) : Type 0 where

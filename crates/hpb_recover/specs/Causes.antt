@@ -3,7 +3,8 @@ use Rattle.std.specs.Prelude.{◌≡◌, ℕ, ◌*◌, ◌%◌, ◌<◌, ◌≤�
 use Rattle.hpb_disk.specs.Asked.{Asked}
 use Rattle.hpb_disk.specs.Asked.Asked.{fails}
 use Rattle.hpb_disk.specs.Gates.{HasOpenGate}
-use Rattle.hpb_recover.specs.declared.limits.TheConstants.{PAGE_BYTES, LEAST_PAGES}
+use Rattle.hpb_codec.specs.declared.layout.TheConstants.{PAGE_BYTES}
+use Rattle.hpb_recover.specs.declared.limits.TheConstants.{LEAST_PAGES}
 use Rattle.hpb_recover.specs.declared.flaw.Flaw.{Flaw}
 use Rattle.hpb_recover.specs.Flaws.{HasFlaw}
 use Rattle.hpb_recover.specs.Flaws as flaws
@@ -52,7 +53,7 @@ IsUnlessMachine flaw (causes.Flawed other) = other ≡ flaw
 IsUnlessMachine flaw causes.Memory = Unit {0}
 IsUnlessMachine flaw causes.Device = Unit {0}
 
--- What a device was asked for in all, where a call ended for this cause: then the mark of a failure, where it was the device's.
+-- What a device was asked for in all, where a call ended for this cause: then the note of a failure, where it was the device's.
 abbrev pub ended_by : Cause → List Asked → List Asked
 ended_by (causes.Flawed flaw) asked = asked
 ended_by causes.Memory asked = asked

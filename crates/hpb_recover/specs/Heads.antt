@@ -4,7 +4,8 @@ use Rattle.hpb_disk.specs.Images.{part}
 use Rattle.hpb_disk.specs.Gates.{HasOpenGate}
 use Rattle.hpb_journal.specs.Layouts.{Layout}
 use Rattle.hpb_journal.specs.Shapes.{shaped}
-use Rattle.hpb_recover.specs.declared.limits.TheConstants.{PAGE_BYTES, HEAD_AT, MAGIC_BYTES, LEAST_PAGES}
+use Rattle.hpb_codec.specs.declared.layout.TheConstants.{PAGE_BYTES}
+use Rattle.hpb_recover.specs.declared.limits.TheConstants.{HEAD_AT, MAGIC_BYTES, LEAST_PAGES}
 use Rattle.hpb_codec.specs.Heads.{SpellsHead, magic}
 use Rattle.hpb_codec.specs.declared.head.Head.{Head}
 use Rattle.hpb_codec.specs.declared.head.TheConstants.{HEAD_SIZE}

@@ -28,7 +28,7 @@ pub use laws::limits_are;
 pub use laws_of_images::{
     flaw_is_one, read_is_flawless, read_is_shown, reading_is_one, stands_for_one, stands_is_read,
 };
-pub use limits::{HEAD_AT, LEAST_PAGES, MAGIC_BYTES, PAGE_BYTES};
+pub use limits::{HEAD_AT, LEAST_PAGES, MAGIC_BYTES};
 pub use opened::Opened;
 pub use opening::open;
 pub use plan::Plan;

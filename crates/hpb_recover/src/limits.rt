@@ -1,6 +1,3 @@
-/// The bytes of a page.
-pub const PAGE_BYTES: usize = 4_096;
-
 /// A formatted device has at least so many pages.
 pub const LEAST_PAGES: usize = 17;
 

@@ -7,7 +7,7 @@ use Rattle.hpb_rules.specs.declared.letter.Letter.{Letter}
 use Rattle.hpb_rings.specs.declared.slip.Slip.{Slip}
 use Rattle.hpb_rings.specs.declared.slip.Slip.TheVariants.{Letter as Post, End}
 use Rattle.hpb_rings.specs.Slips.{commands, ends}
-use Rattle.hpb_rings.specs.Gathering.{letter_of, Drained, of_seat, gathered, at_seat, marks, told_of}
+use Rattle.hpb_rings.specs.Gathering.{letter_of, Drained, of_seat, gathered, at_seat, halts, told_of}
 use Rattle.hpb_rings.specs.declared.ring.Ring.{Ring}
 use Rattle.rtrb.specs.Ring.{sent, received}
 use Rattle.std.proofs.lemmas.Bool.Decides.{nat_tests}
@@ -109,10 +109,10 @@ module _ {M : Type 0} where
   at_seat-else (r ∷ rs) (suc k) zero y h = refl
   at_seat-else (r ∷ rs) (suc k) (suc s) y h = at_seat-else rs k s y (λ e. h (ap suc e))
 
-  pub marks-same : (rs : List (Ring M)) (k : ℕ) (y d : Ring M) → y.marks ≡ (slice_index_or rs k d).marks → marks (slice_set rs k y) ≡ marks rs
-  marks-same [] k y d e = refl
-  marks-same (r ∷ rs) zero y d e = ap (λ m. sent m ∷ marks rs) e
-  marks-same (r ∷ rs) (suc k) y d e = ap (λ (l : List (List M)). sent r.marks ∷ l) (marks-same rs k y d e)
+  pub halts-same : (rs : List (Ring M)) (k : ℕ) (y d : Ring M) → y.halts ≡ (slice_index_or rs k d).halts → halts (slice_set rs k y) ≡ halts rs
+  halts-same [] k y d e = refl
+  halts-same (r ∷ rs) zero y d e = ap (λ m. sent m ∷ halts rs) e
+  halts-same (r ∷ rs) (suc k) y d e = ap (λ (l : List (List M)). sent r.halts ∷ l) (halts-same rs k y d e)
 
   -- what every ring gave is in the batch, also after one more was drained
   poured_at : (rs : List (Ring M)) (olds : List (List Command)) (k : ℕ) (y d : Ring M) (ls ls' : List Letter) → k < length rs
@@ -154,11 +154,11 @@ module _ {M : Type 0} where
   once_or m (x ∷ xs) false e = absurd (omega arith)
 
   -- whoever was told was told once
-  pub told-once : (m : M) (rs olds : List (Ring M)) → marks rs ≡ map (told_of m) olds → (k : ℕ) (d : Ring M) → k < length rs → length (sent (slice_index_or rs k d).marks) ≡ 1
+  pub told-once : (m : M) (rs olds : List (Ring M)) → halts rs ≡ map (told_of m) olds → (k : ℕ) (d : Ring M) → k < length rs → length (sent (slice_index_or rs k d).halts) ≡ 1
   told-once m [] olds e k d h = absurd (omega arith)
   told-once m (r ∷ rs) [] e k d h = absurd (cc e)
-  told-once m (r ∷ rs) (o ∷ olds) e zero d h = let one : sent r.marks ≡ told_of m o = cc e in ap length one ∙ once_or m (sent o.marks) o.is_told o.once
+  told-once m (r ∷ rs) (o ∷ olds) e zero d h = let one : sent r.halts ≡ told_of m o = cc e in ap length one ∙ once_or m (sent o.halts) o.is_told o.once
   told-once m (r ∷ rs) (o ∷ olds) e (suc k) d h = told-once m rs olds (cc e) k d (omega arith)
 
-  pub all-told : (m : M) (n : ℕ) (rs olds : List (Ring M)) → marks (take n rs) ≡ map (told_of m) (take n olds) → length rs ≤ n → length olds ≤ n → (k : ℕ) (d : Ring M) → k < length rs → length (sent (slice_index_or rs k d).marks) ≡ 1
-  all-told m n rs olds e h h' = told-once m rs olds (ap marks (sym (take_all n rs h)) ∙ (e ∙ ap (map (told_of m)) (take_all n olds h')))
+  pub all-told : (m : M) (n : ℕ) (rs olds : List (Ring M)) → halts (take n rs) ≡ map (told_of m) (take n olds) → length rs ≤ n → length olds ≤ n → (k : ℕ) (d : Ring M) → k < length rs → length (sent (slice_index_or rs k d).halts) ≡ 1
+  all-told m n rs olds e h h' = told-once m rs olds (ap halts (sym (take_all n rs h)) ∙ (e ∙ ap (map (told_of m)) (take_all n olds h')))

@@ -33,12 +33,12 @@ at_seat [] seat = []
 at_seat (first ∷ others) zero = first
 at_seat (first ∷ others) (suc seat) = at_seat others seat
 
--- **Marks of a halt.** Each seat gets one, and none gets a second.
+-- **Halts.** Each seat gets one, and none gets a second.
 --
--- The marks that went to each seat.
-abbrev pub marks : {M : Type 0} → List (Ring M) → List (List M)
-marks rings = map (λ ring. sent ring.marks) rings
+-- The halts that went to each seat.
+abbrev pub halts : {M : Type 0} → List (Ring M) → List (List M)
+halts rings = map (λ ring. sent ring.halts) rings
 
--- The marks of a seat after a halt: with the mark, unless it has one.
+-- What a seat has been sent after a halt: this one too, unless it had one.
 abbrev pub told_of : {M : Type 0} → M → Ring M → List M
-told_of mark ring = if ring.is_told then sent ring.marks else sent ring.marks ++ mark ∷ []
+told_of halt ring = if ring.is_told then sent ring.halts else sent ring.halts ++ halt ∷ []

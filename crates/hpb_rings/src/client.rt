@@ -29,7 +29,7 @@ use std::thread::Parker;
 pub struct Client<M: Copy> {
     pub seat: u8,
     pub letters: Producer<Slip>,
-    pub marks: Consumer<M>,
+    pub halts: Consumer<M>,
     pub viewer: Viewer,
     /// The letters that have no answer yet, oldest first.
     pub waiting: ArrayVec<Waiting, MOST_WAITING>,
@@ -39,7 +39,7 @@ pub struct Client<M: Copy> {
     pub accepted: u64,
     /// The greatest number of accepted commands that was seen: at the opening, in a view, or in an answer taken.
     pub mark: u32,
-    /// Whether the mark of a halt came.
+    /// Whether a halt came.
     pub is_halted: bool,
     /// Wakes the committer.
     bell: Arc<Parker, Global>,
@@ -49,7 +49,7 @@ pub struct Client<M: Copy> {
     ghost sent_is: { sent letters ≡ slips (letters_of (take taken (answers_of seat viewer)) ++ posted waiting.items) },
     ghost there: { taken ≤ length (answers_of seat viewer) },
     ghost counted: { accepted ≡ newly (take taken (answers_of seat viewer)) },
-    ghost told: { is_halted ≡ true → 0 < length (received marks) },
+    ghost told: { is_halted ≡ true → 0 < length (received halts) },
     ghost marked: { (auction_of viewer).count ≤ mark },
 }
 
@@ -68,20 +68,20 @@ impl<M: Copy> Client<M> {
     /// A client of a seat, with its ends of the seat's rings, its viewer and the committer's bell.
     pub fn new(seat: u8, ends: Ends<M>, viewer: Viewer, bell: Arc<Parker, Global>) -> Client<M>
         requires { seat < viewer.seats }
-        ensures start { (result.seat ≡ seat) × (result.viewer ≡ viewer) × (result.letters ≡ ends.letters) × (result.marks ≡ ends.marks) }
+        ensures start { (result.seat ≡ seat) × (result.viewer ≡ viewer) × (result.letters ≡ ends.letters) × (result.halts ≡ ends.halts) }
         ensures none { (result.taken ≡ 0) × (result.accepted ≡ 0) × (result.waiting.items ≡ []) × (result.is_halted ≡ false) }
         ensures mark { result.mark ≡ (auction_of viewer).count }
     {
         let Ends {
             letters,
-            marks,
+            halts,
             answered,
         } = ends;
         let mark = viewer.auction().count();
         Client {
             seat,
             letters,
-            marks,
+            halts,
             viewer,
             waiting: ArrayVec::new(),
             taken: 0,
@@ -98,7 +98,7 @@ impl<M: Copy> Client<M> {
     pub fn post(&mut self, letter: Letter) -> Result<(), Letter>
         requires { letter.seat ≡ self.old.seat }
         ensures waiting { MatchResult result (λ _. self.new.waiting.items ≡ self.old.waiting.items ++ record { letter = letter; mark = self.old.mark } ∷ []) (λ back. (back ≡ letter) × (self.new.waiting.items ≡ self.old.waiting.items)) }
-        ensures same { (self.new.seat ≡ self.old.seat) × (self.new.marks ≡ self.old.marks) × (self.new.viewer ≡ self.old.viewer) × (self.new.taken ≡ self.old.taken) × (self.new.accepted ≡ self.old.accepted) × (self.new.mark ≡ self.old.mark) × (self.new.is_halted ≡ self.old.is_halted) }
+        ensures same { (self.new.seat ≡ self.old.seat) × (self.new.halts ≡ self.old.halts) × (self.new.viewer ≡ self.old.viewer) × (self.new.taken ≡ self.old.taken) × (self.new.accepted ≡ self.old.accepted) × (self.new.mark ≡ self.old.mark) × (self.new.is_halted ≡ self.old.is_halted) }
         ensures ring { SameProducer self.old.letters self.new.letters }
         ensures sixteen { length self.old.waiting.items ≡ 16 → IsErr result }
         ensures succeeds { length self.old.waiting.items < 16 → 0 < known_free self.old.letters → IsOk result }
@@ -143,7 +143,7 @@ impl<M: Copy> Client<M> {
     /// Refused where the answer isn't for the oldest letter that waits, or was given when fewer commands were accepted
     /// than were known at that letter's post (95 `order`): `Err` tells the answer, and nothing changes.
     pub fn take(&mut self) -> Result<Option<Answer>, Answer>
-        ensures same { (self.new.seat ≡ self.old.seat) × (self.new.letters ≡ self.old.letters) × (self.new.marks ≡ self.old.marks) × (self.new.viewer ≡ self.old.viewer) × (self.new.is_halted ≡ self.old.is_halted) }
+        ensures same { (self.new.seat ≡ self.old.seat) × (self.new.letters ≡ self.old.letters) × (self.new.halts ≡ self.old.halts) × (self.new.viewer ≡ self.old.viewer) × (self.new.is_halted ≡ self.old.is_halted) }
         ensures answer { MatchResult result (λ o. o ≡ recent (answers_of self.old.seat self.old.viewer) (self.old.taken + 1)) (λ a. (recent (answers_of self.old.seat self.old.viewer) (self.old.taken + 1) ≡ Some a) × (IsForOldest self.old.waiting.items a → ⊥)) }
         ensures taken { IfOk result (λ o. MatchOption o ((self.new.taken ≡ self.old.taken) × (self.new.waiting ≡ self.old.waiting)) (λ a. IsForOldest self.old.waiting.items a × (self.new.taken ≡ self.old.taken + 1) × (self.new.waiting.items ≡ drop 1 self.old.waiting.items))) }
         ensures mark { IfOk result (λ o. MatchOption o (self.new.mark ≡ self.old.mark) (λ a. self.new.mark ≡ greatest self.old.mark a)) }
@@ -167,7 +167,7 @@ impl<M: Copy> Client<M> {
 
     /// Views: `viewer` then has what is published. `false` where the publisher has ended.
     pub fn refresh(&mut self) -> bool
-        ensures same { (self.new.seat ≡ self.old.seat) × (self.new.letters ≡ self.old.letters) × (self.new.marks ≡ self.old.marks) × (self.new.waiting ≡ self.old.waiting) × (self.new.taken ≡ self.old.taken) × (self.new.accepted ≡ self.old.accepted) × (self.new.is_halted ≡ self.old.is_halted) }
+        ensures same { (self.new.seat ≡ self.old.seat) × (self.new.letters ≡ self.old.letters) × (self.new.halts ≡ self.old.halts) × (self.new.waiting ≡ self.old.waiting) × (self.new.taken ≡ self.old.taken) × (self.new.accepted ≡ self.old.accepted) × (self.new.is_halted ≡ self.old.is_halted) }
         ensures viewer { (self.new.viewer.book ≡ self.old.viewer.book) × (self.new.viewer.opened ≡ self.old.viewer.opened) × (self.new.viewer.seats ≡ self.old.viewer.seats) }
         ensures later { IsPrefix self.old.viewer.list self.new.viewer.list }
         ensures mark { self.new.mark ≡ max self.old.mark (auction_of self.new.viewer).count }
@@ -179,7 +179,7 @@ impl<M: Copy> Client<M> {
 
     /// Views, and tells the seat's next answer that wasn't taken, where there is one among the last 16.
     pub fn poll(&mut self) -> Option<Answer>
-        ensures same { (self.new.seat ≡ self.old.seat) × (self.new.letters ≡ self.old.letters) × (self.new.marks ≡ self.old.marks) × (self.new.waiting ≡ self.old.waiting) × (self.new.taken ≡ self.old.taken) × (self.new.accepted ≡ self.old.accepted) × (self.new.is_halted ≡ self.old.is_halted) }
+        ensures same { (self.new.seat ≡ self.old.seat) × (self.new.letters ≡ self.old.letters) × (self.new.halts ≡ self.old.halts) × (self.new.waiting ≡ self.old.waiting) × (self.new.taken ≡ self.old.taken) × (self.new.accepted ≡ self.old.accepted) × (self.new.is_halted ≡ self.old.is_halted) }
         ensures viewer { (self.new.viewer.book ≡ self.old.viewer.book) × (self.new.viewer.opened ≡ self.old.viewer.opened) × (self.new.viewer.seats ≡ self.old.viewer.seats) }
         ensures later { IsPrefix self.old.viewer.list self.new.viewer.list }
         ensures mark { self.new.mark ≡ max self.old.mark (auction_of self.new.viewer).count }
@@ -196,15 +196,15 @@ impl<M: Copy> Client<M> {
         self.waiting.len()
     }
 
-    /// Whether the mark of a halt came.
+    /// Whether a halt came.
     pub fn halted(&mut self) -> bool
         ensures same { (self.new.seat ≡ self.old.seat) × (self.new.letters ≡ self.old.letters) × (self.new.viewer ≡ self.old.viewer) × (self.new.waiting ≡ self.old.waiting) × (self.new.taken ≡ self.old.taken) × (self.new.accepted ≡ self.old.accepted) × (self.new.mark ≡ self.old.mark) }
-        ensures told { IsTrue result → 0 < length (received self.new.marks) }
+        ensures told { IsTrue result → 0 < length (received self.new.halts) }
         ensures kept { result ≡ self.new.is_halted }
         ensures stays { self.old.is_halted ≡ true → result ≡ true }
-        ensures none { result ≡ false → received self.new.marks ≡ received self.old.marks }
+        ensures none { result ≡ false → received self.new.halts ≡ received self.old.halts }
     {
-        if self.marks.pop().is_ok() {
+        if self.halts.pop().is_ok() {
             self.is_halted = true;
         }
         self.is_halted
@@ -214,7 +214,7 @@ impl<M: Copy> Client<M> {
     /// letters of the seat are answered, at a halt, and after a halt where letters of the seat were taken out of its
     /// ring. A caller polls, takes and asks `halted` before it waits; a wait may also end for nothing.
     pub fn wait<R: Wait>(&mut self, rt: &R)
-        ensures same { (self.new.seat ≡ self.old.seat) × (self.new.letters ≡ self.old.letters) × (self.new.marks ≡ self.old.marks) × (self.new.viewer ≡ self.old.viewer) × (self.new.waiting ≡ self.old.waiting) × (self.new.taken ≡ self.old.taken) × (self.new.accepted ≡ self.old.accepted) × (self.new.mark ≡ self.old.mark) × (self.new.is_halted ≡ self.old.is_halted) }
+        ensures same { (self.new.seat ≡ self.old.seat) × (self.new.letters ≡ self.old.letters) × (self.new.halts ≡ self.old.halts) × (self.new.viewer ≡ self.old.viewer) × (self.new.waiting ≡ self.old.waiting) × (self.new.taken ≡ self.old.taken) × (self.new.accepted ≡ self.old.accepted) × (self.new.mark ≡ self.old.mark) × (self.new.is_halted ≡ self.old.is_halted) }
     {
         self.answered.park(rt);
     }
@@ -225,7 +225,7 @@ impl<M: Copy> Client<M> {
     pub fn finish(mut self) -> Result<Report, Client<M>>
         requires { (self.waiting.items ≡ []) ⊎ (self.is_halted ≡ true) }
         ensures report { IfOk result (λ r. (r.seat ≡ self.seat) × (r.viewer ≡ self.viewer) × (r.taken ≡ self.taken) × (r.accepted ≡ self.accepted) × (r.is_halted ≡ self.is_halted) × (sent r.letters ≡ sent self.letters ++ End ∷ [])) }
-        ensures back { IfErr result (λ c. (c.seat ≡ self.seat) × (c.viewer ≡ self.viewer) × (c.marks ≡ self.marks) × (c.waiting ≡ self.waiting) × (c.taken ≡ self.taken) × (c.accepted ≡ self.accepted) × (c.mark ≡ self.mark) × (c.is_halted ≡ self.is_halted)) }
+        ensures back { IfErr result (λ c. (c.seat ≡ self.seat) × (c.viewer ≡ self.viewer) × (c.halts ≡ self.halts) × (c.waiting ≡ self.waiting) × (c.taken ≡ self.taken) × (c.accepted ≡ self.accepted) × (c.mark ≡ self.mark) × (c.is_halted ≡ self.is_halted)) }
         ensures ring { MatchResult result (λ r. SameProducer self.letters r.letters) (λ c. SameProducer self.letters c.letters) }
         ensures succeeds { 0 < known_free self.letters → IsOk result }
         ensures full { IfErr result (λ c. known_free c.letters ≡ 0) }
@@ -268,7 +268,7 @@ impl<M: Copy> Client<M> {
 
     /// Views, and gives the auction that is published. `None` where the publisher has ended.
     pub fn view(&mut self) -> Option<&Auction>
-        ensures* after { sem 𝓛 (follows_so (the_row M.row) (the_row M.row) self.entry.ghost_name none (λ _ _. ⊤) (λ n. (n.seat ≡ self.old.seat) × (n.letters ≡ self.old.letters) × (n.marks ≡ self.old.marks) × (n.waiting ≡ self.old.waiting) × (n.taken ≡ self.old.taken) × (n.accepted ≡ self.old.accepted) × (n.is_halted ≡ self.old.is_halted) × (n.viewer.book ≡ self.old.viewer.book) × (n.viewer.opened ≡ self.old.viewer.opened) × (n.viewer.seats ≡ self.old.viewer.seats) × IsPrefix self.old.viewer.list n.viewer.list × (n.mark ≡ max self.old.mark (auction_of n.viewer).count) × IfSome result (λ a. a.now ≡ auction_of n.viewer))) }
+        ensures* after { sem 𝓛 (follows_so (the_row M.row) (the_row M.row) self.entry.ghost_name none (λ _ _. ⊤) (λ n. (n.seat ≡ self.old.seat) × (n.letters ≡ self.old.letters) × (n.halts ≡ self.old.halts) × (n.waiting ≡ self.old.waiting) × (n.taken ≡ self.old.taken) × (n.accepted ≡ self.old.accepted) × (n.is_halted ≡ self.old.is_halted) × (n.viewer.book ≡ self.old.viewer.book) × (n.viewer.opened ≡ self.old.viewer.opened) × (n.viewer.seats ≡ self.old.viewer.seats) × IsPrefix self.old.viewer.list n.viewer.list × (n.mark ≡ max self.old.mark (auction_of n.viewer).count) × IfSome result (λ a. a.now ≡ auction_of n.viewer))) }
     {
         if self.refresh() {
             Some(self.viewer.auction())

@@ -2,7 +2,7 @@
 ghost use Rattle.std.specs.Prelude.{◌≡◌, ℕ, ◌<◌, ◌≤◌, ◌∷◌, ◌++◌, length, map, All, vec_len, true, IsTrue, ◌↔◌};
 ghost use Rattle.rtrb.specs.Ring.{sent, received};
 ghost use Rattle.hpb_rings.specs.Slips.{commands, ends};
-ghost use Rattle.hpb_rings.specs.Gathering.{of_seat, Drained, gathered, at_seat, marks, told_of};
+ghost use Rattle.hpb_rings.specs.Gathering.{of_seat, Drained, gathered, at_seat, halts, told_of};
 
 use crate::ring::Ring;
 use hpb_rules::{Letter, Letters, MOST_LETTERS, MOST_WAITING};
@@ -32,7 +32,7 @@ impl<M: Copy> Intake<M> {
     pub fn gather(&mut self) -> Letters
         ensures each { (seat : ℕ) → at_seat (gathered self.new.rings.items) seat ≡ at_seat (gathered self.old.rings.items) seat ++ of_seat seat result }
         ensures seats { All (λ l. l.seat < vec_len self.old.rings) result }
-        ensures same { (vec_len self.new.rings ≡ vec_len self.old.rings) × (marks self.new.rings.items ≡ marks self.old.rings.items) }
+        ensures same { (vec_len self.new.rings ≡ vec_len self.old.rings) × (halts self.new.rings.items ≡ halts self.old.rings.items) }
     {
         let mut letters = Letters::new();
         let count = self.rings.len();
@@ -52,7 +52,7 @@ impl<M: Copy> Intake<M> {
 
     /// How many letters are seen to wait in the rings; more may come at any time. Nothing is taken.
     pub fn waiting(&mut self) -> usize
-        ensures same { (gathered self.new.rings.items ≡ gathered self.old.rings.items) × (marks self.new.rings.items ≡ marks self.old.rings.items) × (vec_len self.new.rings ≡ vec_len self.old.rings) }
+        ensures same { (gathered self.new.rings.items ≡ gathered self.old.rings.items) × (halts self.new.rings.items ≡ halts self.old.rings.items) × (vec_len self.new.rings ≡ vec_len self.old.rings) }
     {
         let mut count = 0usize;
         for i in 0..self.rings.len() {
@@ -61,14 +61,14 @@ impl<M: Copy> Intake<M> {
         count
     }
 
-    /// Sends a mark to each seat that has none yet, and rings the bell of each.
-    pub fn halt(&mut self, mark: M)
-        ensures told { marks self.new.rings.items ≡ map (told_of mark) self.old.rings.items }
-        ensures once { All (λ r. length (sent r.marks) ≡ 1) self.new.rings.items }
+    /// Sends a halt to each seat that has none yet, and rings the bell of each.
+    pub fn halt(&mut self, halt: M)
+        ensures told { halts self.new.rings.items ≡ map (told_of halt) self.old.rings.items }
+        ensures once { All (λ r. length (sent r.halts) ≡ 1) self.new.rings.items }
         ensures same { gathered self.new.rings.items ≡ gathered self.old.rings.items }
     {
         for i in 0..self.rings.len() {
-            self.rings[i].tell(mark);
+            self.rings[i].tell(halt);
         }
     }
 
@@ -90,7 +90,7 @@ impl<M: Copy> Intake<M> {
 /// Moves letters out of a ring, as far as there is room.
 fn drain<M: Copy>(ring: &mut Ring<M>, seat: u8, letters: &mut Letters)
     ensures drained { Drained seat (commands (received ring.old.letters)) (commands (received ring.new.letters)) letters.old letters.new }
-    ensures same { (ring.new.marks ≡ ring.old.marks) × (ring.new.is_told ≡ ring.old.is_told) }
+    ensures same { (ring.new.halts ≡ ring.old.halts) × (ring.new.is_told ≡ ring.old.is_told) }
 {
     for _ in 0..MOST_WAITING {
         if letters.len() == MOST_LETTERS {

@@ -33,7 +33,7 @@ pub struct Report {
     pub taken: u64,
     /// How many of these newly accepted a command.
     pub accepted: u64,
-    /// Whether the mark of a halt came.
+    /// Whether a halt came.
     pub is_halted: bool,
     ghost there: { taken ≤ length (answers_of seat viewer) },
     ghost in_order: { take taken (sent letters) ≡ slips (letters_of (take taken (answers_of seat viewer))) },

@@ -14,7 +14,7 @@ use std::thread::Parker;
 #[derive(Drop)]
 pub struct Ends<M: Copy> {
     pub letters: Producer<Slip>,
-    pub marks: Consumer<M>,
+    pub halts: Consumer<M>,
     /// The bell of its seat.
     pub answered: Arc<Parker, Global>,
     ghost fresh: { sent letters ≡ [] },
@@ -24,38 +24,38 @@ pub struct Ends<M: Copy> {
 #[derive(Drop)]
 pub struct Ring<M: Copy> {
     pub letters: Consumer<Slip>,
-    pub marks: Producer<M>,
+    pub halts: Producer<M>,
     /// Whether the end mark came.
     pub has_ended: bool,
-    /// Whether the seat has its mark.
+    /// Whether the seat has its halt.
     pub is_told: bool,
     /// The bell of the seat.
     pub answered: Arc<Parker, Global>,
     ghost ended: { has_ended ≡ ends (received letters) },
-    ghost once: { length (sent marks) ≡ (if is_told then 1 else 0) },
-    ghost free: { is_told ≡ false → 0 < known_free marks },
+    ghost once: { length (sent halts) ≡ (if is_told then 1 else 0) },
+    ghost free: { is_told ≡ false → 0 < known_free halts },
 }
 
-/// Makes the rings of one seat, with room for 16 letters and for one mark, and the seat's bell. Fails only where memory
+/// Makes the rings of one seat, with room for 16 letters and for one halt, and the seat's bell. Fails only where memory
 /// is refused (90 `memory`).
 pub fn seat_rings<M: Copy>(alloc: Global) -> Result<(Ends<M>, Ring<M>), AllocError>
     ensures letters { IfOk result (λ r. IsPair r.0.letters r.1.letters × (known_free r.0.letters ≡ 16) × (received r.1.letters ≡ [])) }
-    ensures marks { IfOk result (λ r. IsPair r.1.marks r.0.marks × (sent r.1.marks ≡ []) × (received r.0.marks ≡ [])) }
+    ensures halts { IfOk result (λ r. IsPair r.1.halts r.0.halts × (sent r.1.halts ≡ []) × (received r.0.halts ≡ [])) }
     ensures start { IfOk result (λ r. (r.1.has_ended ≡ false) × (r.1.is_told ≡ false)) }
 {
     let (posts, letters) = RingBuffer::new(alloc, MOST_WAITING)?;
-    let (marks, tellings) = RingBuffer::new(alloc, 1)?;
+    let (halts, tellings) = RingBuffer::new(alloc, 1)?;
     let Ok(answered) = Arc::new(alloc, Parker::new()) else {
         return Err(AllocError);
     };
     let ends = Ends {
         letters: posts,
-        marks: tellings,
+        halts: tellings,
         answered: Arc::try_clone(&answered)?,
     };
     let ring = Ring {
         letters,
-        marks,
+        halts,
         has_ended: false,
         is_told: false,
         answered,
@@ -67,7 +67,7 @@ impl<M: Copy> Ring<M> {
     /// The next command. `None` at the end mark, or where none is seen.
     #[tactic(auto, using(crate::proofs::Gathering::slip_lemmas))]
     pub(crate) fn next(&mut self) -> Option<Command>
-        ensures same { (self.new.marks ≡ self.old.marks) × (self.new.is_told ≡ self.old.is_told) }
+        ensures same { (self.new.halts ≡ self.old.halts) × (self.new.is_told ≡ self.old.is_told) }
         ensures next { MatchOption result (commands (received self.new.letters) ≡ commands (received self.old.letters)) (λ c. commands (received self.new.letters) ≡ commands (received self.old.letters) ++ c ∷ []) }
     {
         match self.letters.pop() {
@@ -82,24 +82,24 @@ impl<M: Copy> Ring<M> {
 
     /// How many letters are seen to wait, the end mark too.
     pub(crate) fn waiting(&mut self) -> usize
-        ensures same { (received self.new.letters ≡ received self.old.letters) × (self.new.marks ≡ self.old.marks) × (self.new.has_ended ≡ self.old.has_ended) × (self.new.is_told ≡ self.old.is_told) }
+        ensures same { (received self.new.letters ≡ received self.old.letters) × (self.new.halts ≡ self.old.halts) × (self.new.has_ended ≡ self.old.has_ended) × (self.new.is_told ≡ self.old.is_told) }
     {
         self.letters.slots()
     }
 
-    /// Sends a mark, where none was sent yet, and rings the bell of the seat.
-    pub(crate) fn tell(&mut self, mark: M)
+    /// Sends a halt, where none was sent yet, and rings the bell of the seat.
+    pub(crate) fn tell(&mut self, halt: M)
         ensures same { (self.new.letters ≡ self.old.letters) × (self.new.has_ended ≡ self.old.has_ended) }
-        ensures told { (self.new.is_told ≡ true) × (sent self.new.marks ≡ (if self.old.is_told then sent self.old.marks else sent self.old.marks ++ mark ∷ [])) }
+        ensures told { (self.new.is_told ≡ true) × (sent self.new.halts ≡ (if self.old.is_told then sent self.old.halts else sent self.old.halts ++ halt ∷ [])) }
     {
         if !self.is_told {
-            self.marks.push_reserved(mark);
+            self.halts.push_reserved(halt);
             self.is_told = true;
         }
         self.ring_told();
     }
 
-    /// Rings the bell of a seat that has its mark.
+    /// Rings the bell of a seat that has its halt.
     fn ring_told(&self)
         requires { self.now.is_told ≡ true }
     {

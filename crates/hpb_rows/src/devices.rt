@@ -1,7 +1,7 @@
 //! Devices to try, and what comes of opening them.
 
 use crate::definitions::six_nodes_with;
-use hpb_codec::{JournalLayout, JournalShape};
+use hpb_codec::{JournalLayout, JournalShape, PAGE_BYTES};
 use hpb_disk::{Disk, MemoryDisk};
 use hpb_format::{FormatCause, format_layout};
 use hpb_recover::{Cause, Flaw, open};
@@ -54,16 +54,13 @@ macro_rules! over_layouts {
 /// Where the journal begins.
 pub(crate) const JOURNAL: usize = 53_248;
 
-/// The bytes of a page.
-pub(crate) const PAGE: usize = 4_096;
-
 /// The byte of an open gate.
 pub(crate) const OPEN: u8 = 0xa5;
 
 /// Where a frame begins, from 0: each is a page, or three cells of 512 bytes.
 pub(crate) fn frame_at(layout: JournalLayout, frame: u32) -> usize {
     let bytes = match layout {
-        JournalLayout::Pages => PAGE,
+        JournalLayout::Pages => PAGE_BYTES,
         JournalLayout::Cells => 1_536_usize,
     };
     JOURNAL.saturating_add(bytes.saturating_mul(frame as usize))

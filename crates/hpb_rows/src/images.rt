@@ -2,11 +2,11 @@
 
 use crate::commands::{A, X, bid};
 use crate::definitions::new_auction;
-use crate::devices::{OPEN, PAGE, frame_at, new_device};
+use crate::devices::{OPEN, frame_at, new_device};
 use hpb_auction::Auction;
 use hpb_codec::{
-    BATCH_SIZE, Batch, CELLS_SIZE, JournalLayout, JournalShape, STATE_SIZE, encode_batch,
-    encode_cells, encode_state,
+    BATCH_SIZE, Batch, CELLS_SIZE, JournalLayout, JournalShape, PAGE_BYTES, STATE_SIZE,
+    encode_batch, encode_cells, encode_state,
 };
 use hpb_disk::MemoryDisk;
 use hpb_recover::open;
@@ -116,7 +116,11 @@ pub(crate) fn put_state(
 ) -> Result<(), Fail> {
     if let Some(at) = SLOTS.get(slot) {
         put(bytes, *at, &[OPEN]);
-        put(bytes, *at + PAGE, &state_after(alloc, commands, index)?);
+        put(
+            bytes,
+            *at + PAGE_BYTES,
+            &state_after(alloc, commands, index)?,
+        );
     }
     Ok(())
 }

@@ -2,10 +2,10 @@
 
 use crate::definitions::six_nodes;
 use crate::devices::{
-    EIGHT_PAGES, FOUR_PAGES, Found, LAYOUT, MOST_CELLS, MOST_PAGES, PAGE, SIXTEEN_CELLS,
-    UNFORMATTED, device_bytes, formatted, new_device, opened, opened_front,
+    EIGHT_PAGES, FOUR_PAGES, Found, LAYOUT, MOST_CELLS, MOST_PAGES, SIXTEEN_CELLS, UNFORMATTED,
+    device_bytes, formatted, new_device, opened, opened_front,
 };
-use hpb_codec::{JournalLayout, JournalShape};
+use hpb_codec::{JournalLayout, JournalShape, PAGE_BYTES};
 use hpb_disk::MemoryDisk;
 use hpb_format::FormatCause;
 use hpb_tree::Definition;
@@ -92,7 +92,7 @@ fn device_cut_short(rt: HostRuntime) -> Result<(), Fail> {
         } else {
             Ok((0, 8))
         };
-        let found = opened_front(alloc, &whole, pages.saturating_mul(PAGE))?;
+        let found = opened_front(alloc, &whole, pages.saturating_mul(PAGE_BYTES))?;
         assert_eq!(rt; found, wanted, "{pages}");
     }
     Ok(())

@@ -1,12 +1,12 @@
 //! What is told of devices that were changed.
 
 use crate::devices::{
-    CHECKPOINT, Change, EIGHT_PAGES, Found, LAYOUT, PAGE, SIXTEEN_CELLS, UNFORMATTED, all_of,
-    new_device, new_device_with, open_changed, opened, opened_with,
+    CHECKPOINT, Change, EIGHT_PAGES, Found, LAYOUT, SIXTEEN_CELLS, UNFORMATTED, all_of, new_device,
+    new_device_with, open_changed, opened, opened_with,
 };
 use crate::images::with_one_bid;
 use crate::over_layouts;
-use hpb_codec::JournalShape;
+use hpb_codec::{JournalShape, PAGE_BYTES};
 use hpb_disk::{Disk, MemoryDisk, OnceDisk};
 use hpb_recover::Cause;
 use std::alloc::Global;
@@ -41,7 +41,7 @@ fn flip_head(
 
 #[test]
 fn head_byte_flipped(rt: HostRuntime) -> Result<(), Fail> {
-    flip_head(&rt, rt.alloc(), EIGHT_PAGES, PAGE)?;
+    flip_head(&rt, rt.alloc(), EIGHT_PAGES, PAGE_BYTES)?;
     flip_head(&rt, rt.alloc(), SIXTEEN_CELLS, 64)
 }
 

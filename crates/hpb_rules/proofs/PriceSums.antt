@@ -7,9 +7,9 @@ use Rattle.std.proofs.lemmas.Bool.{eqb-true, cases_Bool}
 use Rattle.std.proofs.lemmas.List.Sums.{sum_by-cons}
 use Rattle.hpb_rules.specs.declared.licence.Terms.{Terms}
 use Rattle.hpb_rules.specs.Tree.{Node, parent_of, terms_of, IsTree}
-use Rattle.hpb_rules.specs.Choices.{total, is_node, is_top, values_from, best, mark, revenue_from}
+use Rattle.hpb_rules.specs.Choices.{total, is_node, is_top, values_from, best, answer_at, revenue_from}
 use Rattle.hpb_rules.specs.Prices.{of_package, surplus, carried, licence_price}
-use Rattle.hpb_rules.proofs.Sums.{Test, member, Below, below_is, below_suc, summed, summed_mark}
+use Rattle.hpb_rules.proofs.Sums.{Test, member, Below, below_is, below_suc, summed, summed_answer_at}
 use Rattle.hpb_rules.proofs.Under.{From, from_tail, parent_in}
 use Rattle.hpb_rules.proofs.Winners.{best_is, from_drop}
 use Rattle.hpb_rules.proofs.Carried.{carry_from, carried_top, passed_all}
@@ -63,8 +63,8 @@ pub part_eq : (nodes : List Node) (p : ℕ → Bool) (f : ℕ → ℕ) (i : ℕ)
 part_eq nodes p f i [] q e h = refl
 part_eq nodes p f i (n ∷ ns) q e h =
     let g : ℕ → ℕ = λ l. term (terms_of nodes l) (p l) (f l) in
-    let rest : summed f (suc i) (mark q i (q n.parent)) ns (flags ns) ≡ sum_by g (range_with_len (suc i) (length ns))
-    = part_eq nodes p f (suc i) ns (mark q i (q n.parent)) (drop_tail nodes i n ns e) (λ k l. h (suc k) (omega arith) ∙ ap p (omega arith)) in
+    let rest : summed f (suc i) (answer_at q i (q n.parent)) ns (flags ns) ≡ sum_by g (range_with_len (suc i) (length ns))
+    = part_eq nodes p f (suc i) ns (answer_at q i (q n.parent)) (drop_tail nodes i n ns e) (λ k l. h (suc k) (omega arith) ∙ ap p (omega arith)) in
     let here : q n.parent ≡ p i = h zero (omega arith) ∙ ap p (omega arith) in
     let first : cond (q n.parent && flag n.terms) (f i) 0 ≡ term (terms_of nodes i) (p i) (f i)
     = ap (λ t. cond (t && flag n.terms) (f i) 0) here ∙ one n.terms (p i) ∙ ap (λ t. term t (p i) (f i)) (sym (terms_drop nodes i n ns e)) in
@@ -116,7 +116,7 @@ module _ (nodes : List Node) (bid : ℕ → ℕ) (tree : IsTree nodes) where
       let T : ℕ = total (is_node i) ns (values_from (suc i) ns bid) in
       let C : ℕ = total (is_node i) ns (carry_from nodes bid tree (suc i) ns) in
       let leaf : IsSome n.terms → (k : ℕ) → parent_of ns k ≡ Some i → ⊥ = λ some k u. absurd (leaf_has_none n.terms some (sym t ∙ tree.packages (suc i + k) i (f.parents k ∙ u))) in
-      rw (summed_mark (licence_price nodes bid) i q (q n.parent) ns (flags ns) h)
+      rw (summed_answer_at (licence_price nodes bid) i q (q n.parent) ns (flags ns) h)
       (step (q n.parent) n.terms (bid i) (carried nodes bid i) T C (summed (licence_price nodes bid) (suc i) q ns (flags ns)) (summed (licence_price nodes bid) (suc i) (is_node i) ns (flags ns)) (total q ns (values_from (suc i) ns bid)) (total q ns (carry_from nodes bid tree (suc i) ns))
       (λ some. total_none i ns (values_from (suc i) ns bid) (leaf some))
       (λ some. total_none i ns (carry_from nodes bid tree (suc i) ns) (leaf some))

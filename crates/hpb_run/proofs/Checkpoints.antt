@@ -15,20 +15,20 @@ few_calls : (s : Progress) → step_calls s ≤ 1
 few_calls s = grind (arith, nat_tests)
 
 -- The next checkpoint is to cover all.
-aims_at_all : (s : Progress) → IsBetween s → aim s ≡ s.ring.next
+aims_at_all : (s : Progress) → IsBetween s → aim s ≡ s.window.next
 aims_at_all s between = grind (arith, nat_tests, between.begun, between.retiring)
 
 module _ (s : Progress) (safe : IsSafe s) where
   -- What a checkpoint is to cover leaves a clean frame.
-  room_behind : s.ring.next < aim s + count_of s.ring
-  room_behind = grind (arith, nat_tests, safe.ring.least, safe.ring.end, safe.ring.clean, safe.checkpoint.new, safe.retirement.some)
+  room_behind : s.window.next < aim s + count_of s.window
+  room_behind = grind (arith, nat_tests, safe.window.least, safe.window.end, safe.window.clean, safe.checkpoint.new, safe.retirement.some)
 
   -- No step is left where all is covered and clean. A call is one of a step that is left.
   none_left : IsSettled s → steps_left s ≡ 0
   none_left at = grind (arith, nat_tests, at.begun, at.retiring, at.covered, at.clean, safe.retirement.idle at.retiring)
 
   calls_left : step_calls s ≤ steps_left s
-  calls_left = grind (arith, nat_tests, safe.checkpoint.steps, safe.retirement.idle, safe.ring.end)
+  calls_left = grind (arith, nat_tests, safe.checkpoint.steps, safe.retirement.idle, safe.window.end)
 
 -- **Steps**, none of which was the last one.
 pub record Goes (s t : Progress) (before now : ℕ) : Type 0 where

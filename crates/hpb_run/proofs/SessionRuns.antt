@@ -7,7 +7,7 @@ use Rattle.hpb_rules.specs.declared.limits.TheConstants.{MOST_LETTERS}
 use Rattle.hpb_rules.specs.AuctionValue.{Shows}
 use Rattle.hpb_rules.specs.Tree.{Rules}
 use Rattle.hpb_engine.specs.declared.progress.Progress.{Progress}
-use Rattle.hpb_server.specs.declared.fault.Fault.{Fault}
+use Rattle.hpb_server.specs.declared.fault.SessionFault.{SessionFault}
 use Rattle.hpb_server.specs.ScriptLaws.{WritesText}
 use Rattle.hpb_server.specs.Serving.{Serves}
 use Rattle.hpb_server.specs.Streams.{Streams}
@@ -30,7 +30,7 @@ second both = both.1
 
 module _ {D : Type 0} (seen : D → List ℕ) (may_leave : D → List ℕ → Type 0) (failures : D → ℕ) (budget : ℕ) (before after : Streams)
     (rules : Rules) (history : List Command) (failures_before : ℕ) (had_failed : Bool) (disk : D) (s : Progress) (has_failed : Bool) where
-  pub session_ran : (state : State) (result : Result ⊤ Fault)
+  pub session_ran : (state : State) (result : Result ⊤ SessionFault)
       → Serves rules_at never_over RepliesAt ShowsAt MOST_LETTERS true [] budget before after (at_start rules history failures_before had_failed) state result
       → IsAt seen may_leave failures disk s has_failed state
       → RanDevice seen may_leave failures budget before after rules history failures_before had_failed disk s has_failed result
@@ -50,7 +50,7 @@ module _ {D : Type 0} (seen : D → List ℕ) (may_leave : D → List ℕ → Ty
       by (inl is) = is
       by (inr not) = absurd (risen (stands.cause (stands.stopped not)))
 
-  pub session_well : (result : Result ⊤ Fault) → RanDevice seen may_leave failures budget before after rules history failures_before had_failed disk s has_failed result
+  pub session_well : (result : Result ⊤ SessionFault) → RanDevice seen may_leave failures budget before after rules history failures_before had_failed disk s has_failed result
       → had_failed ≡ false → failures disk ≡ failures_before → OnOk result (WritesText rules history budget before after s.committed)
   session_well (Err fault) ran never none = tt
   session_well (Ok done) ran never none =

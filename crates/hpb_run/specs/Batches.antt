@@ -13,7 +13,7 @@ use Rattle.hpb_engine.specs.declared.step.Fault.TheVariants as faults
 
 -- A clean frame is left.
 abbrev pub HasRoom : Progress → Type 0
-HasRoom s = s.ring.next < s.ring.clean_end
+HasRoom s = s.window.next < s.window.clean_end
 
 -- The fault that tells why letters were not answered, if one came.
 abbrev pub fault_of : {T : Type 0} → Result T Fault → Option Fault

@@ -21,10 +21,10 @@ pub record IsBetween (s : Progress) : Type 0 where
 
 -- The journal has so many batches more. Nothing else of it has changed, and nothing of the checkpoints: none was made, begun or gone on with.
 pub record HasTaken (batches : ℕ) (s t : Progress) : Type 0 where
-  pub next : t.ring.next ≡ s.ring.next + batches
-  pub covered : t.ring.covered ≡ s.ring.covered
-  pub clean : t.ring.clean_end ≡ s.ring.clean_end
-  pub frames : t.ring.frames ≡ s.ring.frames
+  pub next : t.window.next ≡ s.window.next + batches
+  pub covered : t.window.covered ≡ s.window.covered
+  pub clean : t.window.clean_end ≡ s.window.clean_end
+  pub frames : t.window.frames ≡ s.window.frames
   pub checkpoint : t.checkpoint ≡ s.checkpoint
   pub retirement : t.retirement ≡ s.retirement
 

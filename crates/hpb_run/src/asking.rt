@@ -39,7 +39,7 @@ pub(crate) fn ask_engine<D: Disk + Drop>(
 }
 
 /// Makes a whole checkpoint, unless the device has failed.
-pub(crate) fn rest_engine<D: Disk + Drop>(engine: &mut Engine<D>)
+pub(crate) fn upkeep_engine<D: Disk + Drop>(engine: &mut Engine<D>)
     ensures stands { (state : State) → StandsAt D.seen D.may_leave D.failures engine.old.disk engine.old.progress engine.old.failed state
         → StandsAt D.seen D.may_leave D.failures engine.new.disk engine.new.progress engine.new.failed state }
     ensures whole { (state : State) → StandsAt D.seen D.may_leave D.failures engine.old.disk engine.old.progress engine.old.failed state → IsBetween engine.old.progress

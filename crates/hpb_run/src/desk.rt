@@ -9,7 +9,7 @@ ghost use Rattle.hpb_run.specs.Device.{RepliesAt, ShowsAt, State, at_start, neve
 ghost use Rattle.hpb_run.specs.Takes.{IsBetween};
 ghost use Rattle.hpb_run.specs.Standing.{AreAlike, DeskStands, IsCovered, commits_after, is_due};
 
-use crate::asking::{ask_engine, rest_engine};
+use crate::asking::{ask_engine, upkeep_engine};
 use crate::counting::{count_commit, is_checkpoint_due};
 use hpb_auction::Auction;
 use hpb_disk::Disk;
@@ -90,7 +90,7 @@ impl<D: Disk + Drop> DeviceDesk<D> {
         ensures definition { self.new.definition ≡ self.old.definition }
     {
         if is_checkpoint_due(self.every, self.commits) {
-            rest_engine(&mut self.engine);
+            upkeep_engine(&mut self.engine);
             self.commits = 0;
         }
     }
@@ -223,7 +223,7 @@ impl<D: Disk + Drop> Desk for DeviceDesk<D> {
         self.ask_together(alloc, commands)
     }
 
-    fn rest(&mut self, _alloc: Global) -> Result<(), AllocError> {
+    fn upkeep(&mut self, _alloc: Global) -> Result<(), AllocError> {
         self.make_due_checkpoint();
         Ok(())
     }

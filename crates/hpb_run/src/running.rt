@@ -14,7 +14,7 @@ ghost use Rattle.hpb_server.specs.Telling.{Explains, ExplainsAt};
 use crate::desk::DeviceDesk;
 use hpb_disk::Disk;
 use hpb_engine::Engine;
-use hpb_server::{Fault, serve, serve_at_terminal};
+use hpb_server::{SessionFault, serve, serve_at_terminal};
 use std::alloc::Global;
 use std::io::{Read, Write, sink};
 
@@ -26,7 +26,7 @@ const ONE_AT_A_TIME: usize = 1;
 pub struct Ran<D: Disk + Drop> {
     /// The engine, as it stands.
     pub engine: Engine<D>,
-    pub end: Result<(), Fault>,
+    pub end: Result<(), SessionFault>,
 }
 
 /// Answers each line of the reader by one line on the writer, as `serve` does, from the auction that an engine keeps on
@@ -119,7 +119,7 @@ pub fn run_engine<R: Read, W: Write, E: Write, D: Disk + Drop>(
         }
         Err(engine) => Ran {
             engine,
-            end: Err(Fault::Memory),
+            end: Err(SessionFault::Memory),
         },
     }
 }
@@ -132,7 +132,7 @@ fn serve_desk<R: Read, W: Write, E: Write, D: Disk + Drop>(
     writer: &mut W,
     errors: &mut E,
     is_terminal: bool,
-) -> Result<(), Fault>
+) -> Result<(), SessionFault>
     ensures served { (state : State) → DeskStands D.seen D.may_leave D.failures desk.old.engine.disk desk.old.engine.progress desk.old.engine.failed desk.old.definition state
         → (next : State) × ServesLines (streams (R.remaining reader.old) (W.contents writer.old)) (streams (R.remaining reader.new) (W.contents writer.new)) state next result
         × DeskStands D.seen D.may_leave D.failures desk.new.engine.disk desk.new.engine.progress desk.new.engine.failed desk.new.definition next }

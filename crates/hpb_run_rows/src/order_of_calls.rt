@@ -1,7 +1,7 @@
 //! Which call of the device each step makes.
 
 use crate::watching::{Call, Watch};
-use hpb_codec::{JournalLayout, JournalShape};
+use hpb_codec::{JournalLayout, JournalShape, PAGE_BYTES};
 use hpb_disk::MemoryDisk;
 use hpb_engine::{Engine, Part, Rest};
 use hpb_engine_rows::calls::{Turn, commit, offer, take_step, take_turn};
@@ -11,9 +11,6 @@ use hpb_engine_rows::over_layouts;
 use std::alloc::Global;
 use std::process::Abort;
 use std::test::Fail;
-
-/// The bytes of a page.
-const PAGE: usize = 4_096;
 
 /// The bytes of a gate that is written open or closed.
 const OPEN: u8 = 0xa5;
@@ -54,10 +51,10 @@ const FORMAT: u8 = 2;
 
 /// The write of a page of a state, the one of this place in a slot.
 fn chunk(slot: usize, place: usize, first: u8) -> Call {
-    let before = place.saturating_add(1).saturating_mul(PAGE);
+    let before = place.saturating_add(1).saturating_mul(PAGE_BYTES);
     Call::Write {
         at: slot.saturating_add(before),
-        len: PAGE,
+        len: PAGE_BYTES,
         first,
     }
 }

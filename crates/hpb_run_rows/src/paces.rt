@@ -91,7 +91,7 @@ fn keep_pace(
     let engine = new_engine(alloc, JournalShape { layout, frames })?;
     let (engine, calls) = run(rt, alloc, engine, &lines, pace)?;
     assert_eq!(rt;
-        engine.progress.ring.next,
+        engine.progress.window.next,
         batches,
         "{frames} {batch} {every}"
     );

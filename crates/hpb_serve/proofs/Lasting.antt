@@ -11,7 +11,7 @@ use Rattle.hpb_rules.specs.AuctionValue.{AuctionValue, Shows}
 use Rattle.hpb_rules.specs.Fronts.{IsFront}
 use Rattle.hpb_rules.specs.Lines.{is_line_feed, request_of}
 use Rattle.hpb_rules.specs.Tree.{Rules}
-use Rattle.hpb_server.specs.declared.fault.Fault.{Fault}
+use Rattle.hpb_server.specs.declared.fault.SessionFault.{SessionFault}
 use Rattle.hpb_board.specs.Publication.{auction_of}
 use Rattle.hpb_rings.specs.declared.client.Client.{Client}
 use Rattle.hpb_server.specs.Streams.{Streams}
@@ -46,7 +46,7 @@ module _ {S : Type 0} (rules : S → Rules) (over : S → Bool) (asks : S → Co
       lines_keep (following ∷ more) h.3 new h.2 h.5 (request_keeps (request_of (rules old) line) old h.3 h.1 h.4 is)
 
   -- whatever ends a session
-  pub session_keeps : (most : ℕ) (takes_memory : Bool) (unread : List ℕ) (budget : ℕ) (before after : Streams) (old new : S) (result : Result ⊤ Fault)
+  pub session_keeps : (most : ℕ) (takes_memory : Bool) (unread : List ℕ) (budget : ℕ) (before after : Streams) (old new : S) (result : Result ⊤ SessionFault)
       → Serves rules over asks looks most takes_memory unread budget before after old new result → Keeps old → Keeps new
   session_keeps most takes_memory unread budget before after old new (Ok done) s is = lines_keep (slice_split is_line_feed (unread ++ s.taken)) old new s.text s.answers is
   session_keeps most takes_memory unread budget before after old new (Err fault) (inl never) is = same old new never.2 is
@@ -65,7 +65,7 @@ module _ {M : Type 0} (client : Client M) (next : State) (goes : GoesFrom (at_st
     (opened, subst (λ (value : AuctionValue). Shows value opened) (sym goes.viewer.1) shows, refl),
   )
 
-pub house_session : {M : Type 0} (client : Client M) (most : ℕ) (takes_memory : Bool) (unread : List ℕ) (budget : ℕ) (before after : Streams) (next : State) (result : Result ⊤ Fault)
+pub house_session : {M : Type 0} (client : Client M) (most : ℕ) (takes_memory : Bool) (unread : List ℕ) (budget : ℕ) (before after : Streams) (next : State) (result : Result ⊤ SessionFault)
     → Serves rules_at over_at RepliesAt ShowsAt most takes_memory unread budget before after (at_start client) next result → GoesFrom (at_start client) next
 house_session client most takes_memory unread budget before after next result serves =
     session_keeps rules_at over_at RepliesAt ShowsAt (GoesFrom (at_start client))

@@ -37,7 +37,7 @@ posts_of (Left client) = client.letters
 abbrev pub IsEndOf : {M : Type 0} → Client M → SessionEnd M → Type 0
 IsEndOf client end = (seat_of end ≡ client.seat) × Follows client.viewer (viewer_of end) × SameProducer client.letters (posts_of end)
 
--- How a session ends by what stopped its commands, if something did. The client has finished, and got the mark of a halt where the session told of one; or it is handed back as it stands, since the next answer to its seat isn't the one that it waits for.
+-- How a session ends by what stopped its commands, if something did. The client has finished, and got a halt where the session told of one; or it is handed back as it stands, since the next answer to its seat isn't the one that it waits for.
 abbrev pub EndsBy : {M : Type 0} → Option Stop → SessionEnd M → Type 0
 EndsBy stop (Finished report) = (is_over stop ≡ false) × (stop ≡ Some Halted → report.is_halted ≡ true)
 EndsBy stop (Left client) = (is_over stop ≡ true) × (IsInOrder client.seat client.viewer client.taken client.waiting.items → ⊥)

@@ -186,7 +186,7 @@ impl<M: Copy, R: Wait + Drop> Desk for HouseDesk<M, R> {
         Ok(self.reply(commands))
     }
 
-    fn rest(&mut self, _alloc: Global) -> Result<(), AllocError> {
+    fn upkeep(&mut self, _alloc: Global) -> Result<(), AllocError> {
         Ok(())
     }
 

@@ -1,7 +1,7 @@
 //! How a session ends.
 
 use hpb_rings::{Client, Report};
-use hpb_server::Fault;
+use hpb_server::SessionFault;
 
 /// How a session ended.
 #[derive(Drop)]
@@ -18,5 +18,5 @@ pub enum SessionEnd<M: Copy> {
 pub struct Session<M: Copy> {
     pub end: SessionEnd<M>,
     /// What ended it before the end of its input: 90 `memory` or 92 `stream`.
-    pub fault: Result<(), Fault>,
+    pub fault: Result<(), SessionFault>,
 }

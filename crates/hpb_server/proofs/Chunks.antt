@@ -11,8 +11,8 @@ use Rattle.hpb_rules.specs.declared.reply.Reply.{Reply}
 use Rattle.hpb_rules.specs.Tree.{Rules}
 use Rattle.hpb_rules.specs.AuctionValue.{AuctionValue}
 use Rattle.hpb_rules.specs.Text.{unfinished_text}
-use Rattle.hpb_server.specs.declared.fault.Fault.{Fault}
-use Rattle.hpb_server.specs.declared.fault.Fault.TheVariants.{Memory, Reader}
+use Rattle.hpb_server.specs.declared.fault.SessionFault.{SessionFault}
+use Rattle.hpb_server.specs.declared.fault.SessionFault.TheVariants.{Memory, Reader}
 use Rattle.hpb_server.specs.declared.line.TheConstants.{KEPT_BYTES}
 use Rattle.hpb_server.specs.Reading.{Pending, HasNoEnd, ReadsInVain, ReadsWithin}
 use Rattle.hpb_server.specs.Streams.{Streams, streams}
@@ -52,7 +52,7 @@ module _ {State : Type 0} {rules : State → Rules} {over : State → Bool} {ask
 
   module _ {now : Streams} {desk : State} {input : Pending} {line output : List ℕ} (c : Comes rules over asks looks most takes_memory first before old now desk input line output) where
     -- it is broken off once more was read in vain
-    pub comes_broken : (after : Streams) (new : State) (fault : Fault) (vain : ReadsWithin now.remaining after.remaining input.budget)
+    pub comes_broken : (after : Streams) (new : State) (fault : SessionFault) (vain : ReadsWithin now.remaining after.remaining input.budget)
         (b : Broken rules over asks looks most takes_memory (first.unread ++ c.taken) old new before.contents after.contents [] fault)
         → (fault ≡ Reader → length (c.taken ++ vain.0) ≤ first.budget → HasNoEnd (b.rest ++ vain.0)) → Serves rules over asks looks most takes_memory first.unread first.budget before after old new (Err fault)
     comes_broken after new fault vain b no_line = inr (record {
@@ -73,22 +73,22 @@ module _ {State : Type 0} {rules : State → Rules} {over : State → Bool} {ask
     })
 
     -- it is broken off and nothing more was read
-    pub comes_stopped : (writer_new : Option (List ℕ)) (new : State) (fault : Fault) (r : Result ⊤ Fault) → IsErrAnd r (λ e. e ≡ fault) → fault ≢ Reader
+    pub comes_stopped : (writer_new : Option (List ℕ)) (new : State) (fault : SessionFault) (r : Result ⊤ SessionFault) → IsErrAnd r (λ e. e ≡ fault) → fault ≢ Reader
         → Broken rules over asks looks most takes_memory (first.unread ++ c.taken) old new before.contents writer_new [] fault → Serves rules over asks looks most takes_memory first.unread first.budget before (streams now.remaining writer_new) old new r
     comes_stopped writer_new new fault r bad other b = err_case (Serves rules over asks looks most takes_memory first.unread first.budget before (streams now.remaining writer_new) old new) r bad
-        (λ e is. subst (λ (f : Fault). Serves rules over asks looks most takes_memory first.unread first.budget before (streams now.remaining writer_new) old new (Err f)) (sym is)
+        (λ e is. subst (λ (f : SessionFault). Serves rules over asks looks most takes_memory first.unread first.budget before (streams now.remaining writer_new) old new (Err f)) (sym is)
         (comes_broken (streams now.remaining writer_new) new fault ([], Consumes-nil now.remaining, omega arith) b (λ read. absurd (other read))))
 
     -- the desk is refused memory once all was answered and written
-    pub comes_refused : (writer_new : Option (List ℕ)) (new : State) {line_next unread_next output_next : List ℕ} (r : Result ⊤ Fault) → IsErrAnd r (λ e. e ≡ Memory) → takes_memory ≡ true → output_next ≡ []
+    pub comes_refused : (writer_new : Option (List ℕ)) (new : State) {line_next unread_next output_next : List ℕ} (r : Result ⊤ SessionFault) → IsErrAnd r (λ e. e ≡ Memory) → takes_memory ≡ true → output_next ≡ []
         → Session rules over asks looks most takes_memory (first.unread ++ c.taken) old new before.contents writer_new [] line_next unread_next output_next → Serves rules over asks looks most takes_memory first.unread first.budget before (streams now.remaining writer_new) old new r
     comes_refused writer_new new r bad takes empty s = comes_stopped writer_new new Memory r bad memory_read (session_stopped s Memory ([], omega arith, (λ none. takes), empty))
 
     -- the reader failed once all was answered and written, and nothing is unread
-    pub comes_unread : (reader_new : Option (List ℕ)) (fault : Fault) (r : Result ⊤ Fault) → IsErrAnd r (λ e. e ≡ fault) → fault ≡ Reader → input.unread ≡ [] → output ≡ [] → ReadsInVain now.remaining reader_new input.budget
+    pub comes_unread : (reader_new : Option (List ℕ)) (fault : SessionFault) (r : Result ⊤ SessionFault) → IsErrAnd r (λ e. e ≡ fault) → fault ≡ Reader → input.unread ≡ [] → output ≡ [] → ReadsInVain now.remaining reader_new input.budget
         → Serves rules over asks looks most takes_memory first.unread first.budget before (streams reader_new now.contents) old desk r
     comes_unread reader_new fault r bad read none empty vain = err_case (Serves rules over asks looks most takes_memory first.unread first.budget before (streams reader_new now.contents) old desk) r bad
-        (λ e is. subst (λ (f : Fault). Serves rules over asks looks most takes_memory first.unread first.budget before (streams reader_new now.contents) old desk (Err f)) (sym (is ∙ read))
+        (λ e is. subst (λ (f : SessionFault). Serves rules over asks looks most takes_memory first.unread first.budget before (streams reader_new now.contents) old desk (Err f)) (sym (is ∙ read))
         (comes_broken (streams reader_new now.contents) desk Reader (vain_within now.remaining reader_new input.budget vain) (session_stopped c.session Reader empty)
         (λ read within. ⊎_elim
         (λ nothing. subst (λ (xs : List ℕ). HasNoEnd (xs ++ vain.0)) (sym (ap (λ xs. c.session.rest ++ xs) none ∙ append-nil c.session.rest))
@@ -156,11 +156,11 @@ module _ {State : Type 0} {rules : State → Rules} {over : State → Bool} {ask
         unfolding refused
         answered_all = last_answered last.leads last.rest last.no_end goes
 
-        pub comes_ended : 0 < most → (r : Result ⊤ Fault) → Ends writer_sent after.contents line_next r → Serves rules over asks looks most takes_memory first.unread first.budget before after old next r
+        pub comes_ended : 0 < most → (r : Result ⊤ SessionFault) → Ends writer_sent after.contents line_next r → Serves rules over asks looks most takes_memory first.unread first.budget before after old next r
         unfolding refused
         comes_ended some r e = by r (subst (λ (b : Bool). PassesLine writer_sent after.contents (if b then [] else unfinished_text) [] r) (same_empty line_next last.rest last.kept) e)
           where
-            by : (r : Result ⊤ Fault) → PassesLine writer_sent after.contents refused [] r → Serves rules over asks looks most takes_memory first.unread first.budget before after old next r
+            by : (r : Result ⊤ SessionFault) → PassesLine writer_sent after.contents refused [] r → Serves rules over asks looks most takes_memory first.unread first.budget before after old next r
             by (Ok done) s = record {
               taken = c.taken;
               text = last.text ++ refused;
@@ -190,6 +190,6 @@ module _ {State : Type 0} {rules : State → Rules} {over : State → Bool} {ask
 
 -- nothing is read and nothing is written
 pub never_served : {State : Type 0} (rules : State → Rules) (over : State → Bool) (asks : State → Command → Reply → State → Type 0) (looks : State → Option AuctionValue → State → Type 0) (most : ℕ) (takes_memory : Bool)
-    (first : Pending) (before : Streams) (old : State) (r : Result ⊤ Fault) → IsErrAnd r (λ e. e ≡ Memory) → Serves rules over asks looks most takes_memory first.unread first.budget before before old old r
+    (first : Pending) (before : Streams) (old : State) (r : Result ⊤ SessionFault) → IsErrAnd r (λ e. e ≡ Memory) → Serves rules over asks looks most takes_memory first.unread first.budget before before old old r
 never_served rules over asks looks most takes_memory first before old r bad = err_case (Serves rules over asks looks most takes_memory first.unread first.budget before before old old) r bad
     (λ other is. inl (is, (Keeps-refl before.remaining, Keeps-refl before.contents), refl))

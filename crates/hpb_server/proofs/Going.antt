@@ -14,7 +14,7 @@ use Rattle.hpb_rules.specs.Answer.{is_reply_new, answer_after, history_after}
 use Rattle.hpb_rules.specs.AuctionValue.{AuctionValue}
 use Rattle.hpb_rules.specs.Lines.{is_line_feed, request_of}
 use Rattle.hpb_rules.proofs.Lists.{front_self, front_trans}
-use Rattle.hpb_server.specs.declared.fault.Fault.{Fault}
+use Rattle.hpb_server.specs.declared.fault.SessionFault.{SessionFault}
 use Rattle.hpb_server.specs.DeskLaws.{GoesOn, RepliesAfter, ShowsAfter}
 use Rattle.hpb_server.specs.Streams.{Streams}
 use Rattle.hpb_server.specs.Serving.{AnswersLook, AnswersRequest, AnswersLines, Serves}
@@ -64,7 +64,7 @@ module _ {State : Type 0} (rules : State → Rules) (over : State → Bool) (ask
       goes_trans told h.3 new first (lines_go (following ∷ more) h.3 new h.2 first.0 h.5 first.2)
 
   -- whatever ends a session
-  pub session_goes : (most : ℕ) (takes_memory : Bool) (unread : List ℕ) (budget : ℕ) (before after : Streams) (old new : State) (told : List Command) (result : Result ⊤ Fault)
+  pub session_goes : (most : ℕ) (takes_memory : Bool) (unread : List ℕ) (budget : ℕ) (before after : Streams) (old new : State) (told : List Command) (result : Result ⊤ SessionFault)
       → Serves rules over asks looks most takes_memory unread budget before after old new result → tells old told → GoesOn told (tells new)
   session_goes most takes_memory unread budget before after old new told (Ok done) s is = lines_go (slice_split is_line_feed (unread ++ s.taken)) old new s.text told s.answers is
   session_goes most takes_memory unread budget before after old new told (Err fault) (inl never) is = (told, front_self told, subst (λ (d : State). tells d told) (sym never.2) is)

@@ -17,7 +17,7 @@ use Rattle.hpb_rules.specs.Lines.{request_of, is_line_feed}
 use Rattle.hpb_rules.specs.Rendering.{reply_text}
 use Rattle.hpb_rules.specs.Text.{line_of}
 use Rattle.hpb_rules.proofs.TextLaws.{request_of_front}
-use Rattle.hpb_server.specs.declared.fault.Fault.{Fault}
+use Rattle.hpb_server.specs.declared.fault.SessionFault.{SessionFault}
 use Rattle.hpb_server.specs.declared.input.TheConstants.{LINE_FEED}
 use Rattle.hpb_server.specs.declared.line.TheConstants.{KEPT_BYTES}
 use Rattle.hpb_server.specs.Desk.{AsksAll}
@@ -60,16 +60,16 @@ waits_more_in old new command (Err error) room pushed = absurd (let no : false �
 -- ---- what is written before requests are asked
 module _ {State : Type 0} (rules : State → Rules) (over : State → Bool) (asks : State → Command → Reply → State → Type 0) (looks : State → Option AuctionValue → State → Type 0) (most : ℕ) (takes_memory : Bool) {state : State} {asked : List (Result Request Refusal)} {old now : Option (List ℕ)} {bytes : List ℕ} where
   -- nothing is asked
-  pub none_asked : {left : List ℕ} {queue : List Command} (r : Result ⊤ Fault) → Passes most takes_memory old now (bytes ++ []) left r → OnOk r (asked ≡ asked_for queue)
+  pub none_asked : {left : List ℕ} {queue : List Command} (r : Result ⊤ SessionFault) → Passes most takes_memory old now (bytes ++ []) left r → OnOk r (asked ≡ asked_for queue)
       → PassesRequests rules over asks looks most takes_memory state asked state old now bytes left queue r
   none_asked r p waits = record { answered = []; waiting = asked; text = []; parts = refl; answers = (refl, refl); passes = p; queued = waits }
 
   -- since the writer failed
-  pub not_asked : (output : List ℕ) {left : List ℕ} {queue : List Command} (fault : Fault) (r : Result ⊤ Fault) → IsErrAnd r (λ e. e ≡ fault) → Passes 0 false old now bytes output (Err fault)
+  pub not_asked : (output : List ℕ) {left : List ℕ} {queue : List Command} (fault : SessionFault) (r : Result ⊤ SessionFault) → IsErrAnd r (λ e. e ≡ fault) → Passes 0 false old now bytes output (Err fault)
       → PassesRequests rules over asks looks most takes_memory state asked state old now bytes left queue r
   not_asked output {left = left} fault r bad p = none_asked r (first_fails most takes_memory old now bytes output left fault r bad p) (err_only _ _ r bad)
 
-  pub sent_first : (output : List ℕ) {next : State} {new : Option (List ℕ)} {left : List ℕ} {queue : List Command} (r : Result ⊤ Fault) → Passes 0 false old now bytes output (Ok tt)
+  pub sent_first : (output : List ℕ) {next : State} {new : Option (List ℕ)} {left : List ℕ} {queue : List Command} (r : Result ⊤ SessionFault) → Passes 0 false old now bytes output (Ok tt)
       → PassesRequests rules over asks looks most takes_memory state asked next now new output left queue r → PassesRequests rules over asks looks most takes_memory state asked next old new bytes left queue r
   sent_first output {new = new} {left = left} r first p = record {
     answered = p.answered;
@@ -116,7 +116,7 @@ module _ {State : Type 0} (rules : State → Rules) (over : State → Bool) (ask
 
   -- a command that is asked by itself is passed
   pub command_passed : (most : ℕ) (takes_memory : Bool) (a b : State) (command : Command) (reply : Reply) → 0 < most → over a ≡ false → rules b ≡ rules a → asks a command reply b
-      → {writer_old writer_new : Option (List ℕ)} (output left : List ℕ) (r : Result ⊤ Fault) → PassesLine writer_old writer_new (output ++ line_of (reply_text reply)) left r
+      → {writer_old writer_new : Option (List ℕ)} (output left : List ℕ) (r : Result ⊤ SessionFault) → PassesLine writer_old writer_new (output ++ line_of (reply_text reply)) left r
       → PassesRequests rules over asks looks most takes_memory a (Ok (requests.Command command) ∷ []) b writer_old writer_new output left [] r
   command_passed most takes_memory a b command reply some goes stays asked output left r p = record {
     answered = Ok (requests.Command command) ∷ [];
@@ -161,10 +161,10 @@ module _ {State : Type 0} (rules : State → Rules) (over : State → Bool) (ask
   -- ---- a front of requests is passed
   module _ (most : ℕ) (takes_memory : Bool) {old next : State} {asked : List (Result Request Refusal)} {writer_old writer_now : Option (List ℕ)} {output_old output_now : List ℕ} {queue : List Command} where
     -- what stands behind them waits where it is broken off
-    pub passes_fewer : (more : List (Result Request Refusal)) (fault : Fault) (r : Result ⊤ Fault) → IsErrAnd r (λ e. e ≡ fault) → PassesRequests rules over asks looks most takes_memory old asked next writer_old writer_now output_old output_now queue (Err fault)
+    pub passes_fewer : (more : List (Result Request Refusal)) (fault : SessionFault) (r : Result ⊤ SessionFault) → IsErrAnd r (λ e. e ≡ fault) → PassesRequests rules over asks looks most takes_memory old asked next writer_old writer_now output_old output_now queue (Err fault)
         → PassesRequests rules over asks looks most takes_memory old (asked ++ more) next writer_old writer_now output_old output_now queue r
     passes_fewer more fault r bad p = err_case (PassesRequests rules over asks looks most takes_memory old (asked ++ more) next writer_old writer_now output_old output_now queue) r bad
-        (λ other is. subst (λ (f : Fault). PassesRequests rules over asks looks most takes_memory old (asked ++ more) next writer_old writer_now output_old output_now queue (Err f)) (sym is) (record {
+        (λ other is. subst (λ (f : SessionFault). PassesRequests rules over asks looks most takes_memory old (asked ++ more) next writer_old writer_now output_old output_now queue (Err f)) (sym is) (record {
           answered = p.answered;
           waiting = p.waiting ++ more;
           text = p.text;
@@ -175,7 +175,7 @@ module _ {State : Type 0} (rules : State → Rules) (over : State → Bool) (ask
         }))
 
     -- a question behind them is passed, too
-    pub passes_question : (new : State) (writer_new : Option (List ℕ)) (output_new : List ℕ) (question : Result Request Refusal) (text : List ℕ) (r : Result ⊤ Fault) → PassesRequests rules over asks looks most takes_memory old asked next writer_old writer_now output_old output_now queue (Ok tt) → queue ≡ []
+    pub passes_question : (new : State) (writer_new : Option (List ℕ)) (output_new : List ℕ) (question : Result Request Refusal) (text : List ℕ) (r : Result ⊤ SessionFault) → PassesRequests rules over asks looks most takes_memory old asked next writer_old writer_now output_old output_now queue (Ok tt) → queue ≡ []
         → Answers next (question ∷ []) text new → Passes most takes_memory writer_now writer_new (output_now ++ text) output_new r
         → PassesRequests rules over asks looks most takes_memory old (asked ++ question ∷ []) new writer_old writer_new output_old output_new queue r
     passes_question new writer_new output_new question text r p none h q = record {
@@ -191,7 +191,7 @@ module _ {State : Type 0} (rules : State → Rules) (over : State → Bool) (ask
         owed : (sent left : List ℕ) → output_now ++ text ≡ sent ++ left → output_old ++ (p.text ++ text) ≡ (p.passes.0 ++ sent) ++ left
         owed sent left e = sym (append_assoc output_old p.text text) ∙ ap (λ xs. xs ++ text) p.passes.2 ∙ append_assoc p.passes.0 output_now text ∙ ap (λ xs. p.passes.0 ++ xs) e ∙ sym (append_assoc p.passes.0 sent left)
 
-        both : (r : Result ⊤ Fault) → Passes most takes_memory writer_now writer_new (output_now ++ text) output_new r → Passes most takes_memory writer_old writer_new (output_old ++ (p.text ++ text)) output_new r
+        both : (r : Result ⊤ SessionFault) → Passes most takes_memory writer_now writer_new (output_now ++ text) output_new r → Passes most takes_memory writer_old writer_new (output_old ++ (p.text ++ text)) output_new r
         both (Ok done) q = (p.passes.0 ++ q.0, Appends-trans writer_old writer_now writer_new p.passes.0 q.0 p.passes.1 q.1, owed q.0 output_new q.2)
         both (Err fault) q = (q.0, p.passes.0 ++ q.1, Appends-trans writer_old writer_now writer_new p.passes.0 q.1 p.passes.1 q.2, (q.3.0, owed q.1 q.3.0 q.3.1), q.4)
 
@@ -282,7 +282,7 @@ module _ {State : Type 0} {rules : State → Rules} {over : State → Bool} {ask
           }
 
       -- the session is broken off
-      pub waits_broken : (fault : Fault) → PassesRequests rules over asks looks most takes_memory now requests next writer_now writer_new output output_new queue (Err fault)
+      pub waits_broken : (fault : SessionFault) → PassesRequests rules over asks looks most takes_memory now requests next writer_now writer_new output output_new queue (Err fault)
           → Broken rules over asks looks most takes_memory start old next writer_old writer_new output_old fault
       waits_broken fault p =
           let split = spell_split (rules now) w.lines p.answered p.waiting (subst (Spell (rules now) w.lines) p.parts w.spell) in
@@ -343,7 +343,7 @@ module _ {State : Type 0} {rules : State → Rules} {over : State → Bool} {ask
     }
 
     -- all that waits is asked
-    pub queues_asked : {next : State} {writer_new : Option (List ℕ)} {unread output_new : List ℕ} {queue_new : List Command} (r : Result ⊤ Fault) → Queues rules over asks looks most takes_memory start old now writer_old writer_now output_old line queue unread output
+    pub queues_asked : {next : State} {writer_new : Option (List ℕ)} {unread output_new : List ℕ} {queue_new : List Command} (r : Result ⊤ SessionFault) → Queues rules over asks looks most takes_memory start old now writer_old writer_now output_old line queue unread output
         → PassesRequests rules over asks looks most takes_memory now (asked_for queue) next writer_now writer_new output output_new queue_new r → rules next ≡ rules now → OnOk r (queue_new ≡ [])
         → Proceeds rules over asks looks most takes_memory start old next writer_old writer_new output_old line unread output_new r
     queues_asked (Ok done) q p stays none = queues_session (record { rest = q.rest; no_end = q.no_end; kept = q.kept; waits = waits_on q.waits p stays }) none

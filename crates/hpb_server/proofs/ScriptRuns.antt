@@ -18,8 +18,8 @@ use Rattle.hpb_rules.proofs.Lists.{front_trans}
 use Rattle.hpb_define.specs.declared.fault.DefineCause.{DefineCause}
 use Rattle.hpb_define.specs.declared.fault.DefineCause.TheVariants as faults
 use Rattle.hpb_define.specs.Text.{Answers}
-use Rattle.hpb_server.specs.declared.fault.Fault.{Fault}
-use Rattle.hpb_server.specs.declared.fault.Fault.TheVariants as errors
+use Rattle.hpb_server.specs.declared.fault.SessionFault.{SessionFault}
+use Rattle.hpb_server.specs.declared.fault.SessionFault.TheVariants as errors
 use Rattle.hpb_server.specs.declared.input.DefinitionText.{DefinitionText}
 use Rattle.hpb_server.specs.declared.input.TheConstants.{LINE_FEED, KEPT_DEFINITION_BYTES}
 use Rattle.hpb_server.specs.declared.script.ScriptEnd.{ScriptEnd}
@@ -65,7 +65,7 @@ module _ {before : Pending} (is : before ≡ record { unread = []; budget = MOST
 
 -- ---- the end of a run
 -- nothing was written
-nothing_by : (before after : Streams) (fault : Fault) → fault ≢ errors.Writer → WritesNothing before after → RunsScript before after (Err fault)
+nothing_by : (before after : Streams) (fault : SessionFault) → fault ≢ errors.Writer → WritesNothing before after → RunsScript before after (Err fault)
 nothing_by before after errors.Memory other none = inl none
 nothing_by before after errors.Reader other none = inl none
 nothing_by before after errors.Writer other none = absurd (other refl)
@@ -73,11 +73,11 @@ nothing_by before after errors.Writer other none = absurd (other refl)
 memory_written : errors.Memory ≢ errors.Writer
 memory_written e = absurd (let no : errors.Memory ≡ errors.Writer = e in cc)
 
-pub nothing_run : (before after : Streams) (fault : Fault) (r : Result ScriptEnd Fault) → IsErrAnd r (λ e. e ≡ fault) → fault ≢ errors.Writer → ReadsWithin before.remaining after.remaining MOST_READ_BYTES → Appends before.contents after.contents [] → RunsScript before after r
+pub nothing_run : (before after : Streams) (fault : SessionFault) (r : Result ScriptEnd SessionFault) → IsErrAnd r (λ e. e ≡ fault) → fault ≢ errors.Writer → ReadsWithin before.remaining after.remaining MOST_READ_BYTES → Appends before.contents after.contents [] → RunsScript before after r
 nothing_run before after fault r bad other vain none = err_case (RunsScript before after) r bad (λ e is. nothing_by before after e (λ writer. other (sym is ∙ writer)) (vain, none))
 
 -- nothing was read either
-pub never_run : (before : Streams) (r : Result ScriptEnd Fault) → IsErrAnd r (λ e. e ≡ errors.Memory) → RunsScript before before r
+pub never_run : (before : Streams) (r : Result ScriptEnd SessionFault) → IsErrAnd r (λ e. e ≡ errors.Memory) → RunsScript before before r
 never_run before r bad = nothing_run before before errors.Memory r bad memory_written ([], Consumes-nil before.remaining, omega arith) (Appends-nil before.contents)
 
 module _ {reader_old reader_now : Option (List ℕ)} {input : Pending} {text : DefinitionText} (given : GivesDefinition reader_old reader_now MOST_READ_BYTES input text) where
@@ -127,11 +127,11 @@ module _ {reader_old reader_now : Option (List ℕ)} {input : Pending} {text : D
         let ends : EndsDefinition reader_old reader_now MOST_READ_BYTES input given.bytes false = ends_as false is in
         (given.bytes, ends.0.0, omega (arith, ends.0.1))
 
-    pub refused_run : (r : Result ScriptEnd Fault) → Refuses writer_old writer_new fault r → RunsScript (streams reader_old writer_old) (streams reader_now writer_new) r
+    pub refused_run : (r : Result ScriptEnd SessionFault) → Refuses writer_old writer_new fault r → RunsScript (streams reader_old writer_old) (streams reader_now writer_new) r
     refused_run (Ok Answered) w = absurd w
     refused_run (Ok (Refused refusal)) w = (refuses refusal text.has_end refl w.0, w.1)
-    refused_run (Err broken) (inl none) = subst (λ (f : Fault). RunsScript (streams reader_old writer_old) (streams reader_now writer_new) (Err f)) (sym none.0) (inl (taken_some text.has_end refl, none.1))
-    refused_run (Err broken) (inr some) = subst (λ (f : Fault). RunsScript (streams reader_old writer_old) (streams reader_now writer_new) (Err f)) (sym some.0) (inl (record {
+    refused_run (Err broken) (inl none) = subst (λ (f : SessionFault). RunsScript (streams reader_old writer_old) (streams reader_now writer_new) (Err f)) (sym none.0) (inl (taken_some text.has_end refl, none.1))
+    refused_run (Err broken) (inr some) = subst (λ (f : SessionFault). RunsScript (streams reader_old writer_old) (streams reader_now writer_new) (Err f)) (sym some.0) (inl (record {
       refusal = some.1;
       sent = some.2;
       refuses = refuses some.1 text.has_end refl some.3;
@@ -184,12 +184,12 @@ module _ {reader_old reader_now : Option (List ℕ)} {input : Pending} {text : D
       }
 
       -- where it is broken off
-      answered_by : (fault : Fault) → AnswersScriptFront (streams reader_old writer_old) (streams reader_new writer_new) fault → RunsScript (streams reader_old writer_old) (streams reader_new writer_new) (Err fault)
+      answered_by : (fault : SessionFault) → AnswersScriptFront (streams reader_old writer_old) (streams reader_new writer_new) fault → RunsScript (streams reader_old writer_old) (streams reader_new writer_new) (Err fault)
       answered_by errors.Memory front = inr front
       answered_by errors.Reader front = inr front
       answered_by errors.Writer front = inr front
 
-      broken_by : (fault : Fault) (new : AuctionValue) → Serves rules_in never_over RepliesIn ShowsItself one_asked no_memory input.unread input.budget (streams reader_now writer_old) (streams reader_new writer_new) (first_value rules) new (Err fault)
+      broken_by : (fault : SessionFault) (new : AuctionValue) → Serves rules_in never_over RepliesIn ShowsItself one_asked no_memory input.unread input.budget (streams reader_now writer_old) (streams reader_new writer_new) (first_value rules) new (Err fault)
           → RunsScript (streams reader_old writer_old) (streams reader_new writer_new) (Err fault)
       broken_by fault new (inl never) = nothing_by (streams reader_old writer_old) (streams reader_new writer_new) fault (λ writer. memory_written (sym never.0 ∙ writer))
           ((after_line input.unread, Consumes-kept reader_old reader_now reader_new (after_line input.unread) ends.0 never.1.0, omega (arith, ends.1)), Appends-kept writer_old writer_old writer_new [] (Appends-nil writer_old) never.1.1)
@@ -225,7 +225,7 @@ module _ {reader_old reader_now : Option (List ℕ)} {input : Pending} {text : D
           line_first first done (inl none) = inr (first, ap (λ xs. first ++ LINE_FEED ∷ xs) none)
           line_first first done (inr lines) = inr (first ++ LINE_FEED ∷ lines.0, ap (λ xs. first ++ LINE_FEED ∷ xs) lines.1 ∙ sym (append_assoc first (LINE_FEED ∷ lines.0) (LINE_FEED ∷ [])))
 
-      pub broken_run : (fault : Fault) (r : Result ScriptEnd Fault) → IsErrAnd r (λ e. e ≡ fault) → ServesScript (streams reader_now writer_old) (streams reader_new writer_new) input (first_value rules) (Err fault)
+      pub broken_run : (fault : SessionFault) (r : Result ScriptEnd SessionFault) → IsErrAnd r (λ e. e ≡ fault) → ServesScript (streams reader_now writer_old) (streams reader_new writer_new) input (first_value rules) (Err fault)
           → RunsScript (streams reader_old writer_old) (streams reader_new writer_new) r
       broken_run fault r bad s = err_case (RunsScript (streams reader_old writer_old) (streams reader_new writer_new)) r bad
-          (λ other is. subst (λ (f : Fault). RunsScript (streams reader_old writer_old) (streams reader_new writer_new) (Err f)) (sym is) (broken_by fault s.0 s.1))
+          (λ other is. subst (λ (f : SessionFault). RunsScript (streams reader_old writer_old) (streams reader_new writer_new) (Err f)) (sym is) (broken_by fault s.0 s.1))

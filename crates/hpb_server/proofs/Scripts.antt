@@ -21,8 +21,8 @@ use Rattle.hpb_rules.proofs.RunLaws.{next_is_shown, text_is_shown}
 use Rattle.hpb_server.specs.declared.input.TheConstants.{LINE_FEED}
 use Rattle.hpb_rules.proofs.Judged.{next_rules}
 use Rattle.hpb_server.specs.Desk.{rules_in, never_over, one_asked, no_memory, IsItself, Moves, RepliesIn, ShowsItself}
-use Rattle.hpb_server.specs.declared.fault.Fault.{Fault}
-use Rattle.hpb_server.specs.declared.fault.Fault.TheVariants.{Memory, Reader, Writer}
+use Rattle.hpb_server.specs.declared.fault.SessionFault.{SessionFault}
+use Rattle.hpb_server.specs.declared.fault.SessionFault.TheVariants.{Memory, Reader, Writer}
 use Rattle.hpb_server.specs.Fault.{lines_of, IsLeft, IsLeftOfScript}
 use Rattle.hpb_server.specs.Serving.{AreLines, shown_by, AnswersRequest, AnswersLines, Serves}
 use Rattle.hpb_server.specs.Streams.{Streams}
@@ -101,7 +101,7 @@ lines_front rules history done rest whole = ⊎_elim
     whole
 
 -- what is left of a session is no more than the last line
-pub last_left : (fault : Fault) (left : List ℕ) → IsLeft one_asked no_memory fault left → IsLeftOfScript fault left
+pub last_left : (fault : SessionFault) (left : List ℕ) → IsLeft one_asked no_memory fault left → IsLeftOfScript fault left
 last_left Reader left h = h
 last_left Writer left h = h
 last_left Memory left h = by h.0 h.1 h.2 h.3
@@ -149,7 +149,7 @@ session_is_text budget before after old new history (Err fault) shows (inr s) =
     })
 
 -- so does one that is told by the states of its desk
-pub moved_is_text : (budget : ℕ) (before after : Streams) (old new : AuctionValue) (history : List Command) (result : Result ⊤ Fault)
+pub moved_is_text : (budget : ℕ) (before after : Streams) (old new : AuctionValue) (history : List Command) (result : Result ⊤ SessionFault)
     → Shows old history → Moves IsItself old new (λ state next. Serves rules_in never_over RepliesIn ShowsItself one_asked no_memory [] budget before after state next result)
     → ServesText old.rules history budget before after new result
 moved_is_text budget before after old new history result shows moves =

@@ -7,8 +7,8 @@ use Rattle.hpb_rules.specs.declared.reply.Reply.{Reply}
 use Rattle.hpb_rules.specs.Tree.{Rules}
 use Rattle.hpb_rules.specs.AuctionValue.{AuctionValue}
 use Rattle.hpb_server.specs.declared.line.TheConstants.{KEPT_BYTES}
-use Rattle.hpb_server.specs.declared.fault.Fault.{Fault}
-use Rattle.hpb_server.specs.declared.fault.Fault.TheVariants.{Writer}
+use Rattle.hpb_server.specs.declared.fault.SessionFault.{SessionFault}
+use Rattle.hpb_server.specs.declared.fault.SessionFault.TheVariants.{Writer}
 use Rattle.hpb_server.specs.Fault.{IsLeft}
 use Rattle.hpb_server.specs.Reading.{HasNoEnd}
 use Rattle.hpb_server.specs.Session.{Session, Broken}
@@ -56,7 +56,7 @@ module _ {State : Type 0} {rules : State → Rules} {over : State → Bool} {ask
     }
 
     -- it is broken off later
-    pub session_broken : {next : State} {writer_new : Option (List ℕ)} {fault : Fault} → Broken rules over asks looks most takes_memory (s.rest ++ unread) now next writer_now writer_new output fault → Broken rules over asks looks most takes_memory start old next writer_old writer_new output_old fault
+    pub session_broken : {next : State} {writer_new : Option (List ℕ)} {fault : SessionFault} → Broken rules over asks looks most takes_memory (s.rest ++ unread) now next writer_now writer_new output fault → Broken rules over asks looks most takes_memory start old next writer_old writer_new output_old fault
     session_broken {writer_new = writer_new} t = record {
       done = s.done ++ t.done;
       rest = t.rest;
@@ -99,7 +99,7 @@ module _ {State : Type 0} {rules : State → Rules} {over : State → Bool} {ask
     }
 
     -- it is broken off where it stands
-    abbrev pub session_stopped : (fault : Fault) → IsLeft most takes_memory fault output → Broken rules over asks looks most takes_memory start old now writer_old writer_now output_old fault
+    abbrev pub session_stopped : (fault : SessionFault) → IsLeft most takes_memory fault output → Broken rules over asks looks most takes_memory start old now writer_old writer_now output_old fault
     session_stopped fault left = record {
       done = s.done;
       rest = s.rest ++ unread;

@@ -6,11 +6,11 @@ use Rattle.std.specs.declared.io.ErrorKind.TheVariants.{Interrupted}
 use Rattle.hpb_rules.specs.declared.refusal.Refusal.{Refusal}
 use Rattle.hpb_rules.specs.declared.refusal.Refusal.TheVariants as refusals
 use Rattle.hpb_rules.specs.Text.{line_of}
-use Rattle.hpb_server.specs.declared.fault.Fault.{Fault}
-use Rattle.hpb_server.specs.declared.fault.Fault.TheVariants.{Memory, Reader, Writer}
+use Rattle.hpb_server.specs.declared.fault.SessionFault.{SessionFault}
+use Rattle.hpb_server.specs.declared.fault.SessionFault.TheVariants.{Memory, Reader, Writer}
 
 -- The refusal that a fault is told by.
-abbrev pub refusal_of : Fault → Refusal
+abbrev pub refusal_of : SessionFault → Refusal
 refusal_of Memory = refusals.Memory
 refusal_of Reader = refusals.Stream
 refusal_of Writer = refusals.Stream
@@ -24,13 +24,13 @@ lines_of [] = []
 lines_of (text ∷ more) = line_of text ++ lines_of more
 
 -- What is left unwritten of the answers: at most so many of the last lines where memory was refused, and none of them only where the desk takes memory; nothing where the reader failed, and any end of them where the writer failed.
-abbrev pub IsLeft : (most : ℕ) (takes_memory : Bool) → Fault → List ℕ → Type 0
+abbrev pub IsLeft : (most : ℕ) (takes_memory : Bool) → SessionFault → List ℕ → Type 0
 IsLeft most takes_memory Memory left = (answers : List (List ℕ)) × (length answers ≤ most) × (answers ≡ [] → takes_memory ≡ true) × (left ≡ lines_of answers)
 IsLeft most takes_memory Reader left = left ≡ []
 IsLeft most takes_memory Writer left = Unit {0}
 
 -- The same where the desk is asked for one command at a time and takes no memory: the last line where memory was refused for it.
-abbrev pub IsLeftOfScript : Fault → List ℕ → Type 0
+abbrev pub IsLeftOfScript : SessionFault → List ℕ → Type 0
 IsLeftOfScript Memory left = (answer : List ℕ) × (left ≡ line_of answer)
 IsLeftOfScript Reader left = left ≡ []
 IsLeftOfScript Writer left = Unit {0}

@@ -5,8 +5,8 @@ use Rattle.std.specs.Io.KnownBytes.{Consumes, IsAtEnd}
 use Rattle.hpb_rules.specs.declared.limits.TheConstants.{MOST_DEFINITION_BYTES}
 use Rattle.hpb_rules.specs.Lines.{is_line_feed}
 use Rattle.hpb_wire.specs.declared.line.FrontRequest.{FrontRequest}
-use Rattle.hpb_server.specs.declared.fault.Fault.{Fault}
-use Rattle.hpb_server.specs.declared.fault.Fault.TheVariants.{Reader, Writer}
+use Rattle.hpb_server.specs.declared.fault.SessionFault.{SessionFault}
+use Rattle.hpb_server.specs.declared.fault.SessionFault.TheVariants.{Reader, Writer}
 use Rattle.hpb_server.specs.declared.input.TheConstants.{LINE_FEED, KEPT_DEFINITION_BYTES}
 use Rattle.hpb_server.specs.declared.input.DefinitionText.{DefinitionText}
 
@@ -47,7 +47,7 @@ abbrev pub ReadsInVain : (old new : Option (List ℕ)) (budget : ℕ) → Type 0
 ReadsInVain old new budget = (bytes : List ℕ) × Consumes old new bytes × ((bytes ≡ []) ⊎ ((budget ≡ 0) × (length bytes ≡ 1)))
 
 -- More was read, or the reader has ended, or it is told to have failed.
-abbrev pub Fills : (old new : Option (List ℕ)) (before after : Pending) → Result Bool Fault → Type 0
+abbrev pub Fills : (old new : Option (List ℕ)) (before after : Pending) → Result Bool SessionFault → Type 0
 Fills old new before after (Ok true) = Consumes old new after.unread × (0 < length after.unread) × (after.budget + length after.unread ≡ before.budget)
 Fills old new before after (Ok false) = Consumes old new [] × IsAtEnd new × (after ≡ before)
 Fills old new before after (Err fault) = (fault ≡ Reader) × ReadsInVain old new before.budget
@@ -82,7 +82,7 @@ EndsDefinition old new budget after bytes true = TakesWithin old new budget afte
 EndsDefinition old new budget after bytes false = TakesWithin old new budget after.budget bytes × ((MOST_DEFINITION_BYTES < length bytes) ⊎ IsAtEnd new)
 
 -- Some bytes were read, and no writer is told to have failed.
-abbrev pub StopsReading : (old new : Option (List ℕ)) (budget : ℕ) → Fault → Type 0
+abbrev pub StopsReading : (old new : Option (List ℕ)) (budget : ℕ) → SessionFault → Type 0
 StopsReading old new budget fault = (fault ≢ Writer) × ReadsWithin old new budget
 
 -- The first line was read, and so much of it is kept.

@@ -12,9 +12,9 @@ use Rattle.hpb_define.specs.declared.fault.DefineCause.{DefineCause}
 use Rattle.hpb_define.specs.declared.fault.DefineCause.TheVariants.{Memory}
 use Rattle.hpb_define.specs.Fault.{refusal_of}
 use Rattle.hpb_define.specs.Text.{Answers}
-use Rattle.hpb_server.specs.declared.fault.Fault.{Fault}
-use Rattle.hpb_server.specs.declared.fault.Fault.TheVariants as faults
-use Rattle.hpb_server.specs.declared.fault.Fault.TheVariants.{Reader}
+use Rattle.hpb_server.specs.declared.fault.SessionFault.{SessionFault}
+use Rattle.hpb_server.specs.declared.fault.SessionFault.TheVariants as faults
+use Rattle.hpb_server.specs.declared.fault.SessionFault.TheVariants.{Reader}
 use Rattle.hpb_server.specs.Fault.{IsLeftOfScript}
 use Rattle.hpb_server.specs.declared.input.TheConstants.{LINE_FEED}
 use Rattle.hpb_server.specs.declared.script.ScriptEnd.{ScriptEnd}
@@ -69,7 +69,7 @@ module _ (before after : Streams) where
     pub front : IsFront sent (line_of (refusal_text refusal))
 
   -- The first line is a definition. Whole lines of what was read were answered, or all that the reader had, and a front of their text was written, as much as the fault leaves. It is a front of the text of all that was read, too. Where the reader failed, no line was left unanswered.
-  pub record AnswersScriptFront (fault : Fault) : Type 0 where
+  pub record AnswersScriptFront (fault : SessionFault) : Type 0 where
     pub taken : List ℕ
     pub answered : List ℕ
     pub rest : List ℕ
@@ -95,7 +95,7 @@ module _ (before after : Streams) where
   WritesNothing = ReadsWithin before.remaining after.remaining MOST_READ_BYTES × Appends before.contents after.contents []
 
   -- What a run of a script reads and writes.
-  abbrev pub RunsScript : Result ScriptEnd Fault → Type 0
+  abbrev pub RunsScript : Result ScriptEnd SessionFault → Type 0
   RunsScript (Ok Answered) = AnswersScript
   RunsScript (Ok (Refused refusal)) = RefusesScript refusal × Appends before.contents after.contents (line_of (refusal_text refusal))
   RunsScript (Err faults.Memory) = WritesNothing ⊎ AnswersScriptFront faults.Memory
@@ -103,18 +103,18 @@ module _ (before after : Streams) where
   RunsScript (Err faults.Writer) = RefusesFront ⊎ AnswersScriptFront faults.Writer
 
   -- The lines of a script are answered from this value on.
-  abbrev pub ServesScript : Pending → AuctionValue → Result ⊤ Fault → Type 0
+  abbrev pub ServesScript : Pending → AuctionValue → Result ⊤ SessionFault → Type 0
   ServesScript input value result = (new : AuctionValue) × Serves rules_in never_over RepliesIn ShowsItself one_asked no_memory input.unread input.budget before after value new result
 
 -- The line of a refusal was written; or nothing where memory was refused, or a front of it where the writer failed.
-abbrev pub WritesRefusal : (writer_old writer_new : Option (List ℕ)) (refusal : Refusal) → Result ScriptEnd Fault → Type 0
+abbrev pub WritesRefusal : (writer_old writer_new : Option (List ℕ)) (refusal : Refusal) → Result ScriptEnd SessionFault → Type 0
 WritesRefusal writer_old writer_new refusal (Ok Answered) = ⊥
 WritesRefusal writer_old writer_new refusal (Ok (Refused told)) = (told ≡ refusal) × Appends writer_old writer_new (line_of (refusal_text refusal))
 WritesRefusal writer_old writer_new refusal (Err fault) =
     ((fault ≡ faults.Memory) × Appends writer_old writer_new []) ⊎ ((fault ≡ faults.Writer) × (sent : List ℕ) × Appends writer_old writer_new sent × IsFront sent (line_of (refusal_text refusal)))
 
 -- The same by the fault of a definition, which is told by no line where memory was refused.
-abbrev pub Refuses : (writer_old writer_new : Option (List ℕ)) → DefineCause → Result ScriptEnd Fault → Type 0
+abbrev pub Refuses : (writer_old writer_new : Option (List ℕ)) → DefineCause → Result ScriptEnd SessionFault → Type 0
 Refuses writer_old writer_new fault (Ok Answered) = ⊥
 Refuses writer_old writer_new fault (Ok (Refused refusal)) = IsTold fault refusal × Appends writer_old writer_new (line_of (refusal_text refusal))
 Refuses writer_old writer_new fault (Err broken) =

@@ -6,8 +6,8 @@ use Rattle.hpb_rules.specs.Tree.{Rules}
 use Rattle.hpb_rules.specs.Fronts.{IsFront}
 use Rattle.hpb_rules.specs.AuctionValue.{AuctionValue, Shows}
 use Rattle.hpb_rules.specs.Text.{lines_text, history_after_lines}
-use Rattle.hpb_server.specs.declared.fault.Fault.{Fault}
-use Rattle.hpb_server.specs.declared.fault.Fault.TheVariants.{Memory, Reader}
+use Rattle.hpb_server.specs.declared.fault.SessionFault.{SessionFault}
+use Rattle.hpb_server.specs.declared.fault.SessionFault.TheVariants.{Memory, Reader}
 use Rattle.hpb_server.specs.Fault.{IsLeftOfScript}
 use Rattle.hpb_server.specs.Reading.{most_taken, HasNoEnd}
 use Rattle.hpb_server.specs.Desk.{rules_in, never_over, one_asked, no_memory, RepliesIn, ShowsItself}
@@ -35,7 +35,7 @@ module _ (rules : Rules) (history : List Command) (budget : ℕ) (before after :
 
   -- Of whole lines of what was read, or of all that the reader had, a front of the text was written, as much as the fault leaves, and the auction shows the history that they lead to.
   -- It is a front of the text of all that was read, too. Where the reader failed, no line was left unanswered.
-  pub record WritesFront (fault : Fault) : Type 0 where
+  pub record WritesFront (fault : SessionFault) : Type 0 where
     pub taken : List ℕ
     pub done : List ℕ
     pub rest : List ℕ
@@ -52,13 +52,13 @@ module _ (rules : Rules) (history : List Command) (budget : ℕ) (before after :
     pub shows : Shows new (history_after_lines rules history done)
 
   -- What a session with an auction in memory writes that showed a history, and what the auction shows then. Memory may be refused at the start.
-  abbrev pub ServesText : Result ⊤ Fault → Type 0
+  abbrev pub ServesText : Result ⊤ SessionFault → Type 0
   ServesText (Ok done) = WritesText
   ServesText (Err fault) = ((fault ≡ Memory) × AreKept before after × Shows new history) ⊎ WritesFront fault
 
 -- A session with an auction in memory that shows a history answers all that it reads by the text of lines after this history; at a fault a front of
 -- that text is written, as much as the fault leaves.
 abbrev pub SessionIsText : Type 0
-SessionIsText = (budget : ℕ) (before after : Streams) (old new : AuctionValue) (history : List Command) (result : Result ⊤ Fault)
+SessionIsText = (budget : ℕ) (before after : Streams) (old new : AuctionValue) (history : List Command) (result : Result ⊤ SessionFault)
     → Shows old history → Serves rules_in never_over RepliesIn ShowsItself one_asked no_memory [] budget before after old new result
     → ServesText old.rules history budget before after new result

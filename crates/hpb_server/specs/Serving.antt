@@ -14,8 +14,8 @@ use Rattle.hpb_rules.specs.Lines.{request_of, is_line_feed}
 use Rattle.hpb_rules.specs.Rendering.{refusal_text, reply_text}
 use Rattle.hpb_rules.specs.Text.{line_of, unfinished_text}
 use Rattle.hpb_rules.specs.ValueText.{shown_in, node_shown_in, bidder_shown_in}
-use Rattle.hpb_server.specs.declared.fault.Fault.{Fault}
-use Rattle.hpb_server.specs.declared.fault.Fault.TheVariants.{Memory, Reader}
+use Rattle.hpb_server.specs.declared.fault.SessionFault.{SessionFault}
+use Rattle.hpb_server.specs.declared.fault.SessionFault.TheVariants.{Memory, Reader}
 use Rattle.hpb_server.specs.Fault.{IsLeft}
 use Rattle.hpb_server.specs.Reading.{most_taken, HasNoEnd}
 use Rattle.hpb_server.specs.Streams.{Streams, AreKept}
@@ -79,7 +79,7 @@ module _ {State : Type 0} (rules : State → Rules) (over : State → Bool) (ask
       pub written : Appends before.contents after.contents text
 
     -- Whole lines of what was read were answered, or all that the reader had, and a front of the answers was written, as much as the fault leaves. Where the reader failed, no line was left unanswered.
-    pub record AnswersFront (fault : Fault) : Type 0 where
+    pub record AnswersFront (fault : SessionFault) : Type 0 where
       pub taken : List ℕ
       pub done : List ℕ
       pub rest : List ℕ
@@ -96,10 +96,10 @@ module _ {State : Type 0} (rules : State → Rules) (over : State → Bool) (ask
       pub no_line : fault ≡ Reader → length taken ≤ budget → HasNoEnd rest
 
     -- Nothing was read, asked or written, since memory was refused at the start.
-    abbrev pub NeverBegins : Fault → Type 0
+    abbrev pub NeverBegins : SessionFault → Type 0
     NeverBegins fault = (fault ≡ Memory) × AreKept before after × (new ≡ old)
 
     -- What a session does with what is unread and all that comes after it.
-    abbrev pub Serves : Result ⊤ Fault → Type 0
+    abbrev pub Serves : Result ⊤ SessionFault → Type 0
     Serves (Ok done) = AnswersAll
     Serves (Err fault) = NeverBegins fault ⊎ AnswersFront fault

@@ -13,24 +13,24 @@ use Rattle.hpb_rules.specs.Rendering.{reply_text}
 use Rattle.hpb_rules.specs.Text.{line_of, unfinished_text}
 use Rattle.hpb_rules.specs.ValueText.{shown_in, node_shown_in, bidder_shown_in}
 use Rattle.hpb_wire.specs.Responses.{Adds}
-use Rattle.hpb_server.specs.declared.fault.Fault.{Fault}
-use Rattle.hpb_server.specs.declared.fault.Fault.TheVariants.{Reader}
+use Rattle.hpb_server.specs.declared.fault.SessionFault.{SessionFault}
+use Rattle.hpb_server.specs.declared.fault.SessionFault.TheVariants.{Reader}
 use Rattle.hpb_server.specs.Fault.{IsLeft, lines_of}
 use Rattle.hpb_server.specs.declared.line.TheConstants.{KEPT_BYTES}
 use Rattle.hpb_server.specs.Reading.{HasNoEnd}
 use Rattle.hpb_server.specs.Serving.{AreLines, AnswersRequest, AnswersInput}
 
 -- A front of the bytes was written, and the rest is left; or a front was written, as much as the fault leaves.
-abbrev pub Passes : (most : ℕ) (takes_memory : Bool) (writer_old writer_new : Option (List ℕ)) (bytes left : List ℕ) → Result ⊤ Fault → Type 0
+abbrev pub Passes : (most : ℕ) (takes_memory : Bool) (writer_old writer_new : Option (List ℕ)) (bytes left : List ℕ) → Result ⊤ SessionFault → Type 0
 Passes most takes_memory writer_old writer_new bytes left (Ok done) = (sent : List ℕ) × Appends writer_old writer_new sent × (bytes ≡ sent ++ left)
 Passes most takes_memory writer_old writer_new bytes left (Err fault) = (fault ≢ Reader) × (sent : List ℕ) × Appends writer_old writer_new sent × (front : IsFront sent bytes) × IsLeft most takes_memory fault front.0
 
 -- The same of one line: where memory was refused for it, it is what is left.
-abbrev pub PassesLine : (writer_old writer_new : Option (List ℕ)) (bytes left : List ℕ) → Result ⊤ Fault → Type 0
+abbrev pub PassesLine : (writer_old writer_new : Option (List ℕ)) (bytes left : List ℕ) → Result ⊤ SessionFault → Type 0
 PassesLine writer_old writer_new bytes left result = Passes 1 false writer_old writer_new bytes left result
 
 -- A last line was refused where it has a byte, or a front of that was written, as much as the fault leaves.
-abbrev pub Ends : (writer_old writer_new : Option (List ℕ)) (line : List ℕ) → Result ⊤ Fault → Type 0
+abbrev pub Ends : (writer_old writer_new : Option (List ℕ)) (line : List ℕ) → Result ⊤ SessionFault → Type 0
 Ends writer_old writer_new line result = PassesLine writer_old writer_new (if length line == 0 then [] else unfinished_text) [] result
 
 -- What replies are written as.
@@ -66,7 +66,7 @@ module _ {State : Type 0} (rules : State → Rules) (over : State → Bool) (ask
       ⊎ ((over old ≡ false) × (answer rest : List ℕ) × (next : State) × (rules next ≡ rules old) × AnswersRequest rules over asks looks old request answer next × AnswersRequests next more rest new × (text ≡ line_of answer ++ rest))
 
   -- A front of these requests was answered, and the others wait: they are the commands of the queue. A front of the output with the answers was written, and the rest is in the output. Where the session is broken off, a front was written.
-  pub record PassesRequests (most : ℕ) (takes_memory : Bool) (old : State) (asked : List (Result Request Refusal)) (new : State) (writer_old writer_new : Option (List ℕ)) (output_old output_new : List ℕ) (queue : List Command) (result : Result ⊤ Fault) : Type 0 where
+  pub record PassesRequests (most : ℕ) (takes_memory : Bool) (old : State) (asked : List (Result Request Refusal)) (new : State) (writer_old writer_new : Option (List ℕ)) (output_old output_new : List ℕ) (queue : List Command) (result : Result ⊤ SessionFault) : Type 0 where
     pub answered : List (Result Request Refusal)
     pub waiting : List (Result Request Refusal)
     pub text : List ℕ
@@ -95,7 +95,7 @@ module _ {State : Type 0} (rules : State → Rules) (over : State → Bool) (ask
       pub owed : output_old ++ text ≡ sent ++ output_now
 
     -- Whole lines were answered, and a front of their answers is written, as much as the fault leaves.
-    pub record Broken (fault : Fault) : Type 0 where
+    pub record Broken (fault : SessionFault) : Type 0 where
       pub done : List ℕ
       pub rest : List ℕ
       pub text : List ℕ
@@ -107,6 +107,6 @@ module _ {State : Type 0} (rules : State → Rules) (over : State → Bool) (ask
       pub left : IsLeft most takes_memory fault front.0
 
     -- The session goes on, or it is broken off.
-    abbrev pub Proceeds : (line unread output_now : List ℕ) → Result ⊤ Fault → Type 0
+    abbrev pub Proceeds : (line unread output_now : List ℕ) → Result ⊤ SessionFault → Type 0
     Proceeds line unread output_now (Ok done) = Session line unread output_now
     Proceeds line unread output_now (Err fault) = (fault ≢ Reader) × Broken fault

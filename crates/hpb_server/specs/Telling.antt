@@ -10,7 +10,7 @@ use Rattle.hpb_rules.specs.AuctionValue.{AuctionValue}
 use Rattle.hpb_rules.specs.Fronts.{IsFront}
 use Rattle.hpb_rules.specs.Refusals.{number_of, word_of}
 use Rattle.hpb_wire.specs.Reasons.{reason_in}
-use Rattle.hpb_server.specs.declared.fault.Fault.{Fault}
+use Rattle.hpb_server.specs.declared.fault.SessionFault.{SessionFault}
 use Rattle.hpb_server.specs.declared.script.ScriptEnd.{ScriptEnd}
 use Rattle.hpb_server.specs.declared.script.ScriptEnd.TheVariants.{Answered, Refused}
 use Rattle.hpb_server.specs.declared.telling.TheConstants.{ACCEPTED}
@@ -73,7 +73,7 @@ SaysAccepted is_terminal errors_old errors_new =
     (greeted : Option (List ℕ)) × Says errors_old greeted (accepted_text is_terminal) × ExplainsAt is_terminal greeted errors_new
 
 -- What is said of a script: that of an accepted definition where it was answered, and a front of the line of its refusal where it was refused. Where a fault ended it, one of the two, of whichever refusal.
-abbrev pub SaysOfScript : (is_terminal : Bool) (errors_old errors_new : Option (List ℕ)) → Result ScriptEnd Fault → Type 0
+abbrev pub SaysOfScript : (is_terminal : Bool) (errors_old errors_new : Option (List ℕ)) → Result ScriptEnd SessionFault → Type 0
 SaysOfScript is_terminal errors_old errors_new (Ok Answered) = SaysAccepted is_terminal errors_old errors_new
 SaysOfScript is_terminal errors_old errors_new (Ok (Refused refusal)) = TellsOf errors_old errors_new refusal
 SaysOfScript is_terminal errors_old errors_new (Err fault) = SaysAccepted is_terminal errors_old errors_new ⊎ ((refusal : Refusal) × TellsOf errors_old errors_new refusal)

@@ -1,8 +1,8 @@
 -- What a writer takes.
 use Rattle.std.specs.Prelude.{◌≡◌, ℕ, ◌<◌, ◌≤◌, List, length, take, Option, Result, Ok, Err, ⊤}
 use Rattle.std.specs.Io.KnownBytes.{Appends, Keeps}
-use Rattle.hpb_server.specs.declared.fault.Fault.{Fault}
-use Rattle.hpb_server.specs.declared.fault.Fault.TheVariants.{Writer}
+use Rattle.hpb_server.specs.declared.fault.SessionFault.{SessionFault}
+use Rattle.hpb_server.specs.declared.fault.SessionFault.TheVariants.{Writer}
 
 -- A front of one byte or more was taken, or nothing.
 abbrev pub Writes : {E : Type 0} → Option (List ℕ) → Option (List ℕ) → List ℕ → Result ℕ E → Type 0
@@ -15,6 +15,6 @@ Puts old new bytes (Ok done) = Appends old new bytes
 Puts old new bytes (Err failed) = (n : ℕ) × Appends old new (take n bytes)
 
 -- All was taken, or a front, and the writer is told to have failed.
-abbrev pub Sends : Option (List ℕ) → Option (List ℕ) → List ℕ → Result ⊤ Fault → Type 0
+abbrev pub Sends : Option (List ℕ) → Option (List ℕ) → List ℕ → Result ⊤ SessionFault → Type 0
 Sends old new bytes (Ok done) = Appends old new bytes
 Sends old new bytes (Err fault) = (fault ≡ Writer) × (n : ℕ) × Appends old new (take n bytes)

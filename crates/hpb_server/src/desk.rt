@@ -53,7 +53,7 @@ pub trait Desk {
     /// How many commands are asked together at most.
     ghost most: { ℕ };
 
-    /// Memory may be refused where commands are asked, and where the desk rests.
+    /// Memory may be refused where commands are asked, and where the desk does its upkeep.
     ghost takes_memory: { Bool };
 
     /// To ask takes a wait, as for a commit.
@@ -103,7 +103,7 @@ pub trait Desk {
     }
 
     /// Does what could wait until the answers had left.
-    fn rest(&mut self, alloc: Global) -> Result<(), AllocError>
+    fn upkeep(&mut self, alloc: Global) -> Result<(), AllocError>
         ensures kept { (state : State) → is_at self.old state → is_at self.new state }
         ensures refused { OnErr result (takes_memory ≡ true) }
         ensures over { over self.new ≡ over self.old }
@@ -235,7 +235,7 @@ impl Desk for ScriptDesk {
         Ok(self.auction.apply(command))
     }
 
-    fn rest(&mut self, _alloc: Global) -> Result<(), AllocError> {
+    fn upkeep(&mut self, _alloc: Global) -> Result<(), AllocError> {
         Ok(())
     }
 

@@ -1,5 +1,5 @@
 ghost use Rattle.std.specs.Prelude.{◌≡◌};
-ghost use Rattle.hpb_server.specs.declared.fault.Fault.TheVariants.{Memory};
+ghost use Rattle.hpb_server.specs.declared.fault.SessionFault.TheVariants.{Memory};
 ghost use Rattle.hpb_server.specs.Fault.{refusal_of};
 
 use hpb_rules::Refusal;
@@ -8,7 +8,7 @@ use thiserror::Error;
 
 /// Why a session ended early. No line tells of it: its number is for whoever started the session.
 #[derive(Clone, Copy, Debug, PartialEq, Eq, Error)]
-pub enum Fault {
+pub enum SessionFault {
     /// 90: memory was refused.
     #[error("memory")]
     Memory,
@@ -20,30 +20,30 @@ pub enum Fault {
     Writer,
 }
 
-impl Fault {
+impl SessionFault {
     /// The refusal that it is told by.
     pub fn refusal(self) -> Refusal
         ensures { result ≡ refusal_of self }
     {
         match self {
-            Fault::Memory => Refusal::Memory,
-            Fault::Reader | Fault::Writer => Refusal::Stream,
+            SessionFault::Memory => Refusal::Memory,
+            SessionFault::Reader | SessionFault::Writer => Refusal::Stream,
         }
     }
 }
 
-impl From<AllocError> for Fault {
+impl From<AllocError> for SessionFault {
     ghost from_gives = { λ _ e. e ≡ Memory };
 
-    fn from(_error: AllocError) -> Fault {
-        Fault::Memory
+    fn from(_error: AllocError) -> SessionFault {
+        SessionFault::Memory
     }
 }
 
-impl<T: Drop> From<AllocFailed<T>> for Fault {
+impl<T: Drop> From<AllocFailed<T>> for SessionFault {
     ghost from_gives = { λ _ e. e ≡ Memory };
 
-    fn from(_error: AllocFailed<T>) -> Fault {
-        Fault::Memory
+    fn from(_error: AllocFailed<T>) -> SessionFault {
+        SessionFault::Memory
     }
 }

@@ -4,7 +4,7 @@ ghost use Rattle.std.specs.Io.KnownBytes.{Consumes, IsAtEnd, Keeps};
 ghost use Rattle.hpb_server.specs.Fault.{IsFailure};
 ghost use Rattle.hpb_server.specs.Reading.{Fills, FindsEnd, GivesDefinition, HasNoEnd, ReadsWithin, SkipsLine, StopsReading, TakesAll, TakesPart};
 
-use crate::fault::Fault;
+use crate::fault::SessionFault;
 use crate::line::{KEPT_BYTES, Line};
 use crate::signal::is_interrupted;
 use hpb_rules::MOST_DEFINITION_BYTES;
@@ -66,20 +66,20 @@ impl Input {
     }
 
     /// Reads more, once all that was read is taken. `false` says that the reader has ended.
-    pub(crate) fn fill<R: Read>(&mut self, reader: &mut R) -> Result<bool, Fault>
+    pub(crate) fn fill<R: Read>(&mut self, reader: &mut R) -> Result<bool, SessionFault>
         requires { self.old.unread ≡ [] }
         ensures { Fills (R.remaining reader.old) (R.remaining reader.new) self.old self.new result }
     {
         // Where nothing more may be read, one byte shows whether there is more.
         let most = self.budget.clamp(1, CHUNK_BYTES as u64) as usize;
         let Ok(count) = read_some(reader, self.chunk.as_mut_slice(), most) else {
-            return Err(Fault::Reader);
+            return Err(SessionFault::Reader);
         };
         if count == 0 {
             return Ok(false);
         }
         if count as u64 > self.budget {
-            return Err(Fault::Reader);
+            return Err(SessionFault::Reader);
         }
         self.budget -= count as u64;
         self.start = 0;
@@ -93,7 +93,7 @@ impl Input {
         &mut self,
         alloc: Global,
         reader: &mut R,
-    ) -> Result<DefinitionText, Fault>
+    ) -> Result<DefinitionText, SessionFault>
         requires { self.old.unread ≡ [] }
         ensures ok { IfOk result (GivesDefinition (R.remaining reader.old) (R.remaining reader.new) self.old.budget self.new) }
         ensures err { IfErr result (StopsReading (R.remaining reader.old) (R.remaining reader.new) self.old.budget) }

@@ -14,7 +14,7 @@ mod telling;
 mod terminal;
 
 pub use desk::{Desk, ScriptDesk};
-pub use fault::Fault;
+pub use fault::SessionFault;
 pub use input::read_some;
 pub use laws::{input_is_text, session_is_text};
 pub use output::send_bytes;

@@ -7,7 +7,7 @@ ghost use Rattle.hpb_server.specs.Fault.{IsFailure};
 ghost use Rattle.hpb_server.specs.declared.output.TheConstants.{OUTPUT_BYTES};
 ghost use Rattle.hpb_server.specs.Writing.{Puts, Sends, Writes};
 
-use crate::fault::Fault;
+use crate::fault::SessionFault;
 use crate::signal::is_interrupted;
 use hpb_rules::{Refusal, Reply};
 use hpb_wire::{RESPONSE_BYTES, Response, ResponseText};
@@ -77,7 +77,7 @@ impl Output {
     /// Writes the responses and has the writer hand them on. Where the writer fails, a front of them is
     /// written.
     #[tactic(auto, using(crate::proofs::Writing::none_sent))]
-    pub(crate) fn send<W: Write>(&mut self, writer: &mut W) -> Result<(), Fault>
+    pub(crate) fn send<W: Write>(&mut self, writer: &mut W) -> Result<(), SessionFault>
         ensures bytes { Sends (W.contents writer.old) (W.contents writer.new) self.old result }
         ensures empty { self.new ≡ [] }
     {
@@ -88,7 +88,7 @@ impl Output {
         self.waiting.clear();
         match sent {
             Ok(()) => Ok(()),
-            Err(_) => Err(Fault::Writer),
+            Err(_) => Err(SessionFault::Writer),
         }
     }
 }

@@ -8,7 +8,7 @@ ghost use Rattle.hpb_server.specs.Streams.{streams};
 ghost use Rattle.hpb_server.specs.Telling.{ExplainsAt, SaysOfScript};
 
 use crate::desk::ScriptDesk;
-use crate::fault::Fault;
+use crate::fault::SessionFault;
 use crate::input::Input;
 use crate::output::Output;
 use crate::serving::{answer_lines, serve};
@@ -41,7 +41,7 @@ pub fn run_script<R: Read, W: Write, E: Write>(
     writer: &mut W,
     errors: &mut E,
     is_terminal: bool,
-) -> Result<ScriptEnd, Fault>
+) -> Result<ScriptEnd, SessionFault>
     ensures said { SaysOfScript is_terminal (E.contents errors.old) (E.contents errors.new) result }
     ensures runs { RunsScript (streams (R.remaining reader.old) (W.contents writer.old)) (streams (R.remaining reader.new) (W.contents writer.new)) result }
 {
@@ -81,7 +81,7 @@ pub fn serve_auction<R: Read, W: Write>(
     reader: &mut R,
     writer: &mut W,
     desk: &mut ScriptDesk,
-) -> Result<(), Fault>
+) -> Result<(), SessionFault>
     ensures text { (history : List Command) → Shows desk.old history → ServesText desk.old.rules history MOST_READ_BYTES
         (streams (R.remaining reader.old) (W.contents writer.old)) (streams (R.remaining reader.new) (W.contents writer.new)) desk.new result }
     ensures rules { desk.new.rules ≡ desk.old.rules }
@@ -99,7 +99,7 @@ fn answer_script<R: Read, W: Write, E: Write>(
     definition: &Definition,
     input: &mut Input,
     output: &mut Output,
-) -> Result<(), Fault>
+) -> Result<(), SessionFault>
     requires { output.old ≡ [] }
     ensures served { ServesScript (streams (R.remaining reader.old) (W.contents writer.old)) (streams (R.remaining reader.new) (W.contents writer.new))
         input.old (first_value definition.now) result }
@@ -123,12 +123,12 @@ fn refuse_script<W: Write>(
     writer: &mut W,
     cause: DefineCause,
     output: &mut Output,
-) -> Result<ScriptEnd, Fault>
+) -> Result<ScriptEnd, SessionFault>
     requires { output.old ≡ [] }
     ensures { Refuses (W.contents writer.old) (W.contents writer.new) cause result }
 {
     match cause {
-        DefineCause::Memory => Err(Fault::Memory),
+        DefineCause::Memory => Err(SessionFault::Memory),
         cause => write_refusal(writer, cause.refusal(), output),
     }
 }
@@ -137,7 +137,7 @@ fn write_refusal<W: Write>(
     writer: &mut W,
     refusal: Refusal,
     output: &mut Output,
-) -> Result<ScriptEnd, Fault>
+) -> Result<ScriptEnd, SessionFault>
     requires { output.old ≡ [] }
     ensures { WritesRefusal (W.contents writer.old) (W.contents writer.new) refusal result }
 {

@@ -17,7 +17,7 @@ ghost use Rattle.hpb_server.specs.Telling.{ExplainsAt, TellsReply};
 ghost use Rattle.hpb_server.specs.Session.{asked_for, replies_text, view_in, AddsAnswer, Ends, IsQuestion, Passes, PassesLine, PassesRequests, Proceeds};
 
 use crate::desk::Desk;
-use crate::fault::Fault;
+use crate::fault::SessionFault;
 use crate::input::Input;
 use crate::line::{KEPT_BYTES, Line};
 use crate::output::Output;
@@ -49,7 +49,7 @@ pub fn serve<R: Read, W: Write, D: Desk>(
     reader: &mut R,
     writer: &mut W,
     desk: &mut D,
-) -> Result<(), Fault>
+) -> Result<(), SessionFault>
     ensures served { Moves D.is_at desk.old desk.new (λ state next. Serves D.rules_at D.over_at D.asks D.looks D.most D.takes_memory [] MOST_READ_BYTES
         (streams (R.remaining reader.old) (W.contents writer.old)) (streams (R.remaining reader.new) (W.contents writer.new)) state next result) }
     ensures rules { D.rules desk.new ≡ D.rules desk.old }
@@ -67,7 +67,7 @@ pub(crate) fn serve_lines<R: Read, W: Write, E: Write, D: Desk>(
     errors: &mut E,
     is_terminal: bool,
     desk: &mut D,
-) -> Result<(), Fault>
+) -> Result<(), SessionFault>
     requires stays { is_terminal ≡ true → LooksStay D.looks }
     ensures served { Moves D.is_at desk.old desk.new (λ state next. Serves D.rules_at D.over_at D.asks D.looks D.most D.takes_memory [] MOST_READ_BYTES
         (streams (R.remaining reader.old) (W.contents writer.old)) (streams (R.remaining reader.new) (W.contents writer.new)) state next result) }
@@ -99,7 +99,7 @@ pub(crate) fn answer_lines<R: Read, W: Write, E: Write, D: Desk>(
     desk: &mut D,
     input: &mut Input,
     output: &mut Output,
-) -> Result<(), Fault>
+) -> Result<(), SessionFault>
     requires sent { output.old ≡ [] }
     requires stays { is_terminal ≡ true → LooksStay D.looks }
     ensures served { Moves D.is_at desk.old desk.new (λ state next. Serves D.rules_at D.over_at D.asks D.looks D.most D.takes_memory input.old.unread input.old.budget
@@ -120,7 +120,7 @@ pub(crate) fn answer_lines<R: Read, W: Write, E: Write, D: Desk>(
             output,
         )?;
         output.send(writer)?;
-        desk.rest(alloc)?;
+        desk.upkeep(alloc)?;
         if desk.is_over() {
             return Ok(());
         }
@@ -132,7 +132,7 @@ pub(crate) fn answer_lines<R: Read, W: Write, E: Write, D: Desk>(
 }
 
 /// Answers a last line without its end, where it has a byte.
-fn end_lines<W: Write>(writer: &mut W, line: &Line, output: &mut Output) -> Result<(), Fault>
+fn end_lines<W: Write>(writer: &mut W, line: &Line, output: &mut Output) -> Result<(), SessionFault>
     requires { output.old ≡ [] }
     ensures { Ends (W.contents writer.old) (W.contents writer.new) line.now result }
 {
@@ -153,7 +153,7 @@ fn answer_unread<W: Write, E: Write, D: Desk>(
     input: &mut Input,
     line: &mut Line,
     output: &mut Output,
-) -> Result<(), Fault>
+) -> Result<(), SessionFault>
     requires stays { is_terminal ≡ true → LooksStay D.looks }
     ensures lines { Moves D.is_at desk.old desk.new (λ state next. (partial : List ℕ) → HasNoEnd partial → line.old ≡ take KEPT_BYTES partial
         → Proceeds D.rules_at D.over_at D.asks D.looks D.most D.takes_memory (partial ++ input.old.unread) state next
@@ -235,7 +235,7 @@ fn pass_request<W: Write, E: Write, D: Desk>(
     request: Result<Request, Refusal>,
     queue: &mut Commands,
     output: &mut Output,
-) -> Result<(), Fault>
+) -> Result<(), SessionFault>
     requires goes_on { D.over desk.old ≡ false }
     requires stays { is_terminal ≡ true → LooksStay D.looks }
     requires room { length queue.old < D.most }
@@ -279,7 +279,7 @@ fn pass_command<W: Write, E: Write, D: Desk>(
     command: Command,
     queue: &mut Commands,
     output: &mut Output,
-) -> Result<(), Fault>
+) -> Result<(), SessionFault>
     requires goes_on { D.over desk.old ≡ false }
     requires stays { is_terminal ≡ true → LooksStay D.looks }
     requires room { length queue.old < D.most }
@@ -316,7 +316,7 @@ fn ask_alone<W: Write, E: Write, D: Desk>(
     desk: &mut D,
     command: &Command,
     output: &mut Output,
-) -> Result<(), Fault>
+) -> Result<(), SessionFault>
     requires goes_on { D.over desk.old ≡ false }
     requires stays { is_terminal ≡ true → LooksStay D.looks }
     requires sent { D.waits ≡ true → output.old ≡ [] }
@@ -349,7 +349,7 @@ fn pass_question<W: Write, D: Desk>(
     question: Result<Request, Refusal>,
     queue: &mut Commands,
     output: &mut Output,
-) -> Result<(), Fault>
+) -> Result<(), SessionFault>
     requires question { IsQuestion question }
     requires known { IfOk question (IsRequestOf (D.rules desk.old)) }
     requires room { length queue.old ≤ D.most }
@@ -376,7 +376,7 @@ fn ask_queue<W: Write, D: Desk>(
     desk: &mut D,
     queue: &mut Commands,
     output: &mut Output,
-) -> Result<(), Fault>
+) -> Result<(), SessionFault>
     requires { length queue.old ≤ D.most }
     ensures passed { Moves D.is_at desk.old desk.new (λ state next. PassesRequests D.rules_at D.over_at D.asks D.looks D.most D.takes_memory state
         (asked_for queue.old) next
@@ -399,7 +399,7 @@ fn ask_waiting<W: Write, D: Desk>(
     desk: &mut D,
     queue: &mut Commands,
     output: &mut Output,
-) -> Result<(), Fault>
+) -> Result<(), SessionFault>
     requires some { 0 < length queue.old }
     requires most { length queue.old ≤ D.most }
     requires sent { D.waits ≡ true → output.old ≡ [] }
@@ -421,7 +421,11 @@ fn ask_waiting<W: Write, D: Desk>(
 /// Writes all that is answered, where the desk waits.
 #[inline(always)]
 #[tactic(auto, using(crate::proofs::Passing::all_sent))]
-fn send_first<W: Write, D: Desk>(writer: &mut W, desk: &D, output: &mut Output) -> Result<(), Fault>
+fn send_first<W: Write, D: Desk>(
+    writer: &mut W,
+    desk: &D,
+    output: &mut Output,
+) -> Result<(), SessionFault>
     ensures passed { Passes 0 false (W.contents writer.old) (W.contents writer.new) output.old output.new result }
     ensures sent { D.waits ≡ true → output.new ≡ [] }
 {
@@ -436,7 +440,7 @@ fn pass_replies<W: Write>(
     writer: &mut W,
     replies: &Replies,
     output: &mut Output,
-) -> Result<(), Fault>
+) -> Result<(), SessionFault>
     ensures { Passes (length replies.now) false (W.contents writer.old) (W.contents writer.new)
         (output.old ++ replies_text replies.now) output.new result }
 {
@@ -455,7 +459,7 @@ fn pass_added<W: Write>(
     at_once: bool,
     added: Result<(), AllocError>,
     output: &mut Output,
-) -> Result<(), Fault>
+) -> Result<(), SessionFault>
     ensures { (waiting answer : List ℕ) → Adds waiting output.old answer added
         → PassesLine (W.contents writer.old) (W.contents writer.new) (waiting ++ line_of answer) output.new result }
 {
@@ -476,7 +480,7 @@ fn break_off<W: Write>(
     writer: &mut W,
     refused: AllocError,
     output: &mut Output,
-) -> Result<(), Fault>
+) -> Result<(), SessionFault>
     ensures passed { (most : ℕ) (takes_memory : Bool) (answers : List (List ℕ)) → length answers ≤ most → (answers ≡ [] → takes_memory ≡ true)
         → Passes most takes_memory (W.contents writer.old) (W.contents writer.new) (output.old ++ lines_of answers) output.new result }
     ensures failed { IsErr result }

@@ -6,7 +6,7 @@ ghost use Rattle.hpb_server.specs.Streams.{streams};
 ghost use Rattle.hpb_server.specs.Telling.{Explains};
 
 use crate::desk::Desk;
-use crate::fault::Fault;
+use crate::fault::SessionFault;
 use crate::serving::serve_lines;
 use hpb_rules::MOST_READ_BYTES;
 use std::alloc::Global;
@@ -22,7 +22,7 @@ pub fn serve_at_terminal<R: Read, W: Write, E: Write, D: Desk>(
     writer: &mut W,
     errors: &mut E,
     desk: &mut D,
-) -> Result<(), Fault>
+) -> Result<(), SessionFault>
     requires stays { LooksStay D.looks }
     ensures served { Moves D.is_at desk.old desk.new (λ state next. Serves D.rules_at D.over_at D.asks D.looks D.most D.takes_memory [] MOST_READ_BYTES
         (streams (R.remaining reader.old) (W.contents writer.old)) (streams (R.remaining reader.new) (W.contents writer.new)) state next result) }

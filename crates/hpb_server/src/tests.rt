@@ -243,7 +243,7 @@ pub(crate) fn new_desk(alloc: Global) -> Result<Box<ScriptDesk>, Fail> {
 }
 
 /// How a script and what it wrote ended.
-type Ended = (Result<ScriptEnd, Fault>, Vec<u8>);
+type Ended = (Result<ScriptEnd, SessionFault>, Vec<u8>);
 
 /// Runs a script.
 pub(crate) fn run_all<R: Read, W: Write, E: Write>(
@@ -252,7 +252,7 @@ pub(crate) fn run_all<R: Read, W: Write, E: Write>(
     writer: &mut W,
     errors: &mut E,
     is_terminal: bool,
-) -> Result<ScriptEnd, Fault> {
+) -> Result<ScriptEnd, SessionFault> {
     run_script(alloc, reader, writer, errors, is_terminal)
 }
 
@@ -261,7 +261,7 @@ fn run<R: Read, W: Write>(
     alloc: Global,
     reader: &mut R,
     writer: &mut W,
-) -> Result<ScriptEnd, Fault> {
+) -> Result<ScriptEnd, SessionFault> {
     run_all(alloc, reader, writer, &mut io::sink(), false)
 }
 
@@ -278,7 +278,7 @@ pub(crate) fn serve_all<R: Read, W: Write, D: Desk>(
     reader: &mut R,
     writer: &mut W,
     desk: &mut D,
-) -> Result<(), Fault> {
+) -> Result<(), SessionFault> {
     serve(alloc, reader, writer, desk)
 }
 
@@ -396,7 +396,7 @@ fn people_are_told_of_a_definition(rt: HostRuntime) -> Result<(), Fail> {
 fn fail_after(rt: &impl Abort, alloc: Global, text: &[u8], reads: usize, lines: usize) {
     let mut reader = FailingReader { rest: text, reads };
     let (result, written) = run_kept(alloc, &mut reader);
-    assert_eq!(rt; result, Err(Fault::Reader), "{reads}");
+    assert_eq!(rt; result, Err(SessionFault::Reader), "{reads}");
     assert_eq!(rt;
         Some(written.as_slice()),
         FRONTS.get(lines).copied(),
@@ -442,7 +442,11 @@ fn nothing_is_read_after_the_end(rt: HostRuntime) -> Result<(), Fail> {
 }
 
 /// Serves the lines one by one by an auction in memory.
-fn serve_to<W: Write>(alloc: Global, writer: &mut W, desk: &mut ScriptDesk) -> Result<(), Fault> {
+fn serve_to<W: Write>(
+    alloc: Global,
+    writer: &mut W,
+    desk: &mut ScriptDesk,
+) -> Result<(), SessionFault> {
     let talk = Talk::new();
     let mut reader = Lines {
         talk: &talk,
@@ -460,7 +464,7 @@ fn count_of(desk: Box<ScriptDesk>) -> u32 {
 fn served(
     alloc: Global,
     (writes, flushes, takes_nothing): (usize, usize, bool),
-) -> Result<(Result<(), Fault>, Vec<u8>, u32), Fail> {
+) -> Result<(Result<(), SessionFault>, Vec<u8>, u32), Fail> {
     let mut desk = new_desk(alloc)?;
     let mut writer = FailingWriter {
         bytes: Vec::new(alloc),
@@ -477,7 +481,7 @@ fn end_after(
     rt: &impl Abort,
     alloc: Global,
     writer: (usize, usize, bool),
-    end: Result<(), Fault>,
+    end: Result<(), SessionFault>,
     (lines, accepted): (usize, u32),
 ) -> Result<(), Fail> {
     let (result, written, count) = served(alloc, writer)?;
@@ -494,7 +498,7 @@ fn end_after(
 #[test]
 fn each_write_and_each_flush_fails_in_turn(rt: HostRuntime) -> Result<(), Fail> {
     let alloc = rt.alloc();
-    let (failed, many) = (Err(Fault::Writer), usize::MAX);
+    let (failed, many) = (Err(SessionFault::Writer), usize::MAX);
     for (line, accepted) in [(0, 1), (1, 2), (2, 3), (3, 3)] {
         end_after(&rt, alloc, (line, many, false), failed, (line, accepted))?;
         end_after(
@@ -514,7 +518,7 @@ fn answered_within<R: Read>(
     alloc: Global,
     reader: &mut R,
     budget: u64,
-) -> Result<(Result<(), Fault>, Vec<u8>), Fail> {
+) -> Result<(Result<(), SessionFault>, Vec<u8>), Fail> {
     let mut desk = new_desk(alloc)?;
     let mut input = Input::new(alloc, budget)?;
     let mut output = Output::new(alloc)?;
@@ -537,7 +541,7 @@ fn read_within(
     rt: &impl Abort,
     alloc: Global,
     budget: u64,
-    end: Result<(), Fault>,
+    end: Result<(), SessionFault>,
     want: &[u8],
     left: usize,
 ) -> Result<(), Fail> {
@@ -556,7 +560,7 @@ fn no_more_is_read_than_may_be(rt: HostRuntime) -> Result<(), Fail> {
         b"ERR 13 old\nERR 13 old\n",
         b"ERR 13 old\nERR 13 old\nERR 13 old\n",
     );
-    let failed = Err(Fault::Reader);
+    let failed = Err(SessionFault::Reader);
     read_within(&rt, alloc, 24, Ok(()), three, 0)?;
     read_within(&rt, alloc, 23, failed, two, 0)?;
     read_within(&rt, alloc, 16, failed, two, 7)?;
@@ -565,7 +569,11 @@ fn no_more_is_read_than_may_be(rt: HostRuntime) -> Result<(), Fail> {
 
 #[test]
 fn faults_have_the_words_of_their_refusals(rt: HostRuntime) -> Result<(), Fail> {
-    for fault in [Fault::Memory, Fault::Reader, Fault::Writer] {
+    for fault in [
+        SessionFault::Memory,
+        SessionFault::Reader,
+        SessionFault::Writer,
+    ] {
         let text = fault.to_string(rt.alloc())?;
         assert_eq!(rt; text.as_str(), fault.refusal().word());
     }

@@ -15,7 +15,7 @@ use hpb_house::{Halt, House, Incoming, Naming, OpenGate, Ready, Started, Workers
 use hpb_recover::Opened;
 use hpb_rings::Client;
 use hpb_serve::{Session, SessionEnd, run_session};
-use hpb_server::Fault;
+use hpb_server::SessionFault;
 use std::alloc::{AllocError, Global};
 use std::io::Write;
 use std::marker::Brand;
@@ -30,7 +30,7 @@ const LOOKS: u32 = 0;
 #[derive(Clone, Copy, Debug, PartialEq, Eq)]
 pub(crate) struct Outcome {
     /// What ended the session before the end of its input.
-    pub(crate) fault: Result<(), Fault>,
+    pub(crate) fault: Result<(), SessionFault>,
     /// How many answers its client took.
     pub(crate) taken: u64,
     /// How many commands are accepted in all.

@@ -4,7 +4,7 @@ use crate::in_time::run_in_time;
 use crate::one_session::{Outcome, run_on_faulty_device, run_on_new_device};
 use crate::outputs::Deaf;
 use hpb_engine_rows::over_layouts;
-use hpb_server::Fault;
+use hpb_server::SessionFault;
 use std::test::*;
 
 /// A session that reads to its end, whose only answer accepts a command.
@@ -61,7 +61,7 @@ fn session_cut_short(rt: HostRuntime) -> Result<(), Fail> {
         // By the writer, at its first answer.
         let outcome = run_on_new_device(&rt, alloc, shape, "BID x 1 a 100\n", &mut Deaf)?;
         let wanted = Outcome {
-            fault: Err(Fault::Writer),
+            fault: Err(SessionFault::Writer),
             ..ACCEPTED
         };
         assert_eq!(rt; outcome, wanted);

@@ -7,7 +7,8 @@ use Rattle.hpb_codec.specs.Laws.{chunk_of}
 use Rattle.hpb_codec.specs.States.{SpellsState}
 use Rattle.hpb_disk.specs.Gates.{open_byte}
 use Rattle.hpb_disk.specs.Images.{part}
-use Rattle.hpb_slots.specs.declared.limits.TheConstants.{SLOTS_AT, SLOT_BYTES, PAGE_BYTES}
+use Rattle.hpb_codec.specs.declared.layout.TheConstants.{PAGE_BYTES}
+use Rattle.hpb_slots.specs.declared.limits.TheConstants.{SLOTS_AT, SLOT_BYTES}
 use Rattle.hpb_slots.specs.declared.slot.Slot.{Slot}
 use Rattle.hpb_slots.specs.declared.slot.Slot.TheVariants.{First, Second}
 

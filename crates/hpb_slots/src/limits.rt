@@ -4,8 +4,5 @@ pub const SLOTS_AT: usize = 12_288;
 /// The offset behind the last byte of the slots. The journal begins there.
 pub const SLOTS_END: usize = 53_248;
 
-/// The bytes of a page.
-pub(crate) const PAGE_BYTES: usize = 4_096;
-
 /// The bytes of a slot: the page of its gate, and the four of its body.
 pub(crate) const SLOT_BYTES: usize = 20_480;

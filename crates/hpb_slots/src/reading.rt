@@ -13,10 +13,9 @@ ghost use Rattle.hpb_slots.specs.Newest.{IsWithout, IsRead};
 ghost use Rattle.hpb_slots.specs.Reading.{IsFound, IsChosen, state_of_slot};
 
 use crate::found::Found;
-use crate::limits::PAGE_BYTES;
 use crate::writing::gate_offset;
 use crate::{Newest, Slot, holds_one};
-use hpb_codec::{count_said, decode_state};
+use hpb_codec::{PAGE_BYTES, count_said, decode_state};
 use hpb_disk::{Disk, DiskFailed, gate_is_open};
 use hpb_rules::Saved;
 use hpb_tree::Definition;

@@ -10,8 +10,8 @@ ghost use Rattle.hpb_slots.specs.Writes.{writes_chunk, opens_slot, closes_slot};
 ghost use Rattle.hpb_slots.specs.Changes.{ChangesGate, ChangesChunk, TornGate, TornChunk};
 
 use crate::Slot;
-use crate::limits::{PAGE_BYTES, SLOT_BYTES, SLOTS_AT};
-use hpb_codec::{CHUNK_SIZE, chunk};
+use crate::limits::{SLOT_BYTES, SLOTS_AT};
+use hpb_codec::{CHUNK_SIZE, PAGE_BYTES, chunk};
 use hpb_disk::{
     Disk, DiskFailed, close_gate, elsewhere_stays, open_gate, put_is_read, put_is_torn,
 };

@@ -7,10 +7,10 @@ ghost use Rattle.hpb_tried.specs.Files.{IsNewOf, least_shape, least_size};
 
 use crate::{definition, sum_of};
 use anyhow::{Error, Result};
-use hpb_codec::{JournalLayout, JournalShape, LEAST_CELL_FRAMES, LEAST_FRAMES};
+use hpb_codec::{JournalLayout, JournalShape, LEAST_CELL_FRAMES, LEAST_FRAMES, PAGE_BYTES};
 use hpb_disk::FileDisk;
 use hpb_format::format_layout;
-use hpb_recover::{LEAST_PAGES, PAGE_BYTES};
+use hpb_recover::LEAST_PAGES;
 use std::fs;
 
 /// The name of the file, in the folder that the program is run in.

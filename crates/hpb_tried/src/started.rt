@@ -11,7 +11,7 @@ use anyhow::{Error, Result, bail};
 use hpb_auction::Auction;
 use hpb_codec::heads_are_one;
 use hpb_disk::{Disk, FileDisk};
-use hpb_engine::{Checkpoint, Commit, Engine, Progress, Retirement, Ring};
+use hpb_engine::{Checkpoint, Commit, Engine, Progress, Retirement, Window};
 use hpb_recover::{Opened, Plan, open};
 use hpb_rules::Refusal;
 use std::alloc::{AllocError, Global};
@@ -87,15 +87,15 @@ pub fn opened_sum(rt: &HostRuntime, opened: &Opened<FileDisk>) -> Option<u64> {
 }
 
 /// Where the journal of an engine stands.
-fn ring_text(alloc: Global, ring: &Ring) -> Result<String, AllocError> {
-    let Ring {
+fn window_text(alloc: Global, window: &Window) -> Result<String, AllocError> {
+    let Window {
         frames,
         covered,
         next,
         clean_end,
         opened_at,
         gates,
-    } = ring;
+    } = window;
     format!(in alloc; "{frames:?} {covered} {next} {clean_end} {opened_at} {gates:?}")
 }
 
@@ -122,9 +122,9 @@ fn engine_text(alloc: Global, engine: &Engine<FileDisk>) -> Result<String, Alloc
     } = engine;
     let Commit { busy, turns, .. } = &progress.commit;
     let working = sum_of_auction(alloc, &progress.commit.working)?;
-    let ring = ring_text(alloc, &progress.ring)?;
+    let window = window_text(alloc, &progress.window)?;
     let checkpoint = checkpoint_text(alloc, progress)?;
-    format!(in alloc; "{ring} {checkpoint} {busy} {turns} {working} {failed}")
+    format!(in alloc; "{window} {checkpoint} {busy} {turns} {working} {failed}")
 }
 
 /// The sum of an engine at rest, and of the file.

@@ -3,7 +3,7 @@ use Rattle.std.proofs.Common.{◌≡◌, ℕ, zero, suc, ◌<◌, ◌≤◌, Boo
 use Rattle.std.proofs.lemmas.Bool.{le-ltb, and_right}
 use Rattle.hpb_rules.specs.declared.limits.TheConstants.{MOST_NODES}
 use Rattle.hpb_rules.specs.Tree.{Node}
-use Rattle.hpb_rules.specs.Choices.{is_top, is_node, mark, total, values_from, best, winners_from, revenue_from, revenue}
+use Rattle.hpb_rules.specs.Choices.{is_top, is_node, answer_at, total, values_from, best, winners_from, revenue_from, revenue}
 use Rattle.hpb_rules.proofs.Lists.{get_or-replicate_same}
 use Rattle.hpb_rules.proofs.Loops.{Test, below_is, best_from, sum_bound}
 use Rattle.hpb_winners.specs.View.{IsOutcome, AreParents, AreBefore, wins_of, no_bid}
@@ -17,8 +17,8 @@ winners_none i o [] = refl
 winners_none i o (n ∷ ns) =
     let loses : (o n.parent && ltb (total (is_node i) ns (values_from (suc i) ns no_bid)) 0) ≡ false
     = and_right (o n.parent) _ (le-ltb (total (is_node i) ns (values_from (suc i) ns no_bid)) 0 (omega arith)) in
-    ap (λ (t : Bool). t ∷ winners_from (suc i) (mark o i (o n.parent && not t)) ns no_bid) loses
-    ∙ ap (λ (ws : List Bool). false ∷ ws) (winners_none (suc i) (mark o i (o n.parent && not false)) ns)
+    ap (λ (t : Bool). t ∷ winners_from (suc i) (answer_at o i (o n.parent && not t)) ns no_bid) loses
+    ∙ ap (λ (ws : List Bool). false ∷ ws) (winners_none (suc i) (answer_at o i (o n.parent && not false)) ns)
 
 revenue_none : (i n : ℕ) (bid : ℕ → ℕ) → revenue_from i bid (replicate n false) ≡ 0
 revenue_none i zero bid = refl

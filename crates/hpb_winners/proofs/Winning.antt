@@ -6,7 +6,7 @@ use Rattle.std.proofs.lemmas.List.{get_or-take}
 use Rattle.std.proofs.lemmas.List.FromFn.{length-map-range_with_len, get_or-map-range_with_len, take-map-range_with_len}
 use Rattle.hpb_rules.specs.declared.limits.TheConstants.{MOST_NODES}
 use Rattle.hpb_rules.specs.Tree.{Node, parent_of, IsTree}
-use Rattle.hpb_rules.specs.Choices.{IsWinners, best, mark, is_in, winners, revenue}
+use Rattle.hpb_rules.specs.Choices.{IsWinners, best, answer_at, is_in, winners, revenue}
 use Rattle.hpb_rules.proofs.TreeLaws.{winners_are_one}
 use Rattle.hpb_rules.proofs.Loops.{freed, freed_set, winners_after, winners_start, winners_step, winners_end}
 use Rattle.hpb_winners.specs.View.{IsOutcome, AreParents, AreBefore, is_ahead, is_free, is_free_within, or_top, wins_of}
@@ -109,8 +109,8 @@ module _ (nodes : List Node) (bid : ℕ → ℕ) (parents : List (Option ℕ)) (
       = ap (λ t. t && not (t && ltb (best nodes bid i) (bid i))) (above_is i h) ∙ ap (λ t. free i && not (free i && t)) (sym (ahead_is i h)) ∙ left_open (ahead i) (free i) ∙ sym (open_is i h) in
       let has : i < length opens = omega (arith, opens_count) in
       sym (winners_step nodes bid i o h
-      ∙ ap (λ t. t ∷ winners_after nodes bid (suc i) (mark o i (o (parent_of nodes i) && not (o (parent_of nodes i) && ltb (best nodes bid i) (bid i))))) flag
-      ∙ ap (λ t. won i ∷ winners_after nodes bid (suc i) (mark o i t)) left
+      ∙ ap (λ t. t ∷ winners_after nodes bid (suc i) (answer_at o i (o (parent_of nodes i) && not (o (parent_of nodes i) && ltb (best nodes bid i) (bid i))))) flag
+      ∙ ap (λ t. won i ∷ winners_after nodes bid (suc i) (answer_at o i t)) left
       ∙ ap (λ t. won i ∷ winners_after nodes bid (suc i) t) (freed_set nodes bid opens i (is_in opens i) has)
       ∙ ap (λ t. won i ∷ winners_after nodes bid (suc i) (freed nodes bid t (suc i))) (set_got opens i (is_in opens i) refl has)
       ∙ ap (λ m. won i ∷ winners_after nodes bid m (freed nodes bid opens m)) (sym j)

@@ -1,5 +1,5 @@
+pub mod ByteMaps
 pub mod Decimals
-pub mod Marks
 pub mod Numbers
 pub mod Reasons
 pub mod Requests

@@ -1,11 +1,11 @@
 ghost use Rattle.std.specs.Prelude.{◌≡◌, ◌≢◌, ◌+◌, ◌<◌, ◌≤◌, ◌∷◌, length, take, drop, Some, IfSome};
 ghost use Rattle.std.specs.List.{position};
 ghost use Rattle.hpb_rules.specs.Lines.{line_words, is_space};
-ghost use Rattle.hpb_wire.specs.Marks.{IsMarked};
+ghost use Rattle.hpb_wire.specs.ByteMaps.{IsMapped};
 ghost use Rattle.hpb_wire.specs.Requests.{words_left, IsFrontLine};
 ghost use Rattle.hpb_wire.specs.Words.{bytes_of};
 
-use crate::marks::{MARKED_BYTES, marks};
+use crate::byte_map::{MAPPED_BYTES, byte_map};
 use crate::word::Word;
 
 impl<'a> Word<'a> {
@@ -18,18 +18,18 @@ impl<'a> Word<'a> {
     }
 }
 
-/// What is left of a line. Where it is marked, bit i of `spaces` is set where byte i is a space.
+/// What is left of a line. Where it is mapped, bit i of `spaces` is set where byte i is a space.
 #[derive(Clone, Copy)]
 pub(crate) struct Words<'a> {
     pub(crate) line: Word<'a>,
     spaces: u64,
-    is_marked: bool,
+    is_mapped: bool,
 }
 
 /// A line whose spaces are found one by one.
-pub(crate) fn unmarked(line: &[u8]) -> Words<'_>
+pub(crate) fn unmapped(line: &[u8]) -> Words<'_>
     ensures line { bytes_of result.line ≡ line.now }
-    ensures marked { IsMarked result }
+    ensures mapped { IsMapped result }
 {
     Words {
         line: Word {
@@ -37,7 +37,7 @@ pub(crate) fn unmarked(line: &[u8]) -> Words<'_>
             size: line.len(),
         },
         spaces: 0,
-        is_marked: false,
+        is_mapped: false,
     }
 }
 
@@ -47,16 +47,16 @@ pub(crate) fn front_line(bytes: &[u8]) -> Option<Words<'_>>
     ensures front { IfSome result (λ words. IsFrontLine bytes.now words.line.size) }
     ensures line { IfSome result (λ words. words.line.bytes.now ≡ bytes.now) }
     ensures short { IfSome result (λ words. words.line.size < 32) }
-    ensures marked { IfSome result IsMarked }
+    ensures mapped { IfSome result IsMapped }
 {
-    if bytes.len() < MARKED_BYTES {
+    if bytes.len() < MAPPED_BYTES {
         return None;
     }
     let size = front_size(bytes)?;
     Some(Words {
         line: Word { bytes, size },
-        spaces: marks(bytes, b' ') % (1 << size),
-        is_marked: true,
+        spaces: byte_map(bytes, b' ') % (1 << size),
+        is_mapped: true,
     })
 }
 
@@ -67,7 +67,7 @@ fn front_size(bytes: &[u8]) -> Option<usize>
     ensures front { IfSome result (IsFrontLine bytes.now) }
     ensures short { IfSome result (λ size. size < 32) }
 {
-    let ends = marks(bytes, b'\n');
+    let ends = byte_map(bytes, b'\n');
     if ends == 0 {
         return None;
     }
@@ -77,25 +77,25 @@ fn front_size(bytes: &[u8]) -> Option<usize>
 /// The first word of a line, and what stands behind the space after it, where there is one.
 #[inline(always)]
 pub(crate) fn cut(words: Words<'_>) -> (Word<'_>, Option<Words<'_>>)
-    requires { IsMarked words }
+    requires { IsMapped words }
     ensures words { line_words (bytes_of words.entry.line) ≡ bytes_of result.0 ∷ words_left result.1 }
-    ensures marked { IfSome result.1 IsMarked }
+    ensures mapped { IfSome result.1 IsMapped }
 {
     let line = words.line;
     if words.spaces == 0 {
-        return if words.is_marked {
+        return if words.is_mapped {
             (line, None)
         } else {
-            cut_unmarked(line)
+            cut_unmapped(line)
         };
     }
-    cut_at(words, first_marked(words))
+    cut_at(words, first_mapped(words))
 }
 
 /// Where the first space is.
 #[inline(always)]
-fn first_marked(words: Words<'_>) -> usize
-    requires marked { IsMarked words }
+fn first_mapped(words: Words<'_>) -> usize
+    requires mapped { IsMapped words }
     requires any { words.spaces ≢ 0 }
     ensures found { position is_space (bytes_of words.entry.line) ≡ Some result }
     ensures short { result < 32 }
@@ -107,12 +107,12 @@ fn first_marked(words: Words<'_>) -> usize
 /// The word before the space at a place, and what stands behind it.
 #[inline(always)]
 fn cut_at(words: Words<'_>, place: usize) -> (Word<'_>, Option<Words<'_>>)
-    requires marked { IsMarked words }
+    requires mapped { IsMapped words }
     requires found { position is_space (bytes_of words.line) ≡ Some place }
     requires short { place < 32 }
     requires within { place < words.line.size }
     ensures words { line_words (bytes_of words.entry.line) ≡ bytes_of result.0 ∷ words_left result.1 }
-    ensures marked { IfSome result.1 IsMarked }
+    ensures mapped { IfSome result.1 IsMapped }
 {
     let word = Word {
         bytes: words.line.bytes,
@@ -124,22 +124,22 @@ fn cut_at(words: Words<'_>, place: usize) -> (Word<'_>, Option<Words<'_>>)
 /// What stands behind the space at a place.
 #[inline(always)]
 fn behind(words: Words<'_>, place: usize) -> Words<'_>
-    requires marked { IsMarked words }
+    requires mapped { IsMapped words }
     requires within { place < words.line.size }
     requires short { place < 32 }
     ensures line { bytes_of result.line ≡ drop (place + 1) (bytes_of words.entry.line) }
-    ensures marked { IsMarked result }
+    ensures mapped { IsMapped result }
 {
     Words {
-        line: rest(words.line, place + 1),
+        line: from_place(words.line, place + 1),
         spaces: words.spaces >> (place + 1),
-        is_marked: words.is_marked,
+        is_mapped: words.is_mapped,
     }
 }
 
 /// What is left of a part of a line behind so many bytes.
 #[inline(always)]
-fn rest(line: Word<'_>, count: usize) -> Word<'_>
+fn from_place(line: Word<'_>, count: usize) -> Word<'_>
     requires { count ≤ line.size }
     ensures line { bytes_of result ≡ drop count (bytes_of line.entry) }
     ensures size { result.size + count ≡ line.entry.size }
@@ -151,9 +151,9 @@ fn rest(line: Word<'_>, count: usize) -> Word<'_>
 }
 
 #[inline(never)]
-fn cut_unmarked(line: Word<'_>) -> (Word<'_>, Option<Words<'_>>)
+fn cut_unmapped(line: Word<'_>) -> (Word<'_>, Option<Words<'_>>)
     ensures words { line_words (bytes_of line.entry) ≡ bytes_of result.0 ∷ words_left result.1 }
-    ensures marked { IfSome result.1 IsMarked }
+    ensures mapped { IfSome result.1 IsMapped }
 {
     match space(line.text()) {
         Some(place) => {
@@ -162,9 +162,9 @@ fn cut_unmarked(line: Word<'_>) -> (Word<'_>, Option<Words<'_>>)
                 size: place,
             };
             let behind = Words {
-                line: rest(line, place + 1),
+                line: from_place(line, place + 1),
                 spaces: 0,
-                is_marked: false,
+                is_mapped: false,
             };
             (word, Some(behind))
         }

@@ -2,10 +2,10 @@
 //! that would do.
 #![tactic(auto)]
 
+mod byte_map;
 mod cut;
 mod decimal;
 mod line;
-mod marks;
 mod number;
 mod pieces;
 mod reading;

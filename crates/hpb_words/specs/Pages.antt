@@ -2,7 +2,7 @@
 use Rattle.std.specs.Prelude.{ℕ, ◌/◌}
 use Rattle.hpb_codec.specs.declared.layout.JournalShape.{JournalShape}
 use Rattle.hpb_journal.specs.Shapes.{shaped}
-use Rattle.hpb_recover.specs.declared.limits.TheConstants.{PAGE_BYTES}
+use Rattle.hpb_codec.specs.declared.layout.TheConstants.{PAGE_BYTES}
 
 -- How many pages a device has whose journal has this shape.
 abbrev pub pages_of : JournalShape → ℕ

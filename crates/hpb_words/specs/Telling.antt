@@ -4,7 +4,7 @@ use Rattle.std.specs.Io.KnownBytes.{Appends, Keeps}
 use Rattle.hpb_rules.specs.declared.refusal.Refusal.{Refusal}
 use Rattle.hpb_rules.specs.Rendering.{refusal_text}
 use Rattle.hpb_rules.specs.Text.{line_of}
-use Rattle.hpb_server.specs.declared.fault.Fault.{Fault}
+use Rattle.hpb_server.specs.declared.fault.SessionFault.{SessionFault}
 use Rattle.hpb_server.specs.Telling.{Says}
 use Rattle.hpb_words.specs.Faults.{refusal_of}
 use Rattle.hpb_words.specs.declared.job_fault.JobFault.{JobFault}
@@ -30,7 +30,7 @@ TellsUnled false cut old new refusal = TellsLine cut old new refusal
 TellsUnled true cut old new refusal = Keeps old new
 
 -- The output is told to have failed exactly where it was cut.
-abbrev pub IsTaken : (cut : Bool) → Result ⊤ Fault → Type 0
+abbrev pub IsTaken : (cut : Bool) → Result ⊤ SessionFault → Type 0
 IsTaken cut (Ok done) = cut ≡ false
 IsTaken cut (Err fault) = cut ≡ true
 

@@ -8,12 +8,12 @@ use crate::noted::Failures;
 use crate::run_end::RunEnd;
 use crate::spelling::{CheckCommand, JobCommand, JournalOptions};
 use crate::words::Job;
-use hpb_codec::JournalLayout;
+use hpb_codec::{JournalLayout, PAGE_BYTES};
 use hpb_disk::FileFault;
 use hpb_format::FormatCause;
-use hpb_recover::{Cause, Flaw, LEAST_PAGES, PAGE_BYTES};
+use hpb_recover::{Cause, Flaw, LEAST_PAGES};
 use hpb_rules::Refusal;
-use hpb_server::Fault;
+use hpb_server::SessionFault;
 use std::io::ErrorKind;
 use std::{fmt, io};
 
@@ -379,7 +379,7 @@ fn unkept(job: Job<'_>) -> &'static str {
 fn advise_of_fault<W: fmt::Write>(
     f: &mut fmt::Formatter<W>,
     known: Known<'_>,
-    fault: Fault,
+    fault: SessionFault,
 ) -> fmt::Result {
     write!(
         f,
@@ -409,7 +409,7 @@ fn advise_of_fault<W: fmt::Write>(
 #[derive(Clone, Copy)]
 pub struct ScriptAdvice {
     /// What ended it.
-    pub fault: Fault,
+    pub fault: SessionFault,
     /// How its input and its output failed.
     pub failures: Failures,
 }
@@ -417,9 +417,9 @@ pub struct ScriptAdvice {
 impl fmt::Display for ScriptAdvice {
     fn fmt<W: fmt::Write>(&self, f: &mut fmt::Formatter<W>) -> fmt::Result {
         match self.fault {
-            Fault::Memory => f.write_str(MEMORY),
-            Fault::Reader => write_reading(f, self.failures),
-            Fault::Writer => write_writing(f, self.failures),
+            SessionFault::Memory => f.write_str(MEMORY),
+            SessionFault::Reader => write_reading(f, self.failures),
+            SessionFault::Writer => write_writing(f, self.failures),
         }
     }
 }

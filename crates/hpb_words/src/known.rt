@@ -7,11 +7,12 @@ use crate::job_fault::JobFault;
 use crate::noted::Failures;
 use crate::words::Job;
 use hpb_codec::{
-    HEAD_SIZE, JournalLayout, JournalShape, LEAST_FRAMES, MOST_FRAMES, decode_head, has_magic,
+    HEAD_SIZE, JournalLayout, JournalShape, LEAST_FRAMES, MOST_FRAMES, PAGE_BYTES, decode_head,
+    has_magic,
 };
 use hpb_disk::{Disk, MemoryDisk, gate_is_open};
 use hpb_journal::{AnyFrames, Frames};
-use hpb_recover::{HEAD_AT, PAGE_BYTES};
+use hpb_recover::HEAD_AT;
 use std::alloc::Global;
 use std::fs::{File, Files};
 use std::io;

@@ -223,7 +223,7 @@ fn a_mark_tells_of_another_file_and_another_length(rt: HostRuntime) -> Result<()
     let _ = fs::remove_file(&rt, link);
     symlink(&rt, path, link)?;
     let disk = opened(&rt, rt.alloc(), link)?;
-    let mark = disk.mark()?;
+    let mark = disk.stamp()?;
     assert!(rt; mark.is_at(&rt, path) && mark.is_at(&rt, link));
     fs::rename(&rt, path, "hpb_disk_away")?;
     assert!(rt; !mark.is_at(&rt, path));

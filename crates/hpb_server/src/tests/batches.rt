@@ -2,7 +2,7 @@ ghost use Rattle.std.specs.Prelude.{◌≡◌, ◌<◌, ◌≤◌, length};
 ghost use Rattle.std.proofs.Common.{arith};
 
 use crate::desk::Desk;
-use crate::fault::Fault;
+use crate::fault::SessionFault;
 use crate::tests::{Counts, Lines, Talk, new_auction, serve_all};
 use hpb_auction::Auction;
 use hpb_rules::{Commands, MOST_LETTERS, Replies};
@@ -104,7 +104,7 @@ impl Desk for BatchDesk {
         Ok(replies)
     }
 
-    fn rest(&mut self, _alloc: Global) -> Result<(), AllocError> {
+    fn upkeep(&mut self, _alloc: Global) -> Result<(), AllocError> {
         let rests = self.rests.get();
         self.rests.set(rests.saturating_add(1));
         if rests == self.refused_rest {
@@ -179,7 +179,7 @@ const FRONTS: [&[u8]; 9] = [
 ];
 
 /// The lines at once: how a session of them ended, and what was written.
-fn serve_lines(alloc: Global, desk: &mut BatchDesk) -> (Result<(), Fault>, Vec<u8>) {
+fn serve_lines(alloc: Global, desk: &mut BatchDesk) -> (Result<(), SessionFault>, Vec<u8>) {
     let mut reader = LINES;
     let mut written = Vec::new(alloc);
     let result = serve_all(alloc, &mut reader, &mut written, desk);
@@ -192,7 +192,7 @@ fn end_so(
     rt: &impl Abort,
     alloc: Global,
     (together, left, batch, rest): (usize, usize, usize, usize),
-    end: Result<(), Fault>,
+    end: Result<(), SessionFault>,
     lines: usize,
 ) -> Result<(), Fail> {
     let mut desk = desk_with(alloc, together, left, batch, rest)?;
@@ -212,7 +212,7 @@ fn serve_counted<R: Read>(
     reader: &mut R,
     talk: &Talk,
     desk: &mut BatchDesk,
-) -> Result<(), Fault> {
+) -> Result<(), SessionFault> {
     serve_all(alloc, reader, &mut Counts { talk }, desk)
 }
 
@@ -282,7 +282,7 @@ fn a_desk_ends_in_the_midst_of_a_batch(rt: HostRuntime) -> Result<(), Fail> {
 
 #[test]
 fn memory_is_refused_to_a_desk(rt: HostRuntime) -> Result<(), Fail> {
-    let refused = Err(Fault::Memory);
+    let refused = Err(SessionFault::Memory);
     for (batch, lines) in [(0, 0), (1, 2), (2, 4), (3, 6)] {
         let desk = (2, usize::MAX, batch, usize::MAX);
         end_so(&rt, rt.alloc(), desk, refused, lines)?;

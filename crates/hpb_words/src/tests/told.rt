@@ -4,7 +4,7 @@ use crate::*;
 use hpb_disk::FileFault;
 use hpb_format::FormatCause;
 use hpb_recover::Cause;
-use hpb_server::Fault;
+use hpb_server::SessionFault;
 use std::alloc::{AllocError, Global};
 use std::io;
 use std::test::Fail;
@@ -115,7 +115,7 @@ fn ends_are_told(rt: HostRuntime) -> Result<(), Fail> {
         format!(in alloc; "{}", EndAdvice { end, known })?.as_str(),
         DISK
     );
-    end.end = Err(Fault::Writer);
+    end.end = Err(SessionFault::Writer);
     end.failed = false;
     assert_eq!(rt;
         format!(in alloc; "{}", EndAdvice { end, known })?.as_str(),
@@ -132,7 +132,7 @@ fn a_command_has_its_file_in_quotes(rt: HostRuntime) -> Result<(), Fail> {
         every: 0,
     });
     let end = RunEnd {
-        end: Err(Fault::Memory),
+        end: Err(SessionFault::Memory),
         failed: false,
         code: None,
     };

@@ -5,7 +5,7 @@ use Rattle.hpb_rules.specs.declared.letter.Answer.{Answer}
 use Rattle.hpb_engine.specs.declared.event.Event.{Event}
 use Rattle.hpb_engine.specs.declared.step.Fault.{Fault}
 use Rattle.hpb_engine.specs.Runs.{HasFailed, Ran, last_of}
-use Rattle.hpb_engine.proofs.Running.{mark_of, ran_none, ran_on, ran_off, none_of, some_in, front_more, front_rest}
+use Rattle.hpb_engine.proofs.Running.{pause_of, ran_none, ran_on, ran_off, none_of, some_in, front_more, front_rest}
 use Rattle.hpb_engine.proofs.driving.take_all.Goals as goal
 
 pub loop-event-init : goal.loop-event-init
@@ -15,7 +15,7 @@ loop-event-init g c =
       omega (arith, c.requires.room),
       refl,
       λ machine keeps. subst
-          (λ (answers : List Answer). Ran d.seen d.may_leave d.moment d.left_since (mark_of d.moment engine.disk engine.progress engine.failed machine) [] engine.disk engine.progress engine.failed answers None)
+          (λ (answers : List Answer). Ran d.seen d.may_leave d.moment d.left_since (pause_of d.moment engine.disk engine.progress engine.failed machine) [] engine.disk engine.progress engine.failed answers None)
           (sym c.requires.none) (ran_none g.met.D.Disk.only_now keeps),
     )
 
@@ -23,7 +23,7 @@ pub returns-then-is_some-clause-ran : goal.returns-then-is_some-clause-ran
 returns-then-is_some-clause-ran g c machine keeps =
     let d = g.D.Disk in
     let engine = c.args.engine.now in
-    let start = mark_of d.moment engine.disk engine.progress engine.failed machine in
+    let start = pause_of d.moment engine.disk engine.progress engine.failed machine in
     let events : List Event = c.args.events.now in
     let i = c.loop-event.event-index in
     let event : Event = c.event-item.result in
@@ -38,7 +38,7 @@ returns-then-is_some-clause-ran g c machine keeps =
     (subst (λ (fault : Option Fault). Ran d.seen d.may_leave d.moment d.left_since start events new.disk new.progress new.failed (c.loop-event.answers.items ++ c.take_event-fault.new.leaving) fault) (sym why.1)
     (subst (λ (taken : List Event). Ran d.seen d.may_leave d.moment d.left_since start taken new.disk new.progress new.failed (c.loop-event.answers.items ++ c.take_event-fault.new.leaving) (Some why.0))
     (sym (front_rest events i event c.loop-event-test.true c.event-item.is))
-    (ran_off g.met.D.Disk.only_now ran (c.take_event-fault.ensures.took (last_of start ran.marks).machine ran.keeps) (drop (i + 1) events) why.0 why.1)))
+    (ran_off g.met.D.Disk.only_now ran (c.take_event-fault.ensures.took (last_of start ran.pauses).machine ran.keeps) (drop (i + 1) events) why.0 why.1)))
 
 pub returns-then-is_some-clause-cause : goal.returns-then-is_some-clause-cause
 returns-then-is_some-clause-cause g c =
@@ -63,19 +63,19 @@ loop-event-preserved g c =
       omega (arith, len, c.as_slice.ensures.most, c.extend_from_slice-added.ensures.capacity, c.loop-event.invariant.0, c.loop-event-test.true),
       unfailed none ∙ c.loop-event.invariant.1,
       λ machine keeps.
-          let start = mark_of d.moment engine.disk engine.progress engine.failed machine in
+          let start = pause_of d.moment engine.disk engine.progress engine.failed machine in
           let ran = c.loop-event.invariant.2 machine keeps in
           subst (λ (given : List Answer). Ran d.seen d.may_leave d.moment d.left_since start (take (i + 1) events) new.disk new.progress new.failed given None) (sym items)
           (subst (λ (taken : List Event). Ran d.seen d.may_leave d.moment d.left_since start taken new.disk new.progress new.failed (c.loop-event.answers.items ++ c.take_event-fault.new.leaving) None)
           (sym (front_more events i event c.loop-event-test.true c.event-item.is))
-          (ran_on g.met.D.Disk.only_now ran (c.take_event-fault.ensures.took (last_of start ran.marks).machine ran.keeps) none)),
+          (ran_on g.met.D.Disk.only_now ran (c.take_event-fault.ensures.took (last_of start ran.pauses).machine ran.keeps) none)),
     )
 
 pub returns-clause-ran : goal.returns-clause-ran
 returns-clause-ran g c machine keeps =
     let d = g.D.Disk in
     let engine = c.args.engine.now in
-    let start = mark_of d.moment engine.disk engine.progress engine.failed machine in
+    let start = pause_of d.moment engine.disk engine.progress engine.failed machine in
     let at = c.loop-event.engine in
     subst (λ (taken : List Event). Ran d.seen d.may_leave d.moment d.left_since start taken at.disk at.progress at.failed c.loop-event.answers.items None)
     (take_all c.loop-event.event-index c.args.events.now (omega (arith, c.loop-event-test.false))) (c.loop-event.invariant.2 machine keeps)

@@ -5,4 +5,4 @@ use Rattle.hpb_rings.specs.Gathering.{Drained}
 use Rattle.hpb_rings.proofs.intake.drain.Given as goal
 
 abbrev pub invariant-loop : goal.invariant-loop
-invariant-loop g l = Drained l.seat (commands (received l.fn.ring.letters)) (commands (received l.ring.letters)) l.fn.letters l.letters × (l.ring.marks ≡ l.fn.ring.marks) × (l.ring.is_told ≡ l.fn.ring.is_told)
+invariant-loop g l = Drained l.seat (commands (received l.fn.ring.letters)) (commands (received l.ring.letters)) l.fn.letters l.letters × (l.ring.halts ≡ l.fn.ring.halts) × (l.ring.is_told ≡ l.fn.ring.is_told)

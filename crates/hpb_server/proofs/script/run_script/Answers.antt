@@ -1,6 +1,6 @@
 use Rattle.std.specs.Prelude.{Ok, Err}
 use Rattle.std.proofs.KnownBytes.{Appends-nil}
-use Rattle.hpb_server.specs.declared.fault.Fault.TheVariants.{Memory}
+use Rattle.hpb_server.specs.declared.fault.SessionFault.TheVariants.{Memory}
 use Rattle.hpb_server.proofs.ScriptRuns.{given_script, vain_script, given_answers, nothing_run, never_run, refused_run, ended_run, answered_run, broken_run}
 use Rattle.hpb_server.proofs.Explained.{accepted_none, accepted_only}
 use Rattle.hpb_server.proofs.Refusals.{said_before, said_of_refused}

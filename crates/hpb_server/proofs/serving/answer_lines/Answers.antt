@@ -1,7 +1,7 @@
 use Rattle.std.proofs.Common.{◌≡◌, Result, refl, sym, ◌∙◌}
 use Rattle.std.specs.Result.{IsErrAnd}
-use Rattle.hpb_server.specs.declared.fault.Fault.{Fault}
-use Rattle.hpb_server.specs.declared.fault.Fault.TheVariants.{Writer}
+use Rattle.hpb_server.specs.declared.fault.SessionFault.{SessionFault}
+use Rattle.hpb_server.specs.declared.fault.SessionFault.TheVariants.{Writer}
 use Rattle.hpb_server.specs.Streams.{streams}
 use Rattle.hpb_server.proofs.Errors.{err_case}
 use Rattle.hpb_server.proofs.Explained.{explained_at_more, explained_at_none}
@@ -10,7 +10,7 @@ use Rattle.hpb_server.proofs.Passing.{writer_read}
 use Rattle.hpb_server.proofs.Sessions.{session_broken, session_more, session_cut}
 use Rattle.hpb_server.proofs.serving.answer_lines.Goals as goal
 
-as_writer : {T : Type 0} {fault : Fault} (r : Result T Fault) → IsErrAnd r (λ e. e ≡ fault) → fault ≡ Writer → IsErrAnd r (λ e. e ≡ Writer)
+as_writer : {T : Type 0} {fault : SessionFault} (r : Result T SessionFault) → IsErrAnd r (λ e. e ≡ fault) → fault ≡ Writer → IsErrAnd r (λ e. e ≡ Writer)
 as_writer r bad is = err_case (λ x. IsErrAnd x (λ e. e ≡ Writer)) r bad (λ e same. same ∙ is)
 
 pub chunks-init : goal.chunks-init
@@ -20,15 +20,15 @@ pub chunks-preserved : goal.chunks-preserved
 chunks-preserved g c =
     let answered = c.in_ok-answer_unread.ensures in
     let filled = rw c.if-not-branch.false at c.in_ok-fill.ensures in
-    let goes = sym c.rest.ensures.over ∙ (sym c.is_over.ensures ∙ c.if-is_over.false) in (
-      c.rest.ensures.rules ∙ (c.answer_unread.ensures.rules ∙ c.chunks.invariant.0),
+    let goes = sym c.upkeep.ensures.over ∙ (sym c.is_over.ensures ∙ c.if-is_over.false) in (
+      c.upkeep.ensures.rules ∙ (c.answer_unread.ensures.rules ∙ c.chunks.invariant.0),
       λ state at.
           let came = c.chunks.invariant.1 state at in
           let next = answered.lines came.0 came.2 in
           let t = next.1 came.1.session.rest came.1.session.no_end came.1.session.kept in (
             next.0,
             comes_more came.1 t (g.W.Write.contents c.send.new.writer) c.in_ok-send.ensures.bytes c.send.ensures.empty (g.R.Read.remaining c.fill.new.reader) (answered.taken goes) answered.read filled.0 filled.2,
-            c.rest.ensures.kept next.0 next.2,
+            c.upkeep.ensures.kept next.0 next.2,
           ),
       explained_at_more c.args.is_terminal _ _ _ c.chunks.invariant.2 c.answer_unread.ensures.explained,
     )
@@ -55,15 +55,15 @@ returns-in_err-send-clause-served g c = λ state at.
       next.2,
     )
 
-pub returns-in_err-rest-clause-served : goal.returns-in_err-rest-clause-served
-returns-in_err-rest-clause-served g c = λ state at.
+pub returns-in_err-upkeep-clause-served : goal.returns-in_err-upkeep-clause-served
+returns-in_err-upkeep-clause-served g c = λ state at.
     let came = c.chunks.invariant.1 state at in
     let next = c.in_ok-answer_unread.ensures.lines came.0 came.2 in
     let t = next.1 came.1.session.rest came.1.session.no_end came.1.session.kept in (
       next.0,
-      comes_refused came.1 (g.W.Write.contents c.send.new.writer) next.0 c.from_residual-in_err-rest.result c.from_residual-in_err-rest.ensures.1 c.in_err-rest.ensures.refused c.send.ensures.empty
+      comes_refused came.1 (g.W.Write.contents c.send.new.writer) next.0 c.from_residual-in_err-upkeep.result c.from_residual-in_err-upkeep.ensures.1 c.in_err-upkeep.ensures.refused c.send.ensures.empty
           (comes_session came.1 t (g.W.Write.contents c.send.new.writer) c.in_ok-send.ensures.bytes c.send.ensures.empty),
-      c.rest.ensures.kept next.0 next.2,
+      c.upkeep.ensures.kept next.0 next.2,
     )
 
 pub returns-then-is_over-clause-served : goal.returns-then-is_over-clause-served
@@ -71,8 +71,8 @@ returns-then-is_over-clause-served g c = λ state at.
     let came = c.chunks.invariant.1 state at in
     let next = c.in_ok-answer_unread.ensures.lines came.0 came.2 in
     let t = next.1 came.1.session.rest came.1.session.no_end came.1.session.kept in
-    let rested = c.rest.ensures.kept next.0 next.2 in
-    let over = g.met.D.Desk.over_is c.rest.new.self next.0 rested ∙ (sym c.is_over.ensures ∙ c.if-is_over.true) in
+    let rested = c.upkeep.ensures.kept next.0 next.2 in
+    let over = g.met.D.Desk.over_is c.upkeep.new.self next.0 rested ∙ (sym c.is_over.ensures ∙ c.if-is_over.true) in
     (next.0, comes_over came.1 t (g.W.Write.contents c.send.new.writer) c.in_ok-send.ensures.bytes c.send.ensures.empty over, rested)
 
 pub returns-in_err-fill-clause-served : goal.returns-in_err-fill-clause-served
@@ -81,11 +81,11 @@ returns-in_err-fill-clause-served g c = λ state at.
     let answered = c.in_ok-answer_unread.ensures in
     let next = answered.lines came.0 came.2 in
     let t = next.1 came.1.session.rest came.1.session.no_end came.1.session.kept in
-    let goes = sym c.rest.ensures.over ∙ (sym c.is_over.ensures ∙ c.if-is_over.false) in
+    let goes = sym c.upkeep.ensures.over ∙ (sym c.is_over.ensures ∙ c.if-is_over.false) in
     let sent = comes_sent came.1 t (g.W.Write.contents c.send.new.writer) c.in_ok-send.ensures.bytes c.send.ensures.empty c.answer_unread.new.input refl answered.read in (
       next.0,
       comes_unread sent (g.R.Read.remaining c.fill.new.reader) c.in_err-fill.field-0.0 c.from_residual-in_err-fill.result c.from_residual-in_err-fill.ensures.1 c.in_err-fill.ensures.0 (answered.taken goes) c.send.ensures.empty c.in_err-fill.ensures.1,
-      c.rest.ensures.kept next.0 next.2,
+      c.upkeep.ensures.kept next.0 next.2,
     )
 
 pub returns-clause-served : goal.returns-clause-served
@@ -94,12 +94,12 @@ returns-clause-served g c = λ state at.
     let answered = c.in_ok-answer_unread.ensures in
     let next = answered.lines came.0 came.2 in
     let t = next.1 came.1.session.rest came.1.session.no_end came.1.session.kept in
-    let rested = c.rest.ensures.kept next.0 next.2 in
+    let rested = c.upkeep.ensures.kept next.0 next.2 in
     let ended = rw c.if-not-branch.true at c.in_ok-fill.ensures in
     let over = sym c.is_over.ensures ∙ c.if-is_over.false in
-    let goes = sym c.rest.ensures.over ∙ over in (
+    let goes = sym c.upkeep.ensures.over ∙ over in (
       next.0,
-      comes_ended came.1 t (g.W.Write.contents c.send.new.writer) c.in_ok-send.ensures.bytes c.send.ensures.empty (g.met.D.Desk.over_is c.rest.new.self next.0 rested ∙ over)
+      comes_ended came.1 t (g.W.Write.contents c.send.new.writer) c.in_ok-send.ensures.bytes c.send.ensures.empty (g.met.D.Desk.over_is c.upkeep.new.self next.0 rested ∙ over)
           (streams (g.R.Read.remaining c.fill.new.reader) (g.W.Write.contents c.end_lines.new.writer)) (answered.taken goes) ended.0 ended.1 g.met.D.Desk.most_is_some.0 c.end_lines.result c.end_lines.ensures,
       rested,
     )
@@ -110,8 +110,8 @@ returns-in_err-answer_unread-clause-explained g c = explained_at_more c.args.is_
 pub returns-in_err-send-clause-explained : goal.returns-in_err-send-clause-explained
 returns-in_err-send-clause-explained g c = explained_at_more c.args.is_terminal _ _ _ c.chunks.invariant.2 c.answer_unread.ensures.explained
 
-pub returns-in_err-rest-clause-explained : goal.returns-in_err-rest-clause-explained
-returns-in_err-rest-clause-explained g c = explained_at_more c.args.is_terminal _ _ _ c.chunks.invariant.2 c.answer_unread.ensures.explained
+pub returns-in_err-upkeep-clause-explained : goal.returns-in_err-upkeep-clause-explained
+returns-in_err-upkeep-clause-explained g c = explained_at_more c.args.is_terminal _ _ _ c.chunks.invariant.2 c.answer_unread.ensures.explained
 
 pub returns-then-is_over-clause-explained : goal.returns-then-is_over-clause-explained
 returns-then-is_over-clause-explained g c = explained_at_more c.args.is_terminal _ _ _ c.chunks.invariant.2 c.answer_unread.ensures.explained

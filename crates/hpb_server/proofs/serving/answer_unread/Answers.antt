@@ -2,8 +2,8 @@ use Rattle.std.proofs.Common.{◌≢◌, ℕ, List, refl, sym, ap, subst, take, 
 use Rattle.hpb_rules.specs.Lines.{request_of}
 use Rattle.hpb_rules.specs.Tree.{Rules}
 use Rattle.hpb_server.specs.declared.line.TheConstants.{KEPT_BYTES}
-use Rattle.hpb_server.specs.declared.fault.Fault.{Fault}
-use Rattle.hpb_server.specs.declared.fault.Fault.TheVariants.{Reader}
+use Rattle.hpb_server.specs.declared.fault.SessionFault.{SessionFault}
+use Rattle.hpb_server.specs.declared.fault.SessionFault.TheVariants.{Reader}
 use Rattle.hpb_server.specs.Reading.{TakesAll}
 use Rattle.hpb_server.specs.Session.{Broken, Proceeds}
 use Rattle.hpb_server.proofs.Cut.{line_found, line_taken}
@@ -58,7 +58,7 @@ returns-in_err-pass_request-clause-lines g c = λ state at.
           (Proceeds g.D.Desk.rules_at g.D.Desk.over_at g.D.Desk.asks g.D.Desk.looks g.D.Desk.most g.D.Desk.takes_memory (partial ++ c.args.input.now.unread) state stopped.0
           (g.W.Write.contents c.args.writer.now) (g.W.Write.contents c.pass_request.new.writer) c.args.output.now c.next_request.new.line c.lines.input.unread c.pass_request.new.output)
           c.from_residual.result c.from_residual.ensures.1
-          (λ fault is. subst (λ (f : Fault). (f ≢ Reader) × Broken g.D.Desk.rules_at g.D.Desk.over_at g.D.Desk.asks g.D.Desk.looks g.D.Desk.most g.D.Desk.takes_memory (partial ++ c.args.input.now.unread) state stopped.0
+          (λ fault is. subst (λ (f : SessionFault). (f ≢ Reader) × Broken g.D.Desk.rules_at g.D.Desk.over_at g.D.Desk.asks g.D.Desk.looks g.D.Desk.most g.D.Desk.takes_memory (partial ++ c.args.input.now.unread) state stopped.0
           (g.W.Write.contents c.args.writer.now) (g.W.Write.contents c.pass_request.new.writer) c.args.output.now f) (sym is)
           (stopped.1.passes.0, waits_broken (queues_line (came.1 partial no_end kept) part (g.D.Desk.rules c.lines.desk) are c.in-Some.next.request heard) c.in_err-pass_request.field-0.0 stopped.1)),
       stopped.2,

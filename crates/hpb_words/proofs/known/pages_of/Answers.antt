@@ -1,6 +1,6 @@
 use Rattle.std.proofs.Common.{◌∙◌, ◌/◌, ℕ, ap}
 use Rattle.hpb_codec.specs.declared.layout.JournalShape.{JournalShape}
-use Rattle.hpb_recover.specs.declared.limits.TheConstants.{PAGE_BYTES}
+use Rattle.hpb_codec.specs.declared.layout.TheConstants.{PAGE_BYTES}
 use Rattle.hpb_journal.specs.Shapes.{shaped}
 use Rattle.hpb_words.proofs.known.pages_of.Goals as goal
 

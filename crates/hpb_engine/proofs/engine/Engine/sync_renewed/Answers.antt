@@ -10,8 +10,8 @@ pub returns-clause-called : goal.returns-clause-called
 returns-clause-called g c =
     let s = c.args.self.now.progress in
     let laws = c.laws_below.ensures in
-    rw c.other-progress.ensures (synced laws (at_step s c.requires.works 8 c.requires.steps) c.in_ok-sync.ensures (g.met.D.Disk.seen_may_stay _) c.requires.works (λ k. shortened k (s.checkpoint.covers - s.ring.covered))
-    (λ k. sym (all_shortened k (s.checkpoint.covers - s.ring.covered)))
+    rw c.other-progress.ensures (synced laws (at_step s c.requires.works 8 c.requires.steps) c.in_ok-sync.ensures (g.met.D.Disk.seen_may_stay _) c.requires.works (λ k. shortened k (s.checkpoint.covers - s.window.covered))
+    (λ k. sym (all_shortened k (s.checkpoint.covers - s.window.covered)))
     (λ k fits. renewed_fits laws s k fits c.requires.steps)
     (λ k image fits. renewed_synced laws s k fits c.requires.steps image)
     (λ k image fits. renewed_reads laws s k fits c.requires.steps image))

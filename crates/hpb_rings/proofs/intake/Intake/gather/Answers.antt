@@ -2,7 +2,7 @@ use Rattle.std.proofs.Common.{◌<◌, ◌∙◌, ◌+◌, ◌%◌, length, arit
 use Rattle.rtrb.specs.Ring.{received}
 use Rattle.hpb_rings.specs.Slips.{commands}
 use Rattle.hpb_rings.specs.Gathering.{gathered, Drained}
-use Rattle.hpb_rings.proofs.Gathering.{poured, marks-same, drained-seats}
+use Rattle.hpb_rings.proofs.Gathering.{poured, halts-same, drained-seats}
 use Rattle.hpb_rings.proofs.intake.Intake.gather.Goals as goal
 
 pub loop-i-preserved : goal.loop-i-preserved
@@ -23,5 +23,5 @@ loop-i-preserved g c =
       poured rs olds k y cur ls ls' lt moved inv.0,
       drained-seats k (vec_len c.args.self.now.rings) (commands (received cur.letters)) (commands (received y.letters)) ls ls' seat drained inv.1,
       inv.2,
-      marks-same rs k y cur (c.drain.ensures.same.0 ∙ ap (λ r. r.marks) c.index_mut.ensures.value) ∙ inv.3,
+      halts-same rs k y cur (c.drain.ensures.same.0 ∙ ap (λ r. r.halts) c.index_mut.ensures.value) ∙ inv.3,
     )

@@ -1,20 +1,20 @@
 use Rattle.std.proofs.Common.{◌≡◌, ◌≢◌, ℕ, List, Option, Result, refl, sym, ◌∙◌, arith}
 use Rattle.std.specs.Prelude.{IfErr}
 use Rattle.std.specs.Result.{IsErrAnd}
-use Rattle.hpb_server.specs.declared.fault.Fault.{Fault}
-use Rattle.hpb_server.specs.declared.fault.Fault.TheVariants.{Memory, Reader, Writer}
+use Rattle.hpb_server.specs.declared.fault.SessionFault.{SessionFault}
+use Rattle.hpb_server.specs.declared.fault.SessionFault.TheVariants.{Memory, Reader, Writer}
 use Rattle.hpb_server.specs.Reading.{ReadsWithin, StopsReading}
 use Rattle.hpb_server.proofs.Errors.{err_case}
 use Rattle.hpb_server.proofs.Definitions.{taken_in_vain, taken_line, taken_more, taken_to_end, taken_too_much, taken_within, vain_within, within_taken}
 use Rattle.hpb_server.proofs.input.Input.take_definition.Goals as goal
 
-failed : {T : Type 0} (old new : Option (List ℕ)) (budget : ℕ) (fault : Fault) (r : Result T Fault) → IsErrAnd r (λ e. e ≡ fault) → fault ≢ Writer → ReadsWithin old new budget → IfErr r (StopsReading old new budget)
+failed : {T : Type 0} (old new : Option (List ℕ)) (budget : ℕ) (fault : SessionFault) (r : Result T SessionFault) → IsErrAnd r (λ e. e ≡ fault) → fault ≢ Writer → ReadsWithin old new budget → IfErr r (StopsReading old new budget)
 failed old new budget fault r bad other h = err_case (λ x. IfErr x (StopsReading old new budget)) r bad (λ e is. (λ writer. other (sym is ∙ writer), h))
 
 memory_written : Memory ≢ Writer
 memory_written e = absurd (let no : Memory ≡ Writer = e in cc)
 
-reader_written : (fault : Fault) → fault ≡ Reader → fault ≢ Writer
+reader_written : (fault : SessionFault) → fault ≡ Reader → fault ≢ Writer
 reader_written fault is e = absurd (let no : Reader ≡ Writer = sym is ∙ e in cc)
 
 pub take_definition_part-requires : goal.take_definition_part-requires

@@ -5,15 +5,15 @@ use std::os::unix::fs::MetadataExt;
 
 /// Which file it is, and how many bytes it has.
 #[derive(Clone, Copy, Debug, PartialEq, Eq)]
-pub struct FileMark {
+pub struct FileStamp {
     device: u64,
     inode: u64,
     len: u64,
 }
 
-impl FileMark {
-    pub(crate) fn of(file: &Metadata) -> FileMark {
-        FileMark {
+impl FileStamp {
+    pub(crate) fn of(file: &Metadata) -> FileStamp {
+        FileStamp {
             device: file.dev(),
             inode: file.ino(),
             len: file.len(),
@@ -23,7 +23,7 @@ impl FileMark {
     /// Whether a path leads to this file, and it has as many bytes as it had.
     pub fn is_at<R: Files>(&self, rt: &R, path: &str) -> bool {
         match fs::metadata(rt, path) {
-            Ok(found) => FileMark::of(&found) == *self,
+            Ok(found) => FileStamp::of(&found) == *self,
             Err(_) => false,
         }
     }

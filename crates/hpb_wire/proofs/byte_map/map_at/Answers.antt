@@ -2,7 +2,7 @@ use Rattle.std.proofs.Common.{eqb, take, drop, map, subst, sym, ◌∙◌, ◌<�
 use Rattle.std.proofs.lemmas.Simd.{bitmask_splat, length-chunk, mask_l-lt}
 use Rattle.std.specs.Simd.Lanes.{mask_l}
 use Rattle.std.proofs.lemmas.List.{length-map}
-use Rattle.hpb_wire.proofs.marks.marks_at.Goals as goal
+use Rattle.hpb_wire.proofs.byte_map.map_at.Goals as goal
 
 pub returns-clause-value : goal.returns-clause-value
 returns-clause-value c =

@@ -1,6 +1,6 @@
 use Rattle.std.proofs.Common.{inl}
 use Rattle.hpb_run.proofs.Standings.{covered_by, keeps_rest, rested}
-use Rattle.hpb_run.proofs.asking.rest_engine.Goals as goal
+use Rattle.hpb_run.proofs.asking.upkeep_engine.Goals as goal
 
 pub returns-then-engine-clause-whole : goal.returns-then-engine-clause-whole
 returns-then-engine-clause-whole g c state stands between = inl c.if-engine.true

@@ -1,28 +1,28 @@
 //! Where a byte stands in the front of some bytes, as a number: bit i is set where byte i is that byte.
 ghost use Rattle.std.specs.Prelude.{◌≡◌, ◌+◌, ◌≤◌, ◌<◌, ◌^◌, length, take, drop};
-ghost use Rattle.hpb_wire.specs.Marks.{marks_of};
+ghost use Rattle.hpb_wire.specs.ByteMaps.{map_of};
 
 use std::simd::prelude::*;
 
-/// How many bytes `marks` reads.
-pub(crate) const MARKED_BYTES: usize = 32;
+/// How many bytes `byte_map` reads.
+pub(crate) const MAPPED_BYTES: usize = 32;
 
 /// How many of them are read together.
 const LANES: usize = 16;
 
 /// Where a byte stands among the first bytes.
 #[inline(always)]
-pub(crate) fn marks(bytes: &[u8], byte: u8) -> u64
+pub(crate) fn byte_map(bytes: &[u8], byte: u8) -> u64
     requires { 32 ≤ length bytes.now }
-    ensures { result ≡ marks_of byte (take 32 bytes.now) }
+    ensures { result ≡ map_of byte (take 32 bytes.now) }
 {
-    marks_at(bytes, 0, byte) + (marks_at(bytes, LANES, byte) << LANES)
+    map_at(bytes, 0, byte) + (map_at(bytes, LANES, byte) << LANES)
 }
 
 #[inline(always)]
-fn marks_at(bytes: &[u8], at: usize, byte: u8) -> u64
+fn map_at(bytes: &[u8], at: usize, byte: u8) -> u64
     requires { at + 16 ≤ length bytes.now }
-    ensures value { result ≡ marks_of byte (take 16 (drop at bytes.now)) }
+    ensures value { result ≡ map_of byte (take 16 (drop at bytes.now)) }
     ensures bound { result < 2 ^ 16 }
 {
     u8x16::from_slice(&bytes[at..])
