@@ -148,4 +148,4 @@ pub record AreOfRun {D : Type 0} (seen : D → List ℕ) (may_leave : D → List
   pub begun : Progress
   pub started : IsStarted begun plan
   pub ran : Ran seen may_leave moment left_since (record { moment = start.moment; progress = begun; failed = false; machine = at_rest first }) events disk progress failed answers fault
-  pub marked : AreOfPauses plan.auction.rules first (record { moment = start.moment; progress = begun; failed = false; machine = at_rest first } ∷ ran.pauses) (start ∷ points)
+  pub paused : AreOfPauses plan.auction.rules first (record { moment = start.moment; progress = begun; failed = false; machine = at_rest first } ∷ ran.pauses) (start ∷ points)

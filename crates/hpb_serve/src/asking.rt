@@ -199,7 +199,7 @@ fn take_answer<M: Copy, R: Wait>(rt: &R, client: &mut Client<M>, looks: u32) -> 
     let mut left = looks;
     for _ in rt.forever() {
         let was_halted = client.halted();
-        left = pause(rt, client, left);
+        left = yield_or_sleep(rt, client, left);
         if let Some(answer) = look_behind(client, was_halted)? {
             return Ok(answer);
         }
@@ -210,7 +210,7 @@ fn take_answer<M: Copy, R: Wait>(rt: &R, client: &mut Client<M>, looks: u32) -> 
 /// Rests before a look, of which so many are left: other threads run meanwhile, or, where none is left, it sleeps until
 /// the bell of its seat rings. It tells how many are left then. A client that is halted doesn't rest, since nothing may
 /// ring that bell any more.
-fn pause<M: Copy, R: Wait>(rt: &R, client: &mut Client<M>, left: u32) -> u32
+fn yield_or_sleep<M: Copy, R: Wait>(rt: &R, client: &mut Client<M>, left: u32) -> u32
     ensures same { (client.new.seat ≡ client.old.seat) × (client.new.letters ≡ client.old.letters) × (client.new.viewer ≡ client.old.viewer) × (client.new.waiting ≡ client.old.waiting) × (client.new.taken ≡ client.old.taken) × (client.new.mark ≡ client.old.mark) × (client.new.is_halted ≡ client.old.is_halted) }
     ensures fewer { client.old.is_halted ≡ false → result ≡ left - 1 }
 {

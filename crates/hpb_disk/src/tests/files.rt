@@ -223,16 +223,16 @@ fn a_mark_tells_of_another_file_and_another_length(rt: HostRuntime) -> Result<()
     let _ = fs::remove_file(&rt, link);
     symlink(&rt, path, link)?;
     let disk = opened(&rt, rt.alloc(), link)?;
-    let mark = disk.stamp()?;
-    assert!(rt; mark.is_at(&rt, path) && mark.is_at(&rt, link));
+    let stamp = disk.stamp()?;
+    assert!(rt; stamp.is_at(&rt, path) && stamp.is_at(&rt, link));
     fs::rename(&rt, path, "hpb_disk_away")?;
-    assert!(rt; !mark.is_at(&rt, path));
+    assert!(rt; !stamp.is_at(&rt, path));
     fs::write(&rt, path, b"abcd".as_slice())?;
-    assert!(rt; !mark.is_at(&rt, path));
+    assert!(rt; !stamp.is_at(&rt, path));
     fs::rename(&rt, "hpb_disk_away", path)?;
-    assert!(rt; mark.is_at(&rt, path));
+    assert!(rt; stamp.is_at(&rt, path));
     File::options().write(true).open(&rt, path)?.set_len(5)?;
-    assert!(rt; !mark.is_at(&rt, path));
+    assert!(rt; !stamp.is_at(&rt, path));
     fs::remove_file(&rt, link)?;
     fs::remove_file(&rt, path)?;
     Ok(())

@@ -23,4 +23,4 @@ returns-in-Ok-drive-clause-survives g c first stands =
     (subst (RanAt (d.moment engine.disk)) c.in-Ok.ensures.works (c.in-Ok-drive.ensures.ran (at_rest first) keeps)) in
     let it = survived c.run_joins.ensures c.run_is_moves.ensures c.rest_is_sound.ensures c.fits_grow.ensures counts rules first is d.seen d.may_leave d.moment d.left_since
     (d.moment c.args.opened.disk) engine.progress driven.engine.progress driven.engine.failed c.args.events.now driven.engine.disk driven.answers.items driven.fault ruled ran in
-    (it.0, record { begun = engine.progress; started = c.in-Ok.ensures.started; ran = ran; marked = it.1 })
+    (it.0, record { begun = engine.progress; started = c.in-Ok.ensures.started; ran = ran; paused = it.1 })

@@ -11,19 +11,19 @@ turn_looked : (g : Over) (c : After-look_behind g) → HasLooked c.args.client.n
 turn_looked g c =
     let was = c.loop.client in
     let asked = c.halted-was_halted.new.self in
-    let rested = c.pause-left.new.client in
+    let rested = c.yield_or_sleep-left.new.client in
     let h = c.halted-was_halted.ensures in
-    let r = c.pause-left.ensures.same in
+    let r = c.yield_or_sleep-left.ensures.same in
     looked_turn c.args.client.now was asked rested c.look_behind.new.client c.loop.invariant.2
     (looked_aside was asked h.same.0 h.same.1 h.same.2 h.same.6 (λ halted. sym h.kept ∙ h.stays halted))
     (looked_aside asked rested r.0 r.1 r.2 r.5 (λ halted. r.6 ∙ halted)) c.look_behind.ensures.looked
 
 pub loop-preserved : goal.loop-preserved
 loop-preserved g c =
-    let rested = c.pause-left.new.client in
+    let rested = c.yield_or_sleep-left.new.client in
     let new = c.look_behind.new.client in
     let h = c.halted-was_halted.ensures in
-    let r = c.pause-left.ensures.same in
+    let r = c.yield_or_sleep-left.ensures.same in
     let none = subst (λ found. MatchOption found (StillWaits rested new) (HasTaken rested new)) c.in_default-2.is c.in_ok-answer-2.ensures.taken in
     let before = c.loop.invariant.3 in
     (tt, tt, turn_looked g (goal.at.loop-preserved g c).After-look_behind, (none.0 ∙ r.4 ∙ h.same.4 ∙ before.0, none.1 ∙ r.3 ∙ h.same.3 ∙ before.1))
