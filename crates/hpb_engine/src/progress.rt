@@ -19,7 +19,7 @@ pub struct Progress {
     pub retirement: Retirement,
 }
 
-/// The frames of the journal by the indexes of their batches, with those that are in use and those that are clean.
+/// The frames of the journal, by the indexes of their batches: which are in use, and which are clean.
 #[derive(Drop)]
 pub struct Window {
     /// Where the frames stand.

@@ -2,6 +2,7 @@
 ghost use Rattle.std.specs.Prelude.{◌≡◌, ◌≤◌, IfErr};
 ghost use Rattle.hpb_house.specs.Told.{cause_of, refusal_of};
 ghost use Rattle.hpb_tried.specs.declared.came.Came.TheVariants.{Refused};
+ghost use Rattle.hpb_rules.specs.declared.limits.TheConstants.{MOST_SEATS};
 
 use anyhow::Result;
 use hpb_disk::FileDisk;
@@ -20,7 +21,7 @@ pub(crate) struct Begun {
 
 /// As many sessions as there may be over a definition of one node, and two over any other.
 fn sessions_of(nodes: u64) -> u8
-    ensures { (1 ≤ result) × (result ≤ 32) }
+    ensures { (1 ≤ result) × (result ≤ MOST_SEATS) }
 {
     if nodes == 1 { 32 } else { 2 }
 }
@@ -64,7 +65,7 @@ fn start_marked<W: Wait>(
     opened: Opened<FileDisk>,
     sessions: u8,
 ) -> Begun
-    requires { (1 ≤ sessions) × (sessions ≤ 32) }
+    requires { (1 ≤ sessions) × (sessions ≤ MOST_SEATS) }
 {
     let given = opened_sum(rt, &opened);
     let _ = begin(rt);
@@ -87,7 +88,7 @@ fn start_again<W: Wait>(
     given: Option<u64>,
     sessions: u8,
 ) -> Begun
-    requires { (1 ≤ sessions) × (sessions ≤ 32) }
+    requires { (1 ≤ sessions) × (sessions ≤ MOST_SEATS) }
 {
     let first = Came::Refused(fault.cause().refusal());
     let StartFault { opened, part } = fault;

@@ -27,7 +27,7 @@ use std::thread::Parker;
 use std::time::Duration;
 
 /// How long the committer waits before it offers letters again for which memory or room was refused, in milliseconds.
-const PAUSE: u64 = 1;
+const AGAIN_AFTER: u64 = 1;
 
 /// How often the committer looks for letters that are expected, in all. Other threads run between two looks.
 const LOOKS: u32 = 100;
@@ -143,9 +143,9 @@ fn turn<D: Disk + Drop, W: Wait + Drop, J: Naming, G: Gate, R: Wait>(
     match house.offer(rt, letters, front) {
         Offered::InFlight => commit(rt, house, intake, gate),
         Offered::Answered(answers) => {
-            let turned = expecting(intake, &answers);
+            let after = expecting(intake, &answers);
             wake_answered(intake, &answers);
-            turned
+            after
         }
         Offered::Back(letters, reason) => hold(rt, house, letters, reason),
     }
@@ -204,10 +204,10 @@ fn commit<D: Disk + Drop, W: Wait + Drop, J: Naming, G: Gate, R: Wait>(
             Ok(Step::Went) => gate.at(rt, Point::BetweenTurns),
             Ok(Step::Idle) => return AfterTurn::Free { expected: 0 },
             Ok(Step::Done(answers)) => {
-                let turned = expecting(intake, &answers);
+                let after = expecting(intake, &answers);
                 wake_answered(intake, &answers);
                 gate.at(rt, Point::Committed);
-                return turned;
+                return after;
             }
             Err(_) => return halted(rt, house, AfterTurn::Free { expected: 0 }),
         }
@@ -248,7 +248,7 @@ fn hold<D: Disk + Drop, W: Wait + Drop, J: Naming, R: Wait>(
         }
         // Nobody rings this bell: the wait lasts its time.
         Reason::Busy | Reason::Spent | Reason::Memory => {
-            Parker::new().park_timeout(rt, Duration::from_millis(PAUSE));
+            Parker::new().park_timeout(rt, Duration::from_millis(AGAIN_AFTER));
         }
     }
     AfterTurn::Held(letters)

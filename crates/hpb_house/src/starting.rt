@@ -7,6 +7,7 @@ ghost use Rattle.hpb_house.specs.Keepers.{KeepsEach};
 ghost use Rattle.hpb_house.specs.Starts.{AreBegun, HasRing, HaveRings, IsBegun, IsViewOf};
 ghost use Rattle.hpb_house.specs.Told.{cause_of, refusal_of};
 ghost use Rattle.hpb_house.specs.declared.starting.StartPart.TheVariants as parts;
+ghost use Rattle.hpb_rules.specs.declared.limits.TheConstants.{MOST_SEATS};
 
 use crate::house::House;
 use crate::keeper::{Halt, Keeper};
@@ -220,7 +221,7 @@ impl<D: Disk + Drop, W: Wait + Drop> House<D, W, Brand> {
         opened: Opened<D>,
         sessions: u8,
     ) -> Result<Started<D, W>, StartFault<D>>
-        requires { (1 ≤ sessions) × (sessions ≤ 32) }
+        requires { (1 ≤ sessions) × (sessions ≤ MOST_SEATS) }
         // Every client begins with what was opened, and there is one for each seat, with the ring of that seat.
         ensures opened { IfOk result (λ made. (made.eye.opened ≡ opened.plan.auction) × (made.eye.list ≡ [])) }
         ensures seats { IfOk result (λ made. made.eye.seats ≡ sessions) }
@@ -266,7 +267,7 @@ fn assemble<D: Disk + Drop, W: Wait + Drop>(
     requires works { (engine.failed ≡ false) × (engine.disk ≡ opened.value.disk) }
     requires publisher { (setting.publisher.opened ≡ opened.value.plan.auction) × (setting.publisher.seats ≡ sessions) × (setting.publisher.list ≡ []) × (setting.publisher.pending ≡ []) }
     requires eye { IsViewOf setting.publisher setting.eye }
-    requires rings { (vec_len setting.rings ≡ sessions) × (sessions ≤ 32) }
+    requires rings { (vec_len setting.rings ≡ sessions) × (sessions ≤ MOST_SEATS) }
     requires fresh { All (λ ring. received ring.letters ≡ []) setting.rings.items }
     ensures eye { result.eye ≡ setting.eye }
     ensures board { result.keeper.board ≡ setting.publisher }

@@ -4,6 +4,7 @@ ghost use Rattle.std.specs.Thread.{IsSend, IsSync};
 ghost use Rattle.hpb_house.specs.Clients.{AreReportsOf, IsReportOf, SameClient};
 ghost use Rattle.hpb_house.specs.Namings.{IsOf};
 ghost use Rattle.hpb_house.specs.Starts.{AreBegun};
+ghost use Rattle.hpb_rules.specs.declared.limits.TheConstants.{MOST_SEATS};
 
 use hpb_disk::{Disk, MemoryDisk, OnceDisk};
 use hpb_house::{
@@ -240,7 +241,7 @@ fn run_house<D: Disk + Drop + Send, G: Gate + Sync, S: Session + Sync, R: Thread
     gate: &G,
     session: &S,
 ) -> Result<Run<D>, Fail>
-    requires { (1 ≤ sessions) × (sessions ≤ 32) }
+    requires { (1 ≤ sessions) × (sessions ≤ MOST_SEATS) }
 {
     let before = opened.auction().count();
     let Ok(started) = House::start(rt, alloc, Box::into_inner(opened), sessions) else {
@@ -258,7 +259,7 @@ pub(crate) fn run_in_memory<G: Gate + Sync, S: Session + Sync, R: Threads + Wait
     gate: &G,
     session: &S,
 ) -> Result<Run<MemoryDisk>, Fail>
-    requires { (1 ≤ sessions) × (sessions ≤ 32) }
+    requires { (1 ≤ sessions) × (sessions ≤ MOST_SEATS) }
 {
     run_house(rt, alloc, opened, sessions, gate, session)
 }
@@ -272,7 +273,7 @@ pub(crate) fn run_with_fault<G: Gate + Sync, S: Session + Sync, R: Threads + Wai
     gate: &G,
     session: &S,
 ) -> Result<Run<OnceDisk<MemoryDisk>>, Fail>
-    requires { (1 ≤ sessions) × (sessions ≤ 32) }
+    requires { (1 ≤ sessions) × (sessions ≤ MOST_SEATS) }
 {
     run_house(rt, alloc, opened, sessions, gate, session)
 }

@@ -209,15 +209,15 @@ fn full_ring(rt: HostRuntime) -> Result<(), Fail> {
     Ok(())
 }
 
-/// For how many short waits a client rests behind a post: longer than the committer looks before it sleeps.
-const REST: u32 = 1_000;
+/// For how many short waits a client lingers behind a post: longer than the committer looks before it sleeps.
+const LINGER: u32 = 1_000;
 
 /// Within how many turns an answer comes that a bell has to bring.
 const FEW_TURNS: u32 = 100_000;
 
 /// Waits until the committer sleeps.
 fn linger<R: Wait>(rt: &R) {
-    for _ in 0..REST {
+    for _ in 0..LINGER {
         pause(rt);
     }
 }

@@ -58,13 +58,13 @@ impl Session for Halted {
     }
 }
 
-/// Bids, takes the answer, and then rests until it is halted.
+/// Bids, takes the answer, and then stays until it is halted.
 #[derive(Drop)]
-struct Resting {
+struct Staying {
     right: AtomicU32,
 }
 
-impl Session for Resting {
+impl Session for Staying {
     fn run<R: Wait>(&self, rt: &R, client: Client<Halt>) -> Client<Halt> {
         let mut client = client;
         let is_answered = ask(rt, &mut client, accepted_command(0)).is_some();
@@ -109,7 +109,7 @@ fn fault_in_a_checkpoint(rt: HostRuntime) -> Result<(), Fail> {
             taken: 1,
             accepted: 1,
         };
-        let session = Resting {
+        let session = Staying {
             right: AtomicU32::new(0),
         };
         // Calls behind the four of the first commit.

@@ -19,7 +19,7 @@ use std::thread::Threads;
 /// How often each point was told, but for `Gathered`.
 #[derive(Clone, Copy, Debug, PartialEq, Eq)]
 struct Told {
-    turned: u32,
+    between_turns: u32,
     committed: u32,
     pages: u32,
     retired: u32,
@@ -30,7 +30,7 @@ struct Told {
 #[derive(Drop)]
 struct Tally {
     gathered: AtomicU32,
-    turned: AtomicU32,
+    between_turns: AtomicU32,
     committed: AtomicU32,
     pages: AtomicU32,
     retired: AtomicU32,
@@ -42,7 +42,7 @@ impl Tally {
     fn new() -> Tally {
         Tally {
             gathered: AtomicU32::new(0),
-            turned: AtomicU32::new(0),
+            between_turns: AtomicU32::new(0),
             committed: AtomicU32::new(0),
             pages: AtomicU32::new(0),
             retired: AtomicU32::new(0),
@@ -53,7 +53,7 @@ impl Tally {
     /// How often each was told.
     fn told(&self) -> Told {
         Told {
-            turned: self.turned.load(Ordering::SeqCst),
+            between_turns: self.between_turns.load(Ordering::SeqCst),
             committed: self.committed.load(Ordering::SeqCst),
             pages: self.pages.load(Ordering::SeqCst),
             retired: self.retired.load(Ordering::SeqCst),
@@ -66,7 +66,7 @@ impl Gate for Tally {
     fn at<R: Wait>(&self, _rt: &R, point: Point) {
         let count = match point {
             Point::Gathered => &self.gathered,
-            Point::BetweenTurns => &self.turned,
+            Point::BetweenTurns => &self.between_turns,
             Point::Committed => &self.committed,
             Point::Page(page) if u32::from(page) != self.pages.load(Ordering::SeqCst) => return,
             Point::Page(_) => &self.pages,
@@ -110,7 +110,7 @@ fn tell_commit<R: Threads + Wait + Sync + Abort>(
     let opened = six_nodes_opened(alloc, shape)?;
     let run = run_in_memory(rt, alloc, opened, 1, &session.tally, &session)?;
     let wanted = Told {
-        turned: 3,
+        between_turns: 3,
         committed: 1,
         pages: 4,
         retired: 1,
@@ -134,7 +134,7 @@ fn tell_fault<R: Threads + Wait + Sync + Abort>(
     let opened = faulty_opened(alloc, shape, 2)?;
     let run = run_with_fault(rt, alloc, opened, 1, &session.tally, &session)?;
     let wanted = Told {
-        turned: 1,
+        between_turns: 1,
         committed: 0,
         pages: 0,
         retired: 0,
@@ -190,7 +190,7 @@ fn fault_of_a_commit_is_told_once_all_has_ended(rt: HostRuntime) -> Result<(), F
             let fails = call < 5;
             let (told, is_halted) = told_late(&rt, alloc, shape, call)?;
             let wanted = Told {
-                turned: 0,
+                between_turns: 0,
                 committed: 0,
                 pages: 0,
                 retired: 0,

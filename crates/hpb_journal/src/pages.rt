@@ -1,7 +1,6 @@
 //! Frames of one page each.
 ghost use Rattle.std.specs.Prelude.{◌≡◌, ◌+◌, ◌*◌, ◌≤◌, ◌<◌, length};
-ghost use Rattle.hpb_codec.specs.declared.layout.TheConstants.{LEAST_FRAMES, MOST_FRAMES};
-ghost use Rattle.hpb_codec.specs.declared.layout.TheConstants.{PAGE_BYTES};
+ghost use Rattle.hpb_codec.specs.declared.layout.TheConstants.{LEAST_FRAMES, MOST_FRAMES, PAGE_BYTES};
 ghost use Rattle.hpb_journal.specs.declared.limits.TheConstants.{JOURNAL_AT};
 
 use crate::limits::{BODY_AT, JOURNAL_AT};

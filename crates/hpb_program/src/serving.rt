@@ -5,6 +5,7 @@ ghost use Rattle.hpb_program.specs.Jobs.{made_of_serving};
 ghost use Rattle.hpb_program.specs.Serving.{ServesFile, ServesKept, ServesUnsaid, closed_line};
 ghost use Rattle.hpb_words.specs.Telling.{is_cut, IsTaken};
 ghost use Rattle.hpb_server.specs.Writing.{Sends};
+ghost use Rattle.hpb_rules.specs.declared.limits.TheConstants.{MOST_SEATS};
 
 use crate::descriptors::look_for_descriptors;
 use crate::lookout::Lookout;
@@ -80,7 +81,7 @@ pub(crate) fn serve_file<
     output: &mut Noted<W>,
     errors: &mut E,
 ) -> Result<FileEnd, JobFault>
-    requires { (1 ≤ sessions) × (sessions ≤ 32) }
+    requires { (1 ≤ sessions) × (sessions ≤ MOST_SEATS) }
     ensures told { TellsServing (E.contents errors.old) (E.contents errors.new) result }
     ensures serves { ServesFile sessions port (W.contents output.old.stream) (W.contents output.new.stream) result }
     ensures taken { IfOk result (λ end. IsTaken (is_cut output.new) end.said) }
@@ -151,7 +152,7 @@ pub fn serve_kept<
     output: &mut Noted<W>,
     errors: &mut E,
 ) -> Result<ServeEnd<D>, JobFault>
-    requires { (1 ≤ sessions) × (sessions ≤ 32) }
+    requires { (1 ≤ sessions) × (sessions ≤ MOST_SEATS) }
     ensures told { TellsKept (D.seen disk) (E.contents errors.old) (E.contents errors.new) result }
     ensures serves { ServesKept D.seen D.may_leave D.failures disk sessions port (W.contents output.old.stream) (W.contents output.new.stream) result }
     ensures taken { IfOk result (λ end. IsTaken (is_cut output.new) end.said) }
@@ -186,7 +187,7 @@ fn serve_device<
     errors: &mut E,
     watch: &V,
 ) -> Result<Unsaid<D>, JobFault>
-    requires { (1 ≤ sessions) × (sessions ≤ 32) }
+    requires { (1 ≤ sessions) × (sessions ≤ MOST_SEATS) }
     ensures told { TellsKept (D.seen disk) (E.contents errors.old) (E.contents errors.new) result }
     ensures serves { ServesUnsaid D.seen D.may_leave D.failures disk sessions port (W.contents output.old) (W.contents output.new) result }
 {

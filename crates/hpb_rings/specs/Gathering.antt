@@ -39,6 +39,6 @@ at_seat (first ∷ others) (suc seat) = at_seat others seat
 abbrev pub halts : {M : Type 0} → List (Ring M) → List (List M)
 halts rings = map (λ ring. sent ring.halts) rings
 
--- What a seat has been sent after a halt: this one too, unless it had one.
+-- What a seat has been sent once it is told of a halt: that halt too, unless it had one.
 abbrev pub told_of : {M : Type 0} → M → Ring M → List M
 told_of halt ring = if ring.is_told then sent ring.halts else sent ring.halts ++ halt ∷ []

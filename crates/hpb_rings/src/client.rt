@@ -7,6 +7,7 @@ ghost use Rattle.hpb_rings.specs.Marks.{greatest};
 ghost use Rattle.hpb_rings.specs.Taking.{posted, slips, newly, IsForOldest};
 ghost use Rattle.hpb_rules.specs.Judging.{letters_of};
 ghost use Rattle.hpb_rings.specs.declared.slip.Slip.TheVariants.{End};
+ghost use Rattle.hpb_rules.specs.declared.limits.TheConstants.{MOST_WAITING};
 
 use crate::report::Report;
 use crate::ring::Ends;
@@ -100,10 +101,10 @@ impl<M: Copy> Client<M> {
         ensures waiting { MatchResult result (λ _. self.new.waiting.items ≡ self.old.waiting.items ++ record { letter = letter; mark = self.old.mark } ∷ []) (λ back. (back ≡ letter) × (self.new.waiting.items ≡ self.old.waiting.items)) }
         ensures same { (self.new.seat ≡ self.old.seat) × (self.new.halts ≡ self.old.halts) × (self.new.viewer ≡ self.old.viewer) × (self.new.taken ≡ self.old.taken) × (self.new.accepted ≡ self.old.accepted) × (self.new.mark ≡ self.old.mark) × (self.new.is_halted ≡ self.old.is_halted) }
         ensures ring { SameProducer self.old.letters self.new.letters }
-        ensures sixteen { length self.old.waiting.items ≡ 16 → IsErr result }
-        ensures succeeds { length self.old.waiting.items < 16 → 0 < known_free self.old.letters → IsOk result }
+        ensures sixteen { length self.old.waiting.items ≡ MOST_WAITING → IsErr result }
+        ensures succeeds { length self.old.waiting.items < MOST_WAITING → 0 < known_free self.old.letters → IsOk result }
         ensures free { IsOk result → known_free self.old.letters ≤ known_free self.new.letters + 1 }
-        ensures full { IsErr result → (length self.old.waiting.items ≡ 16) ⊎ (known_free self.new.letters ≡ 0) }
+        ensures full { IsErr result → (length self.old.waiting.items ≡ MOST_WAITING) ⊎ (known_free self.new.letters ≡ 0) }
     {
         if self.waiting.is_full() {
             return Err(letter);

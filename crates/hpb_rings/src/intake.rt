@@ -3,6 +3,7 @@ ghost use Rattle.std.specs.Prelude.{◌≡◌, ℕ, ◌<◌, ◌≤◌, ◌∷�
 ghost use Rattle.rtrb.specs.Ring.{sent, received};
 ghost use Rattle.hpb_rings.specs.Slips.{commands, ends};
 ghost use Rattle.hpb_rings.specs.Gathering.{of_seat, Drained, gathered, at_seat, halts, told_of};
+ghost use Rattle.hpb_rules.specs.declared.limits.TheConstants.{MOST_SEATS};
 
 use crate::ring::Ring;
 use hpb_rules::{Letter, Letters, MOST_LETTERS, MOST_WAITING};
@@ -14,13 +15,13 @@ pub struct Intake<M: Copy> {
     pub rings: Vec<Ring<M>>,
     /// The seat at which the next gathering begins.
     first: usize,
-    ghost few: { vec_len rings ≤ 32 },
+    ghost few: { vec_len rings ≤ MOST_SEATS },
 }
 
 impl<M: Copy> Intake<M> {
     /// The intake over the rings of seats 0, 1, .., at most 32.
     pub fn new(rings: Vec<Ring<M>>) -> Intake<M>
-        requires { vec_len rings ≤ 32 }
+        requires { vec_len rings ≤ MOST_SEATS }
         ensures { result.rings ≡ rings }
     {
         Intake { rings, first: 0 }

@@ -3,8 +3,8 @@
 //!
 //! Each seat has a ring for 16 letters and a ring for one halt. A client posts letters, which the intake gathers with
 //! those of the other seats. Their answers come by the published auction: the client takes them in order, and each must
-//! be for the oldest letter that waits. After a halt every seat gets one halt; a client that is done sends an end mark
-//! behind its letters. No call waits but `Client::wait`, and none but `seat_rings` takes memory.
+//! be for the oldest letter that waits. Where the committer halts every seat gets one halt; a client that is done sends
+//! an end mark behind its letters. No call waits but `Client::wait`, and none but `seat_rings` takes memory.
 #![tactic(auto)]
 
 mod client;

@@ -2,6 +2,7 @@
 ghost use Rattle.std.specs.Prelude.{◌≡◌, ◌<◌, [], ◌∷◌, ◌++◌, length, true, false, if◌then◌else◌, MatchOption, IfOk};
 ghost use Rattle.rtrb.specs.Ring.{sent, received, known_free, known_items, IsPair};
 ghost use Rattle.hpb_rings.specs.Slips.{commands, ends};
+ghost use Rattle.hpb_rules.specs.declared.limits.TheConstants.{MOST_WAITING};
 
 use crate::slip::Slip;
 use hpb_rules::{Command, MOST_WAITING};
@@ -39,7 +40,7 @@ pub struct Ring<M: Copy> {
 /// Makes the rings of one seat, with room for 16 letters and for one halt, and the seat's bell. Fails only where memory
 /// is refused (90 `memory`).
 pub fn seat_rings<M: Copy>(alloc: Global) -> Result<(Ends<M>, Ring<M>), AllocError>
-    ensures letters { IfOk result (λ r. IsPair r.0.letters r.1.letters × (known_free r.0.letters ≡ 16) × (received r.1.letters ≡ [])) }
+    ensures letters { IfOk result (λ r. IsPair r.0.letters r.1.letters × (known_free r.0.letters ≡ MOST_WAITING) × (received r.1.letters ≡ [])) }
     ensures halts { IfOk result (λ r. IsPair r.1.halts r.0.halts × (sent r.1.halts ≡ []) × (received r.0.halts ≡ [])) }
     ensures start { IfOk result (λ r. (r.1.has_ended ≡ false) × (r.1.is_told ≡ false)) }
 {

@@ -127,7 +127,7 @@ pub came_on : {M : Type 0} (state : State) (old new : Client M) → CameFrom sta
 came_on state old new came seat letters follows mark =
     (seat ∙ came.0, same_ring state.letters old.letters new.letters came.1 letters, follows_trans state.viewing old.viewer new.viewer came.2 follows, omega (arith, came.3, mark), came.4)
 
--- a turn: whether it is halted is asked, it rests, and looks
+-- a turn: whether it is halted is asked, it yields or sleeps, and looks
 pub looked_turn : {M : Type 0} (first was asked rested new : Client M) → HasLooked first was → HasLooked was asked → HasLooked asked rested → HasLooked rested new → HasLooked first new
 looked_turn first was asked rested new before a r l = looked_trans first was new before (looked_trans was asked new a (looked_trans asked rested new r l))
 

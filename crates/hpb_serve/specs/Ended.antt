@@ -10,8 +10,8 @@ use Rattle.hpb_rings.specs.declared.report.Report.{Report}
 use Rattle.hpb_serve.specs.declared.fault.Differing.{Differing}
 use Rattle.hpb_serve.specs.declared.fault.ServeFault.{ServeFault}
 use Rattle.hpb_serve.specs.declared.fault.ServeFault.TheVariants as faults
-use Rattle.hpb_serve.specs.declared.fault.SessionsFault.{SessionsFault}
-use Rattle.hpb_serve.specs.declared.fault.SessionsFault.TheVariants as threads
+use Rattle.hpb_serve.specs.declared.fault.ThreadsFault.{ThreadsFault}
+use Rattle.hpb_serve.specs.declared.fault.ThreadsFault.TheVariants as threads
 use Rattle.hpb_serve.specs.declared.serving.Served.{Served}
 use Rattle.hpb_serve.specs.declared.end.SessionEnd.{SessionEnd}
 use Rattle.hpb_serve.specs.declared.end.SessionEnd.TheVariants.{Left}
@@ -38,7 +38,7 @@ pub record IsLeft (auction : AuctionValue) (seats : List ℕ) (client : Client H
   pub order : IsOutOfOrder client
 
 -- Where a session of these seats left its client, that is handed back.
-abbrev pub LeavesOne : (auction : AuctionValue) (seats : List ℕ) → SessionsFault → Type 0
+abbrev pub LeavesOne : (auction : AuctionValue) (seats : List ℕ) → ThreadsFault → Type 0
 LeavesOne auction seats threads.Memory = Unit {0}
 LeavesOne auction seats (threads.Order client) = IsLeft auction seats client
 

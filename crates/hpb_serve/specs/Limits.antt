@@ -1,7 +1,7 @@
 -- The limits of serving, as the numbers that the documents name.
 use Rattle.std.specs.Prelude.{◌≡◌}
 use Rattle.hpb_serve.specs.declared.connection.TheConstants.{READ_LOOKS, ANSWER_LOOKS, MOST_LOOKING}
-use Rattle.hpb_serve.specs.declared.threads.TheConstants.{MISSED_PAUSE}
+use Rattle.hpb_serve.specs.declared.threads.TheConstants.{MISSED_WAIT}
 
 -- Each limit of the code is the number that the documents name.
 pub record LimitsAre : Type 0 where
@@ -11,4 +11,4 @@ pub record LimitsAre : Type 0 where
   -- With more sessions than these none looks.
   pub looking : MOST_LOOKING ≡ 8
   -- So many milliseconds nothing is accepted after a connection that was not.
-  pub pause : MISSED_PAUSE ≡ 100
+  pub missed_wait : MISSED_WAIT ≡ 100

@@ -181,9 +181,9 @@ fn refuse_all(count: usize, replies: &mut Replies)
     }
 }
 
-/// Takes the answer to the oldest letter that waits: one that its view has already, and else it rests before each look.
-/// Refused where none has come by the first look after a halt, and where an answer comes that isn't for that letter, or is
-/// older than what the client knew when it posted it.
+/// Takes the answer to the oldest letter that waits: one that its view has already, and else it yields or sleeps before
+/// each look. Refused where none has come by the first look after a halt, and where an answer comes that isn't for that
+/// letter, or is older than what the client knew when it posted it.
 ///
 /// Whether the client is halted is asked before each look: an answer that came before the halt is found by that look.
 fn take_answer<M: Copy, R: Wait>(rt: &R, client: &mut Client<M>, looks: u32) -> Result<Answer, Stop>
@@ -207,8 +207,8 @@ fn take_answer<M: Copy, R: Wait>(rt: &R, client: &mut Client<M>, looks: u32) -> 
     unreachable!()
 }
 
-/// Rests before a look, of which so many are left: other threads run meanwhile, or, where none is left, it sleeps until
-/// the bell of its seat rings. It tells how many are left then. A client that is halted doesn't rest, since nothing may
+/// Waits before a look, of which so many are left: it lets other threads run, or, where none is left, sleeps until
+/// the bell of its seat rings. It tells how many are left then. A client that is halted does neither, since nothing may
 /// ring that bell any more.
 fn yield_or_sleep<M: Copy, R: Wait>(rt: &R, client: &mut Client<M>, left: u32) -> u32
     ensures same { (client.new.seat ≡ client.old.seat) × (client.new.letters ≡ client.old.letters) × (client.new.viewer ≡ client.old.viewer) × (client.new.waiting ≡ client.old.waiting) × (client.new.taken ≡ client.old.taken) × (client.new.mark ≡ client.old.mark) × (client.new.is_halted ≡ client.old.is_halted) }

@@ -60,7 +60,7 @@ impl<D: Disk + Drop> From<AllocError> for ServeFault<D> {
 
 /// Why there isn't a report of each session.
 #[derive(Drop)]
-pub(crate) enum SessionsFault {
+pub(crate) enum ThreadsFault {
     /// 90 `memory`: memory was refused, or a thread.
     Memory,
     /// 95 `order`: an answer came that isn't the one that its session waited for. This is the client of that session,
@@ -68,22 +68,22 @@ pub(crate) enum SessionsFault {
     Order(Client<Halt>),
 }
 
-impl From<AllocError> for SessionsFault {
-    ghost use Rattle.hpb_serve.specs.declared.fault.SessionsFault.TheVariants.{Memory};
+impl From<AllocError> for ThreadsFault {
+    ghost use Rattle.hpb_serve.specs.declared.fault.ThreadsFault.TheVariants.{Memory};
 
     ghost from_gives = { λ _ fault. fault ≡ Memory };
 
-    fn from(_error: AllocError) -> SessionsFault {
-        SessionsFault::Memory
+    fn from(_error: AllocError) -> ThreadsFault {
+        ThreadsFault::Memory
     }
 }
 
-impl<T: Drop> From<AllocFailed<T>> for SessionsFault {
-    ghost use Rattle.hpb_serve.specs.declared.fault.SessionsFault.TheVariants.{Memory};
+impl<T: Drop> From<AllocFailed<T>> for ThreadsFault {
+    ghost use Rattle.hpb_serve.specs.declared.fault.ThreadsFault.TheVariants.{Memory};
 
     ghost from_gives = { λ _ fault. fault ≡ Memory };
 
-    fn from(_error: AllocFailed<T>) -> SessionsFault {
-        SessionsFault::Memory
+    fn from(_error: AllocFailed<T>) -> ThreadsFault {
+        ThreadsFault::Memory
     }
 }

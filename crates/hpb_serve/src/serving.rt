@@ -4,9 +4,10 @@ ghost use Rattle.hpb_house.specs.Namings.{IsOf};
 ghost use Rattle.hpb_house.specs.Starts.{AreBegun};
 ghost use Rattle.hpb_serve.specs.Announcing.{Announces, IsBehind, listening_line};
 ghost use Rattle.hpb_serve.specs.Ended.{EndsAll, EndsIll};
+ghost use Rattle.hpb_rules.specs.declared.limits.TheConstants.{MOST_SEATS};
 
 use crate::announcing::announce;
-use crate::fault::{Differing, ServeFault, SessionsFault};
+use crate::fault::{Differing, ServeFault, ThreadsFault};
 use crate::threads::run_threads;
 use crate::watching::{Unwatched, Watch};
 use hpb_disk::Disk;
@@ -53,7 +54,7 @@ pub fn serve_opened<
     sessions: u8,
     output: &mut W,
 ) -> Result<Served<D>, ServeFault<D>>
-    requires { (1 ≤ sessions) × (sessions ≤ 32) }
+    requires { (1 ≤ sessions) × (sessions ≤ MOST_SEATS) }
     ensures written { Announces (listening_line port) (W.contents output.old) (W.contents output.new) result }
     // All sessions have ended, and the commands that they were told of as newly accepted are those that were committed.
     ensures ended { IfOk result (λ served. EndsAll D.seen D.may_leave D.failures (D.seen opened.disk) (D.failures opened.disk) opened.plan.auction sessions served) }
@@ -85,7 +86,7 @@ pub fn serve_watched<
     output: &mut W,
     watch: &V,
 ) -> Result<Served<D>, ServeFault<D>>
-    requires { (1 ≤ sessions) × (sessions ≤ 32) }
+    requires { (1 ≤ sessions) × (sessions ≤ MOST_SEATS) }
     ensures written { Announces (listening_line port) (W.contents output.old) (W.contents output.new) result }
     // All sessions have ended, and the commands that they were told of as newly accepted are those that were committed.
     ensures ended { IfOk result (λ served. EndsAll D.seen D.may_leave D.failures (D.seen opened.disk) (D.failures opened.disk) opened.plan.auction sessions served) }
@@ -132,8 +133,8 @@ fn serve_started<
     } = started.named::<J>();
     let mut reports = match run_threads(rt, alloc, &house, incoming, clients, listener, watch) {
         Ok(reports) => reports,
-        Err(SessionsFault::Memory) => return Err(ServeFault::Memory),
-        Err(SessionsFault::Order(client)) => return Err(ServeFault::Order(client)),
+        Err(ThreadsFault::Memory) => return Err(ServeFault::Memory),
+        Err(ThreadsFault::Order(client)) => return Err(ServeFault::Order(client)),
     };
     match house.close(&mut reports) {
         Ok(closing) => Ok(Served { closing, reports }),

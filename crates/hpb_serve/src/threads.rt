@@ -4,11 +4,11 @@ ghost use Rattle.std.specs.Thread.{IsSend, IsSync};
 ghost use Rattle.hpb_house.specs.Boards.{SameBoard};
 ghost use Rattle.hpb_house.specs.Clients.{AreReportsOf};
 ghost use Rattle.hpb_serve.specs.Ended.{LeavesOne};
-ghost use Rattle.hpb_serve.specs.declared.fault.SessionsFault.TheVariants.{Memory};
+ghost use Rattle.hpb_serve.specs.declared.fault.ThreadsFault.TheVariants.{Memory};
 
 use crate::connection::{Idle, serve_connection};
 use crate::ends::{OfClient, join_sessions};
-use crate::fault::SessionsFault;
+use crate::fault::ThreadsFault;
 use crate::watching::{Rounds, Watch};
 use crate::{SessionEnd, finish_client};
 use hpb_disk::Disk;
@@ -32,7 +32,7 @@ fn finish_clients<R: Wait>(rt: &R, clients: Vec<Client<Halt>>)
 }
 
 /// How long nothing is accepted after a connection that was not, in milliseconds: what was missing may be there then.
-const MISSED_PAUSE: u64 = 100;
+const MISSED_WAIT: u64 = 100;
 
 /// The next connection. One that is not accepted has ended, and a watch is told of it.
 fn next_connection<V: Watch, R: Wait>(
@@ -44,7 +44,7 @@ fn next_connection<V: Watch, R: Wait>(
         Ok((stream, _)) => Some(stream),
         Err(error) => {
             watch.missed(&error);
-            Parker::new().park_timeout(rt, Duration::from_millis(MISSED_PAUSE));
+            Parker::new().park_timeout(rt, Duration::from_millis(MISSED_WAIT));
             None
         }
     }
@@ -63,7 +63,7 @@ fn start_sessions<'s, E, R: Threads + Wait + Sync, V: Watch>(
     listener: TcpListener,
     watch: &V,
     threads: Vec<PromisedHandle<SessionEnd<Halt>, OfClient>>,
-) -> Result<Vec<PromisedHandle<SessionEnd<Halt>, OfClient>>, SessionsFault>
+) -> Result<Vec<PromisedHandle<SessionEnd<Halt>, OfClient>>, ThreadsFault>
     requires idle { All (λ client. client.waiting.items ≡ []) clients.items }
     requires none { threads.items ≡ [] }
     ensures clients { IfOk result (λ started. map (λ thread. thread.promise.client.value) started.items ≡ clients.items) }
@@ -103,7 +103,7 @@ fn start_sessions<'s, E, R: Threads + Wait + Sync, V: Watch>(
     if open.is_some() {
         Ok(threads)
     } else {
-        Err(SessionsFault::Memory)
+        Err(ThreadsFault::Memory)
     }
 }
 
@@ -127,7 +127,7 @@ pub(crate) fn run_threads<
     clients: Vec<Client<Halt>>,
     listener: TcpListener,
     watch: &V,
-) -> Result<Vec<Report>, SessionsFault>
+) -> Result<Vec<Report>, ThreadsFault>
     requires ready { All (λ client. SameBoard house.now client.viewer × (client.waiting.items ≡ [])) clients.items }
     ensures reports { IfOk result (λ reports. AreReportsOf clients.items reports.items) }
     ensures left { IfErr result (LeavesOne house.now.opened (map (λ client. client.seat) clients.items)) }
@@ -135,7 +135,7 @@ pub(crate) fn run_threads<
     thread::scope(
         thread::scope_env(),
         rt,
-        move |scope| -> Result<Vec<Report>, SessionsFault>
+        move |scope| -> Result<Vec<Report>, ThreadsFault>
             requires cross { IsSend D.row × IsSend W.row × IsSend J.row × IsSync J.row × IsSync R.row × IsSync V.row }
             requires ready { All (λ client. SameBoard house.now client.viewer × (client.waiting.items ≡ [])) clients.items }
             ensures reports { IfOk result (λ reports. AreReportsOf clients.items reports.items) }
@@ -147,7 +147,7 @@ pub(crate) fn run_threads<
             let Ok(workers) = Workers::start(scope, rt, house, incoming, OpenGate, rounds) else {
                 watch.refused_thread();
                 finish_clients(rt, clients);
-                return Err(SessionsFault::Memory);
+                return Err(ThreadsFault::Memory);
             };
             let threads = start_sessions(scope, rt, alloc, clients, listener, watch, room)?;
             let joined = join_sessions(rt, house, threads, reports);

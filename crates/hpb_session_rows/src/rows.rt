@@ -1,6 +1,7 @@
 //! Sizes at which all that is asked for has to be answered.
 
 ghost use Rattle.std.specs.Prelude.{◌≤◌};
+ghost use Rattle.hpb_rules.specs.declared.limits.TheConstants.{MOST_SEATS};
 
 use crate::auctions::{Sent, Size, are_accepted, definition, events};
 use anyhow::{Error, Result, bail};
@@ -197,7 +198,7 @@ fn each_number_of_events(rt: HostRuntime) -> Result<(), Fail> {
 
 /// A house over a new device has a client for each session.
 fn starts<R: Wait>(rt: &R, alloc: Global, shape: JournalShape, sessions: u8) -> Result<()>
-    requires { (1 ≤ sessions) × (sessions ≤ 32) }
+    requires { (1 ≤ sessions) × (sessions ≤ MOST_SEATS) }
 {
     let opened = opened_or_cause(alloc, formatted(alloc, GREATEST, shape)?)?;
     let started = match House::start(rt, alloc, Box::into_inner(opened), sessions) {

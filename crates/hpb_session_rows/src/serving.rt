@@ -1,6 +1,7 @@
 //! Sessions over connections, served by a thread of its own.
 ghost use Rattle.std.specs.Prelude.{◌≤◌};
 ghost use Rattle.std.specs.Thread.{IsSend, IsSync};
+ghost use Rattle.hpb_rules.specs.declared.limits.TheConstants.{MOST_SEATS};
 
 use crate::devices::{faulty_opened, file_opened, new_opened};
 use hpb_codec::JournalShape;
@@ -95,7 +96,7 @@ fn serve_over<
     D: Disk + Drop + Send + 'static,
     W: Write + Drop + Send + 'static,
 >(rt: &H, alloc: Global, opened: Opened<D>, sessions: u8, output: W) -> Result<Serving<W>, Fail>
-    requires { (1 ≤ sessions) × (sessions ≤ 32) }
+    requires { (1 ≤ sessions) × (sessions ≤ MOST_SEATS) }
 {
     let listener = TcpListener::bind(rt, (Ipv4Addr::LOCALHOST, 0))?;
     let port = listener.local_addr()?.port();
@@ -106,7 +107,7 @@ fn serve_over<
         rt,
         move || -> Ended<W>
             requires cross { IsSend D.row × IsSync H.row }
-            requires sessions { (1 ≤ sessions) × (sessions ≤ 32) }
+            requires sessions { (1 ≤ sessions) × (sessions ≤ MOST_SEATS) }
         {
             let mut output = output;
             let served = serve_opened(&own, alloc, opened, listener, port, sessions, &mut output);
@@ -139,7 +140,7 @@ pub(crate) fn serve_new_device<
         + 'static,
     W: Write + Drop + Send + 'static,
 >(rt: &H, alloc: Global, shape: JournalShape, sessions: u8, output: W) -> Result<Serving<W>, Fail>
-    requires { (1 ≤ sessions) × (sessions ≤ 32) }
+    requires { (1 ≤ sessions) × (sessions ≤ MOST_SEATS) }
 {
     serve_over(rt, alloc, new_opened(alloc, shape)?, sessions, output)
 }
@@ -169,7 +170,7 @@ pub(crate) fn serve_file<
         + Copy
         + 'static,
 >(rt: &H, alloc: Global, path: &str, sessions: u8) -> Result<Serving<Vec<u8>>, Fail>
-    requires { (1 ≤ sessions) × (sessions ≤ 32) }
+    requires { (1 ≤ sessions) × (sessions ≤ MOST_SEATS) }
 {
     let opened = file_opened(rt, alloc, path)?;
     serve_over(rt, alloc, opened, sessions, Vec::new(alloc))

@@ -11,7 +11,7 @@ use Rattle.hpb_rules.specs.declared.licence.Terms.{Terms}
 use Rattle.hpb_rules.specs.Tree.{Node, IsTree, parent_of, terms_of, places, at_parent, at_or_under, at_or_under_within, sum_over, units, units_at}
 use Rattle.hpb_tree.specs.Licences.{licence_count, licence_number, part_over}
 use Rattle.hpb_rules.proofs.Places.{sum_more, sum_has, count_yes, count_no, terms_in}
-use Rattle.hpb_units.specs.Activity.{is_marked}
+use Rattle.hpb_units.specs.Activity.{has_licence}
 
 -- a sum to which no place adds
 pub sum_none : (f : ℕ → ℕ) (n : ℕ) → ((m : ℕ) → m < n → f m ≡ 0) → sum_by f (range_with_len 0 n) ≡ 0
@@ -100,19 +100,19 @@ module _ (nodes : List Node) where
     -- the total and the number of licences before place i
     pub record Counted (i total number : ℕ) : Type 0 where
       pub counted : number ≡ licence_number nodes i
-      pub summed : total ≡ sum_by (part_over nodes (is_marked nodes mask) (units_at nodes)) (range_with_len 0 i)
+      pub summed : total ≡ sum_by (part_over nodes (has_licence nodes mask) (units_at nodes)) (range_with_len 0 i)
       pub most : total ≤ MOST_LICENCES * MOST_LICENCE_UNITS * number
 
     module _ {i total number : ℕ} (s : Counted i total number) where
       -- the bit that the code reads
-      marked_here : bit_and (mask / 2 ^ number) 1 ≡ bit_at mask (licence_number nodes i)
-      marked_here = shr_and_one mask number ∙ ap (bit_at mask) s.counted
+      bit_here : bit_and (mask / 2 ^ number) 1 ≡ bit_at mask (licence_number nodes i)
+      bit_here = shr_and_one mask number ∙ ap (bit_at mask) s.counted
 
       -- a package is passed over
       pub counted_package : is_some (terms_of nodes i) ≡ false → Counted (i + 1) total number
       counted_package none = record {
         counted = count_no (λ m. is_some (terms_of nodes m)) i number none s.counted;
-        summed = omega (arith, s.summed, sum_more (part_over nodes (is_marked nodes mask) (units_at nodes)) i, part_none (is_marked nodes mask) (units_at nodes) i none);
+        summed = omega (arith, s.summed, sum_more (part_over nodes (has_licence nodes mask) (units_at nodes)) i, part_none (has_licence nodes mask) (units_at nodes) i none);
         most = s.most;
       }
 
@@ -121,9 +121,9 @@ module _ (nodes : List Node) where
       counted_other some clear = record {
         counted = count_yes (λ m. is_some (terms_of nodes m)) i number some s.counted;
         summed =
-            let left : is_marked nodes mask i ≡ false = ne_eqb (bit_at mask (licence_number nodes i)) 1 (λ e. clear (marked_here ∙ e)) in
-            let here : part_over nodes (is_marked nodes mask) (units_at nodes) i ≡ 0 = part_some (is_marked nodes mask) (units_at nodes) i some ∙ ap (λ b. cond b (units_at nodes i) 0) left in
-            omega (arith, s.summed, sum_more (part_over nodes (is_marked nodes mask) (units_at nodes)) i);
+            let left : has_licence nodes mask i ≡ false = ne_eqb (bit_at mask (licence_number nodes i)) 1 (λ e. clear (bit_here ∙ e)) in
+            let here : part_over nodes (has_licence nodes mask) (units_at nodes) i ≡ 0 = part_some (has_licence nodes mask) (units_at nodes) i some ∙ ap (λ b. cond b (units_at nodes i) 0) left in
+            omega (arith, s.summed, sum_more (part_over nodes (has_licence nodes mask) (units_at nodes)) i);
         most = omega (arith, s.most);
       }
 
@@ -132,8 +132,8 @@ module _ (nodes : List Node) where
       counted_own tree some set e small = record {
         counted = count_yes (λ m. is_some (terms_of nodes m)) i number some s.counted;
         summed =
-            let taken : is_marked nodes mask i ≡ true = eq-eqb (bit_at mask (licence_number nodes i)) 1 (sym marked_here ∙ set) in
-            let here : part_over nodes (is_marked nodes mask) (units_at nodes) i ≡ units_at nodes i = part_some (is_marked nodes mask) (units_at nodes) i some ∙ ap (λ b. cond b (units_at nodes i) 0) taken in
-            omega (arith, s.summed, sum_more (part_over nodes (is_marked nodes mask) (units_at nodes)) i, units_own tree i some);
+            let taken : has_licence nodes mask i ≡ true = eq-eqb (bit_at mask (licence_number nodes i)) 1 (sym bit_here ∙ set) in
+            let here : part_over nodes (has_licence nodes mask) (units_at nodes) i ≡ units_at nodes i = part_some (has_licence nodes mask) (units_at nodes) i some ∙ ap (λ b. cond b (units_at nodes i) 0) taken in
+            omega (arith, s.summed, sum_more (part_over nodes (has_licence nodes mask) (units_at nodes)) i, units_own tree i some);
         most = omega (arith, s.most);
       }

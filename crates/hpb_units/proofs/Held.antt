@@ -11,18 +11,18 @@ use Rattle.hpb_rules.proofs.Tests.{no_bit}
 use Rattle.hpb_tree.specs.Licences.{licence_count, licence_number, licences_among, part_over, IsMask}
 use Rattle.hpb_bids.specs.View.{BooksView, IsQuiet}
 use Rattle.hpb_winners.specs.View.{OutcomeView}
-use Rattle.hpb_units.specs.Activity.{is_marked, is_won_by, is_active_on, held}
+use Rattle.hpb_units.specs.Activity.{has_licence, is_won_by, is_active_on, held}
 use Rattle.std.specs.Prelude.{slice_index}
 use Rattle.std.proofs.lemmas.Bool.{both_ways, eqb-true, eq-eqb}
 use Rattle.std.proofs.Math.Bool.{or-false}
 use Rattle.hpb_units.specs.Holdings.{HoldingsView, holds, IsNothing, AreLicenceUnits, AreSmall, AreSummed, HoldsMore}
-use Rattle.hpb_units.proofs.Marks.{marked_or, marked_node}
+use Rattle.hpb_units.proofs.Masks.{or_in_mask, node_in_mask}
 use Rattle.hpb_units.proofs.Counting.{part_some, part_none, sum_none, sum_over_same}
 
 module _ (nodes : List Node) where
-  -- masks without a common bit mark no licence in common
-  pub marked_apart : (a b l : ℕ) → bit_and a b ≡ 0 → (is_marked nodes a l && is_marked nodes b l) ≡ false
-  marked_apart a b l none =
+  -- masks without a common bit have no licence in common
+  pub apart_in_mask : (a b l : ℕ) → bit_and a b ≡ 0 → (has_licence nodes a l && has_licence nodes b l) ≡ false
+  apart_in_mask a b l none =
       least (bit_at a (licence_number nodes l)) (bit_at b (licence_number nodes l)) (bit_at-lt a (licence_number nodes l)) (bit_at-lt b (licence_number nodes l))
       (sym (bit_at_and a b (licence_number nodes l)) ∙ ap (λ m. bit_at m (licence_number nodes l)) none ∙ bit_at-zero (licence_number nodes l))
     where
@@ -65,22 +65,22 @@ module _ (nodes : List Node) where
       by (l ∷ ls) = omega (arith, at l (is_some (terms_of nodes l)) refl (test l) refl, by ls, sum_by-cons (part_over nodes test (units_at nodes)) l ls, sum_by-cons (λ l. cond {A = ℕ} (is_some (terms_of nodes l)) 1 0) l ls)
 
   module _ (own more n : ℕ) (mask : IsMask nodes n more) where
-    -- both masks mark what the first marks and what is at or under the node
-    pub either_marked : (l : ℕ) → IsSome (terms_of nodes l) → is_marked nodes (bit_or own more) l ≡ (is_marked nodes own l || at_or_under nodes n l)
-    either_marked l some = marked_or nodes own more l ∙ ap (λ b. is_marked nodes own l || b) (marked_node nodes n more l mask some)
+    -- both masks have what the first has and what is at or under the node
+    pub either_in_mask : (l : ℕ) → IsSome (terms_of nodes l) → has_licence nodes (bit_or own more) l ≡ (has_licence nodes own l || at_or_under nodes n l)
+    either_in_mask l some = or_in_mask nodes own more l ∙ ap (λ b. has_licence nodes own l || b) (node_in_mask nodes n more l mask some)
 
     -- a node whose licences are held adds nothing
-    pub sum_held : bit_or own more ≡ own → sum_over nodes (is_marked nodes own) (units_at nodes) ≡ sum_over nodes (λ l. is_marked nodes own l || at_or_under nodes n l) (units_at nodes)
-    sum_held same = sum_over_same nodes (is_marked nodes own) (λ l. is_marked nodes own l || at_or_under nodes n l) (units_at nodes) (λ l some. ap (λ m. is_marked nodes m l) (sym same) ∙ either_marked l some)
+    pub sum_held : bit_or own more ≡ own → sum_over nodes (has_licence nodes own) (units_at nodes) ≡ sum_over nodes (λ l. has_licence nodes own l || at_or_under nodes n l) (units_at nodes)
+    sum_held same = sum_over_same nodes (has_licence nodes own) (λ l. has_licence nodes own l || at_or_under nodes n l) (units_at nodes) (λ l some. ap (λ m. has_licence nodes m l) (sym same) ∙ either_in_mask l some)
 
     -- a node of which no licence is held adds its units
-    pub sum_apart : bit_and own more ≡ 0 → sum_over nodes (λ l. is_marked nodes own l || at_or_under nodes n l) (units_at nodes) ≡ sum_over nodes (is_marked nodes own) (units_at nodes) + units nodes n
-    sum_apart none = sum_over_either (is_marked nodes own) (at_or_under nodes n) (units_at nodes)
-        (λ l some. ap (λ b. is_marked nodes own l && b) (sym (marked_node nodes n more l mask some)) ∙ marked_apart own more l none)
+    pub sum_apart : bit_and own more ≡ 0 → sum_over nodes (λ l. has_licence nodes own l || at_or_under nodes n l) (units_at nodes) ≡ sum_over nodes (has_licence nodes own) (units_at nodes) + units nodes n
+    sum_apart none = sum_over_either (has_licence nodes own) (at_or_under nodes n) (units_at nodes)
+        (λ l some. ap (λ b. has_licence nodes own l && b) (sym (node_in_mask nodes n more l mask some)) ∙ apart_in_mask own more l none)
 
     -- the units of both masks together
-    pub sum_both : sum_over nodes (is_marked nodes (bit_or own more)) (units_at nodes) ≡ sum_over nodes (λ l. is_marked nodes own l || at_or_under nodes n l) (units_at nodes)
-    sum_both = sum_over_same nodes (is_marked nodes (bit_or own more)) (λ l. is_marked nodes own l || at_or_under nodes n l) (units_at nodes) either_marked
+    pub sum_both : sum_over nodes (has_licence nodes (bit_or own more)) (units_at nodes) ≡ sum_over nodes (λ l. has_licence nodes own l || at_or_under nodes n l) (units_at nodes)
+    sum_both = sum_over_same nodes (has_licence nodes (bit_or own more)) (λ l. has_licence nodes own l || at_or_under nodes n l) (units_at nodes) either_in_mask
 
   -- where nobody bid, what is held was won
   pub held_won : (books : BooksView) (outcome : OutcomeView) → IsQuiet books → (b l : ℕ) → list_any (λ n. at_or_under nodes n l && is_won_by books outcome b n) (places nodes) ≡ held nodes books outcome b l
@@ -90,20 +90,20 @@ module _ (nodes : List Node) where
       at n = ap (λ bid. at_or_under nodes n l && (bid || is_won_by books outcome b n)) (sym (no_bit (get_or books.bids b 0) n (quiet b)))
 
   -- the units of a mask
-  abbrev pub units_marked : ℕ → ℕ
-  units_marked mask = sum_over nodes (is_marked nodes mask) (units_at nodes)
+  abbrev pub units_of_mask : ℕ → ℕ
+  units_of_mask mask = sum_over nodes (has_licence nodes mask) (units_at nodes)
 
   -- the units of a mask with those of a node
   abbrev pub units_either : ℕ → ℕ → ℕ
-  units_either mask n = sum_over nodes (λ l. is_marked nodes mask l || at_or_under nodes n l) (units_at nodes)
+  units_either mask n = sum_over nodes (λ l. has_licence nodes mask l || at_or_under nodes n l) (units_at nodes)
 
   -- the same of the mask that was read
   module _ {read own : ℕ} (more n : ℕ) (mask : IsMask nodes n more) (is : read ≡ own) where
-    pub read_held : bit_or read more ≡ read → units_marked own ≡ units_either own n
-    read_held same = ap units_marked (sym is) ∙ sum_held read more n mask same ∙ ap (λ m. units_either m n) is
+    pub read_held : bit_or read more ≡ read → units_of_mask own ≡ units_either own n
+    read_held same = ap units_of_mask (sym is) ∙ sum_held read more n mask same ∙ ap (λ m. units_either m n) is
 
-    pub read_apart : bit_and read more ≡ 0 → units_either own n ≡ units_marked own + units nodes n
-    read_apart none = ap (λ m. units_either m n) (sym is) ∙ sum_apart read more n mask none ∙ ap (λ m. units_marked m + units nodes n) is
+    pub read_apart : bit_and read more ≡ 0 → units_either own n ≡ units_of_mask own + units nodes n
+    read_apart none = ap (λ m. units_either m n) (sym is) ∙ sum_apart read more n mask none ∙ ap (λ m. units_of_mask m + units nodes n) is
 
   -- a table in which one bidder's entry was set
   pub record IsSet (old new : HoldingsView) (bidder mask sum : ℕ) : Type 0 where
@@ -121,11 +121,11 @@ module _ (nodes : List Node) where
         by true e =
             let same : bidder ≡ other = eqb-true bidder other e in
             ap (λ k. holds nodes new k l) (sym same)
-            ∙ ap (λ m. is_marked nodes m l) set.licences
-            ∙ either_marked own more n mask l some
-            ∙ ap (λ m. is_marked nodes m l || at_or_under nodes n l) (read ∙ ap (λ k. slice_index old.licences k) same)
+            ∙ ap (λ m. has_licence nodes m l) set.licences
+            ∙ either_in_mask own more n mask l some
+            ∙ ap (λ m. has_licence nodes m l || at_or_under nodes n l) (read ∙ ap (λ k. slice_index old.licences k) same)
         by false e =
-            ap (λ m. is_marked nodes m l) (set.other_licences other (λ same. both_ways (eqb bidder other) e (eq-eqb bidder other (sym same))))
+            ap (λ m. has_licence nodes m l) (set.other_licences other (λ same. both_ways (eqb bidder other) e (eq-eqb bidder other (sym same))))
             ∙ sym (or-false (holds nodes old other l))
 
     pub summed_more : units ≡ sum_over nodes (λ l. holds nodes old bidder l || at_or_under nodes n l) (units_at nodes) → AreSummed nodes old → AreSummed nodes new
@@ -134,35 +134,35 @@ module _ (nodes : List Node) where
       licences = subst (AreLicenceUnits nodes) (sym set.licence_units) summed.licences;
     }
       where
-        by : (other : ℕ) → other < MOST_BIDDERS → (b : Bool) → eqb bidder other ≡ b → slice_index new.units other ≡ units_marked (slice_index new.licences other)
+        by : (other : ℕ) → other < MOST_BIDDERS → (b : Bool) → eqb bidder other ≡ b → slice_index new.units other ≡ units_of_mask (slice_index new.licences other)
         by other within true e =
             let same : bidder ≡ other = eqb-true bidder other e in
             ap (λ k. slice_index new.units k) (sym same)
             ∙ set.units
             ∙ counted
-            ∙ ap (λ m. sum_over nodes (λ l. is_marked nodes m l || at_or_under nodes n l) (units_at nodes)) (sym read)
+            ∙ ap (λ m. sum_over nodes (λ l. has_licence nodes m l || at_or_under nodes n l) (units_at nodes)) (sym read)
             ∙ sym (sum_both own more n mask)
-            ∙ ap units_marked (sym set.licences)
-            ∙ ap (λ k. units_marked (slice_index new.licences k)) same
+            ∙ ap units_of_mask (sym set.licences)
+            ∙ ap (λ k. units_of_mask (slice_index new.licences k)) same
         by other within false e =
             let another : other ≡ bidder → ⊥ = λ same. both_ways (eqb bidder other) e (eq-eqb bidder other (sym same)) in
-            set.other_units other another ∙ summed.sums other within ∙ ap units_marked (sym (set.other_licences other another))
+            set.other_units other another ∙ summed.sums other within ∙ ap units_of_mask (sym (set.other_licences other another))
 
   -- where nobody holds anything there are no units
   pub nothing_holds : (holdings : HoldingsView) → IsNothing holdings → (b l : ℕ) → holds nodes holdings b l ≡ false
   nothing_holds holdings none b l = no_bit (slice_index holdings.licences b) (licence_number nodes l) (none.licences b)
 
   -- an empty mask has no units
-  pub units_empty : units_marked 0 ≡ 0
-  units_empty = sum_none (part_over nodes (is_marked nodes 0) (units_at nodes)) (length nodes) (λ l less. at l (is_some (terms_of nodes l)) refl)
+  pub units_empty : units_of_mask 0 ≡ 0
+  units_empty = sum_none (part_over nodes (has_licence nodes 0) (units_at nodes)) (length nodes) (λ l less. at l (is_some (terms_of nodes l)) refl)
     where
-      at : (l : ℕ) (t : Bool) → is_some (terms_of nodes l) ≡ t → part_over nodes (is_marked nodes 0) (units_at nodes) l ≡ 0
-      at l true e = part_some nodes (is_marked nodes 0) (units_at nodes) l e ∙ ap (λ t. cond t (units_at nodes l) 0) (no_bit 0 (licence_number nodes l) refl)
-      at l false e = part_none nodes (is_marked nodes 0) (units_at nodes) l e
+      at : (l : ℕ) (t : Bool) → is_some (terms_of nodes l) ≡ t → part_over nodes (has_licence nodes 0) (units_at nodes) l ≡ 0
+      at l true e = part_some nodes (has_licence nodes 0) (units_at nodes) l e ∙ ap (λ t. cond t (units_at nodes l) 0) (no_bit 0 (licence_number nodes l) refl)
+      at l false e = part_none nodes (has_licence nodes 0) (units_at nodes) l e
 
   pub nothing_summed : (holdings : HoldingsView) → IsNothing holdings → AreLicenceUnits nodes holdings.licence_units → AreSummed nodes holdings
   nothing_summed holdings none known = record {
-    sums = λ b within. none.units b ∙ sym units_empty ∙ ap units_marked (sym (none.licences b));
+    sums = λ b within. none.units b ∙ sym units_empty ∙ ap units_of_mask (sym (none.licences b));
     licences = known;
   }
 
@@ -170,24 +170,24 @@ module _ (nodes : List Node) where
     -- what a bidder holds is right
     pub record IsFound (holdings : HoldingsView) (bidder : ℕ) : Type 0 where
       pub licences : (l : ℕ) → IsSome (terms_of nodes l) → holds nodes holdings bidder l ≡ held nodes books outcome bidder l
-      pub units : slice_index holdings.units bidder ≡ units_marked (slice_index holdings.licences bidder)
+      pub units : slice_index holdings.units bidder ≡ units_of_mask (slice_index holdings.licences bidder)
 
     -- one bidder more of whom it is
-    pub found_more : (old new : HoldingsView) (bidder place licences units : ℕ) → bidder ≡ place → ((l : ℕ) → IsSome (terms_of nodes l) → is_marked nodes licences l ≡ held nodes books outcome bidder l)
-        → units ≡ units_marked licences → IsSet old new bidder licences units → ((b : ℕ) → b < place → IsFound old b) → (b : ℕ) → b < place + 1 → IsFound new b
-    found_more old new bidder place licences units here marks counted set before b less = by (eqb bidder b) refl
+    pub found_more : (old new : HoldingsView) (bidder place licences units : ℕ) → bidder ≡ place → ((l : ℕ) → IsSome (terms_of nodes l) → has_licence nodes licences l ≡ held nodes books outcome bidder l)
+        → units ≡ units_of_mask licences → IsSet old new bidder licences units → ((b : ℕ) → b < place → IsFound old b) → (b : ℕ) → b < place + 1 → IsFound new b
+    found_more old new bidder place licences units here has counted set before b less = by (eqb bidder b) refl
       where
         by : (t : Bool) → eqb bidder b ≡ t → IsFound new b
         by true e =
             let same : bidder ≡ b = eqb-true bidder b e in
             subst (IsFound new) same (record {
-              licences = λ l some. ap (λ m. is_marked nodes m l) set.licences ∙ marks l some;
-              units = set.units ∙ counted ∙ ap units_marked (sym set.licences);
+              licences = λ l some. ap (λ m. has_licence nodes m l) set.licences ∙ has l some;
+              units = set.units ∙ counted ∙ ap units_of_mask (sym set.licences);
             })
         by false e =
             let another : b ≡ bidder → ⊥ = λ same. both_ways (eqb bidder b) e (eq-eqb bidder b (sym same)) in
             let old_one : IsFound old b = before b (omega (arith, λ (same : b ≡ place). another (same ∙ sym here))) in
             record {
-              licences = λ l some. ap (λ m. is_marked nodes m l) (set.other_licences b another) ∙ old_one.licences l some;
-              units = set.other_units b another ∙ old_one.units ∙ ap units_marked (sym (set.other_licences b another));
+              licences = λ l some. ap (λ m. has_licence nodes m l) (set.other_licences b another) ∙ old_one.licences l some;
+              units = set.other_units b another ∙ old_one.units ∙ ap units_of_mask (sym (set.other_licences b another));
             }

@@ -1,4 +1,4 @@
-pub mod Marks
+pub mod Masks
 pub mod Counting
 pub mod Held
 pub mod Numbers

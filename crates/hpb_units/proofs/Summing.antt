@@ -9,11 +9,11 @@ use Rattle.std.proofs.lemmas.Nat.Bits.{bit_at_and, bit_at_not, bit_at-lt, bit_at
 use Rattle.hpb_rules.specs.declared.limits.TheConstants.{MOST_LICENCES, MOST_LICENCE_UNITS}
 use Rattle.hpb_rules.specs.Tree.{Node, terms_of, at_or_under, units_at}
 use Rattle.hpb_tree.specs.Licences.{licence_count, licence_number, IsMask}
-use Rattle.hpb_units.specs.Activity.{is_marked}
+use Rattle.hpb_units.specs.Activity.{has_licence}
 use Rattle.hpb_units.specs.Holdings.{AreLicenceUnits, AreSmall}
 use Rattle.hpb_units.proofs.Counting.{sum_over_same, number_small}
-use Rattle.hpb_units.proofs.Marks.{marked_node}
-use Rattle.hpb_units.proofs.Held.{units_marked, units_either, sum_over_either, sum_over_small}
+use Rattle.hpb_units.proofs.Masks.{node_in_mask}
+use Rattle.hpb_units.proofs.Held.{units_of_mask, units_either, sum_over_either, sum_over_small}
 use Rattle.hpb_units.proofs.Lowest.{IsLowest, without_lowest, lowest_or, lowest_apart}
 use Rattle.hpb_units.proofs.Numbers.{IsNumbered, numbered, has_number, sum_numbered}
 
@@ -27,7 +27,7 @@ module _ (nodes : List Node) where
   -- the total of the licences that were taken out of a mask, and those that are left
   pub record IsSummedTo (mask rest total : ℕ) : Type 0 where
     pub within : rest < 2 ^ licence_count nodes
-    pub summed : total + units_marked nodes rest ≡ units_marked nodes mask
+    pub summed : total + units_of_mask nodes rest ≡ units_of_mask nodes mask
 
   -- a bit of such a mask is a licence's
   bit_within : (rest place : ℕ) → rest < 2 ^ licence_count nodes → IsLowest rest place → place < licence_count nodes
@@ -35,13 +35,13 @@ module _ (nodes : List Node) where
 
   -- the units of a mask are those of its lowest licence and of the others
   pub sum_lowest : (table : List ℕ) (rest place : ℕ) → AreLicenceUnits nodes table → rest < 2 ^ licence_count nodes → IsLowest rest place
-      → units_marked nodes rest ≡ slice_index table place + units_marked nodes (without_lowest rest)
+      → units_of_mask nodes rest ≡ slice_index table place + units_of_mask nodes (without_lowest rest)
   sum_lowest table rest place are most low =
       let at : (l : ℕ) × IsNumbered nodes place l = numbered nodes place (length nodes) (bit_within rest place most low) in
       let read : slice_index table place ≡ units_at nodes at.0 = ap (slice_index table) (sym at.1.is) ∙ are at.0 at.1.some in
-      sum_over_same nodes (is_marked nodes rest) (λ l. has_number nodes place l || is_marked nodes (without_lowest rest) l) (units_at nodes) (λ l some. lowest_or rest place low (licence_number nodes l))
-      ∙ sum_over_either nodes (has_number nodes place) (is_marked nodes (without_lowest rest)) (units_at nodes) (λ l some. lowest_apart rest place low (licence_number nodes l))
-      ∙ ap (λ own. own + units_marked nodes (without_lowest rest)) (sum_numbered nodes place at.0 at.1 ∙ sym read)
+      sum_over_same nodes (has_licence nodes rest) (λ l. has_number nodes place l || has_licence nodes (without_lowest rest) l) (units_at nodes) (λ l some. lowest_or rest place low (licence_number nodes l))
+      ∙ sum_over_either nodes (has_number nodes place) (has_licence nodes (without_lowest rest)) (units_at nodes) (λ l some. lowest_apart rest place low (licence_number nodes l))
+      ∙ ap (λ own. own + units_of_mask nodes (without_lowest rest)) (sum_numbered nodes place at.0 at.1 ∙ sym read)
 
   -- a licence more is summed
   pub summed_next : (table : List ℕ) (mask rest total : ℕ) → AreLicenceUnits nodes table → 0 < rest → rest < 2 ^ 64 → IsSummedTo mask rest total
@@ -55,7 +55,7 @@ module _ (nodes : List Node) where
   pub summed_small : (table : List ℕ) (mask rest total : ℕ) → AreSmall nodes → AreLicenceUnits nodes table → 0 < rest → rest < 2 ^ 64 → IsSummedTo mask rest total
       → total + slice_index table (trailing_zeros w64 rest) ≤ MOST_LICENCE_UNITS * licence_count nodes
   summed_small table mask rest total small are some most s =
-      omega (arith, s.summed, sum_lowest table rest (trailing_zeros w64 rest) are s.within (lowest_found rest some most), sum_over_small nodes (is_marked nodes mask) small)
+      omega (arith, s.summed, sum_lowest table rest (trailing_zeros w64 rest) are s.within (lowest_found rest some most), sum_over_small nodes (has_licence nodes mask) small)
 
   -- ---- the part of a node that is not held
   module _ (own more n : ℕ) (mask : IsMask nodes n more) where
@@ -71,9 +71,9 @@ module _ (nodes : List Node) where
       others_bit : (l : ℕ) → IsSome (terms_of nodes l) → bit_at others (licence_number nodes l) ≡ min (bit_at more (licence_number nodes l)) (1 - bit_at own (licence_number nodes l))
       others_bit l some = bit_at_and more (bit_not w64 own) (licence_number nodes l) ∙ ap (min (bit_at more (licence_number nodes l))) (bit_at_not w64 own (licence_number nodes l) fits (number_small nodes l few some))
 
-      others_marked : (l : ℕ) → IsSome (terms_of nodes l) → (is_marked nodes own l || at_or_under nodes n l) ≡ (is_marked nodes own l || is_marked nodes others l)
-      others_marked l some =
-          ap (λ b. is_marked nodes own l || b) (sym (marked_node nodes n more l mask some))
+      others_in_mask : (l : ℕ) → IsSome (terms_of nodes l) → (has_licence nodes own l || at_or_under nodes n l) ≡ (has_licence nodes own l || has_licence nodes others l)
+      others_in_mask l some =
+          ap (λ b. has_licence nodes own l || b) (sym (node_in_mask nodes n more l mask some))
           ∙ either (bit_at own (licence_number nodes l)) (bit_at more (licence_number nodes l)) (bit_at others (licence_number nodes l)) (bit_at-lt own (licence_number nodes l)) (bit_at-lt more (licence_number nodes l)) (others_bit l some)
         where
           either : (x y z : ℕ) → x < 2 → y < 2 → z ≡ min y (1 - x) → (eqb x 1 || eqb y 1) ≡ (eqb x 1 || eqb z 1)
@@ -81,7 +81,7 @@ module _ (nodes : List Node) where
           either (suc zero) y z p q e = refl
           either (suc (suc x)) y z p q e = absurd (omega arith)
 
-      others_apart : (l : ℕ) → IsSome (terms_of nodes l) → (is_marked nodes own l && is_marked nodes others l) ≡ false
+      others_apart : (l : ℕ) → IsSome (terms_of nodes l) → (has_licence nodes own l && has_licence nodes others l) ≡ false
       others_apart l some = apart (bit_at own (licence_number nodes l)) (bit_at more (licence_number nodes l)) (bit_at others (licence_number nodes l)) (bit_at-lt own (licence_number nodes l)) (others_bit l some)
         where
           apart : (x y z : ℕ) → x < 2 → z ≡ min y (1 - x) → (eqb x 1 && eqb z 1) ≡ false
@@ -90,12 +90,12 @@ module _ (nodes : List Node) where
           apart (suc (suc x)) y z p e = absurd (omega arith)
 
       -- the units with those of the node are those held and those of the others
-      pub sum_others : units_either nodes own n ≡ units_marked nodes own + units_marked nodes others
+      pub sum_others : units_either nodes own n ≡ units_of_mask nodes own + units_of_mask nodes others
       sum_others =
-          sum_over_same nodes (λ l. is_marked nodes own l || at_or_under nodes n l) (λ l. is_marked nodes own l || is_marked nodes others l) (units_at nodes) others_marked
-          ∙ sum_over_either nodes (is_marked nodes own) (is_marked nodes others) (units_at nodes) others_apart
+          sum_over_same nodes (λ l. has_licence nodes own l || at_or_under nodes n l) (λ l. has_licence nodes own l || has_licence nodes others l) (units_at nodes) others_in_mask
+          ∙ sum_over_either nodes (has_licence nodes own) (has_licence nodes others) (units_at nodes) others_apart
 
   -- the same of the mask that was read
-  pub read_others : {read own : ℕ} (more n : ℕ) → IsMask nodes n more → licence_count nodes ≤ MOST_LICENCES → read < 2 ^ 64 → read ≡ own → units_either nodes own n ≡ units_marked nodes own + units_marked nodes (bit_and more (bit_not w64 read))
+  pub read_others : {read own : ℕ} (more n : ℕ) → IsMask nodes n more → licence_count nodes ≤ MOST_LICENCES → read < 2 ^ 64 → read ≡ own → units_either nodes own n ≡ units_of_mask nodes own + units_of_mask nodes (bit_and more (bit_not w64 read))
   read_others {read = read} more n mask few fits is =
-      ap (λ m. units_either nodes m n) (sym is) ∙ sum_others read more n mask few fits ∙ ap (λ m. units_marked nodes m + units_marked nodes (bit_and more (bit_not w64 read))) is
+      ap (λ m. units_either nodes m n) (sym is) ∙ sum_others read more n mask few fits ∙ ap (λ m. units_of_mask nodes m + units_of_mask nodes (bit_and more (bit_not w64 read))) is

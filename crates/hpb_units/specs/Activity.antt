@@ -30,5 +30,5 @@ abbrev pub activity_with : List Node → BooksView → OutcomeView → ℕ → �
 activity_with nodes books outcome bidder node = sum_over nodes (λ licence. held nodes books outcome bidder licence || at_or_under nodes node licence) (units_at nodes)
 
 -- Whether the mask has the bit of the licence at a place.
-abbrev pub is_marked : List Node → ℕ → ℕ → Bool
-is_marked nodes mask licence = bit_at mask (licence_number nodes licence) == 1
+abbrev pub has_licence : List Node → ℕ → ℕ → Bool
+has_licence nodes mask licence = bit_at mask (licence_number nodes licence) == 1

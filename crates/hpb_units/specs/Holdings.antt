@@ -5,7 +5,7 @@ use Rattle.hpb_rules.specs.Tree.{Node, terms_of, sum_over, at_or_under, units_at
 use Rattle.hpb_tree.specs.Licences.{licence_number}
 use Rattle.hpb_bids.specs.View.{BooksView}
 use Rattle.hpb_winners.specs.View.{OutcomeView}
-use Rattle.hpb_units.specs.Activity.{held, is_marked}
+use Rattle.hpb_units.specs.Activity.{held, has_licence}
 
 -- A mask of licences and a sum of units for each bidder, and the units of each licence by its number.
 pub record HoldingsView : Type 0 where
@@ -15,7 +15,7 @@ pub record HoldingsView : Type 0 where
 
 -- Whether a bidder holds the licence at a place.
 abbrev pub holds : List Node → HoldingsView → ℕ → ℕ → Bool
-holds nodes holdings bidder licence = is_marked nodes (slice_index holdings.licences bidder) licence
+holds nodes holdings bidder licence = has_licence nodes (slice_index holdings.licences bidder) licence
 
 -- Nobody holds anything.
 pub record IsNothing (holdings : HoldingsView) : Type 0 where

@@ -5,7 +5,7 @@ ghost use Rattle.hpb_rules.specs.Tree.{sum_over, at_or_under, units_at};
 ghost use Rattle.hpb_tree.specs.Licences.{licence_count};
 ghost use Rattle.hpb_bids.specs.View.{BooksView, IsQuiet};
 ghost use Rattle.hpb_winners.specs.View.{OutcomeView};
-ghost use Rattle.hpb_units.specs.Activity.{activity_with, is_marked};
+ghost use Rattle.hpb_units.specs.Activity.{activity_with, has_licence};
 ghost use Rattle.hpb_units.specs.Holdings.{HoldingsView, holds, IsNothing, AreLicenceUnits, AreSummed, AreSmall, AreHoldings, HoldsMore};
 ghost use Rattle.hpb_units.specs.Inside.{holdings_view, IsKept};
 
@@ -173,7 +173,7 @@ impl Holdings {
         requires within { licences < 2 ^ licence_count tree.now.nodes }
         requires small { AreSmall tree.now.nodes }
         requires units { AreLicenceUnits tree.now.nodes self.now.licence_units }
-        ensures { result ≡ sum_over tree.now.nodes (is_marked tree.now.nodes licences) (units_at tree.now.nodes) }
+        ensures { result ≡ sum_over tree.now.nodes (has_licence tree.now.nodes licences) (units_at tree.now.nodes) }
     {
         tree.facts();
         let mut rest = licences;

@@ -3,7 +3,7 @@ ghost use Rattle.hpb_rules.specs.Choices.{is_in};
 ghost use Rattle.hpb_rules.specs.History.{is_of};
 ghost use Rattle.hpb_rules.specs.Tree.{terms_of, sum_over, units_at};
 ghost use Rattle.hpb_bids.specs.View.{offer_at};
-ghost use Rattle.hpb_units.specs.Activity.{is_active_on, held, activity_of, activity_with, is_marked};
+ghost use Rattle.hpb_units.specs.Activity.{is_active_on, held, activity_of, activity_with, has_licence};
 
 use hpb_bids::Books;
 use hpb_rules::{BidderId, NodeId};
@@ -36,7 +36,7 @@ pub fn fits(
 
 /// A bit for each licence of the nodes on which a bidder bid in the open round or which it won.
 pub(crate) fn licences_held(tree: &Tree, books: &Books, outcome: &Outcome, bidder: BidderId) -> u64
-    ensures { (l : ℕ) → IsSome (terms_of tree.now.nodes l) → is_marked tree.now.nodes result l ≡ held tree.now.nodes books.now outcome.now bidder l }
+    ensures { (l : ℕ) → IsSome (terms_of tree.now.nodes l) → has_licence tree.now.nodes result l ≡ held tree.now.nodes books.now outcome.now bidder l }
 {
     let mut licences = 0;
     for &node in tree.nodes() {
@@ -67,7 +67,7 @@ fn has_won(books: &Books, outcome: &Outcome, bidder: BidderId, node: NodeId) -> 
 /// The bidding units of these licences: bit i is for the i-th licence of the tree, from 0.
 #[inline(never)]
 pub(crate) fn units_of(tree: &Tree, licences: u64) -> u32
-    ensures { result ≡ sum_over tree.now.nodes (is_marked tree.now.nodes licences) (units_at tree.now.nodes) }
+    ensures { result ≡ sum_over tree.now.nodes (has_licence tree.now.nodes licences) (units_at tree.now.nodes) }
 {
     tree.facts();
     let mut total = 0;

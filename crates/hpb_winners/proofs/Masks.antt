@@ -20,18 +20,18 @@ use Rattle.hpb_winners.proofs.Winning.{free_step}
 pub bit_next : (i bit : ℕ) → i < 127 → bit ≡ 2 ^ i → bit * 2 ^ 1 % 2 ^ 128 ≡ 2 ^ (i + 1)
 bit_next i bit small is = let next : i + 1 ≡ suc i = omega arith in omega (arith, is, ap (λ k. 2 ^ k) next, pow-lt {i = i} {j = 127} small)
 
--- what is marked are those of the first places that pass the test
-abbrev pub AreMarked : (ℕ → Bool) → (ℕ → Bool) → ℕ → Type 0
-AreMarked test is_marked i = (n : ℕ) → is_marked n ≡ (ltb n i && test n)
+-- what is in the mask are those of the first places that pass the test
+abbrev pub AreInMask : (ℕ → Bool) → (ℕ → Bool) → ℕ → Type 0
+AreInMask test is_in_mask i = (n : ℕ) → is_in_mask n ≡ (ltb n i && test n)
 
 -- the mask is of those of the first places that pass the test
 abbrev pub IsMaskOf : (ℕ → Bool) → ℕ → ℕ → Type 0
-IsMaskOf test i mask = AreMarked test (has_bit mask) i
+IsMaskOf test i mask = AreInMask test (has_bit mask) i
 
 -- the flags are of those of the first places that pass the test
 pub record AreFlagsOf (test : ℕ → Bool) (i : ℕ) (flags : List Bool) : Type 0 where
   pub count : length flags ≡ MOST_NODES
-  pub marked : AreMarked test (is_in flags) i
+  pub in_mask : AreInMask test (is_in flags) i
 
 pub mask_start : (test : ℕ → Bool) → IsMaskOf test 0 0
 mask_start test n = ap (λ k. k == 1) (bit_at-zero n) ∙ sym (ap (λ b. b && test n) (le-ltb n 0 (omega arith)))
@@ -39,13 +39,13 @@ mask_start test n = ap (λ k. k == 1) (bit_at-zero n) ∙ sym (ap (λ b. b && te
 pub flags_start : (test : ℕ → Bool) {flags : List Bool} → flags ≡ replicate MOST_NODES false → AreFlagsOf test 0 flags
 flags_start test {flags = flags} all = record {
   count = ap length all ∙ length-replicate MOST_NODES false;
-  marked = λ n. ap (λ fs. is_in fs n) all ∙ get_or-replicate_same MOST_NODES n false ∙ sym (ap (λ b. b && test n) (le-ltb n 0 (omega arith)));
+  in_mask = λ n. ap (λ fs. is_in fs n) all ∙ get_or-replicate_same MOST_NODES n false ∙ sym (ap (λ b. b && test n) (le-ltb n 0 (omega arith)));
 }
 
 module _ (test : ℕ → Bool) (i : ℕ) where
-  -- the next place is marked where it passes
-  marks_more : (old new : ℕ → Bool) → AreMarked test old i → new i ≡ test i → ((n : ℕ) → (n ≡ i → ⊥) → new n ≡ old n) → AreMarked test new (i + 1)
-  marks_more old new so_far here there n = ⊎_elim
+  -- the next place is in the mask where it passes
+  in_mask_more : (old new : ℕ → Bool) → AreInMask test old i → new i ≡ test i → ((n : ℕ) → (n ≡ i → ⊥) → new n ≡ old n) → AreInMask test new (i + 1)
+  in_mask_more old new so_far here there n = ⊎_elim
       (λ same. ap new same ∙ here ∙ sym (ap (λ b. b && test n) (ltb_same n i same) ∙ ap test same))
       (λ other. there n other ∙ so_far n ∙ ap (λ b. b && test n) (sym (ltb_other n i other)))
       (cases_eq n i)
@@ -53,15 +53,15 @@ module _ (test : ℕ → Bool) (i : ℕ) where
   module _ (mask : ℕ) (so_far : IsMaskOf test i mask) (small : i < 128) where
     pub mask_more : (bit : ℕ) → bit ≡ 2 ^ i → test i ≡ true → IsMaskOf test (i + 1) (bit_or mask bit)
     mask_more bit is passes = subst (λ b. IsMaskOf test (i + 1) (bit_or mask b)) (one_shl i 128 small ∙ sym is)
-        (marks_more (has_bit mask) (has_bit (bit_or mask (1 * 2 ^ i % 2 ^ 128))) so_far (ap (λ k. k == 1) (bit_at_set_same w128 mask i small) ∙ sym passes) (λ n other. ap (λ k. k == 1) (bit_at_set_other w128 mask i small n other)))
+        (in_mask_more (has_bit mask) (has_bit (bit_or mask (1 * 2 ^ i % 2 ^ 128))) so_far (ap (λ k. k == 1) (bit_at_set_same w128 mask i small) ∙ sym passes) (λ n other. ap (λ k. k == 1) (bit_at_set_other w128 mask i small n other)))
 
     pub mask_same : test i ≡ false → IsMaskOf test (i + 1) mask
-    mask_same fails = marks_more (has_bit mask) (has_bit mask) so_far (so_far i ∙ and_right (ltb i i) (test i) fails ∙ sym fails) (λ n other. refl)
+    mask_same fails = in_mask_more (has_bit mask) (has_bit mask) so_far (so_far i ∙ and_right (ltb i i) (test i) fails ∙ sym fails) (λ n other. refl)
 
   pub flags_more : (flags : List Bool) → AreFlagsOf test i flags → i < MOST_NODES → (flag : Bool) → flag ≡ test i → AreFlagsOf test (i + 1) (set flags i flag)
   flags_more flags so_far small flag is = record {
     count = length-set flags i flag ∙ so_far.count;
-    marked = marks_more (is_in flags) (is_in (set flags i flag)) so_far.marked (get_or-set_same flags i flag false (omega (arith, so_far.count)) ∙ is) (λ n other. get_or-set_other flags i n flag false other);
+    in_mask = in_mask_more (is_in flags) (is_in (set flags i flag)) so_far.in_mask (get_or-set_same flags i flag false (omega (arith, so_far.count)) ∙ is) (λ n other. get_or-set_other flags i n flag false other);
   }
 
 -- ---- winners, and what they cover
@@ -83,7 +83,7 @@ module _ (parents : List (Option ℕ)) (inside values : List ℕ) where
     where
       by : (c : Option ℕ) → get_or parents i None ≡ c → or_top c (λ p. not (is_in flags p)) ≡ or_top c (λ p. not (is_ahead inside values p) && is_free parents (is_ahead inside values) p)
       by None e = refl
-      by (Some p) e = ap not (so_far.marked p ∙ ap (λ b. b && is_covered p) (lt-ltb p i (before i p e))) ∙ twice (not (is_ahead inside values p) && is_free parents (is_ahead inside values) p)
+      by (Some p) e = ap not (so_far.in_mask p ∙ ap (λ b. b && is_covered p) (lt-ltb p i (before i p e))) ∙ twice (not (is_ahead inside values p) && is_free parents (is_ahead inside values) p)
 
   module _ (i : ℕ) {under ahead : Bool} (below : under ≡ not (is_free parents (is_ahead inside values) i)) (more : ahead ≡ is_ahead inside values i) where
     -- who is covered, and who wins

@@ -9,7 +9,7 @@ use Rattle.hpb_wire.specs.Words.{bytes_of}
 abbrev pub map_of : ℕ → List ℕ → ℕ
 map_of byte line = mask_l (map (λ b. b == byte) line)
 
--- The map is that of the spaces of the line, which is short, or none where it has none.
+-- Where a line is mapped it is short, and its map is that of its spaces; else the map is 0.
 pub record IsMapped (words : Words) : Type 0 where
   pub short : words.is_mapped ≡ true → words.line.size ≤ 32
   pub spaces : words.spaces ≡ (if words.is_mapped then map_of space (bytes_of words.line) else 0)

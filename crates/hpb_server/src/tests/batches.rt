@@ -23,10 +23,10 @@ struct BatchDesk {
     is_over: bool,
     /// How many commands were asked, each time.
     batches: Vec<usize>,
-    /// The batch that memory is refused for, from 0, and the rest.
+    /// The batch that memory is refused for, from 0, and the upkeep.
     refused_batch: usize,
-    refused_rest: usize,
-    rests: Cell<usize>,
+    refused_upkeep: usize,
+    upkeeps: Cell<usize>,
 }
 
 impl Desk for BatchDesk {
@@ -105,9 +105,9 @@ impl Desk for BatchDesk {
     }
 
     fn upkeep(&mut self, _alloc: Global) -> Result<(), AllocError> {
-        let rests = self.rests.get();
-        self.rests.set(rests.saturating_add(1));
-        if rests == self.refused_rest {
+        let upkeeps = self.upkeeps.get();
+        self.upkeeps.set(upkeeps.saturating_add(1));
+        if upkeeps == self.refused_upkeep {
             return Err(AllocError);
         }
         Ok(())
@@ -141,7 +141,7 @@ fn desk_with(
     together: usize,
     left: usize,
     refused_batch: usize,
-    refused_rest: usize,
+    refused_upkeep: usize,
 ) -> Result<Box<BatchDesk>, Fail> {
     let desk = BatchDesk {
         auction: new_auction(alloc)?,
@@ -150,8 +150,8 @@ fn desk_with(
         is_over: false,
         batches: Vec::new(alloc),
         refused_batch,
-        refused_rest,
-        rests: Cell::new(0),
+        refused_upkeep,
+        upkeeps: Cell::new(0),
     };
     Ok(Box::new(alloc, desk)?)
 }
@@ -186,16 +186,16 @@ fn serve_lines(alloc: Global, desk: &mut BatchDesk) -> (Result<(), SessionFault>
     (result, written)
 }
 
-/// A desk that ends after so many replies, and is refused memory for this batch or this rest, ends so, and so many lines
+/// A desk that ends after so many replies, and is refused memory for this batch or this upkeep, ends so, and so many lines
 /// are answered by then.
 fn end_so(
     rt: &impl Abort,
     alloc: Global,
-    (together, left, batch, rest): (usize, usize, usize, usize),
+    (together, left, batch, upkeep): (usize, usize, usize, usize),
     end: Result<(), SessionFault>,
     lines: usize,
 ) -> Result<(), Fail> {
-    let mut desk = desk_with(alloc, together, left, batch, rest)?;
+    let mut desk = desk_with(alloc, together, left, batch, upkeep)?;
     let (result, written) = serve_lines(alloc, &mut *desk);
     assert_eq!(rt; result, end, "{together} {lines}");
     assert_eq!(rt;
@@ -251,7 +251,7 @@ fn answers_leave_batch_by_batch(rt: HostRuntime) -> Result<(), Fail> {
     Ok(())
 }
 
-/// No command waits when more is read, and the desk rests before each read.
+/// No command waits when more is read, and the desk does its upkeep before each read.
 #[test]
 fn a_queue_is_asked_before_more_is_read(rt: HostRuntime) -> Result<(), Fail> {
     let mut desk = desk(rt.alloc(), 64)?;
@@ -265,7 +265,7 @@ fn a_queue_is_asked_before_more_is_read(rt: HostRuntime) -> Result<(), Fail> {
     assert!(rt; !talk.early.get());
     assert_eq!(rt; talk.flushed.get(), 8);
     assert_eq!(rt; desk.batches.as_slice(), [1, 1, 1, 1, 1, 1].as_slice());
-    assert_eq!(rt; desk.rests.get(), 9);
+    assert_eq!(rt; desk.upkeeps.get(), 9);
     Ok(())
 }
 
@@ -287,9 +287,9 @@ fn memory_is_refused_to_a_desk(rt: HostRuntime) -> Result<(), Fail> {
         let desk = (2, usize::MAX, batch, usize::MAX);
         end_so(&rt, rt.alloc(), desk, refused, lines)?;
     }
-    // The desk rests once nothing is read, and once all is answered.
-    for (rest, lines) in [(0, 0), (1, 8)] {
-        let desk = (2, usize::MAX, usize::MAX, rest);
+    // The desk does its upkeep once nothing is read, and once all is answered.
+    for (upkeep, lines) in [(0, 0), (1, 8)] {
+        let desk = (2, usize::MAX, usize::MAX, upkeep);
         end_so(&rt, rt.alloc(), desk, refused, lines)?;
     }
     Ok(())

@@ -10,6 +10,6 @@ returns-in-InFlight-clause-comes g c =
 
 pub returns-in-Answered-clause-comes : goal.returns-in-Answered-clause-comes
 returns-in-Answered-clause-comes g c =
-    c.expecting-turned.ensures.comes c.offer.new.front.trail.log
+    c.expecting-after.ensures.comes c.offer.new.front.trail.log
     (took (gathered c.held_or_waiting-letters.new.intake.rings.items) c.args.front.now.trail.log c.offer.new.front.trail.log c.held_or_waiting-letters.result
     (c.held_or_waiting-letters.ensures.owed c.args.front.now.trail.log c.requires.owed) c.in-Answered.ensures.goes)

@@ -3,6 +3,7 @@ use Rattle.hpb_recover.proofs.laws.limits_are.Goals as goal
 
 pub returns : goal.returns
 returns c = record {
+  page_bytes = refl;
   least_pages = refl;
   head = refl;
   magic_bytes = refl;

@@ -6,7 +6,7 @@ use Rattle.hpb_serve.proofs.asking.take_answer.Given.{Over}
 use Rattle.hpb_serve.proofs.asking.take_answer.Goals.{After-look_behind}
 use Rattle.hpb_serve.proofs.asking.take_answer.Goals as goal
 
--- a turn asks whether the client is halted, rests, and looks
+-- a turn asks whether the client is halted, yields or sleeps, and looks
 turn_looked : (g : Over) (c : After-look_behind g) → HasLooked c.args.client.now c.look_behind.new.client
 turn_looked g c =
     let was = c.loop.client in

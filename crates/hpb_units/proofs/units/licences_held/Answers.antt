@@ -1,6 +1,6 @@
 use Rattle.std.proofs.Common.{◌≡◌, sym, ◌∙◌, arith}
 use Rattle.hpb_units.specs.Activity.{is_active_on}
-use Rattle.hpb_units.proofs.Marks.{gathered_more, gathered_same}
+use Rattle.hpb_units.proofs.Masks.{gathered_more, gathered_same}
 use Rattle.hpb_units.proofs.units.licences_held.Goals.{then-is_active_on, else-is_active_on}
 use Rattle.hpb_units.proofs.units.licences_held.Goals as goal
 

@@ -1,5 +1,5 @@
 use Rattle.hpb_units.specs.Activity.{is_active_on}
-use Rattle.hpb_units.proofs.Marks.{Gathered}
+use Rattle.hpb_units.proofs.Masks.{Gathered}
 use Rattle.hpb_units.proofs.units.licences_held.Given as goal
 
 abbrev pub invariant-loop-node : goal.invariant-loop-node

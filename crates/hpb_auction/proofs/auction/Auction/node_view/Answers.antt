@@ -21,7 +21,7 @@ pub returns-clause-minimum : goal.returns-clause-minimum
 returns-clause-minimum c = c.minimum.ensures ∙ minimum_found c.self.inside c.self.invariant c.args.self.now c.self.view_is c.args.node c.requires
 
 pub returns-clause-wins : goal.returns-clause-wins
-returns-clause-wins c = c.is_marked.ensures ∙ c.self.invariant.winners c.args.node ∙ wins_found c.self.inside c.self.invariant c.args.self.now c.self.view_is c.args.node c.requires
+returns-clause-wins c = c.is_in_mask.ensures ∙ c.self.invariant.winners c.args.node ∙ wins_found c.self.inside c.self.invariant c.args.self.now c.self.view_is c.args.node c.requires
 
 pub returns-clause-best : goal.returns-clause-best
 returns-clause-best c = best_found c.self.inside c.self.invariant c.args.self.now c.self.view_is

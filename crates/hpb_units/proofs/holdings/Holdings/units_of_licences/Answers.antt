@@ -3,7 +3,7 @@ use Rattle.std.specs.Int.{trailing_zeros, w64}
 use Rattle.std.proofs.lemmas.List.{get_or_read}
 use Rattle.std.proofs.lemmas.Nat.Bits.{bit_at-trailing_zeros}
 use Rattle.hpb_units.specs.Holdings.{HoldingsView}
-use Rattle.hpb_units.proofs.Held.{units_marked, units_empty}
+use Rattle.hpb_units.proofs.Held.{units_of_mask, units_empty}
 use Rattle.hpb_units.proofs.Summing.{summed_next, summed_small}
 use Rattle.hpb_units.proofs.holdings.Holdings.units_of_licences.Goals.{After-index}
 use Rattle.hpb_units.proofs.holdings.Holdings.units_of_licences.Goals as goal
@@ -36,4 +36,4 @@ loop-rest-preserved c =
     rw (read here) (summed_next c.args.tree.now.nodes c.args.self.now.licence_units c.args.licences c.loop-rest.rest c.loop-rest.total c.requires.units (some here) (fits here) c.loop-rest.invariant)
 
 pub returns : goal.returns
-returns c = omega (arith, c.loop-rest.invariant.summed, ap (units_marked c.args.tree.now.nodes) c.loop-rest-test.false, units_empty c.args.tree.now.nodes)
+returns c = omega (arith, c.loop-rest.invariant.summed, ap (units_of_mask c.args.tree.now.nodes) c.loop-rest-test.false, units_empty c.args.tree.now.nodes)
