@@ -230,7 +230,7 @@ static void await_ready(struct session *session) {
     session->read = 0;
 }
 
-/* A front is told who each session is, by a token as tools/front_trial.py has it. */
+/* A front is told who each session is, by a token as tests/tools/front_trial.py has it. */
 static void begin_front(struct session *session) {
     char text[LINE];
     send_all(session, text, (size_t)snprintf(text, sizeof text, "TOKEN token-of-s%d-in-a-trial\n", (int)(session - sessions)));

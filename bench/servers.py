@@ -68,8 +68,8 @@ def await_port(process, port):
 
 
 def without_places(said):
-    """What a server says but for the places that are taken."""
-    return re.sub(r"hpb: \d+ of \d+ places taken\n", "", said)
+    """What a server says but for the places that are taken, who has them, and how their sessions ended."""
+    return re.sub(r"hpb: (\d+ of \d+ places taken|place \d+ of \d+ (is held by|\(\S+\) has ended:)[^\n]+)\n", "", said)
 
 
 def seconds_used(process):

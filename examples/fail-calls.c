@@ -29,7 +29,7 @@
 enum { RULES = 2, LEAST_DESCRIPTOR = 200 };
 
 /* Kinds of calls, a bit each. */
-enum { WRITE = 1, SYNC = 2, READ = 4, OPEN = 8, LOCK = 16, ADVICE = 32, PORT = 64, THREAD = 128, ACCEPT = 256, WAKE = 512, REQUEST = 1024, RECEIVE = 2048, SEND = 4096, PROMPT = 8192, TOP = 16384 };
+enum { WRITE = 1, SYNC = 2, READ = 4, OPEN = 8, LOCK = 16, ADVICE = 32, PORT = 64, THREAD = 128, ACCEPT = 256, WAKE = 512, REQUEST = 1024, RECEIVE = 2048, SEND = 4096, PROMPT = 8192, TOP = 16384, NAME = 32768 };
 
 /* By whom: the thread whose first call of the file is a write of a batch commits, and any other one that isn't the first
    thread of the program makes checkpoints. */
@@ -182,6 +182,12 @@ SYNCS(fdatasync)
     }
 OPENS(open)
 OPENS(open64)
+
+/* By this one a program sees by which name it has a file open. */
+ssize_t readlink(const char *path, char *name, size_t size) {
+    NEXT(readlink);
+    return fails(way_of(NAME)) ? -1 : next(path, name, size);
+}
 
 int flock(int descriptor, int operation) {
     NEXT(flock);

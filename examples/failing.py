@@ -6,11 +6,11 @@ import os
 import struct
 
 # Kinds of calls, a bit each; by whom; and what becomes of them: as in examples/fail-calls.c.
-WRITE, SYNC, READ, OPEN, LOCK, ADVICE, PORT, THREAD, ACCEPT, WAKE, REQUEST, RECEIVE, SEND, PROMPT, TOP = (1 << place for place in range(15))
+WRITE, SYNC, READ, OPEN, LOCK, ADVICE, PORT, THREAD, ACCEPT, WAKE, REQUEST, RECEIVE, SEND, PROMPT, TOP, NAME = (1 << place for place in range(16))
 ANYBODY, COMMITTER, CHECKPOINTER = range(3)
 MADE, NOTHING, HALF, ALL, SHORT, LEFT_OUT, HELD = range(7)
 DEVICE = WRITE | SYNC
-NAMES = "write, sync, read, open, lock, advise, listen, start a thread, accept, wake, take memory, receive, send, send at once, open the top folder".split(", ")
+NAMES = "write, sync, read, open, lock, advise, listen, start a thread, accept, wake, take memory, receive, send, send at once, open the top folder, look at a name".split(", ")
 EVER = 1 << 62
 MOST_RELEASED = 4096
 

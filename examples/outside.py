@@ -176,6 +176,17 @@ def free_port():
                 continue
 
 
+def line_from(stream, seconds=SECONDS):
+    """The next line of a pipe, or as much as comes of it in time. It leaves the rest."""
+    line, end = b"", time.monotonic() + seconds
+    while not line.endswith(b"\n") and select.select([stream], [], [], max(0, end - time.monotonic()))[0]:
+        part = os.read(stream.fileno(), 1)
+        if not part:
+            break
+        line += part
+    return shown(line)
+
+
 class Session:
     """A client with a connection of its own."""
 
@@ -229,13 +240,20 @@ def serve_words(file, port, sessions=1):
 
 
 PLACE = re.compile(r"hpb: (\d+) of (\d+) places taken\n")
+# Who has a place, and how its session ended, behind that.
+HOLDER = re.compile(r"hpb: place (\d+) of (\d+) is held by ([0-9.:]+)\n")
+LEFT = re.compile(r"hpb: place (\d+) of (\d+) \(([0-9.:]+)\) has ended: [^\n]+\n")
 
 
-def without_places(said, sessions):
-    """What is said but for the places that are taken, which are told one after another."""
+def without_places(said, sessions, tells_ends=True):
+    """What is said but for places: each is told as it is taken, one after another, and then who has it and how its session ended, if that
+    can be told."""
     taken = PLACE.findall(said)
     compare("which places are told", taken, [(str(place), str(sessions)) for place in range(1, len(taken) + 1)])
-    return PLACE.sub("", said)
+    holders, left = HOLDER.findall(said), LEFT.findall(said)
+    compare("whether each holder has a place of its own", (len({place for place, _, _ in holders}), {place[:2] for place in holders} <= set(taken)), (len(holders), True))
+    compare("the places that have ended", sorted(left), sorted(holders) if tells_ends else sorted(set(left) & set(holders)))
+    return LEFT.sub("", HOLDER.sub("", PLACE.sub("", said)))
 
 
 def wait_for_words(server, words, seconds=SECONDS):
@@ -256,13 +274,13 @@ class Server:
     all = []
 
     def __init__(self, file, sessions, before=None, cwd=None, env=None):
-        self.port, self.sessions = free_port(), sessions
+        self.port, self.sessions, self.tells_ends = free_port(), sessions, True
         words = ["hpb", *map(str, serve_words(file, self.port, sessions))]
         self.process = subprocess.Popen(
             words, executable=PROGRAM, stdin=subprocess.DEVNULL, stdout=subprocess.PIPE, stderr=subprocess.PIPE, preexec_fn=before, cwd=cwd, env=env
         )
         Server.all.append(self)
-        compare("first line", self.process.stdout.readline().decode(), f"LISTENING {self.port}\n")
+        compare("first line", line_from(self.process.stdout), f"LISTENING {self.port}\n")
 
     def connect(self):
         return Session(self.port)
@@ -275,14 +293,18 @@ class Server:
             self.process.kill()
             written, said = self.process.communicate()
             return "it didn't end", written.decode(), shown(said)
-        return written.decode(), self.process.returncode, without_places(before + shown(said), self.sessions)
+        return written.decode(), self.process.returncode, without_places(before + shown(said), self.sessions, self.tells_ends)
+
+    def status(self):
+        return pathlib.Path(f"/proc/{self.process.pid}/status").read_text()
 
     def waits(self):
-        """Returns once its first thread sleeps: it then waits for the next connection."""
-        stat = pathlib.Path(f"/proc/{self.process.pid}/task/{self.process.pid}/stat")
+        """Returns once all its threads sleep: one of them then waits for the next connection."""
+        tasks = pathlib.Path(f"/proc/{self.process.pid}/task")
         calm, end = 0, time.monotonic() + SECONDS
         while calm < 20 and time.monotonic() < end:
-            calm = calm + 1 if stat.read_text().rsplit(")", 1)[1].split()[0] == "S" else 0
+            states = {(task / "stat").read_text().rsplit(")", 1)[1].split()[0] for task in tasks.iterdir()}
+            calm = calm + 1 if states == {"S"} else 0
             time.sleep(0.005)
 
     def kill(self):

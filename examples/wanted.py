@@ -7,6 +7,10 @@ from outside import PAGE
 
 # The advice to drop what the system has in memory.
 DROP = 4
+# In pieces of so many bytes a file that is served is compared with what was written.
+PIECE = 65_536
+# How the file is made that must not be there.
+MADE = "to read and write, made, not there"
 
 
 class Engine:
@@ -79,13 +83,18 @@ class Engine:
         self.ask("close", of=of)
 
     def make_file(self, left=0):
-        """One of zeros is made beside its name, where a killed process may have left so many, and named when it is whole."""
+        """One of zeros is made beside its name, where what a killed process left is removed, and named when it is whole."""
         self.image = bytearray(len(self.image))
         self.ask("open", "to read", of="folder")
-        self.ask("open", "to read and write, made", of="file beside")
-        self.ask("lock", "alone", of="file beside")
         if left:
+            self.ask("open", MADE, "refused", of="file beside")
+            self.ask("open", "to read and write", of="file beside")
+            self.ask("lock", "alone", of="file beside")
             self.ask("read", 0, left, of="file beside")
+            self.ask("unlink", of="file beside")
+            self.ask("close", of="file beside")
+        self.ask("open", MADE, of="file beside")
+        self.ask("lock", "alone", of="file beside")
         self.ask("cut", len(self.image), of="file beside")
         self.ask("write", 0, bytes(self.image), of="file beside")
         self.ask("sync", of="file beside")
@@ -123,10 +132,15 @@ class Engine:
         for chunk in range(CHUNKS):
             self.write(slot + PAGE * (1 + chunk), self.states[batches][PAGE * chunk : PAGE * (chunk + 1)])
             if chunk == 0 and self.is_watched:
-                self.look()
+                self.compare()
+
+    def compare(self):
+        """Whether all of it is as it was written, piece by piece."""
+        for at in range(0, len(self.image), PIECE):
+            self.read(at, min(PIECE, len(self.image) - at))
 
     def look(self):
-        """Whether its first pages are as they were."""
+        """What people are told of: its first pages."""
         self.read(0, HEAD_AT + HEAD_SIZE)
 
     def open(self):

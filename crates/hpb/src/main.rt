@@ -2,33 +2,30 @@
 #![tactic(auto)]
 
 use hpb_program::{
-    Noted, answer_memory, hold_stack, hold_streams, program, refuse_streams, refuse_words,
+    Led, Noted, Waiting, hold_stack, hold_streams, program, refuse_streams, refuse_words,
 };
 use std::io;
-use std::io::{ErrorKind, IsTerminal};
+use std::io::IsTerminal;
 use std::process::ExitCode;
 
 fn main(rt: HostRuntime) -> ExitCode {
-    let mut errors = rt.stderr();
+    let mut errors = Waiting::new(rt.stderr());
+    let led = Led::by_words(&rt);
     if let Err(error) = hold_streams(&rt) {
-        return ExitCode::from(refuse_streams(rt.alloc(), &error, &mut errors));
+        return ExitCode::from(refuse_streams(rt.alloc(), &error, led, &mut errors));
     }
+    let mut output = Noted::new(Waiting::new(rt.stdout()));
     let words = match words(&rt) {
         Ok(words) => words,
-        Err(error) => {
-            if error.kind() == ErrorKind::OutOfMemory {
-                answer_memory(&mut Noted::new(rt.stdout()));
-            }
-            return ExitCode::from(refuse_words(&error, &mut errors));
-        }
+        Err(error) => return ExitCode::from(refuse_words(&error, led, &mut output, &mut errors)),
     };
     let is_terminal = rt.stdin().is_terminal();
-    let mut input = Noted::new(rt.stdin());
-    let mut output = Noted::new(rt.stdout());
+    let mut input = Noted::new(Waiting::new(rt.stdin()));
     let status = program(
         &rt,
         rt.alloc(),
         words.as_slice(),
+        led,
         &mut input,
         &mut output,
         &mut errors,

@@ -87,6 +87,12 @@ pub trait Disk {
         // It was asked for a sync, whether it succeeds or not.
         ensures asked { Asks result (syncs ∷ []) (asked self.old) (asked self.new) };
 
+    /// Whether what the calls so far have left there is there still: nobody else has written it. The room takes what is
+    /// found. It counts as no call, and tells of no failure: `true` where that can't be known, as after a call that failed.
+    fn still_holds(&self, at: usize, room: &mut [u8]) -> bool
+        // A caller stays within the device.
+        requires range { at + length room.old ≤ length (seen self.now) };
+
     /// A crash may leave what a read gives: all that was written may be on the medium already.
     ghost seen_may_stay: { (disk : Self) → may_leave disk (seen disk) };
 

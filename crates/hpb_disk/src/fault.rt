@@ -29,6 +29,15 @@ pub enum FileFault {
     /// What stands at the name that it has while it is made is no file that a killed process left.
     #[error("another file stands where it is made")]
     Beside,
+    /// What stands there is another user's.
+    #[error("another user's file stands where it is made")]
+    BesideForeign,
+    /// Others than its owner may write what stands there.
+    #[error("a file that others may write stands where it is made")]
+    BesideWritable,
+    /// An auction was to be made in a file of another user.
+    #[error("the file is another user's")]
+    Foreign,
     /// It has more bytes than this process may write: who writes beyond the limit is ended by the system.
     #[error("the file has {len} bytes, and no more than {limit} may be written")]
     Limit { len: u64, limit: u64 },

@@ -250,4 +250,8 @@ impl<D: Disk + Drop, F: Faults> Disk for FaultyDisk<D, F> {
             }
         }
     }
+
+    fn still_holds(&self, at: usize, room: &mut [u8]) -> bool {
+        self.inner.still_holds(at, room)
+    }
 }

@@ -7,8 +7,8 @@ ghost use Rattle.hpb_disk.specs.Devices as devices;
 
 use crate::memory::overwrite;
 use crate::opening::{
-    Share, are_same, beside, check_descriptor, check_limit, fill_and_name, forget_beside, lock,
-    look_at, open_beside, open_folder, settle, sync_names,
+    Share, are_same, beside, check_descriptor, check_limit, check_owner, fill_and_name,
+    forget_beside, lock, look_at, open_beside, open_folder, settle, sync_names,
 };
 use crate::stamp::FileStamp;
 use crate::trace::Trace;
@@ -126,8 +126,12 @@ impl FileDisk {
     /// too.
     ///
     /// It is made beside its name, as the name with `.new` behind it, and gets its name when it is whole: whenever the
-    /// process is killed, there is no file of that name that is shorter. What a killed process left beside is used again.
-    /// A file that is there is never replaced, and one beside that holds more than zeros is refused.
+    /// process is killed, there is no file of that name that is shorter. Nobody but its owner may read or write it, and
+    /// nobody else ever had it open: what a killed process left beside is removed first.
+    ///
+    /// A file that is there is never replaced. What stands beside is refused, and left alone, where it is another user's
+    /// (`BesideForeign`), where others may write it (`BesideWritable`), and where it holds more than zeros, has another
+    /// name too or is no regular file (`Beside`).
     pub fn make<R: Files<File = File>>(
         rt: &R,
         alloc: Global,
@@ -150,14 +154,32 @@ impl FileDisk {
         let file = open_beside(rt, alloc, beside.as_str())?;
         let named = fill_and_name(rt, &file, &bytes, &mut again, beside.as_str(), path);
         if let Err(fault) = named {
-            let _ = fs::remove_file(rt, beside.as_str());
+            let _ = forget_beside(rt, beside.as_str(), &file);
             return Err(fault);
         }
         folder.sync_all()?;
         Ok(FileDisk::over(file, bytes))
     }
 
-    /// Opens a file that is there, or makes one of so many zero bytes where none is.
+    // Opens a file that is there, unless it is another user's, and removes the name that it had while it was made, where it
+    // has that name still.
+    fn open_own<R: Files<File = File>>(
+        rt: &R,
+        alloc: Global,
+        path: &str,
+    ) -> Result<FileDisk, FileFault>
+        ensures settled { IfOk result (λ disk. Only (file_seen disk) (file_left disk)) }
+        ensures works { IfOk result (λ disk. file_is_broken disk ≡ false) }
+        ensures apart { IfOk result file_is_apart }
+    {
+        let disk = FileDisk::open(rt, alloc, path)?;
+        check_owner(&disk.file)?;
+        forget_beside(rt, beside(alloc, path)?.as_str(), &disk.file)?;
+        Ok(disk)
+    }
+
+    /// Opens a file that is there, or makes one of so many zero bytes where none is. One of another user, who could write it
+    /// at any time, is refused (`Foreign`).
     pub fn open_or_make<R: Files<File = File>>(
         rt: &R,
         alloc: Global,
@@ -168,18 +190,14 @@ impl FileDisk {
         ensures works { IfOk result (λ disk. file_is_broken disk ≡ false) }
         ensures apart { IfOk result file_is_apart }
     {
-        match FileDisk::open(rt, alloc, path) {
+        match FileDisk::open_own(rt, alloc, path) {
             Err(FileFault::System(error)) if error.kind() == ErrorKind::NotFound => {}
-            Err(fault) => return Err(fault),
-            Ok(disk) => {
-                forget_beside(rt, beside(alloc, path)?.as_str(), &disk.file)?;
-                return Ok(disk);
-            }
+            opened => return opened,
         }
         match FileDisk::make(rt, alloc, path, len) {
             // Another process made it meanwhile.
             Err(FileFault::System(error)) if error.kind() == ErrorKind::AlreadyExists => {
-                FileDisk::open(rt, alloc, path)
+                FileDisk::open_own(rt, alloc, path)
             }
             made => made,
         }
@@ -321,6 +339,17 @@ impl Disk for FileDisk {
                 self.trace.sync_failed();
                 Err(DiskFailed)
             }
+        }
+    }
+
+    fn still_holds(&self, at: usize, room: &mut [u8]) -> bool {
+        if self.broken {
+            return true;
+        }
+        match self.file.read_exact_at(room, at as u64) {
+            Ok(()) => are_same(room, &self.bytes[at..at + room.len()]),
+            // It ends before them. Why else they can't be read the next call tells.
+            Err(error) => error.kind() != ErrorKind::UnexpectedEof,
         }
     }
 }

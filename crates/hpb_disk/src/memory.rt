@@ -231,4 +231,9 @@ impl Disk for MemoryDisk {
             }
         }
     }
+
+    fn still_holds(&self, at: usize, room: &mut [u8]) -> bool {
+        room.copy_from_slice(&self.bytes[at..at + room.len()]);
+        true
+    }
 }

@@ -5,11 +5,11 @@ ghost use Rattle.hpb_disk.specs.FileDisks.{IsApart};
 use crate::FileFault;
 use crate::file::MOST_BYTES;
 use std::alloc::{AllocError, Global};
-use std::fs::{self, File, Files, Metadata, TryLockError};
+use std::fs::{self, File, Files, Metadata, Permissions, TryLockError};
 use std::io;
 use std::io::ErrorKind;
 use std::os::fd::AsRawFd;
-use std::os::unix::fs::{FileExt, MetadataExt};
+use std::os::unix::fs::{FileExt, MetadataExt, OpenOptionsExt, PermissionsExt};
 use std::path::{Path, PathBuf};
 
 /// The least descriptor that the file of a device may have: those below it are the standard streams'.
@@ -20,6 +20,15 @@ const FILE_SIZE_LIMIT: i32 = 1;
 
 /// What is added to a file's name while the file is made.
 const BESIDE: &str = ".new";
+
+/// The permissions of a file that is made: its owner may read and write it, and nobody else may do anything.
+const OWNERS_ALONE: u32 = 0o600;
+
+/// The bits of a mode that are permissions.
+const PERMISSIONS: u32 = 0o7777;
+
+/// Those by which others than the owner may write.
+const OTHERS_WRITE: u32 = 0o022;
 
 /// What standard input, output and errors lead to, where the system tells it.
 const INPUT: &str = "/dev/fd/0";
@@ -178,13 +187,33 @@ pub(crate) fn forget_beside<R: Files>(rt: &R, beside: &str, file: &File) -> io::
     Ok(())
 }
 
-/// Refuses what stands at the name that a file has while it is made, where that is no regular file, or one with another name
-/// too: its bytes are in use by that name.
-fn look_beside<R: Files>(rt: &R, beside: &str) -> Result<(), FileFault> {
-    match fs::symlink_metadata(rt, beside) {
-        Ok(found) if !found.is_file() || found.nlink() > 1 => Err(FileFault::Beside),
-        _ => Ok(()),
+/// Whether a file belongs to the user as whom this process acts.
+fn is_own(file: &Metadata) -> bool {
+    file.uid() == libc::geteuid()
+}
+
+/// Refuses a file of another user, who may read and write it whenever he likes.
+pub(crate) fn check_owner(file: &File) -> Result<(), FileFault> {
+    if !is_own(&file.metadata()?) {
+        return Err(FileFault::Foreign);
     }
+    Ok(())
+}
+
+/// Refuses what stands at the name that a file has while it is made, where no killed process of this user left it: what is
+/// another user's; what is no regular file, or one with another name too, by which its bytes are in use; and what others
+/// may write.
+fn check_rest(found: &Metadata) -> Result<(), FileFault> {
+    if !is_own(found) {
+        return Err(FileFault::BesideForeign);
+    }
+    if !found.is_file() || found.nlink() > 1 {
+        return Err(FileFault::Beside);
+    }
+    if found.mode() & OTHERS_WRITE != 0 {
+        return Err(FileFault::BesideWritable);
+    }
+    Ok(())
 }
 
 /// Refuses a file that holds more than zeros: a process that was killed left none such.
@@ -200,8 +229,68 @@ fn check_blank(alloc: Global, file: &File, len: u64) -> Result<(), FileFault> {
     Ok(())
 }
 
-/// Opens the file of a name that a file has while it is made, or makes one, and locks it. What a killed process left there is
-/// used again.
+/// What a look at a rest gives. One that was there and no longer is was another process's, which makes the file too.
+fn found_still<T: Drop>(found: io::Result<T>) -> Result<T, FileFault> {
+    match found {
+        Ok(found) => Ok(found),
+        Err(error) if error.kind() == ErrorKind::NotFound => Err(FileFault::Busy),
+        Err(error) => Err(FileFault::System(error)),
+    }
+}
+
+/// Removes what a killed process left at the name that a file has while it is made. It is locked until then: nobody makes
+/// the file by it. Who had it open keeps what has no name any more.
+fn remove_rest<R: Files<File = File>>(
+    rt: &R,
+    alloc: Global,
+    beside: &str,
+) -> Result<(), FileFault> {
+    check_rest(&found_still(fs::symlink_metadata(rt, beside))?)?;
+    let rest = found_still(File::options().read(true).write(true).open(rt, beside))?;
+    lock(&rest, Share::Nobody)?;
+    // Another one may have come by that name since, and another process may have made the file by this one.
+    let own = rest.metadata()?;
+    check_rest(&own)?;
+    check_streams(rt, &own)?;
+    if !is_name_of(rt, beside, &own) {
+        return Err(FileFault::Busy);
+    }
+    check_blank(alloc, &rest, own.len())?;
+    fs::remove_file(rt, beside)?;
+    Ok(())
+}
+
+/// Makes the file of the name that a file has while it is made, and locks it. `Beside` where something stands there.
+fn make_beside<R: Files<File = File>>(rt: &R, beside: &str) -> Result<File, FileFault>
+    ensures apart { IfOk result IsApart }
+{
+    let made = File::options()
+        .read(true)
+        .write(true)
+        .create_new(true)
+        .mode(OWNERS_ALONE)
+        .open(rt, beside);
+    let file = match made {
+        Ok(file) => file,
+        Err(error) if error.kind() == ErrorKind::AlreadyExists => return Err(FileFault::Beside),
+        Err(error) => return Err(FileFault::System(error)),
+    };
+    check_descriptor(&file)?;
+    lock(&file, Share::Nobody)?;
+    let own = file.metadata()?;
+    // Another process may have taken it for a rest before it was locked.
+    if !is_name_of(rt, beside, &own) {
+        return Err(FileFault::Busy);
+    }
+    // The process's mask may have taken more from it.
+    if own.mode() & PERMISSIONS != OWNERS_ALONE {
+        file.set_permissions(Permissions::from_mode(OWNERS_ALONE))?;
+    }
+    Ok(file)
+}
+
+/// Makes and locks the file of the name that a file has while it is made, in place of what a killed process left there.
+/// Nobody else ever had it, and nobody else may read or write it.
 pub(crate) fn open_beside<R: Files<File = File>>(
     rt: &R,
     alloc: Global,
@@ -209,22 +298,12 @@ pub(crate) fn open_beside<R: Files<File = File>>(
 ) -> Result<File, FileFault>
     ensures apart { IfOk result IsApart }
 {
-    look_beside(rt, beside)?;
-    let file = File::options()
-        .read(true)
-        .write(true)
-        .create(true)
-        .open(rt, beside)?;
-    check_descriptor(&file)?;
-    lock(&file, Share::Nobody)?;
-    let own = file.metadata()?;
-    check_streams(rt, &own)?;
-    // Another process may have given it its name, or removed it, before the lock was had.
-    if own.nlink() != 1 || !is_name_of(rt, beside, &own) {
-        return Err(FileFault::Busy);
+    match make_beside(rt, beside) {
+        Err(FileFault::Beside) => {}
+        made => return made,
     }
-    check_blank(alloc, &file, own.len())?;
-    Ok(file)
+    remove_rest(rt, alloc, beside)?;
+    make_beside(rt, beside)
 }
 
 /// Makes a file hold these bytes and no others, on the medium. They are read again into as many others.

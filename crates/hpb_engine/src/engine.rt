@@ -1,5 +1,5 @@
 //! The engine.
-ghost use Rattle.std.specs.Prelude.{◌≡◌, List, ℕ, length};
+ghost use Rattle.std.specs.Prelude.{◌≡◌, ◌+◌, ◌≤◌, List, ℕ, length};
 ghost use Rattle.hpb_rules.specs.declared.command.Command.{Command};
 ghost use Rattle.hpb_rules.specs.Machine.{at_rest};
 ghost use Rattle.hpb_recover.specs.Standing.{Stands};
@@ -27,6 +27,14 @@ impl<D: Disk + Drop> Engine<D> {
         ensures { result.now ≡ self.now.progress.committed }
     {
         &self.progress.committed
+    }
+
+    /// `Disk::still_holds` of its device.
+    pub fn still_holds(&self, at: usize, room: &mut [u8]) -> bool
+        // A caller stays within the device.
+        requires range { at + length room.old ≤ length (D.seen self.now.disk) }
+    {
+        self.disk.still_holds(at, room)
     }
 
     /// The device, with what is committed on it: opened again, it shows the same commands.

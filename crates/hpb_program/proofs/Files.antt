@@ -20,6 +20,9 @@ of_each_file Is memory file fault made is = subst Is (sym is) (go fault)
     go files.Stream = file files.Stream
     go files.Errors = file files.Errors
     go files.Beside = file files.Beside
+    go files.BesideForeign = file files.BesideForeign
+    go files.BesideWritable = file files.BesideWritable
+    go files.Foreign = file files.Foreign
     go (files.Limit len limit) = file (files.Limit len limit)
     go (files.System e) = file (files.System e)
 

@@ -38,7 +38,7 @@ slot_text damaged later = damaged_text damaged ++ later
 abbrev pub doubts_line : ℕ → List ℕ → List ℕ
 doubts_line count found =
     codes "hpb: a checkpoint is damaged, which no power cut does, and it may be the newest: COUNT is " ++ decimal count ++ codes " by what was opened" ++ found
-    ++ codes ". Copy the file before anything else, and hold COUNT against the number of the last OK: if that is greater, take your newest copy, and send again, in their order, the commands since then\n"
+    ++ codes ". Copy the file before anything else, and hold COUNT against the number of the last OK: if that is greater, go back to your newest backup, and send again, in their order, the commands since then\n"
 
 -- What is told where an auction of so many commands was opened: nothing, where the device has nothing that no honest device has.
 abbrev pub doubts_text : ℕ → Option ℕ → Option Later → List ℕ

@@ -43,10 +43,10 @@ abbrev pub SaysFault : (errors_old errors_new : Option (List ℕ)) → WordsFaul
 SaysFault errors_old errors_new Memory = TellsOf errors_old errors_new refusals.Memory
 SaysFault errors_old errors_new (Refused text status) = Says errors_old errors_new (string_bytes text)
 
--- What is written of words that ask for no job: the line of 90 where memory was refused, and else nothing.
-abbrev pub AnswersFault : (cut : Bool) (old new : Option (List ℕ)) → WordsFault → Type 0
-AnswersFault cut old new Memory = TellsLine cut old new refusals.Memory
-AnswersFault cut old new (Refused text status) = Keeps old new
+-- What is written of words that ask for no job: the line of 90 where memory was refused, unless the output leads to a file that the words may name, and else nothing.
+abbrev pub AnswersFault : (leads cut : Bool) (old new : Option (List ℕ)) → WordsFault → Type 0
+AnswersFault leads cut old new Memory = TellsUnled leads cut old new refusals.Memory
+AnswersFault leads cut old new (Refused text status) = Keeps old new
 
 -- What both outputs are told of a job on a file that was not done, and its status: the line of its refusal, and why.
 abbrev pub TellsFault : (cut : Bool) (old new errors_old errors_new : Option (List ℕ)) → JobFault → ℕ → Type 0
@@ -74,9 +74,15 @@ abbrev pub TellsRun : (cut : Bool) (old new errors_old errors_new : Option (List
 TellsRun cut old new errors_old errors_new (Ok end) status = Keeps old new × TellsEnded errors_old errors_new end.end end.failed status
 TellsRun cut old new errors_old errors_new (Err fault) status = TellsFault cut old new errors_old errors_new fault status
 
+-- The same where somebody else may have cut, lengthened or written the file meanwhile: where that was seen, they are told of it behind that, and it ended ill whatever else is so.
+abbrev pub TellsBeside : (errors_old errors_new : Option (List ℕ)) → (is_spoiled : Bool) → Result ⊤ SessionFault → (has_failed : Bool) → ℕ → Type 0
+TellsBeside errors_old errors_new false end failed status = TellsEnded errors_old errors_new end failed status
+TellsBeside errors_old errors_new true end failed status =
+    (errors_told : Option (List ℕ)) × (ended : ℕ) × TellsEnded errors_old errors_told end failed ended × TellsOf errors_told errors_new refusals.Device × (status ≡ ILL)
+
 -- The same where a file was served: its last line is told not to have been taken only where the output was cut.
 abbrev pub TellsServed : (cut : Bool) (old new errors_old errors_new : Option (List ℕ)) → Result FileEnd JobFault → ℕ → Type 0
-TellsServed cut old new errors_old errors_new (Ok end) status = Keeps old new × IsTaken cut end.said × TellsEnded errors_old errors_new end.said end.has_failed status
+TellsServed cut old new errors_old errors_new (Ok end) status = Keeps old new × IsTaken cut end.said × TellsBeside errors_old errors_new end.is_spoiled end.said end.has_failed status
 TellsServed cut old new errors_old errors_new (Err fault) status = TellsFault cut old new errors_old errors_new fault status
 
 -- What a job does with the streams and the errors, and the status that it gives. Of what a file holds that no honest file does the errors are told first. The output is cut at the end, or it isn't.
@@ -107,7 +113,7 @@ abbrev pub RunsAsked : (is_terminal : Bool) → Result Job WordsFault → (befor
 RunsAsked is_terminal (Ok job) before after cut errors_old errors_new status =
     RefusesStreams job before after cut errors_old errors_new status
     ⊎ ((errors_hinted : Option (List ℕ)) × Says errors_old errors_hinted (hint_text is_terminal job) × RunsJob is_terminal job before after cut errors_hinted errors_new status)
-RunsAsked is_terminal (Err fault) before after cut errors_old errors_new status = Keeps before.remaining after.remaining × AnswersFault cut before.contents after.contents fault × SaysFault errors_old errors_new fault × HasStatus fault × (status ≡ status_of_fault fault)
+RunsAsked is_terminal (Err fault) before after cut errors_old errors_new status = Keeps before.remaining after.remaining × (leads : Bool) × AnswersFault leads cut before.contents after.contents fault × SaysFault errors_old errors_new fault × HasStatus fault × (status ≡ status_of_fault fault)
 
 -- What the words ask for is done.
 abbrev pub RunsProgram : (is_terminal : Bool) (words : List (List ℕ)) (before after : Streams) (cut : Bool) (errors_old errors_new : Option (List ℕ)) → ℕ → Type 0

@@ -2,6 +2,7 @@
 ghost use Rattle.std.specs.Prelude.{IfErr};
 ghost use Rattle.hpb_program.specs.Serving.{IsOfDescriptors};
 
+use crate::relay::RELAY_DESCRIPTORS;
 use hpb_words::JobFault;
 use std::alloc::Global;
 use std::fs::{File, Files};
@@ -10,8 +11,8 @@ use std::io;
 /// What is opened to see whether it can be: each process may read it.
 const TOP: &str = "/";
 
-/// How many are open beside the connections of sessions, and the files: the port.
-const BESIDE_SESSIONS: u32 = 1;
+/// How many are open beside the connections of sessions: the port, the file once more, and those of the relay.
+const BESIDE_SESSIONS: u32 = 2 + RELAY_DESCRIPTORS;
 
 /// Whether this process can have no more files open at a time.
 fn is_too_many(error: &io::Error) -> bool {

@@ -6,23 +6,26 @@ mod descriptors;
 mod formatting;
 mod keeping;
 mod laws;
+mod led;
 mod lookout;
 mod opening;
+mod relay;
 mod running;
 mod serving;
 mod stack;
 mod streams;
+mod waiting;
 
 pub use checking::check_device;
-pub use hpb_words::{
-    Job, JobFault, Noted, RunEnd, WordsFault, answer_memory, read_words, words_ask_for,
-};
+pub use hpb_words::{Job, JobFault, Noted, RunEnd, WordsFault, read_words, words_ask_for};
 pub use keeping::run_kept;
 pub use laws::limits_are;
+pub use led::Led;
 pub use running::{program, refuse_streams, refuse_words};
 pub use serving::{FileEnd, ServeEnd, serve_kept};
 pub use stack::hold_stack;
 pub use streams::hold_streams;
+pub use waiting::Waiting;
 
 #[cfg(test)]
 mod tests;

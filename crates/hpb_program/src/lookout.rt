@@ -1,60 +1,48 @@
 //! What happens beside sessions that are served, told to people.
 
-use hpb_codec::PAGE_BYTES;
+use crate::relay::Relay;
 use hpb_disk::{FileDisk, FileFault};
-use hpb_serve::Watch;
-use hpb_words::{Change, ChangeNotice, FailedNotice, SeatNotice, notify};
+use hpb_serve::{EndCause, Place, Watch};
+use hpb_words::{Change, ChangeNotice, Ending, FailedNotice, PlaceNotice, PlaceState, SeatNotice};
 use std::alloc::{AllocError, Global};
 use std::fs::{File, Files};
 use std::io;
 use std::os::fd::AsRawFd;
-use std::os::unix::fs::{FileExt, MetadataExt};
+use std::os::unix::fs::MetadataExt;
+use std::sync::atomic::{AtomicBool, Ordering};
 
 /// Where the system tells the names of the files that this process has open, by their descriptors.
 const NAMES: &str = "/proc/self/fd";
 
-/// How many bytes a file begins with that nobody writes while it is served: its head, which are three pages.
-const HEAD_BYTES: usize = 3 * PAGE_BYTES;
+/// What it puts behind a name by which the file was opened, and which is gone or another file's.
+const GONE: &[u8] = b" (deleted)";
 
-/// The name, how many names there are, the length and the first bytes of an open file.
+/// The name, how many names there are, the length and the inode's number of an open file.
 #[derive(Drop)]
 struct Seen {
     name: Vec<u8>,
     /// How many names it has.
     names: u64,
     len: u64,
-    head: Vec<u8>,
+    inode: u64,
 }
 
 impl Seen {
     /// Those that it has now. The name is another one once the file was moved, removed or replaced; where the system
-    /// tells none it is empty. A file that was cut and then written behind its end is as long as before, but has zeros
-    /// between.
-    fn of(alloc: Global, file: &File) -> Result<Seen, AllocError> {
-        let (names, len) = match file.metadata() {
-            Ok(found) => (found.nlink(), found.len()),
-            Err(_) => (1, 0),
-        };
+    /// tells none it is empty.
+    fn of(alloc: Global, file: &File) -> Result<Seen, FileFault> {
+        let found = file.metadata()?;
         Ok(Seen {
             name: name_of(alloc, file)?,
-            names,
-            len,
-            head: head_of(alloc, file)?,
+            names: found.nlink(),
+            len: found.len(),
+            inode: found.ino(),
         })
     }
 
-    /// Whether it was cut, made longer or overwritten since this was seen.
-    fn differs_from(&self, before: &Seen) -> bool {
-        self.len != before.len || self.head.as_slice() != before.head.as_slice()
-    }
-}
-
-/// The first bytes of a file. None of them where they can't be read.
-fn head_of(alloc: Global, file: &File) -> Result<Vec<u8>, AllocError> {
-    let mut head = vec![in alloc; 0; HEAD_BYTES]?;
-    match file.read_exact_at(&mut head, 0) {
-        Ok(()) => Ok(head),
-        Err(_) => Ok(Vec::new(alloc)),
+    /// Whether it has lost the name that it had before.
+    fn has_lost(&self, before: &Seen) -> bool {
+        self.name.as_slice().strip_suffix(GONE) == Some(before.name.as_slice())
     }
 }
 
@@ -65,8 +53,7 @@ fn name_of(alloc: Global, file: &File) -> Result<Vec<u8>, AllocError> {
     name[..count.min(libc::PATH_MAX)].to_vec(alloc)
 }
 
-/// A watch of the file that is served. It tells people by the descriptor of standard errors, as far as memory allows:
-/// the errors that the program was handed are written by the thread that has them alone.
+/// A watch of the file that is served. It tells people by a relay, and waits for nobody.
 #[derive(Drop)]
 pub(crate) struct Lookout<'a> {
     alloc: Global,
@@ -74,6 +61,9 @@ pub(crate) struct Lookout<'a> {
     /// The file, opened once more.
     file: File,
     seen: Seen,
+    /// Whether somebody else has cut it, made it longer or written it. Then people were told.
+    is_spoiled: AtomicBool,
+    relay: &'a Relay,
 }
 
 impl<'a> Lookout<'a> {
@@ -84,6 +74,7 @@ impl<'a> Lookout<'a> {
         alloc: Global,
         path: &'a str,
         disk: &FileDisk,
+        relay: &'a Relay,
     ) -> Result<Lookout<'a>, FileFault> {
         if !disk.stamp()?.is_at(rt, path) {
             return Err(FileFault::Busy);
@@ -95,22 +86,44 @@ impl<'a> Lookout<'a> {
             path,
             file,
             seen,
+            is_spoiled: AtomicBool::new(false),
+            relay,
         })
     }
 }
 
 impl Lookout<'_> {
-    /// What became of the file since it was opened.
-    fn change(&self) -> Option<Change> {
-        let seen = Seen::of(self.alloc, &self.file).ok()?;
-        if seen.differs_from(&self.seen) {
-            return Some(Change::Spoiled);
+    /// Whether somebody else has cut the file, made it longer or written it since it was opened, as far as was seen.
+    pub(crate) fn is_spoiled(&self) -> bool {
+        self.is_spoiled.load(Ordering::SeqCst)
+    }
+
+    /// Tells people, once, that somebody else has cut the file, made it longer or written it.
+    fn tell_spoiled(&self, is_end: bool) {
+        if !self.is_spoiled.swap(true, Ordering::SeqCst) {
+            self.tell(Change::Spoiled, is_end);
         }
+    }
+
+    fn tell(&self, change: Change, is_end: bool) {
+        let path = self.path;
+        self.relay.notify(ChangeNotice {
+            path,
+            change,
+            is_end,
+        });
+    }
+
+    /// What became of the name of the file, which was seen so.
+    fn change_of_name(&self, seen: &Seen) -> Option<Change> {
         if seen.names == 0 {
             return Some(Change::Nameless {
                 process: libc::getpid(),
                 descriptor: self.file.as_raw_fd(),
             });
+        }
+        if seen.has_lost(&self.seen) {
+            return Some(Change::Unnamed { inode: seen.inode });
         }
         if seen.name.as_slice() != self.seen.name.as_slice() {
             return Some(Change::Moved);
@@ -118,39 +131,65 @@ impl Lookout<'_> {
         None
     }
 
-    /// Tells people what became of the file. `false` says that nothing did.
+    /// Tells people what became of the length and the name of the file. `false` says that nothing did.
     fn tell_change(&self, is_end: bool) -> bool {
-        let Some(change) = self.change() else {
+        let Ok(seen) = Seen::of(self.alloc, &self.file) else {
             return false;
         };
-        let path = self.path;
-        notify(
-            self.alloc,
-            ChangeNotice {
-                path,
-                change,
-                is_end,
-            },
-        );
-        true
+        let has_length = seen.len == self.seen.len;
+        if !has_length {
+            self.tell_spoiled(is_end);
+        }
+        let change = self.change_of_name(&seen);
+        if let Some(change) = change {
+            self.tell(change, is_end);
+        }
+        change.is_some() || !has_length
+    }
+
+    fn tell_of_place(&self, place: &Place, state: PlaceState) {
+        let notice = PlaceNotice {
+            number: place.number,
+            places: place.places,
+            peer: place.peer,
+            state,
+        };
+        self.relay.notify(notice);
     }
 }
 
 impl Watch for Lookout<'_> {
     fn taken(&self, taken: usize, places: usize) {
-        notify(self.alloc, SeatNotice::Taken { taken, places });
+        self.relay.notify(SeatNotice::Taken { taken, places });
     }
 
     fn missed(&self, error: &io::Error) {
-        notify(self.alloc, SeatNotice::Missed(error));
+        self.relay.notify(SeatNotice::Missed(error));
+    }
+
+    fn begun(&self, place: &Place) {
+        self.tell_of_place(place, PlaceState::Held);
+    }
+
+    fn ended(&self, place: &Place, cause: EndCause) {
+        let ending = match cause {
+            EndCause::Closed => Ending::Closed,
+            EndCause::Fault(fault, failure) => Ending::Failed(fault, failure),
+            EndCause::Order => Ending::OutOfOrder,
+        };
+        self.tell_of_place(place, PlaceState::Ended(ending));
     }
 
     fn refused_thread(&self) {
-        notify(self.alloc, SeatNotice::Refused);
+        self.relay.notify(SeatNotice::Refused);
     }
 
     fn failed(&self) {
-        notify(self.alloc, FailedNotice(self.path));
+        self.relay.notify(FailedNotice(self.path));
+    }
+
+    fn overwritten(&self) {
+        self.tell_spoiled(false);
     }
 
     fn look(&self) -> bool {

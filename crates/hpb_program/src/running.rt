@@ -1,8 +1,8 @@
 ghost use Rattle.std.specs.Prelude.{◌≡◌, ◌≢◌, ◌≤◌, true, IfErr, IfOk, map};
 ghost use Rattle.std.specs.Io.KnownBytes.{Keeps};
 ghost use Rattle.std.specs.IoError.{error_kind};
-ghost use Rattle.hpb_program.specs.Program.{AnswersFault, RunsAsked, RunsJob, RunsProgram, SaysFault, TellsEnd, TellsEnded, TellsFault, TellsRun, TellsScript, TellsServed, status_of_fault, status_of_script};
-ghost use Rattle.hpb_words.specs.Telling.{is_cut, IsCutBy, IsTaken};
+ghost use Rattle.hpb_program.specs.Program.{AnswersFault, RunsAsked, RunsJob, RunsProgram, SaysFault, TellsBeside, TellsEnd, TellsEnded, TellsFault, TellsRun, TellsScript, TellsServed, status_of_fault, status_of_script};
+ghost use Rattle.hpb_words.specs.Telling.{is_cut, IsCutBy, IsTaken, TellsUnled};
 ghost use Rattle.hpb_server.specs.Streams.{streams};
 ghost use Rattle.hpb_rules.specs.declared.refusal.Refusal.TheVariants as refusals;
 ghost use Rattle.hpb_words.specs.Words.{HasRanges, HasStatus};
@@ -11,14 +11,15 @@ ghost use Rattle.hpb_server.specs.Telling.{Says, TellsOf};
 use crate::checking::run_check;
 use crate::formatting::run_format;
 use crate::keeping::run_file;
+use crate::led::Led;
 use crate::serving::{FileEnd, serve_file};
-use crate::streams::{Led, refuse_led};
+use crate::streams::{advise_unled, refuse_led, say_unled, tell_memory_unled, tell_unled};
 use hpb_rules::Refusal;
-use hpb_server::{ScriptEnd, SessionFault, run_script, say};
+use hpb_server::{ScriptEnd, SessionFault, run_script};
 use hpb_words::{
     EndAdvice, Failures, ILL, Job, JobAdvice, JobFault, Known, Noted, RunEnd, ScriptAdvice,
-    StreamsAdvice, WELL, WRONG_WORDS, WordsFault, advise, answer_memory, hint, known_of,
-    read_words, tell_job, tell_memory,
+    SpoiledAdvice, StreamsAdvice, WELL, WRONG_WORDS, WordsFault, advise, hint, known_of,
+    read_words, tell_job,
 };
 use std::alloc::Global;
 use std::convert::AsStr;
@@ -37,7 +38,8 @@ const NO_TEXT: &str = "hpb: an argument is not UTF-8\n";
 /// refusal, and the last one of a file that was formatted or served, is there whole unless the output says that it was
 /// cut. The errors are told what is said of the words, help too, and why a definition or a file is refused or a stream
 /// failed; and where the input is a terminal what to type, and which number would do in place of a command that is
-/// refused. Only jobs on files use the runtime, and of these only serving may wait.
+/// refused. Only jobs on files use the runtime, and of these only serving may wait. Where the words ask for no job nothing
+/// is written to a stream that leads to a file which they may name.
 pub fn program<
     H: Files<File = File> + Net<Listener = TcpListener, Stream = TcpStream> + Threads + Wait + Sync,
     S: AsStr,
@@ -48,6 +50,7 @@ pub fn program<
     rt: &H,
     alloc: Global,
     words: &[S],
+    led: Led,
     input: &mut Noted<R>,
     output: &mut Noted<W>,
     errors: &mut E,
@@ -58,30 +61,40 @@ pub fn program<
         (is_cut output.new) (E.contents errors.old) (E.contents errors.new) result }
 {
     let asked = read_words(alloc, words);
-    run_asked(rt, alloc, asked, input, output, errors, is_terminal)
+    run_asked(rt, alloc, asked, led, input, output, errors, is_terminal)
 }
 
 /// The status of the program where its words can't be read: 1 where memory was refused, else 2. The errors are told
-/// which.
-pub fn refuse_words<E: Write>(error: &io::Error, errors: &mut E) -> u8
-    ensures memory { error_kind error.now ≡ ErrorKind.OutOfMemory → (result ≡ ILL) × TellsOf (E.contents errors.old) (E.contents errors.new) refusals.Memory }
-    ensures wrong { error_kind error.now ≢ ErrorKind.OutOfMemory → (result ≡ WRONG_WORDS) × Says (E.contents errors.old) (E.contents errors.new) NO_TEXT.now }
+/// which, and the output has the line of 90, unless they lead to a file that the words may name.
+pub fn refuse_words<W: Write, E: Write>(
+    error: &io::Error,
+    led: Led,
+    output: &mut Noted<W>,
+    errors: &mut E,
+) -> u8
+    ensures memory { error_kind error.now ≡ ErrorKind.OutOfMemory → (result ≡ ILL)
+        × TellsUnled led.output (is_cut output.new) (W.contents output.old.stream) (W.contents output.new.stream) refusals.Memory
+        × TellsOf (E.contents errors.old) (E.contents errors.new) refusals.Memory }
+    ensures wrong { error_kind error.now ≢ ErrorKind.OutOfMemory → (result ≡ WRONG_WORDS)
+        × Keeps (W.contents output.old.stream) (W.contents output.new.stream)
+        × Says (E.contents errors.old) (E.contents errors.new) NO_TEXT.now }
 {
     if error.kind() == ErrorKind::OutOfMemory {
-        tell_memory(errors);
+        tell_unled(Refusal::Memory, led, output);
+        tell_memory_unled(led, errors);
         return ILL;
     }
-    say(NO_TEXT.as_bytes(), errors);
+    say_unled(NO_TEXT, led, errors);
     WRONG_WORDS
 }
 
 /// The status of the program where its standard streams can't be held: 1. The errors are told why, as far as there are
-/// any.
-pub fn refuse_streams<E: Write>(alloc: Global, error: &io::Error, errors: &mut E) -> u8
+/// any, unless they lead to a file that the words may name.
+pub fn refuse_streams<E: Write>(alloc: Global, error: &io::Error, led: Led, errors: &mut E) -> u8
     ensures status { result ≡ ILL }
     ensures told { TellsOf (E.contents errors.old) (E.contents errors.new) refusals.Stream }
 {
-    advise(alloc, Refusal::Stream, StreamsAdvice(error), errors);
+    advise_unled(alloc, Refusal::Stream, StreamsAdvice(error), led, errors);
     ILL
 }
 
@@ -95,6 +108,7 @@ fn run_asked<
     rt: &H,
     alloc: Global,
     asked: Result<Job<'_>, WordsFault>,
+    led: Led,
     input: &mut Noted<R>,
     output: &mut Noted<W>,
     errors: &mut E,
@@ -109,7 +123,7 @@ fn run_asked<
     match asked {
         Ok(job) => {
             if let Some(file) = job.file() {
-                let led = Led::to(rt, file);
+                let led = Led::to(rt, job, file);
                 if led.is_any() {
                     return refuse_led(alloc, file, led, output, errors);
                 }
@@ -117,7 +131,7 @@ fn run_asked<
             hint(job, is_terminal, errors);
             run_job(rt, alloc, job, input, output, errors, is_terminal)
         }
-        Err(fault) => say_fault(fault, output, errors),
+        Err(fault) => say_fault(fault, led, output, errors),
     }
 }
 
@@ -278,16 +292,28 @@ fn tell_served<W: Write, E: Write>(
     ensures told { TellsServed (is_cut output.new) (W.contents output.old.stream) (W.contents output.new.stream) (E.contents errors.old) (E.contents errors.new) end result }
 {
     match end {
-        Ok(end) => {
-            let end = RunEnd {
-                end: end.said,
-                failed: end.has_failed,
-                code: end.code,
-            };
-            tell_ended(alloc, end, known, errors)
-        }
+        Ok(end) => tell_closed(alloc, known, &end, errors),
         Err(fault) => tell_fault(alloc, known, fault, output, errors),
     }
+}
+
+/// Tells the errors how serving ended that had begun, and then of a file that somebody else has written meanwhile, and
+/// gives the program's status.
+fn tell_closed<E: Write>(alloc: Global, known: Known<'_>, end: &FileEnd, errors: &mut E) -> u8
+    ensures status { result ≤ WRONG_WORDS }
+    ensures told { TellsBeside (E.contents errors.old) (E.contents errors.new) end.now.is_spoiled end.now.said end.now.has_failed result }
+{
+    let ended = RunEnd {
+        end: end.said,
+        failed: end.has_failed,
+        code: end.code,
+    };
+    let status = tell_ended(alloc, ended, known, errors);
+    if !end.is_spoiled {
+        return status;
+    }
+    advise(alloc, Refusal::Device, SpoiledAdvice(known), errors);
+    ILL
 }
 
 /// Tells the errors how a run or serving ended that had begun, where it ended ill, and gives the program's status.
@@ -305,22 +331,27 @@ fn tell_ended<E: Write>(alloc: Global, end: RunEnd, known: Known<'_>, errors: &m
 }
 
 /// Says what is wrong with words, or what help they ask for, and gives the program's status. The output has the line of
-/// 90 where memory was refused.
-fn say_fault<W: Write, E: Write>(fault: WordsFault, output: &mut Noted<W>, errors: &mut E) -> u8
+/// 90 where memory was refused. Nothing is written to a stream that leads to a file which the words may name.
+fn say_fault<W: Write, E: Write>(
+    fault: WordsFault,
+    led: Led,
+    output: &mut Noted<W>,
+    errors: &mut E,
+) -> u8
     requires { HasStatus fault }
     ensures status { result ≤ WRONG_WORDS }
     ensures value { result ≡ status_of_fault fault }
-    ensures answered { AnswersFault (is_cut output.new) (W.contents output.old.stream) (W.contents output.new.stream) fault }
+    ensures answered { AnswersFault led.output (is_cut output.new) (W.contents output.old.stream) (W.contents output.new.stream) fault }
     ensures said { SaysFault (E.contents errors.old) (E.contents errors.new) fault }
 {
     match fault {
         WordsFault::Memory => {
-            answer_memory(output);
-            tell_memory(errors);
+            tell_unled(Refusal::Memory, led, output);
+            tell_memory_unled(led, errors);
             ILL
         }
         WordsFault::Refused { text, status } => {
-            say(text.as_bytes(), errors);
+            say_unled(text.as_str(), led, errors);
             status
         }
     }

@@ -10,6 +10,7 @@ ghost use Rattle.hpb_rules.specs.declared.limits.TheConstants.{MOST_SEATS};
 use crate::descriptors::look_for_descriptors;
 use crate::lookout::Lookout;
 use crate::opening::open_kept;
+use crate::relay::Relay;
 use hpb_auction::Auction;
 use hpb_disk::{Disk, FileDisk};
 use hpb_house::{Closing, StartCause};
@@ -51,6 +52,8 @@ pub struct FileEnd {
     pub has_failed: bool,
     /// The system's number of the write or the sync that failed, where it told one.
     pub code: Option<i32>,
+    /// Whether somebody else was seen to have cut the file, made it longer or written it while it was served.
+    pub is_spoiled: bool,
     /// The report of each session's client, from seat 0 on.
     pub reports: Vec<Report>,
     /// Whether the last line was written.
@@ -90,13 +93,14 @@ pub(crate) fn serve_file<
         Ok(disk) => disk,
         Err(fault) => return Err(JobFault::from(fault)),
     };
-    let lookout = match Lookout::new(rt, alloc, file, &disk) {
-        Ok(lookout) => lookout,
-        Err(fault) => return Err(JobFault::from(fault)),
-    };
     if let Err(fault) = look_for_descriptors(rt, alloc, sessions) {
         return Err(fault);
     }
+    let relay = Relay::start(rt, alloc);
+    let lookout = match Lookout::new(rt, alloc, file, &disk, &relay) {
+        Ok(lookout) => lookout,
+        Err(fault) => return Err(JobFault::from(fault)),
+    };
     let opened = Snapshot::of(&disk);
     let Unsaid { served, room } = match serve_device(
         rt, alloc, disk, port, sessions, output, errors, &lookout,
@@ -113,6 +117,7 @@ pub(crate) fn serve_file<
         ..
     } = closing;
     let code = disk.code();
+    let is_spoiled = lookout.is_spoiled();
     // Whoever reads the last line may open the file.
     drop(disk);
     match say_closed(room, auction.count(), output) {
@@ -122,6 +127,7 @@ pub(crate) fn serve_file<
             auction,
             has_failed,
             code,
+            is_spoiled,
             reports,
             said,
         }),

@@ -1,18 +1,19 @@
-//! The standard streams.
-ghost use Rattle.std.specs.Prelude.{◌≡◌, ◌≤◌, true, false, codes};
+//! The standard streams: opened where they are closed, and written to where they don't lead to the file of a job.
+ghost use Rattle.std.specs.Prelude.{◌≡◌};
 ghost use Rattle.hpb_words.specs.declared.status.TheConstants.{ILL};
 ghost use Rattle.hpb_rules.specs.declared.refusal.Refusal.TheVariants as refusals;
 ghost use Rattle.hpb_words.specs.Telling.{is_cut, TellsUnled};
-ghost use Rattle.hpb_server.specs.Telling.{TellsOf};
+ghost use Rattle.hpb_server.specs.Telling.{Says, TellsOf};
 
+use crate::led::Led;
 use hpb_rules::Refusal;
-use hpb_words::{ILL, LedAdvice, Noted, advise, tell};
+use hpb_server::say;
+use hpb_words::{ILL, LedAdvice, Noted, advise, tell, tell_memory};
 use std::alloc::Global;
-use std::fs::{self, File, Files, Metadata};
-use std::io;
+use std::fs::{File, Files};
 use std::io::Write;
 use std::os::fd::IntoRawFd;
-use std::os::unix::fs::MetadataExt;
+use std::{fmt, io};
 
 /// What stands in for a stream that is closed: it reads as empty, and takes what is written.
 const NOTHING: &str = "/dev/null";
@@ -46,92 +47,47 @@ fn is_closed(stream: i32) -> bool {
     libc::posix_fadvise(stream, 0, 0, libc::POSIX_FADV_NORMAL) == libc::EBADF
 }
 
-/// A standard stream, and the name by which the system tells what it leads to.
-#[derive(Clone, Copy)]
-struct Named {
-    stream: i32,
-    path: &'static str,
-}
-
-const INPUT: Named = Named {
-    stream: libc::STDIN_FILENO,
-    path: "/dev/fd/0",
-};
-
-const OUTPUT: Named = Named {
-    stream: libc::STDOUT_FILENO,
-    path: "/dev/fd/1",
-};
-
-const ERRORS: Named = Named {
-    stream: libc::STDERR_FILENO,
-    path: "/dev/fd/2",
-};
-
-impl Named {
-    /// Whether it leads to a file, and that is a regular one: others may stand behind a stream and a path at once.
-    /// Where the system doesn't tell what it leads to, it is taken to lead there, unless it is a pipe.
-    fn leads_to<H: Files>(self, rt: &H, file: &Metadata) -> bool {
-        match fs::metadata(rt, self.path) {
-            Ok(found) => file.is_file() && found.dev() == file.dev() && found.ino() == file.ino(),
-            Err(_) => file.is_file() && !is_pipe(self.stream),
-        }
-    }
-}
-
-/// Whether an open stream is a pipe. Advice on how it will be read changes none.
-fn is_pipe(stream: i32) -> bool {
-    libc::posix_fadvise(stream, 0, 0, libc::POSIX_FADV_NORMAL) == libc::ESPIPE
-}
-
-/// Which of the standard streams lead to a file.
-#[derive(Clone, Copy, Debug, Default, PartialEq, Eq)]
-pub(crate) struct Led {
-    pub(crate) input: bool,
-    pub(crate) output: bool,
-    pub(crate) errors: bool,
-}
-
-impl Led {
-    /// Those that lead to the file of a path. None leads to a file that isn't there.
-    pub(crate) fn to<H: Files>(rt: &H, file: &str) -> Led {
-        match fs::metadata(rt, file) {
-            Ok(found) => Led {
-                input: INPUT.leads_to(rt, &found),
-                output: OUTPUT.leads_to(rt, &found),
-                errors: ERRORS.leads_to(rt, &found),
-            },
-            Err(_) => Led::default(),
-        }
-    }
-
-    /// Whether any does.
-    pub(crate) fn is_any(self) -> bool {
-        self.input || self.output || self.errors
-    }
-
-    /// The one that people are told of, by the errors, which don't lead there.
-    fn stream(self) -> &'static str
-        requires { self.errors ≡ false }
-        ensures output { self.output ≡ true → result.now ≡ codes "standard output" }
-        ensures input { self.output ≡ false → result.now ≡ codes "standard input" }
-    {
-        if self.output {
-            "standard output"
-        } else {
-            "standard input"
-        }
-    }
-}
-
-/// Writes the line of 91, unless the output leads to the job's file.
-fn tell_unled<W: Write>(led: Led, output: &mut Noted<W>)
-    ensures { TellsUnled led.output (is_cut output.new) (W.contents output.old.stream) (W.contents output.new.stream) refusals.Device }
+/// Writes the line of a refusal, unless the output leads to the job's file: it would stand in the auction.
+pub(crate) fn tell_unled<W: Write>(refusal: Refusal, led: Led, output: &mut Noted<W>)
+    ensures { TellsUnled led.output (is_cut output.new) (W.contents output.old.stream) (W.contents output.new.stream) refusal }
 {
     if led.output {
         return;
     }
-    tell(Refusal::Device, output);
+    tell(refusal, output);
+}
+
+/// Says a text to people, unless the errors lead to the job's file.
+pub(crate) fn say_unled<E: Write>(text: &str, led: Led, errors: &mut E)
+    ensures { Says (E.contents errors.old) (E.contents errors.new) text.now }
+{
+    if !led.errors {
+        say(text.as_bytes(), errors);
+    }
+}
+
+/// Tells people of a refusal, and what to do, unless the errors lead to the job's file.
+pub(crate) fn advise_unled<A: fmt::Display + Copy, E: Write>(
+    alloc: Global,
+    refusal: Refusal,
+    advice: A,
+    led: Led,
+    errors: &mut E,
+)
+    ensures { TellsOf (E.contents errors.old) (E.contents errors.new) refusal }
+{
+    if !led.errors {
+        advise(alloc, refusal, advice, errors);
+    }
+}
+
+/// Tells people of 90, unless the errors lead to the job's file. It takes no memory.
+pub(crate) fn tell_memory_unled<E: Write>(led: Led, errors: &mut E)
+    ensures { TellsOf (E.contents errors.old) (E.contents errors.new) refusals.Memory }
+{
+    if !led.errors {
+        tell_memory(errors);
+    }
 }
 
 /// The status of a job whose file standard streams lead to: 1. It is told by 91, but not on a stream that leads there:
@@ -147,10 +103,14 @@ pub(crate) fn refuse_led<W: Write, E: Write>(
     ensures answered { TellsUnled led.output (is_cut output.new) (W.contents output.old.stream) (W.contents output.new.stream) refusals.Device }
     ensures told { TellsOf (E.contents errors.old) (E.contents errors.new) refusals.Device }
 {
-    tell_unled(led, output);
+    tell_unled(Refusal::Device, led, output);
     if !led.errors {
-        let stream = led.stream();
-        advise(alloc, Refusal::Device, LedAdvice { stream, file }, errors);
+        let advice = LedAdvice {
+            stream: led.stream(),
+            file,
+            is_new: led.is_new,
+        };
+        advise(alloc, Refusal::Device, advice, errors);
     }
     ILL
 }

@@ -1,16 +1,20 @@
 //! A file that is made and shown; and what no clause says, and no run from outside shows: calls of streams that signals
-//! interrupt many times in a row, and a file that is replaced while it is opened.
+//! interrupt many times in a row, a file that is replaced while it is opened, and notices for which there is no room.
 
 use super::*;
 use crate::lookout::Lookout;
+use crate::relay::{Ends, Relay};
+use crate::waiting::wait_for;
 use hpb_disk::{FileDisk, FileFault};
+use std::alloc::Global;
 use std::fs::{File, Files, Permissions};
-use std::io::{ErrorKind, Read, Write};
+use std::io::{ErrorKind, PipeReader, Read, Write, pipe};
 use std::net::{Net, TcpListener, TcpStream};
+use std::os::fd::AsRawFd;
 use std::os::unix::fs::PermissionsExt;
 use std::sync::Wait;
 use std::test::Fail;
-use std::thread::Threads;
+use std::thread::{self, Threads};
 use std::{fs, io};
 
 /// How often in a row each call of a stream is interrupted before it is made: more often than whoever gives up would
@@ -92,6 +96,7 @@ fn answers<
         rt,
         alloc,
         words,
+        Led::default(),
         &mut input,
         &mut output,
         &mut errors,
@@ -164,13 +169,78 @@ fn many_interruptions_in_a_row_change_nothing(rt: HostRuntime) -> Result<(), Fai
 fn a_watch_is_of_the_file_that_was_opened(rt: HostRuntime) -> Result<(), Fail> {
     let alloc = rt.alloc();
     let (path, other) = ("hpb_program_watched", "hpb_program_unwatched");
+    let relay = Relay::start(&rt, alloc);
     let held = FileDisk::open_or_make(&rt, alloc, path, 4_096)?;
     drop(FileDisk::open_or_make(&rt, alloc, other, 4_096)?);
-    assert!(rt; Lookout::new(&rt, alloc, path, &held).is_ok());
-    let watched = Lookout::new(&rt, alloc, other, &held);
+    assert!(rt; Lookout::new(&rt, alloc, path, &held, &relay).is_ok());
+    let watched = Lookout::new(&rt, alloc, other, &held, &relay);
     assert!(rt; matches!(watched, Err(FileFault::Busy)));
     drop(held);
     fs::remove_file(&rt, path)?;
     fs::remove_file(&rt, other)?;
+    Ok(())
+}
+
+/// For how many milliseconds a pipe has nothing.
+const PAUSE: i32 = 50;
+
+#[test]
+fn a_stream_that_must_not_wait_is_waited_for(rt: HostRuntime) -> Result<(), Fail> {
+    let (reader, writer) = pipe(&rt)?;
+    os::set_nonblocking(reader.as_raw_fd(), true);
+    let later = move || {
+        let mut writer = writer;
+        wait_for(-1, 0, PAUSE);
+        let _ = writer.write(b"SHOW");
+    };
+    let thread = thread::spawn(&rt, later)?;
+    let mut found = [0; 8];
+    let count = Waiting::new(reader).read(&mut found)?;
+    thread.join(&rt);
+    assert_eq!(rt; count, 4);
+    assert_eq!(rt; &found[..4], b"SHOW".as_slice());
+    Ok(())
+}
+
+/// More notices than any pipe has room for, each of which takes nearly a page of it.
+const MANY_NOTICES: usize = 40;
+
+/// What a pipe has at the moment, which must not wait.
+fn taken(alloc: Global, pipe: &mut PipeReader) -> Result<String, Fail> {
+    let mut bytes = Vec::new(alloc);
+    let mut part = [0; 4_096];
+    for _ in 0..MANY_NOTICES {
+        match pipe.read(&mut part) {
+            Ok(count) => bytes.extend_from_slice(&part[..count])?,
+            Err(_) => break,
+        }
+    }
+    Ok(String::from_utf8(bytes)?)
+}
+
+#[test]
+fn notices_without_room_are_counted(rt: HostRuntime) -> Result<(), Fail> {
+    let alloc = rt.alloc();
+    let (mut reader, lines) = pipe(&rt)?;
+    let (over, _) = pipe(&rt)?;
+    os::set_nonblocking(reader.as_raw_fd(), true);
+    os::set_nonblocking(lines.as_raw_fd(), true);
+    let relay = Relay::over(alloc, Some(Ends { lines, over }));
+    let mut long = String::new(alloc);
+    for _ in 0..4_000 {
+        long.push('x')?;
+    }
+    for _ in 0..MANY_NOTICES {
+        relay.notify(long.as_str());
+    }
+    let found = taken(alloc, &mut reader)?;
+    let count = found.as_str().lines().count();
+    assert_eq!(rt; found.len(), count * 4_006);
+    relay.notify("the last");
+    let left_out = MANY_NOTICES - count.min(MANY_NOTICES);
+    let wanted = format!(in alloc;
+        "hpb: {left_out} notices were not written: nobody read standard error, or memory was refused\nhpb: the last\n"
+    )?;
+    assert_eq!(rt; taken(alloc, &mut reader)?, wanted);
     Ok(())
 }

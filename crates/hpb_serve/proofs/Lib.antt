@@ -9,3 +9,4 @@ pub mod Steps
 pub mod InFlight
 pub mod Lasting
 pub mod Posts
+mod Crossing

@@ -2,12 +2,16 @@
 ghost use Rattle.std.specs.Prelude.{◌≡◌, ◌<◌, ◌≤◌, []};
 ghost use Rattle.hpb_serve.specs.Ended.{EndsWith};
 
+use crate::door::Door;
 use crate::looking::Looking;
-use crate::{SessionEnd, finish_client, run_session};
+use crate::watching::Watch;
+use crate::{EndCause, Session, SessionEnd, finish_client, run_session};
 use hpb_house::Halt;
 use hpb_rings::Client;
 use std::alloc::Global;
-use std::net::{Shutdown, TcpStream};
+use std::cell::Cell;
+use std::io;
+use std::net::Shutdown;
 use std::sync::Wait;
 
 /// How often a session looks at its connection for more to read before it sleeps until there is some.
@@ -16,20 +20,26 @@ const READ_LOOKS: u32 = 100;
 /// How often it looks for an answer of the house before it sleeps until one comes.
 const ANSWER_LOOKS: u32 = 400;
 
-/// A client for which no letter is outstanding, and how many sessions there are.
+/// A client for which no letter is outstanding, and which of how many sessions it has.
 #[derive(Drop)]
 pub(crate) struct Idle {
     pub(crate) client: Client<Halt>,
+    /// From 0 on.
+    number: usize,
     sessions: usize,
     ghost idle: { client.waiting.items ≡ [] },
 }
 
 impl Idle {
-    pub(crate) fn new(client: Client<Halt>, sessions: usize) -> Idle
+    pub(crate) fn new(client: Client<Halt>, number: usize, sessions: usize) -> Idle
         requires { client.waiting.items ≡ [] }
         ensures { result.client ≡ client }
     {
-        Idle { client, sessions }
+        Idle {
+            client,
+            number,
+            sessions,
+        }
     }
 }
 
@@ -44,31 +54,45 @@ fn looks_among(looks: u32, sessions: usize) -> u32
     if sessions <= MOST_LOOKING { looks } else { 0 }
 }
 
-/// Runs a client's session over its connection, which is closed at the end. Without a connection the client is finished
-/// at once.
+/// Runs a client's session over the connection that it gets at the door, which is closed at the end. Without one the
+/// client is finished at once.
 ///
-/// What ends the session early, 90 `memory` or 92 `stream`, ends nothing else.
-pub(crate) fn serve_connection<R: Wait>(
+/// What ends the session early, 90 `memory` or 92 `stream`, ends nothing else. A watch is told why it has ended.
+pub(crate) fn serve_connection<R: Wait, V: Watch>(
     rt: &R,
     alloc: Global,
-    connection: Option<TcpStream>,
+    door: &Door,
+    watch: &V,
     idle: Idle,
 ) -> SessionEnd<Halt>
     ensures { EndsWith idle.client result }
 {
     let Idle {
         client,
+        number,
         sessions,
         ..
     } = idle;
-    let Some(stream) = connection else {
+    let Some(guest) = door.enter(rt, watch, number) else {
         return SessionEnd::Finished(finish_client(rt, client));
     };
-    let mut reader = Looking::new(&stream, looks_among(READ_LOOKS, sessions));
+    let stream = &guest.stream;
+    let failure = Cell::new(None);
+    let mut reader = Looking::new(stream, looks_among(READ_LOOKS, sessions), &failure);
     let mut writer = reader;
     let looks = looks_among(ANSWER_LOOKS, sessions);
     let session = run_session(rt, alloc, &mut reader, &mut writer, client, looks);
     // A connection that its other side has closed is shut down.
     let _ = stream.shutdown(Shutdown::Both);
+    watch.ended(&guest.place, cause_of(&session, failure.get()));
     session.end
+}
+
+/// Why a session has ended, with how the last call of its connection failed, if it did.
+fn cause_of(session: &Session<Halt>, failure: Option<io::Error>) -> EndCause {
+    match (&session.end, session.fault) {
+        (SessionEnd::Left(_), _) => EndCause::Order,
+        (_, Err(fault)) => EndCause::Fault(fault, failure),
+        (_, Ok(())) => EndCause::Closed,
+    }
 }

@@ -2,6 +2,7 @@
 
 use hpb_rings::{Client, Report};
 use hpb_server::SessionFault;
+use std::io;
 
 /// How a session ended.
 #[derive(Drop)]
@@ -19,4 +20,15 @@ pub struct Session<M: Copy> {
     pub end: SessionEnd<M>,
     /// What ended it before the end of its input: 90 `memory` or 92 `stream`.
     pub fault: Result<(), SessionFault>,
+}
+
+/// Why a session over a connection has ended.
+#[derive(Clone, Copy, Debug)]
+pub enum EndCause {
+    /// The other side has ended its connection.
+    Closed,
+    /// 90 `memory` or 92 `stream`, with how the last call of the connection failed, if it did.
+    Fault(SessionFault, Option<io::Error>),
+    /// 95 `order`: an answer came that isn't the one that it waited for.
+    Order,
 }

@@ -1,31 +1,43 @@
 //! Reading a connection by looks, before it is waited for.
+ghost use Rattle.std.specs.Io.{ReadsAtMost, WritesAtMost};
 
+use std::cell::Cell;
 use std::io::{ErrorKind, Read, Write};
 use std::net::TcpStream;
 use std::{io, thread};
 
 /// A side of a connection that is looked at for more to read, so many times, before its thread sleeps until there is
-/// some. Other threads run between two looks. With 0 looks it sleeps at once.
+/// some. Other threads run between two looks. With 0 looks it sleeps at once. It notes how a call has failed.
 #[derive(Clone, Copy)]
 pub(crate) struct Looking<'a> {
     stream: &'a TcpStream,
     looks: u32,
+    failure: &'a Cell<Option<io::Error>>,
 }
 
 impl<'a> Looking<'a> {
     /// A side of a connection, by which each write is sent at once.
-    pub(crate) fn new(stream: &'a TcpStream, looks: u32) -> Looking<'a> {
+    pub(crate) fn new(
+        stream: &'a TcpStream,
+        looks: u32,
+        failure: &'a Cell<Option<io::Error>>,
+    ) -> Looking<'a> {
         // Where either is refused the connection serves as well, and more slowly.
         let _ = stream.set_nodelay(true);
         if looks > 0 {
             let _ = stream.set_nonblocking(true);
         }
-        Looking { stream, looks }
+        Looking {
+            stream,
+            looks,
+            failure,
+        }
     }
-}
 
-impl Read for Looking<'_> {
-    fn read(&mut self, buf: &mut [u8]) -> io::Result<usize> {
+    /// Reads what has come, and waits for it behind the last look.
+    fn look(&self, buf: &mut [u8]) -> io::Result<usize>
+        ensures { ReadsAtMost result buf.new }
+    {
         let mut stream = self.stream;
         if self.looks == 0 {
             return stream.read(buf);
@@ -42,10 +54,11 @@ impl Read for Looking<'_> {
         let _ = stream.set_nonblocking(true);
         ended
     }
-}
 
-impl Write for Looking<'_> {
-    fn write(&mut self, buf: &[u8]) -> io::Result<usize> {
+    /// Writes as much as the other side takes, and waits until it takes some.
+    fn send(&self, buf: &[u8]) -> io::Result<usize>
+        ensures { WritesAtMost result buf.now }
+    {
         let mut stream = self.stream;
         match stream.write(buf) {
             Err(error) if error.kind() == ErrorKind::WouldBlock => {}
@@ -55,6 +68,29 @@ impl Write for Looking<'_> {
         stream.set_nonblocking(false)?;
         let ended = stream.write(buf);
         let _ = stream.set_nonblocking(true);
+        ended
+    }
+
+    /// Notes how a call has ended.
+    fn note(&self, ended: &io::Result<usize>) {
+        if let Err(error) = ended {
+            self.failure.set(Some(*error));
+        }
+    }
+}
+
+impl Read for Looking<'_> {
+    fn read(&mut self, buf: &mut [u8]) -> io::Result<usize> {
+        let ended = self.look(buf);
+        self.note(&ended);
+        ended
+    }
+}
+
+impl Write for Looking<'_> {
+    fn write(&mut self, buf: &[u8]) -> io::Result<usize> {
+        let ended = self.send(buf);
+        self.note(&ended);
         ended
     }
 

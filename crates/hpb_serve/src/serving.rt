@@ -32,9 +32,9 @@ pub struct Served<D: Disk + Drop> {
 
 /// Serves so many sessions, from 1 to 32, with an opened auction, over connections to a listener.
 ///
-/// `LISTENING` with the listener's port is written once the house is started. Then it accepts one connection for each
-/// session, with a thread of its own, and closes the listener. It waits until all sessions have ended, and closes the
-/// house. An accept that fails counts as a session that ended. What ends one session, 90 `memory` or 92 `stream`, ends
+/// `LISTENING` with the listener's port is written once the house is started. Then each session gets a thread of its own,
+/// and once all have theirs each accepts its connection, one after another; the last one closes the listener. It waits
+/// until all sessions have ended, and closes the house. An accept that fails counts as a session that ended. What ends one session, 90 `memory` or 92 `stream`, ends
 /// no other.
 ///
 /// Refused: 90 `memory` where memory or a thread is refused, 94 `place` where a session's place is, both before
@@ -68,9 +68,10 @@ pub fn serve_opened<
 }
 
 /// Serves so many sessions as `serve_opened` does, while a watch is told what happens beside them: of each place that
-/// is taken, of each connection that is not accepted, and then nothing is accepted for a moment, of a thread that is
-/// refused, and of the first call of the device that fails. It looks at each checkpoint until it has told people of
-/// something, and once all sessions have ended.
+/// is taken, and of its end, of each connection that is not accepted, and then nothing is accepted for a moment, of a
+/// thread that is refused, of the first call of the device that fails, and of a device that somebody else has written.
+/// For that the whole device is compared at each checkpoint, until it differs, and once all sessions have ended. The
+/// watch looks at each checkpoint until it has told people of something, and once all sessions have ended.
 pub fn serve_watched<
     H: Net<Listener = TcpListener, Stream = TcpStream> + Threads + Wait + Sync,
     D: Disk + Drop + Send,

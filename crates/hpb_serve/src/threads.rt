@@ -7,20 +7,20 @@ ghost use Rattle.hpb_serve.specs.Ended.{LeavesOne};
 ghost use Rattle.hpb_serve.specs.declared.fault.ThreadsFault.TheVariants.{Memory};
 
 use crate::connection::{Idle, serve_connection};
+use crate::door::Door;
 use crate::ends::{OfClient, join_sessions};
 use crate::fault::ThreadsFault;
-use crate::watching::{Rounds, Watch};
+use crate::watching::{Rounds, Watch, look_last};
 use crate::{SessionEnd, finish_client};
 use hpb_disk::Disk;
 use hpb_house::{Halt, House, Incoming, Naming, OpenGate, Workers};
 use hpb_rings::{Client, Report};
 use std::alloc::Global;
-use std::net::{TcpListener, TcpStream};
+use std::net::TcpListener;
 use std::snapshot::Snapshot;
 use std::sync::Wait;
 use std::thread;
-use std::thread::{Parker, PromisedHandle, Scope, Threads};
-use std::time::Duration;
+use std::thread::{PromisedHandle, Scope, Threads};
 
 /// Finishes clients that have no session.
 fn finish_clients<R: Wait>(rt: &R, clients: Vec<Client<Halt>>)
@@ -31,37 +31,17 @@ fn finish_clients<R: Wait>(rt: &R, clients: Vec<Client<Halt>>)
     }
 }
 
-/// How long nothing is accepted after a connection that was not, in milliseconds: what was missing may be there then.
-const MISSED_WAIT: u64 = 100;
-
-/// The next connection. One that is not accepted has ended, and a watch is told of it.
-fn next_connection<V: Watch, R: Wait>(
-    rt: &R,
-    listener: &TcpListener,
-    watch: &V,
-) -> Option<TcpStream> {
-    match listener.accept() {
-        Ok((stream, _)) => Some(stream),
-        Err(error) => {
-            watch.missed(&error);
-            Parker::new().park_timeout(rt, Duration::from_millis(MISSED_WAIT));
-            None
-        }
-    }
-}
-
-/// Accepts a connection for each client, one after another, and starts its session in a thread of its own. Then the
-/// listener is closed.
+/// Starts a session for each client, in a thread of its own, before any of them takes a connection.
 ///
-/// 90 where a thread is refused. That session is then run by this thread, and is the last: the clients after it are
+/// 90 where a thread is refused. The sessions that have one are served all the same, and the other clients are
 /// finished.
-fn start_sessions<'s, E, R: Threads + Wait + Sync, V: Watch>(
+fn start_sessions<'s, E, R: Threads + Wait + Sync, V: Watch + Sync>(
     scope: &Scope<'s, E>,
     rt: &'s R,
     alloc: Global,
     clients: Vec<Client<Halt>>,
-    listener: TcpListener,
-    watch: &V,
+    door: &'s Door,
+    watch: &'s V,
     threads: Vec<PromisedHandle<SessionEnd<Halt>, OfClient>>,
 ) -> Result<Vec<PromisedHandle<SessionEnd<Halt>, OfClient>>, ThreadsFault>
     requires idle { All (λ client. client.waiting.items ≡ []) clients.items }
@@ -69,38 +49,40 @@ fn start_sessions<'s, E, R: Threads + Wait + Sync, V: Watch>(
     ensures clients { IfOk result (λ started. map (λ thread. thread.promise.client.value) started.items ≡ clients.items) }
     ensures fault { IfErr result (λ fault. fault ≡ Memory) }
 {
+    let shut = door.hold(rt);
     let sessions = clients.len();
     let mut threads = threads;
-    let mut open = Some(listener);
-    let mut taken = 0usize;
+    let mut is_whole = true;
     for client in clients {
-        let Some(listener) = &open else {
+        if !is_whole {
             finish_client(rt, client);
             continue;
-        };
-        let connection = next_connection(rt, listener, watch);
-        taken = taken.saturating_add(1);
-        watch.taken(taken, sessions);
+        }
         let promise = OfClient {
             client: Snapshot::of(&client),
         };
-        let idle = Idle::new(client, sessions);
-        let session = move || serve_connection(rt, alloc, connection, idle);
+        let idle = Idle::new(client, threads.len(), sessions);
+        let session = move || serve_connection(rt, alloc, door, watch, idle);
         match scope.spawn_with(promise, session) {
             Ok(thread) => {
                 if threads.push(thread).is_err() {
-                    open = None;
+                    is_whole = false;
+                    // That session runs, and is the last.
+                    door.admit(threads.len().saturating_add(1));
                 }
             }
             Err(refused) => {
                 watch.refused_thread();
-                open = None;
+                is_whole = false;
+                // This session has no thread to wait in: the door admits it no more, and its client is finished.
+                door.admit(threads.len());
                 let session = refused.value;
                 session();
             }
         }
     }
-    if open.is_some() {
+    drop(shut);
+    if is_whole {
         Ok(threads)
     } else {
         Err(ThreadsFault::Memory)
@@ -110,9 +92,9 @@ fn start_sessions<'s, E, R: Threads + Wait + Sync, V: Watch>(
 /// Runs the workers of a house and a session for each client, and waits for all of them: of each client its report.
 ///
 /// 90 where memory or a thread is refused, 95 where a session left its client: that is handed back. Each client that
-/// has no session is finished, so that the committer ends. A watch is told of places that are taken, of connections
-/// that were not accepted, of a thread that was refused and of a device that failed, and looks at each checkpoint, and
-/// at the end unless a thread was refused.
+/// has no session is finished, so that the committer ends. A watch is told of each place that is taken and of its end,
+/// of connections that were not accepted, of a thread that was refused, and of a device that failed or that somebody
+/// else has written. It looks at each checkpoint, and at the end unless a thread was refused.
 pub(crate) fn run_threads<
     D: Disk + Drop + Send,
     W: Wait + Drop + Send,
@@ -132,6 +114,8 @@ pub(crate) fn run_threads<
     ensures reports { IfOk result (λ reports. AreReportsOf clients.items reports.items) }
     ensures left { IfErr result (LeavesOne house.now.opened (map (λ client. client.seat) clients.items)) }
 {
+    let entrance = Door::new(listener, clients.len());
+    let door = &entrance;
     thread::scope(
         thread::scope_env(),
         rt,
@@ -143,16 +127,16 @@ pub(crate) fn run_threads<
         {
             let reports = Vec::with_capacity(alloc, clients.len())?;
             let room = Vec::with_capacity(alloc, clients.len())?;
-            let rounds = Rounds::new(watch);
+            let rounds = Rounds::new(house, watch);
             let Ok(workers) = Workers::start(scope, rt, house, incoming, OpenGate, rounds) else {
                 watch.refused_thread();
                 finish_clients(rt, clients);
                 return Err(ThreadsFault::Memory);
             };
-            let threads = start_sessions(scope, rt, alloc, clients, listener, watch, room)?;
+            let threads = start_sessions(scope, rt, alloc, clients, door, watch, room)?;
             let joined = join_sessions(rt, house, threads, reports);
             let _ = workers.join(rt);
-            watch.look_last();
+            look_last(rt, house, watch);
             joined
         },
     )

@@ -135,6 +135,18 @@ fn advise_of_file<W: fmt::Write>(
             f,
             "{file}.new is there, by which name {file} is made first: if no other hpb makes it now, give that one another name"
         ),
+        FileFault::BesideForeign => write!(
+            f,
+            "{file}.new is another user's, and {file} is made by that name first: name a file in a folder that only you may write"
+        ),
+        FileFault::BesideWritable => write!(
+            f,
+            "{file}.new may be written by others, and {file} is made by that name first: if no other hpb makes it now, give that one another name"
+        ),
+        FileFault::Foreign => write!(
+            f,
+            "{file} is another user's, who could change the auction: name a file that isn't there, in a folder that only you may write"
+        ),
         FileFault::Limit { len, limit } => write!(
             f,
             "{file} wants {len} bytes, and this process may write no more than {limit} to a file: let it write more (ulimit -f)"
@@ -243,11 +255,11 @@ fn advise_of_open<W: fmt::Write>(
         Cause::Flawed(Flaw::Layout) => advise_of_layout(f, known),
         Cause::Flawed(Flaw::Checkpoint) => write!(
             f,
-            "{file} has no whole checkpoint, which no power cut does to it: leave it as it is, and take your newest copy"
+            "{file} has no whole checkpoint, which no power cut does to it: leave it as it is, and go back to your newest backup"
         ),
         Cause::Flawed(Flaw::Frame) => write!(
             f,
-            "a batch in the journal of {file} is damaged, which no power cut does to it: leave it as it is, and take your newest copy"
+            "a batch in the journal of {file} is damaged, which no power cut does to it: leave it as it is, and go back to your newest backup"
         ),
         Cause::Device => {
             write!(f, "{file} could not be read or synced: ")?;
@@ -280,7 +292,7 @@ fn advise_of_unformatted<W: fmt::Write>(
     }
     write!(
         f,
-        ". If it kept one, it was cut or overwritten: leave it as it is, and take your newest copy. If `hpb format` was stopped while it made the file, do the same again. To make a new auction, name a file that isn't there: `hpb format --file new.hpb --journal 64 < definition.json`"
+        ". If it kept one, it was cut or overwritten: leave it as it is, and go back to your newest backup. If `hpb format` was stopped while it made the file, do the same again. To make a new auction, name a file that isn't there: `hpb format --file new.hpb --journal 64 < definition.json`"
     )
 }
 
@@ -295,14 +307,14 @@ fn advise_of_layout<W: fmt::Write>(f: &mut fmt::Formatter<W>, known: Known<'_>) 
     let Some(seen) = known.seen else {
         return write!(
             f,
-            "the head of {file} is damaged, or the file was cut or made longer: leave it as it is, and take your newest copy"
+            "the head of {file} is damaged, or the file was cut or made longer: leave it as it is, and go back to your newest backup"
         );
     };
     let length = Length(seen.bytes);
     let SeenHead::Of(journal) = seen.head else {
         return write!(
             f,
-            "the head of {file} is damaged, and the file has {length}: leave it as it is, and take your newest copy"
+            "the head of {file} is damaged, and the file has {length}: leave it as it is, and go back to your newest backup"
         );
     };
     let (options, wanted) = (JournalOptions(journal), pages_for(journal));
@@ -314,13 +326,13 @@ fn advise_of_layout<W: fmt::Write>(f: &mut fmt::Formatter<W>, known: Known<'_>) 
     if seen.bytes < whole {
         return write!(
             f,
-            "it was cut. Leave it as it is, and take your newest copy"
+            "it was cut. Leave it as it is, and go back to your newest backup"
         );
     }
     let (name, look) = (Pasted(known.file()), CheckCommand(known.file()));
     write!(
         f,
-        "it was made longer. Copy it, cut it by `truncate -s {whole} {name}`, and see it by {look}; if it is refused still, take your newest copy"
+        "it was made longer. Copy it, cut it by `truncate -s {whole} {name}`, and see it by {look}; if it is refused still, go back to your newest backup"
     )
 }
 
@@ -346,6 +358,22 @@ impl fmt::Display for EndAdvice<'_> {
             advise_of_disk(f, known, end)?;
         }
         Ok(())
+    }
+}
+
+/// What is said of the file of a job that somebody else cut, made longer or wrote while it was served, once all sessions
+/// have ended.
+#[derive(Clone, Copy)]
+pub struct SpoiledAdvice<'a>(pub Known<'a>);
+
+impl fmt::Display for SpoiledAdvice<'_> {
+    fn fmt<W: fmt::Write>(&self, f: &mut fmt::Formatter<W>) -> fmt::Result {
+        let file = self.0.file();
+        let (file, look) = (Escaped(file), CheckCommand(file));
+        write!(
+            f,
+            "{file} was cut, made longer or overwritten while it was served, and may not keep what was answered by OK. See it by {look}, go back to your newest backup, and send again, in their order, the commands since then"
+        )
     }
 }
 
@@ -461,11 +489,19 @@ pub struct LedAdvice<'a> {
     pub stream: &'static str,
     /// The path of the job's file.
     pub file: &'a str,
+    /// Whether it leads to no file of that path, but to the one that has this name while it is made.
+    pub is_new: bool,
 }
 
 impl fmt::Display for LedAdvice<'_> {
     fn fmt<W: fmt::Write>(&self, f: &mut fmt::Formatter<W>) -> fmt::Result {
         let (stream, file) = (self.stream, Escaped(self.file));
+        if self.is_new {
+            return write!(
+                f,
+                "{stream} is {file}.new, as {file} is called while it is made: let it lead elsewhere"
+            );
+        }
         write!(
             f,
             "{stream} is {file}, the file of the auction itself: let it lead elsewhere"

@@ -21,16 +21,18 @@ mod tests;
 mod values;
 mod words;
 
-pub use advice::{EndAdvice, JobAdvice, LedAdvice, ScriptAdvice, StreamsAdvice};
+pub use advice::{EndAdvice, JobAdvice, LedAdvice, ScriptAdvice, SpoiledAdvice, StreamsAdvice};
 pub use escaped::{Escaped, Pasted};
 pub use hints::hint_for;
 pub use job_fault::JobFault;
 pub use known::{Known, SeenFile, SeenHead, known_of, pages_of};
 pub use laws::{limits_are, words_ask_for};
 pub use noted::{Failures, Noted};
-pub use notices::{Change, ChangeNotice, FailedNotice, SeatNotice, notify};
+pub use notices::{
+    Change, ChangeNotice, Ending, FailedNotice, MissedNotices, PlaceNotice, PlaceState, SeatNotice,
+};
 pub use run_end::RunEnd;
 pub use spelling::{CheckCommand, JobCommand, JournalOptions};
 pub use status::{ILL, WELL, WRONG_WORDS};
-pub use telling::{advise, answer_memory, hint, tell, tell_job, tell_memory};
+pub use telling::{advise, hint, tell, tell_job, tell_memory};
 pub use words::{Job, WordsFault, read_words};

@@ -1,16 +1,24 @@
-//! What people are told while an auction is served, by the descriptor of standard errors: the errors that the program
-//! was handed are written by the thread that has them alone.
+//! What people are told while an auction is served.
 
-use crate::escaped::{Escaped, Pasted};
+use crate::advice::ScriptAdvice;
+use crate::escaped::Escaped;
+use crate::noted::Failures;
 use hpb_rules::Refusal;
-use std::alloc::Global;
+use hpb_server::SessionFault;
+use std::net::SocketAddr;
 use std::{fmt, io};
 
-/// Writes a line of a notice to standard errors by one call, as far as memory allows. Where it fails there is nowhere
-/// left to say so.
-pub fn notify<N: fmt::Display + Copy>(alloc: Global, notice: N) {
-    if let Ok(line) = format!(in alloc; "hpb: {notice}\n") {
-        let _ = libc::write(libc::STDERR_FILENO, line.as_bytes());
+/// So many notices that people were not told.
+#[derive(Clone, Copy, Debug, PartialEq, Eq)]
+pub struct MissedNotices(pub u64);
+
+impl fmt::Display for MissedNotices {
+    fn fmt<W: fmt::Write>(&self, f: &mut fmt::Formatter<W>) -> fmt::Result {
+        match self.0 {
+            1 => f.write_str("1 notice was")?,
+            count => write!(f, "{count} notices were")?,
+        }
+        f.write_str(" not written: nobody read standard error, or memory was refused")
     }
 }
 
@@ -32,10 +40,12 @@ impl fmt::Display for FailedNotice<'_> {
 /// What became of a file while it was served.
 #[derive(Clone, Copy, Debug, PartialEq, Eq)]
 pub enum Change {
-    /// It has another length, or other first bytes.
+    /// It has another length, or bytes that somebody else wrote.
     Spoiled,
-    /// It has another name, or its name is another file's.
+    /// It has another name.
     Moved,
+    /// Its name was removed, or is another file's, and it has another one besides. This is its inode's number.
+    Unnamed { inode: u64 },
     /// It has no name any more, and this process, which has it open by this descriptor, is all that keeps it.
     Nameless { process: i32, descriptor: i32 },
 }
@@ -51,11 +61,11 @@ pub struct ChangeNotice<'a> {
 
 impl fmt::Display for ChangeNotice<'_> {
     fn fmt<W: fmt::Write>(&self, f: &mut fmt::Formatter<W>) -> fmt::Result {
-        let (file, name) = (Escaped(self.path), Pasted(self.path));
+        let file = Escaped(self.path);
         match (self.change, self.is_end) {
             (Change::Spoiled, _) => write!(
                 f,
-                "{file} was cut, made longer or overwritten while it was served: end the sessions, see it by `hpb check --file {name}`, and take your newest copy if it is refused"
+                "{file} was cut, made longer or overwritten while it was served, and may not keep what is answered by OK: end all sessions, and go back to your newest backup"
             ),
             (Change::Moved, false) => write!(
                 f,
@@ -64,6 +74,14 @@ impl fmt::Display for ChangeNotice<'_> {
             (Change::Moved, true) => write!(
                 f,
                 "{file} was moved while it was served: what was answered by OK is in the file that was opened, by its other name: see that it gets its name again"
+            ),
+            (Change::Unnamed { inode }, false) => write!(
+                f,
+                "{file} was removed or replaced while it was served, but its file has another name, which `find / -inum {inode}` finds: what is answered by OK goes on into it, and is kept as long as that name stays. See that it gets its name again"
+            ),
+            (Change::Unnamed { inode }, true) => write!(
+                f,
+                "{file} was removed or replaced while it was served, but its file has another name, which `find / -inum {inode}` finds: what was answered by OK is in it, and is kept as long as that name stays. See that it gets its name again"
             ),
             (
                 Change::Nameless {
@@ -77,7 +95,7 @@ impl fmt::Display for ChangeNotice<'_> {
             ),
             (Change::Nameless { .. }, true) => write!(
                 f,
-                "{file} was removed or replaced while it was served, and what was answered by OK is lost with it, unless it was copied: take your newest copy, and send again, in their order, the commands since then"
+                "{file} was removed or replaced while it was served, and what was answered by OK is lost with it, unless it was copied: go back to your newest backup, and send again, in their order, the commands since then"
             ),
         }
     }
@@ -105,6 +123,73 @@ impl fmt::Display for SeatNotice<'_> {
             SeatNotice::Refused => f.write_str(
                 "a thread was refused (ulimit -u tells how many there may be): sessions that have one are served to their end, and nobody else is taken",
             ),
+        }
+    }
+}
+
+/// A place of a session, and the other side of its connection.
+#[derive(Clone, Copy)]
+pub struct PlaceNotice {
+    /// Which place, from 1 on.
+    pub number: usize,
+    /// How many there are.
+    pub places: usize,
+    pub peer: SocketAddr,
+    pub state: PlaceState,
+}
+
+/// How a place stands.
+#[derive(Clone, Copy)]
+pub enum PlaceState {
+    /// A session has it.
+    Held,
+    /// That session has ended.
+    Ended(Ending),
+}
+
+impl fmt::Display for PlaceNotice {
+    fn fmt<W: fmt::Write>(&self, f: &mut fmt::Formatter<W>) -> fmt::Result {
+        let (number, places, peer) = (self.number, self.places, self.peer);
+        match self.state {
+            PlaceState::Held => write!(f, "place {number} of {places} is held by {peer}"),
+            PlaceState::Ended(ending) => write!(
+                f,
+                "place {number} of {places} ({peer}) has ended: {ending}"
+            ),
+        }
+    }
+}
+
+/// How a session over a connection has ended.
+#[derive(Clone, Copy)]
+pub enum Ending {
+    /// The other side has ended the connection.
+    Closed,
+    /// A fault ended it, with how the last call of the connection that failed did so, if one has.
+    Failed(SessionFault, Option<io::Error>),
+    /// It was given another answer than that to its command.
+    OutOfOrder,
+}
+
+impl fmt::Display for Ending {
+    fn fmt<W: fmt::Write>(&self, f: &mut fmt::Formatter<W>) -> fmt::Result {
+        match *self {
+            Ending::Closed => f.write_str("its connection ended"),
+            Ending::Failed(fault, failure) => {
+                let (number, word) = (fault.refusal().number(), fault.refusal().word());
+                let failures = Failures {
+                    reading: failure,
+                    writing: failure,
+                };
+                write!(f, "{number} {word}: {}", ScriptAdvice { fault, failures })
+            }
+            Ending::OutOfOrder => {
+                let (number, word) = (Refusal::Order.number(), Refusal::Order.word());
+                write!(
+                    f,
+                    "{number} {word}: it was given another answer than that to its command"
+                )
+            }
         }
     }
 }

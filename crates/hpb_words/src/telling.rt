@@ -49,13 +49,6 @@ pub fn tell_job<W: Write>(fault: &JobFault, output: &mut Noted<W>)
     }
 }
 
-/// Writes the line of 90, unless the output was cut. It takes no memory.
-pub fn answer_memory<W: Write>(output: &mut Noted<W>)
-    ensures { TellsLine (is_cut output.new) (W.contents output.old.stream) (W.contents output.new.stream) refusals.Memory }
-{
-    tell(Refusal::Memory, output);
-}
-
 /// What people are told of 90, without taking memory.
 const MEMORY_TOLD: &str = "hpb: 90 memory: memory was refused\n";
 

@@ -1,6 +1,6 @@
 //! Devices that are made to fail; gates; and a record that is replaced.
 
-use super::using::{has, reads_open};
+use super::using::{has, holds_two, reads_open};
 use crate::{Disk, Fate, FuseDisk, MemoryDisk, OnceDisk, close_gate, open_gate, replace_record};
 use std::alloc::Global;
 use std::process::Abort;
@@ -39,6 +39,7 @@ fn a_fuse_fails_from_a_call_on(rt: HostRuntime) -> Result<(), Fail> {
     assert_eq!(rt; fuse.fault(), 4);
     // The write is passed on, and the sync behind it isn't.
     assert_eq!(rt; script(&mut fuse), [true, true, true, false, false]);
+    assert!(rt; holds_two(&fuse, 2));
     check_behind(&rt, rt.alloc(), &fuse.into_inner(), 4, &[1, 1, 0, 0])
 }
 

@@ -1,11 +1,12 @@
 //! Devices in files.
 
-use super::using::{has, two_at, write};
+use super::using::{has, holds_two, two_at, write};
 use crate::{Disk, FileDisk, FileFault, MOST_BYTES};
 use std::alloc::Global;
 use std::fs::{self, File, Files};
+use std::io;
 use std::os::fd::IntoRawFd;
-use std::os::unix::fs::{PermissionsExt, symlink};
+use std::os::unix::fs::{PermissionsExt, chown, symlink};
 use std::test::Fail;
 
 /// What came of opening or making a file, in a word.
@@ -15,6 +16,9 @@ fn word(opened: Result<FileDisk, FileFault>) -> &'static str {
         Err(FileFault::Busy) => "busy",
         Err(FileFault::NotAFile) => "no file",
         Err(FileFault::Beside) => "beside",
+        Err(FileFault::BesideForeign) => "another's beside",
+        Err(FileFault::BesideWritable) => "writable beside",
+        Err(FileFault::Foreign) => "another's",
         Err(FileFault::Stream) => "stream",
         Err(FileFault::TooLong) => "too long",
         Err(FileFault::System(_)) => "refused",
@@ -37,6 +41,7 @@ fn a_file_is_made_written_and_opened_again(rt: HostRuntime) -> Result<(), Fail> 
     let _ = fs::remove_file(&rt, path);
     let mut disk = made(&rt, alloc, path)?;
     assert!(rt; has(&mut *disk, &[0; 4]));
+    assert_eq!(rt; permissions_of(&rt, path)?, 0o600);
     assert!(rt; write(&mut *disk, 1, &[1, 2]));
     assert!(rt; write(&mut *disk, 2, &[3]));
     assert!(rt; disk.sync().is_ok());
@@ -60,9 +65,14 @@ fn a_file_that_another_changes_or_cuts_fails(rt: HostRuntime) -> Result<(), Fail
     fs::write(&rt, path, [1, 2, 9, 4].as_slice())?;
     assert_eq!(rt; two_at(&mut *disk, 2), None);
     assert_eq!(rt; two_at(&mut *disk, 0), Some([1, 2]));
+    assert_eq!(rt; (holds_two(&*disk, 0), holds_two(&*disk, 2)), (true, false));
     File::options().write(true).open(&rt, path)?.set_len(3)?;
     assert_eq!(rt; two_at(&mut *disk, 2), None);
     assert_eq!(rt; two_at(&mut *disk, 0), Some([1, 2]));
+    assert_eq!(rt; (holds_two(&*disk, 0), holds_two(&*disk, 2)), (true, false));
+    // As it was.
+    fs::write(&rt, path, [1, 2, 3, 4].as_slice())?;
+    assert!(rt; holds_two(&*disk, 2));
     assert_eq!(rt; disk.len(), 4);
     fs::remove_file(&rt, path)?;
     Ok(())
@@ -145,16 +155,27 @@ fn the_descriptor_of_a_standard_stream_is_refused(rt: HostRuntime) -> Result<(),
     Ok(())
 }
 
+/// Who may do what with a file.
+fn permissions_of<R: Files>(rt: &R, path: &str) -> io::Result<u32> {
+    Ok(fs::metadata(rt, path)?.permissions().mode() & 0o7777)
+}
+
 #[test]
-fn what_a_killed_process_left_beside_is_used_again(rt: HostRuntime) -> Result<(), Fail> {
+fn what_a_killed_process_left_beside_is_removed(rt: HostRuntime) -> Result<(), Fail> {
     let alloc = rt.alloc();
     let (path, beside) = ("hpb_disk_left", "hpb_disk_left.new");
     let _ = fs::remove_file(&rt, path);
     // It was longer.
     fs::write(&rt, beside, [0; 8].as_slice())?;
+    fs::set_permissions(&rt, beside, fs::Permissions::from_mode(0o644))?;
+    let rest = File::open(&rt, beside)?;
     let mut disk = made(&rt, alloc, path)?;
     assert!(rt; has(&mut *disk, &[0; 4]));
     assert!(rt; !fs::exists(&rt, beside)?);
+    assert_eq!(rt; permissions_of(&rt, path)?, 0o600);
+    // Who has the rest open still hasn't the file.
+    assert_eq!(rt; rest.metadata()?.len(), 8);
+    assert!(rt; rest.try_lock().is_ok());
     assert!(rt; write(&mut *disk, 0, b"wxyz"));
     drop(disk);
     // The process ended between the two names.
@@ -195,6 +216,49 @@ fn what_stands_beside_is_not_overwritten(rt: HostRuntime) -> Result<(), Fail> {
     assert_eq!(rt; word(FileDisk::make(&rt, alloc, path, 4)), "opened");
     fs::remove_file(&rt, path)?;
     fs::remove_file(&rt, other)?;
+    Ok(())
+}
+
+#[test]
+fn what_others_may_write_beside_is_refused(rt: HostRuntime) -> Result<(), Fail> {
+    let alloc = rt.alloc();
+    let (path, beside) = ("hpb_disk_written", "hpb_disk_written.new");
+    let _ = fs::remove_file(&rt, path);
+    fs::write(&rt, beside, [0; 4].as_slice())?;
+    for mode in [0o620, 0o602] {
+        fs::set_permissions(&rt, beside, fs::Permissions::from_mode(mode))?;
+        assert_eq!(rt;
+            word(FileDisk::make(&rt, alloc, path, 4)),
+            "writable beside"
+        );
+        assert_eq!(rt; permissions_of(&rt, beside)?, mode);
+    }
+    fs::remove_file(&rt, beside)?;
+    Ok(())
+}
+
+#[test]
+fn what_is_another_users_is_refused(rt: HostRuntime) -> Result<(), Fail> {
+    let alloc = rt.alloc();
+    let (path, beside) = ("hpb_disk_another", "hpb_disk_another.new");
+    let _ = fs::remove_file(&rt, path);
+    fs::write(&rt, beside, [0; 4].as_slice())?;
+    // Only a user who may do all gives a file away.
+    if chown(&rt, beside, Some(1), None).is_ok() {
+        assert_eq!(rt;
+            word(FileDisk::make(&rt, alloc, path, 4)),
+            "another's beside"
+        );
+        assert!(rt; fs::exists(&rt, beside)?);
+        fs::rename(&rt, beside, path)?;
+        assert_eq!(rt;
+            word(FileDisk::open_or_make(&rt, alloc, path, 4)),
+            "another's"
+        );
+        assert_eq!(rt; word(FileDisk::open(&rt, alloc, path)), "opened");
+        fs::rename(&rt, path, beside)?;
+    }
+    fs::remove_file(&rt, beside)?;
     Ok(())
 }
 
@@ -252,6 +316,7 @@ fn a_file_that_is_read_alone_cannot_be_written(rt: HostRuntime) -> Result<(), Fa
     assert!(rt; !write(&mut *disk, 0, b"x"));
     assert!(rt; !has(&mut *disk, b"abcd"));
     assert!(rt; disk.sync().is_err());
+    assert!(rt; holds_two(&*disk, 0));
     drop(disk);
     assert_eq!(rt; fs::read(&rt, path)?.as_slice(), b"abcd".as_slice());
     fs::remove_file(&rt, path)?;

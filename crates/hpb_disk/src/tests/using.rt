@@ -25,6 +25,13 @@ pub(super) fn two_at<D: Disk>(disk: &mut D, at: usize) -> Option<[u8; 2]> {
     }
 }
 
+/// Whether nobody else has written two bytes of it.
+pub(super) fn holds_two<D: Disk>(disk: &D, at: usize) -> bool {
+    let mut room = [0; 2];
+    let len = disk.len();
+    at <= len && len - at >= 2 && disk.still_holds(at, &mut room)
+}
+
 /// Whether a write succeeds.
 pub(super) fn write<D: Disk>(disk: &mut D, at: usize, bytes: &[u8]) -> bool {
     let len = disk.len();

@@ -7,6 +7,7 @@ use hpb_recover::Cause;
 use hpb_server::SessionFault;
 use std::alloc::{AllocError, Global};
 use std::io;
+use std::net::{Ipv4Addr, SocketAddr};
 use std::test::Fail;
 
 /// What is known of a job of which no call of a stream failed, and nothing was seen.
@@ -77,6 +78,18 @@ fn faults_of_files_are_told(rt: HostRuntime) -> Result<(), Fail> {
         (
             JobFault::File(FileFault::Stream),
             "a standard stream leads to a.hpb: let it lead elsewhere",
+        ),
+        (
+            JobFault::File(FileFault::BesideForeign),
+            "a.hpb.new is another user's, and a.hpb is made by that name first: name a file in a folder that only you may write",
+        ),
+        (
+            JobFault::File(FileFault::BesideWritable),
+            "a.hpb.new may be written by others, and a.hpb is made by that name first: if no other hpb makes it now, give that one another name",
+        ),
+        (
+            JobFault::File(FileFault::Foreign),
+            "a.hpb is another user's, who could change the auction: name a file that isn't there, in a folder that only you may write",
         ),
         (
             JobFault::File(denied),
@@ -153,6 +166,26 @@ fn a_disk_that_fails_while_it_is_served_is_told(rt: HostRuntime) -> Result<(), F
 }
 
 #[test]
+fn notices_that_are_missing_are_told(rt: HostRuntime) -> Result<(), Fail> {
+    for (count, wanted) in [
+        (
+            1,
+            "1 notice was not written: nobody read standard error, or memory was refused",
+        ),
+        (
+            12,
+            "12 notices were not written: nobody read standard error, or memory was refused",
+        ),
+    ] {
+        assert_eq!(rt;
+            format!(in rt.alloc(); "{}", MissedNotices(count))?.as_str(),
+            wanted
+        );
+    }
+    Ok(())
+}
+
+#[test]
 fn each_line_of_a_fault_is_told(rt: HostRuntime) -> Result<(), Fail> {
     for (fault, line) in [
         (JobFault::Place, "ERR 94 place\n"),
@@ -164,5 +197,61 @@ fn each_line_of_a_fault_is_told(rt: HostRuntime) -> Result<(), Fail> {
         assert!(rt; !output.is_cut());
         assert_eq!(rt; output.stream.as_slice(), line.as_bytes());
     }
+    Ok(())
+}
+
+/// What is told of the third of eight places.
+fn told_of_place(alloc: Global, state: PlaceState) -> Result<String, AllocError> {
+    let notice = PlaceNotice {
+        number: 3,
+        places: 8,
+        peer: SocketAddr::from((Ipv4Addr::LOCALHOST, 53_210)),
+        state,
+    };
+    format!(in alloc; "{notice}")
+}
+
+#[test]
+fn places_and_their_ends_are_told(rt: HostRuntime) -> Result<(), Fail> {
+    let reset = Some(io::Error::from_raw_os_error(libc::ECONNRESET));
+    for (state, wanted) in [
+        (PlaceState::Held, "place 3 of 8 is held by 127.0.0.1:53210"),
+        (
+            PlaceState::Ended(Ending::Closed),
+            "place 3 of 8 (127.0.0.1:53210) has ended: its connection ended",
+        ),
+        (
+            PlaceState::Ended(Ending::Failed(SessionFault::Reader, reset)),
+            "place 3 of 8 (127.0.0.1:53210) has ended: 92 stream: reading: Connection reset by peer (os error 104)",
+        ),
+        (
+            PlaceState::Ended(Ending::Failed(SessionFault::Reader, None)),
+            "place 3 of 8 (127.0.0.1:53210) has ended: 92 stream: reading: more than 1,000,000,000 bytes",
+        ),
+        (
+            PlaceState::Ended(Ending::Failed(SessionFault::Writer, None)),
+            "place 3 of 8 (127.0.0.1:53210) has ended: 92 stream: writing: nothing more was taken",
+        ),
+        (
+            PlaceState::Ended(Ending::Failed(SessionFault::Memory, None)),
+            "place 3 of 8 (127.0.0.1:53210) has ended: 90 memory: memory was refused",
+        ),
+        (
+            PlaceState::Ended(Ending::OutOfOrder),
+            "place 3 of 8 (127.0.0.1:53210) has ended: 95 order: it was given another answer than that to its command",
+        ),
+    ] {
+        assert_eq!(rt; told_of_place(rt.alloc(), state)?.as_str(), wanted);
+    }
+    Ok(())
+}
+
+const SPOILED: &str =
+    "a.hpb was cut, made longer or overwritten while it was served, and may not keep what was answered by OK. See it by `hpb check --file a.hpb`, go back to your newest backup, and send again, in their order, the commands since then";
+
+#[test]
+fn a_file_that_others_wrote_is_told_at_the_end(rt: HostRuntime) -> Result<(), Fail> {
+    let advice = SpoiledAdvice(known_of_serving());
+    assert_eq!(rt; format!(in rt.alloc(); "{advice}")?.as_str(), SPOILED);
     Ok(())
 }

@@ -12,5 +12,5 @@ returns-in-Ok-clause-told g c =
     let cut = is_cut c.args.output.now in
     let taken = subst (λ (end : Result FileEnd JobFault). IfOk end (λ (served : FileEnd). IsTaken cut served.said)) c.in-Ok.is c.requires in
     subst (λ (end : Result FileEnd JobFault). TellsServed cut (g.W.Write.contents c.args.output.now.stream) (g.W.Write.contents c.args.output.now.stream)
-    (g.E.Write.contents c.args.errors.now) (g.E.Write.contents c.tell_ended.new.errors) end c.tell_ended.result) (sym c.in-Ok.is)
-    (Keeps-refl (g.W.Write.contents c.args.output.now.stream), taken, c.tell_ended.ensures.told)
+    (g.E.Write.contents c.args.errors.now) (g.E.Write.contents c.tell_closed.new.errors) end c.tell_closed.result) (sym c.in-Ok.is)
+    (Keeps-refl (g.W.Write.contents c.args.output.now.stream), taken, c.tell_closed.ensures.told)

@@ -1,0 +1,26 @@
+//! A device in pieces.
+ghost use Rattle.std.specs.Prelude.{◌≡◌, ◌↔◌, ◌≤◌, ◌+◌, ◌*◌, IfSome, IsSome};
+ghost use Rattle.hpb_house.specs.Pieces.{IsPiece};
+
+/// Where a piece of a device begins, and how many bytes it has.
+#[derive(Clone, Copy)]
+pub(crate) struct Piece {
+    pub(crate) at: usize,
+    pub(crate) len: usize,
+}
+
+/// The piece of a device that is so long, by its number: the first is 0. Each has so many bytes, the last one fewer where
+/// not so many are left. `None` where there is no such piece.
+pub(crate) fn find_piece(device: usize, most: usize, number: usize) -> Option<Piece>
+    ensures found { IsSome result ↔ IsPiece device most number }
+    ensures at { IfSome result (λ piece. piece.at ≡ number * most) }
+    ensures within { IfSome result (λ piece. (piece.len ≤ most) × (piece.at + piece.len ≤ device)) }
+{
+    let at = number.checked_mul(most)?;
+    let left = device.checked_sub(at)?;
+    let len = left.min(most);
+    if len == 0 {
+        return None;
+    }
+    Some(Piece { at, len })
+}

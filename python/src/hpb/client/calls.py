@@ -1,0 +1,132 @@
+"""What both clients share: the words of a client, its core, and what an outcome is to the one that called."""
+import os
+from collections.abc import Sequence
+from typing import TypeVar
+
+from hpb.client.core import Core, Done, Drop, Effect, Keep
+from hpb.client.outcomes import Outcome, TicketsNotKept
+from hpb.client.reaching import Settings, Turns
+from hpb.client.tickets import TicketFile, sender_of
+from hpb.lines import Accepted, Answer, AskWho, Command, NoAnswer, NodeShown, Question, Show, Shown, WhoShown, format_line
+from hpb.refusals import FrontRefused, HpbError, Refused
+
+Told = TypeVar("Told", Accepted, Shown, NodeShown, WhoShown)
+
+
+class Calls:
+    """A core with its file of tickets, its addresses, and the outcomes that have come. A shell reads and writes."""
+
+    def __init__(self, known: Settings, tickets: str | os.PathLike[str] | None) -> None:
+        self.settings = known
+        self.turns = Turns(known.addresses)
+        self.tickets = TicketFile(tickets) if tickets is not None else None
+        self.core = Core(known.token, self.tickets.known() if self.tickets else ())
+        self.outcomes: dict[int, Answer | HpbError] = {}
+        self.wanted: set[int] = set()
+        self.reason = ""
+        self._has_heard = False
+
+    def ask(self, lines: Sequence[Command | Question]) -> list[int]:
+        """Asks for lines, and keeps their outcomes until they are taken. ValueError, and none is asked for, where one can't be a line."""
+        for line in lines:
+            format_line(line)
+        numbers = [self.core.ask(line) for line in lines]
+        self.wanted.update(numbers)
+        return numbers
+
+    def give_up(self, number: int) -> bool:
+        """Its outcome isn't wanted any more; says whether its command may count."""
+        self.wanted.discard(number)
+        self.outcomes.pop(number, None)
+        return self.core.abandon(number)
+
+    def take(self, number: int) -> Answer | HpbError:
+        """An outcome that has come."""
+        self.wanted.discard(number)
+        return self.outcomes.pop(number)
+
+    def happened(self, effect: Effect) -> bool:
+        """An effect that isn't bytes for the connection. Says whether the connection is of use still.
+
+        Nothing is sent that can't be noted: where a note can't be made durable all that waits ends by `TicketsNotKept`.
+        """
+        match effect:
+            case Keep(note, is_urgent) if self.tickets:
+                try:
+                    self.tickets.note(note, is_urgent)
+                except OSError as fault:
+                    self.core.fail(TicketsNotKept(f"{self.tickets.path} can't be written: {fault.strerror}"))
+                    return False
+            case Done(number, outcome) if number in self.wanted:
+                self.outcomes[number] = outcome
+                self.turns.answered()
+            case Drop(reason):
+                self.reason = reason
+                self.turns.failed()
+                return False
+        return True
+
+    def connected(self) -> None:
+        """There is a connection."""
+        self._has_heard = False
+        self.core.connected()
+
+    def received(self, data: bytes) -> None:
+        """Bytes came by it."""
+        self._has_heard = True
+        self.core.received(data)
+
+    def lost(self, reason: str) -> None:
+        """It has ended, or none could be made. An address that said nothing is left for the next one."""
+        self.reason = reason
+        if not self._has_heard:
+            self.turns.failed()
+        self._has_heard = False
+        self.core.lost()
+
+    def earlier_questions(self) -> list[Question]:
+        """What has to be asked, so that it is known which commands of an earlier client were accepted."""
+        commands = self.tickets.unanswered if self.tickets else ()
+        return [Show() if (bidder := sender_of(command)) is None else AskWho(bidder) for command in commands]
+
+    def earlier(self, answers: Sequence[Answer | HpbError]) -> list[tuple[Command, bool]]:
+        """Those commands, and whether each was accepted, by the answers to these questions: whether its ticket is used.
+
+        It rests on this: nobody else gives that sender's tickets.
+        """
+        kept: list[tuple[Command, bool]] = []
+        for command, answer in zip(self.tickets.unanswered if self.tickets else (), answers):
+            used = told(answer, Shown).next_ticket - 1 if sender_of(command) is None else told(answer, WhoShown).ticket
+            kept.append((command, command.ticket <= used))
+        return kept
+
+
+def told(answer: Answer | HpbError, kind: type[Told]) -> Told:
+    """The answer of the kind that was asked for; a refusal is raised, and so is what is no answer to that."""
+    if isinstance(answer, HpbError):
+        raise answer
+    if not isinstance(answer, kind):
+        raise NoAnswer(f"this is no answer to what was asked: {answer}")
+    return answer
+
+
+def answers_of(found: Sequence[Answer | HpbError]) -> list[Answer]:
+    """All answers, refusals among them; what has none is raised."""
+    answers: list[Answer] = []
+    for answer in found:
+        if isinstance(answer, HpbError) and not isinstance(answer, Refused | FrontRefused):
+            raise answer
+        answers.append(answer)
+    return answers
+
+
+def outcome(answer: Answer | HpbError) -> Outcome:
+    """What became of a command."""
+    return answer if isinstance(answer, HpbError) else told(answer, Accepted)
+
+
+def check_commands(commands: Sequence[Command]) -> None:
+    """A ticket is the client's to give: ValueError where a command has one."""
+    for command in commands:
+        if command.ticket:
+            raise ValueError(f"{command} has a ticket, which is the client's to give")

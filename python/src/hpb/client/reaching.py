@@ -1,0 +1,113 @@
+"""Where an auction is and how it is reached: addresses in turn, TLS, the token, and how long to wait. Times are in seconds."""
+import os
+import pathlib
+import re
+import socket
+import ssl
+import stat
+from dataclasses import dataclass, field
+from typing import Final
+
+from hpb.client.outcomes import NotWelcome
+
+_TOKEN: Final = re.compile(r"[!-~]{16,128}")
+_FIRST_PAUSE, _MOST_PAUSE = 0.05, 2.0
+# A system that misses the other end asks after so many silent seconds, so often and so many times.
+_KEEPALIVE: Final = {socket.TCP_KEEPIDLE: 30, socket.TCP_KEEPINTVL: 10, socket.TCP_KEEPCNT: 3}
+
+
+@dataclass(frozen=True)
+class Settings:
+    """How a client reaches its auction.
+
+    `timeout` is how long a call waits in all; `silence` after how long without an answer a connection is taken for lost, and
+    `connecting` how long one may take to be made.
+    """
+
+    addresses: tuple[tuple[str, int], ...]
+    token: str | None = None
+    context: ssl.SSLContext | None = None
+    timeout: float = 150.0
+    silence: float = 60.0
+    connecting: float = 10.0
+
+
+def settings(
+    host: str,
+    port: int,
+    others: tuple[tuple[str, int], ...] = (),
+    token: str | None = None,
+    ca: str | os.PathLike[str] | None = None,
+    plain: bool = False,
+    timeout: float = 150.0,
+    silence: float = 60.0,
+) -> Settings:
+    """The settings of a client's words. With a token all is TLS, but with `plain`; `ca` is the certificate that is trusted, else
+    those of the system are. ValueError where the words don't fit, OSError where `ca` can't be read."""
+    if token is not None and not _TOKEN.fullmatch(token):
+        raise ValueError("a token has 16 to 128 characters, none of them a space")
+    if plain and ca is not None:
+        raise ValueError("`ca` is for TLS, and `plain` is without")
+    for where in ((host, port), *others):
+        if not 1 <= where[1] <= 65535:
+            raise ValueError(f"{where[1]} is no port")
+    is_tls = not plain and (token is not None or ca is not None)
+    context = ssl.create_default_context(cafile=ca) if is_tls else None
+    return Settings(((host, port), *others), token, context, timeout, silence)
+
+
+def read_token(path: str | os.PathLike[str], name: str | None = None) -> str:
+    """The token of a file with one, or that of a name in a file of all. ValueError where others may read the file, or where it
+    has no such token."""
+    with open(path, encoding="ascii") as file:
+        status = os.fstat(file.fileno())
+        if stat.S_ISREG(status.st_mode) and status.st_mode & 0o077:
+            raise ValueError(f"{path}: others may read it; `chmod 600` it")
+        rows = [line.split() for line in file if line.strip() and not line.startswith("#")]
+    found = [row[-1] for row in rows if len(row) <= 2 and (not name or len(row) == 1 or row[0] == name)]
+    if len(found) != 1:
+        raise ValueError(f"{pathlib.Path(path)}: it has {len(found)} tokens{f' of {name}' if name else ''}, and not one")
+    return found[0]
+
+
+@dataclass
+class Turns:
+    """Which address is tried next, and how long to wait before: they are taken in turn, and with each turn the pause doubles."""
+
+    addresses: tuple[tuple[str, int], ...]
+    _tried: int = field(default=0, init=False)
+    _place: int = field(default=0, init=False)
+
+    def next(self) -> tuple[tuple[str, int], float]:
+        """The next address, and the pause before it, up to two seconds."""
+        turn, first = divmod(self._tried, len(self.addresses))
+        pause = 0.0 if turn == 0 else min(_MOST_PAUSE, _FIRST_PAUSE * 2 ** min(turn, 10)) if first == 0 else 0.0
+        address = self.addresses[self._place % len(self.addresses)]
+        self._tried += 1
+        return address, pause
+
+    def failed(self) -> None:
+        """The address that was taken last doesn't answer: another one is next."""
+        self._place += 1
+
+    def answered(self) -> None:
+        """It answers: it stays the first, and the pauses begin anew."""
+        self._tried = 0
+
+
+def set_up(connection: socket.socket) -> None:
+    """Sends at once, and asks after a silent other end. ConnectionError where the connection leads to itself.
+
+    A port of this machine that nobody serves may be given to the connection itself, and then all that is sent comes back.
+    """
+    if connection.getsockname() == connection.getpeername():
+        raise ConnectionRefusedError("nobody listens there, and the connection led to itself")
+    connection.setsockopt(socket.IPPROTO_TCP, socket.TCP_NODELAY, 1)
+    connection.setsockopt(socket.SOL_SOCKET, socket.SO_KEEPALIVE, 1)
+    for option, value in _KEEPALIVE.items():
+        connection.setsockopt(socket.IPPROTO_TCP, option, value)
+
+
+def not_trusted(fault: ssl.SSLCertVerificationError, host: str) -> NotWelcome:
+    """What a certificate that isn't trusted comes to."""
+    return NotWelcome(f"{host} isn't known by its certificate: {fault.verify_message}")

@@ -1,0 +1,122 @@
+"""A file in which a client notes its tickets, so that it knows after a crash of its own what it sent.
+
+A line `SENT BID x 3 b 210` is made durable before the line goes out, and `DONE BID x 3 b 210 = OK 7` is written with its answer. A last
+line without LF is half a line and isn't looked at. When the file is opened it is written anew with what still matters.
+"""
+import errno
+import fcntl
+import os
+import pathlib
+
+from hpb.lines import Bid, Close, Command, Stage, Waive, format_line, parse_line
+from hpb.refusals import HpbError
+
+
+class TicketsInUse(HpbError):
+    """Another program has the file of tickets: two programs can't number one bidder's commands."""
+
+
+class TicketFile:
+    """The tickets that a client gave, by their senders; one client has the file at a time.
+
+    `unanswered` are the commands that an earlier client sent and had no answer to, in their order. OSError where the file can't be
+    read or written, `ValueError` where it is no file of tickets.
+    """
+
+    def __init__(self, path: str | os.PathLike[str]) -> None:
+        self.path = pathlib.Path(path)
+        self._last: dict[str | None, int] = {}
+        self._sent: dict[str, Command] = {}
+        # Half a line may stand at its end.
+        self._is_torn = False
+        self._file = os.open(self.path, os.O_RDWR | os.O_CREAT | os.O_APPEND | os.O_CLOEXEC, 0o600)
+        try:
+            fcntl.flock(self._file, fcntl.LOCK_EX | fcntl.LOCK_NB)
+            if not os.path.samestat(os.fstat(self._file), os.stat(self.path)):
+                raise BlockingIOError
+            for line in self.path.read_text(encoding="latin-1").split("\n")[:-1]:
+                self._take(line)
+            self._write_anew()
+        except BlockingIOError:
+            os.close(self._file)
+            raise TicketsInUse(f"{self.path} is in use") from None
+        except BaseException:
+            os.close(self._file)
+            raise
+        self.unanswered = tuple(self._sent.values())
+
+    def known(self) -> list[tuple[str | None, int]]:
+        """The last used ticket of each bidder of whom no command is unanswered."""
+        unsure = {sender_of(command) for command in self.unanswered}
+        return [(bidder, last) for bidder, last in self._last.items() if bidder is not None and bidder not in unsure]
+
+    def note(self, text: str, is_urgent: bool) -> None:
+        """Adds a line, and with `is_urgent` returns once it is durable. OSError where it can't be, and from then on."""
+        if self._is_torn:
+            raise OSError(errno.EIO, "an earlier line couldn't be written")
+        self._is_torn = True
+        _write(self._file, f"{text}\n")
+        if is_urgent:
+            os.fdatasync(self._file)
+        self._is_torn = False
+        self._take(text)
+
+    def close(self) -> None:
+        """Ends the use of the file."""
+        os.close(self._file)
+
+    def _take(self, text: str) -> None:
+        kind, _, rest = text.partition(" ")
+        line, _, told = rest.partition(" = ")
+        command = parse_line(line) if kind in ("SENT", "DONE") else None
+        if not isinstance(command, Bid | Waive | Close | Stage):
+            raise ValueError(f"{self.path}: this is no line of tickets: {text!r}")
+        if kind == "SENT":
+            self._sent[line] = command
+            return
+        self._sent.pop(line, None)
+        if told.startswith("OK"):
+            sender = sender_of(command)
+            self._last[sender] = max(self._last.get(sender, 0), command.ticket)
+
+    def _write_anew(self) -> None:
+        """What still matters stands in a file of its own, which then takes the place of the old one."""
+        known = [f"DONE {format_line(_command_of(sender, last))} = OK" for sender, last in self._last.items()]
+        lines = known + [f"SENT {line}" for line in self._sent]
+        fresh = self.path.with_name(self.path.name + ".new")
+        file = os.open(fresh, os.O_RDWR | os.O_CREAT | os.O_TRUNC | os.O_APPEND | os.O_CLOEXEC, 0o600)
+        try:
+            fcntl.flock(file, fcntl.LOCK_EX | fcntl.LOCK_NB)
+            _write(file, "".join(f"{line}\n" for line in lines))
+            os.fsync(file)
+            os.rename(fresh, self.path)
+            _sync_folder(self.path.parent)
+        except BaseException:
+            os.close(file)
+            raise
+        self._file, old = file, self._file
+        os.close(old)
+
+
+def sender_of(command: Command) -> str | None:
+    """The bidder whose row a ticket is of; None is the auctioneer's."""
+    return command.bidder if isinstance(command, Bid | Waive) else None
+
+
+def _command_of(sender: str | None, ticket: int) -> Command:
+    return Close(ticket) if sender is None else Waive(sender, ticket)
+
+
+def _write(file: int, text: str) -> None:
+    """All of a text, however the system cuts it."""
+    data = text.encode("latin-1")
+    while data:
+        data = data[os.write(file, data) :]
+
+
+def _sync_folder(folder: pathlib.Path) -> None:
+    descriptor = os.open(folder, os.O_RDONLY | os.O_DIRECTORY | os.O_CLOEXEC)
+    try:
+        os.fsync(descriptor)
+    finally:
+        os.close(descriptor)

@@ -1,0 +1,165 @@
+"""Tells the commands of a front's record to an auction in memory, and shows who bid what.
+
+    tools/replay RECORD                              checks the record, and prints each bid by its round
+    tools/replay RECORD --file auction.hpb           compares with what the file keeps, too
+    tools/replay RECORD --log front.log              compares what SHOW was answered by the front's log, too
+    tools/replay RECORD --svg rounds.svg             draws revenue, prices and eligibility by round
+    tools/replay RECORD --commands 41                prints nothing but the commands from number 41 on, for a copy of the file
+
+RECORD is the record's first segment; the others stand beside it, as RECORD.2, RECORD.3, and all are read. What is checked: each entry's
+hash, and that it names the one before; each segment's seal; that numbers of commands follow one another; that each bid was sent by a
+name that may bid for its bidder; and that the auction in memory accepts each command with the number that it got. docs/FRONT.md says
+what that proves and what it doesn't.
+
+It ends with 0 if all is so, with 1 if something differs or the record is damaged, and with 2 if its words are wrong.
+"""
+import argparse
+import json
+import pathlib
+import sys
+from collections.abc import Iterator, Sequence
+
+from hpb.commands import parser
+from hpb.drawing.charts import Panel, picture
+from hpb.plain import plain
+from hpb.record import Damaged, Entry, record_entries
+from hpb.record.replay import Replay, replay
+from hpb.record.story import Story, read_story
+from hpb.refusals import HpbError, says
+
+_MOST_TOLD = 20
+
+
+def main() -> int:
+    """Reads the words, and returns the status."""
+    given = _read_words()
+    faults: Sequence[str]
+    try:
+        faults = _found_wrong(given)
+    except BrokenPipeError:
+        return 1
+    except Damaged as fault:
+        faults = [str(fault)]
+    except HpbError as fault:
+        faults = [says(fault)]
+    except OSError as fault:
+        faults = [f"{fault.filename or given.record}: {fault.strerror}"]
+    except (AttributeError, LookupError, TypeError, ValueError) as fault:
+        faults = [f"the record has an entry that no front writes: {fault!r}"]
+    for said in faults[:_MOST_TOLD]:
+        print(f"replay: {plain(said)}", file=sys.stderr)
+    if len(faults) > _MOST_TOLD:
+        print(f"replay: and {len(faults) - _MOST_TOLD} more", file=sys.stderr)
+    return 1 if faults else 0
+
+
+def _read_words() -> argparse.Namespace:
+    words = parser(__doc__)
+    words.add_argument("record", help="the record that a front wrote")
+    words.add_argument("--program", default="hpb", help="the program (default: hpb, as the shell finds it)")
+    words.add_argument("--file", help="the auction's file, or a copy: what it keeps is compared")
+    words.add_argument("--log", help="a log of the front: what SHOW was answered is compared")
+    words.add_argument("--svg", help="where the picture is written")
+    words.add_argument("--commands", type=int, metavar="FROM", help="print the commands from this number on, and nothing else")
+    return words.parse_args()
+
+
+def _found_wrong(given: argparse.Namespace) -> Sequence[str]:
+    """What is found wrong. All else is printed."""
+    story = read_story(record_entries(given.record))
+    if given.commands is not None:
+        for command in story.commands[max(given.commands, 1) - 1 :]:
+            print(plain(command.line))
+        return story.faults
+    try:
+        told = replay(story, given.program)
+    except HpbError as fault:
+        return [*story.faults, says(fault)]
+    told.look_at_shown(story.shown, "entry")
+    if given.log:
+        told.look_at_shown(_shown_by(given.log), "the log, line")
+    if given.file:
+        told.compare(given.file, given.program)
+    if given.svg:
+        pathlib.Path(given.svg).write_text(_drawn(told), encoding="utf-8")
+    print(*_bids_by_round(story), "", *_rounds(told), "", sep="\n")
+    faults = [*story.faults, *told.faults]
+    if not faults:
+        _print_sum(story, given.file)
+    return faults
+
+
+def _print_sum(story: Story, file: str | None) -> None:
+    compared = f", and the file {file} keeps what they lead to" if file else ""
+    segments = "one segment" if story.segments == 1 else f"{story.segments} segments"
+    print(f"{story.place.number} entries in one chain of hashes, in {segments}, {len(story.commands)} commands as in memory{compared}.")
+    print(f"The last hash is {story.place.hash}.")
+
+
+def _table(head: Sequence[str], rows: Sequence[Sequence[str | int]]) -> Iterator[str]:
+    """Columns of texts, those of numbers to the right."""
+    is_number = [bool(rows) and all(isinstance(row[place], int) or row[place] == "-" for row in rows) for place in range(len(head))]
+    texts = [[plain(cell) for cell in row] for row in [head, *rows]]
+    widths = [max(len(row[place]) for row in texts) for place in range(len(head))]
+    for row in texts:
+        cells = [cell.rjust(width) if right else cell.ljust(width) for cell, width, right in zip(row, widths, is_number)]
+        yield "  ".join(cells).rstrip()
+
+
+def _bids_by_round(story: Story) -> Iterator[str]:
+    """Each bid and each waiver, with its round."""
+    rows, number = list[tuple[str | int, ...]](), 1
+    for command in story.commands:
+        match command.words:
+            case ["BID", bidder, _, node, amount]:
+                rows.append((number, command.number, command.at, command.name, bidder, node, int(amount)))
+            case ["WAIVE", bidder, _]:
+                rows.append((number, command.number, command.at, command.name, bidder, "waiver", "-"))
+            case ["CLOSE", _]:
+                number += 1
+    return _table(("round", "number", "at", "name", "bidder", "node", "amount"), rows)
+
+
+def _rounds(told: Replay) -> Iterator[str]:
+    """Each close, with what it came to."""
+    closes = [command for command in told.story.commands if command.words[0] == "CLOSE"]
+    rows, before = list[tuple[str | int, ...]](), 0
+    for place, close in enumerate(closes, 1):
+        shown = told.standings[place].shown
+        rows.append((place, close.at, close.number - before - 1, shown.revenue, "over" if shown.is_over else "open"))
+        before = close.number
+    return _table(("round", "closed", "commands", "revenue", "auction"), rows)
+
+
+def _drawn(told: Replay) -> str:
+    tree, standings = told.story.tree, told.standings
+    prices = {name: [standing.nodes[name].price for standing in standings] for name in tree.all_licences}
+    eligibility = {name: [standing.whos[name].eligibility for standing in standings] for name in tree.bidders}
+    return picture("Revenue, prices and eligibility by round", [
+        Panel("Revenue", "dollars", {"revenue": [standing.shown.revenue for standing in standings]}),
+        Panel("Prices of licences", "dollars", prices),
+        Panel("Eligibility", "units", eligibility),
+    ])
+
+
+def _shown_by(path: str) -> Iterator[tuple[int, str]]:
+    """What SHOW was answered by a log of the front, each with the number of its line. Lines of other kinds are passed over, and such as a full
+    disk or a crash cut short."""
+    with open(path, encoding="utf-8", errors="replace") as file:
+        for number, line in enumerate(file, 1):
+            entry = _object_in(line)
+            if entry.get("kind") == "answered" and entry.get("line") == "SHOW" and entry["answer"].startswith("ROUND "):
+                yield number, entry["answer"]
+
+
+def _object_in(line: str) -> Entry:
+    """That of a line of a log; an empty one if it isn't whole."""
+    try:
+        found = json.loads(line) if line.endswith("\n") else {}
+    except (ValueError, RecursionError):
+        return {}
+    return found if isinstance(found, dict) else {}
+
+
+if __name__ == "__main__":
+    sys.exit(main())

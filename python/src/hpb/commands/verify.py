@@ -1,0 +1,47 @@
+"""Checks by sums alone, without the program, that no choice of the bids brings more than the winners.
+
+    hpb check --file auction.hpb | tools/verify definition.json
+
+The first file has the definition: JSON, or a script whose first line it is. Standard input has the answer to SHOW and
+the answers to NODE for each node, in any order, and may have answers to WHO; other answers are passed over, and of several the last
+counts. Nodes, bidders and the stage have to be those of the definition, and each bid one that it allows. docs/RULES.md explains the
+sums ("How to check a result").
+
+It ends with 0 where all of them are right, with 1 where one isn't, which it names, and with 2 where something is missing.
+"""
+import pathlib
+import sys
+
+from hpb.commands import the_file
+from hpb.refusals import HpbError, says
+from hpb.rules.checking import Wrong, check_sums
+from hpb.rules.told import read_told
+from hpb.rules.tree import tree_of
+from hpb.rules.writing import read_script
+
+
+def main() -> int:
+    """Reads the words, and returns the status."""
+    path = the_file(__doc__)
+    if isinstance(path, int):
+        return path
+    try:
+        tree = tree_of(read_script(pathlib.Path(path).read_bytes()))
+        told = read_told(tree, sys.stdin.read().splitlines())
+        for said in check_sums(tree, told):
+            print(said)
+    except Wrong as wrong:
+        print(f"Wrong: {wrong}.")
+        return 1
+    except HpbError as missing:
+        print(f"verify: {says(missing)}", file=sys.stderr)
+        return 2
+    except (OSError, UnicodeError) as missing:
+        print(f"verify: {missing}", file=sys.stderr)
+        return 2
+    print(f"So no choice of these bids brings more than {told.shown.revenue}.")
+    return 0
+
+
+if __name__ == "__main__":
+    sys.exit(main())

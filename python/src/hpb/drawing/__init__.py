@@ -1,0 +1,1 @@
+"""Pictures as SVG: the same values give the same bytes."""

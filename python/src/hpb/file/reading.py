@@ -1,0 +1,51 @@
+"""An auction's file read whole, as `hpb` opens it, and never written (docs/DEVICE.md, how a device is opened)."""
+from dataclasses import dataclass
+
+from hpb.file.frames import Batch, index_in, read_batch
+from hpb.file.head import Head, read_head
+from hpb.file.slots import Checkpoint, read_newest
+from hpb.lines import Accepted
+from hpb.refusals import BadFrame
+from hpb.rules.auction import Auction, apply
+
+
+@dataclass(frozen=True, slots=True)
+class AuctionFile:
+    """What a file keeps: its head, its newest checkpoint, the batches behind that, and the auction after all of them."""
+
+    head: Head
+    checkpoint: Checkpoint
+    batches: tuple[Batch, ...]
+    auction: Auction
+
+
+def read_auction(image: bytes) -> AuctionFile:
+    """What all bytes of a file keep. Refused as `hpb` refuses them: by `Unformatted` (40), `BadHead` (42), `NoCheckpoint` (44)
+    or `BadFrame` (45).
+
+    Give it a copy that was made while nothing wrote to the file, or `BadFrame` may come of a batch that was being written.
+    """
+    head = read_head(image)
+    checkpoint = read_newest(image, head.definition)
+    auction, batches = checkpoint.auction, list[Batch]()
+    index = checkpoint.batches
+    while len(batches) < head.frames and index_in(image, head, index) == index:
+        batch = read_batch(image, head, index)
+        auction = _taken(auction, batch)
+        batches.append(batch)
+        index += 1
+    for behind in range(index, checkpoint.batches + head.frames):
+        if index_in(image, head, behind) == behind:
+            raise BadFrame(f"batch {behind} stands behind a gap")
+    return AuctionFile(head, checkpoint, tuple(batches), auction)
+
+
+def _taken(auction: Auction, batch: Batch) -> Auction:
+    if batch.first != auction.count + 1:
+        raise BadFrame(f"batch {batch.index}: its first command is number {batch.first}, behind {auction.count}")
+    for command in batch.commands:
+        before = auction.count
+        auction, answered = apply(auction, command)
+        if answered != Accepted(before + 1):
+            raise BadFrame(f"batch {batch.index}: {command} isn't newly accepted")
+    return auction

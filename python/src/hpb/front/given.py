@@ -1,0 +1,81 @@
+"""What a front gives its page: all that the page needs of configuration, tokens and certificate, as the front itself has them (docs/BOARD.md).
+
+So both take the same when these are read again, and a page that is started anew meanwhile takes nothing that the front hasn't.
+"""
+import json
+import os
+from dataclasses import dataclass
+from typing import Any
+
+from hpb.file import read_head, read_image
+from hpb.front.certificate import Certificate
+from hpb.front.rights import Role, role_of
+from hpb.front.tokens import Tokens
+from hpb.rules.tree import Tree, tree_of
+
+PIECE = 65_536
+
+
+@dataclass(frozen=True)
+class Given:
+    """What a page is made of. `host_names` are those by which it may be asked for, and `viewers` how many each name may have."""
+
+    tree: Tree
+    roles: dict[str, Role]
+    host_names: list[str]
+    viewers: int
+    log_lines_per_second: int
+    tokens: Tokens
+    certificate: Certificate | None
+
+
+def written(config: Any, terms: Any) -> bytes:
+    """What is given of a configuration, as far as it stays as it is, and of the terms that are in force."""
+    certificate = terms.certificate
+    fields = {
+        "file": config.file,
+        "roles": {name: role.shown() for name, role in config.roles.items()},
+        "host_names": config.board.names,
+        "viewers": terms.limits.connections,
+        "log_lines_per_second": config.log.lines_per_second,
+        "tokens": terms.tokens.text(config.roles),
+        "certificate": [certificate.chain.decode("latin-1"), certificate.key.decode("latin-1")] if certificate else None,
+    }
+    return json.dumps(fields).encode()
+
+
+def read(data: bytes) -> Given:
+    fields = json.loads(data)
+    tree = tree_of(read_head(read_image(fields["file"], is_quiet=False)).definition)
+    roles = {name: role_of(shown) for name, shown in fields["roles"].items()}
+    chain, key = fields["certificate"] or ("", "")
+    return Given(
+        tree,
+        roles,
+        fields["host_names"],
+        fields["viewers"],
+        fields["log_lines_per_second"],
+        Tokens(fields["tokens"], roles),
+        Certificate.of(chain.encode("latin-1"), key.encode("latin-1")) if chain else None,
+    )
+
+
+def in_memory(data: bytes) -> int:
+    """A descriptor of a file that has this and no name: a child may get it."""
+    file = os.memfd_create("front")
+    try:
+        while data:
+            data = data[os.write(file, data) :]
+    except BaseException:
+        os.close(file)
+        raise
+    return file
+
+
+def read_all(file: int) -> bytes:
+    """What stands in such a file, which is closed."""
+    data = b""
+    while part := os.pread(file, PIECE, len(data)):
+        data += part
+    os.close(file)
+    return data

@@ -1,0 +1,264 @@
+"""The log of a front: what strangers and names do, one object of JSON a line, never a token (docs/FRONT.md).
+
+A thread writes the lines, so nobody waits for a disk or a terminal. Lines that come faster than their kind may, or faster than they can be
+written, are left out, and a line of kind `left_out` counts them.
+"""
+import contextlib
+import errno
+import json
+import os
+import queue
+import socket
+import threading
+import time
+from collections.abc import Callable
+from dataclasses import dataclass, field
+from typing import Protocol
+
+from hpb.own_files import give_name, open_own
+
+Field = str | int | float | bool | None | list[str]
+
+STANDARD_ERROR = "stderr"
+JOURNAL = "journal"
+JOURNAL_SOCKET = "/run/systemd/journal/socket"
+# How each line begins.
+BEGINNING = b'{"at":"'
+# So much of a file is looked at to see whether it is a log.
+LOOKED_AT = 4_096
+# So many lines wait to be written.
+MOST_WAITING = 10_000
+# As much is kept of a text: no field of a front is longer, but by mistake.
+MOST_TEXT = 400
+# Seconds between two lines of kind `left_out`, and between two warnings that nothing can be written.
+COUNT_SECONDS, WARN_SECONDS = 1.0, 60.0
+BURST_SECONDS = 2
+
+
+class Sink(Protocol):
+    """Where whole lines go."""
+
+    def write(self, line: bytes) -> None:
+        """Returns once the system has the line, or raises an OSError."""
+
+
+@dataclass
+class Stream:
+    """An open descriptor, as standard error is one. What was written of a line that failed is ended before the next one."""
+
+    descriptor: int
+    is_torn: bool = False
+
+    def write(self, line: bytes) -> None:
+        rest = b"\n" + line if self.is_torn else line
+        while rest:
+            written = os.write(self.descriptor, rest)
+            rest = rest[written:]
+            self.is_torn = bool(rest)
+
+
+@dataclass
+class Journal:
+    """The journal of systemd, by its own protocol: a datagram an entry."""
+
+    path: str = JOURNAL_SOCKET
+    connection: socket.socket | None = None
+
+    def write(self, line: bytes) -> None:
+        if self.connection is None:
+            self.connection = socket.socket(socket.AF_UNIX, socket.SOCK_DGRAM | socket.SOCK_CLOEXEC)
+        self.connection.sendto(b"PRIORITY=6\nSYSLOG_IDENTIFIER=hpb-front\nMESSAGE=" + line, self.path)
+
+
+@dataclass
+class Rotated:
+    """A file, and older ones beside it: `front.log`, `front.log.1`, .. Together they have `files * most_bytes` bytes at most."""
+
+    path: str
+    most_bytes: int
+    files: int
+    stream: Stream | None = None
+
+    def write(self, line: bytes) -> None:
+        stream = self.stream or self.open()
+        length = os.fstat(stream.descriptor).st_size
+        if length and length + len(line) > self.most_bytes:
+            self.rotate()
+            stream = self.open()
+        stream.write(line)
+
+    def open(self) -> Stream:
+        file = open_log(self.path)
+        length = os.fstat(file).st_size
+        self.stream = Stream(file, bool(length) and os.pread(file, 1, length - 1) != b"\n")
+        return self.stream
+
+    def rotate(self) -> None:
+        """Each file takes the name of the next older one, up to the first name that is free; if none is the oldest goes. An OSError says
+        that one of them is no log: then nothing is moved."""
+        names = [self.path, *(f"{self.path}.{number}" for number in range(1, self.files))]
+        free = next((place for place, name in enumerate(names) if not os.path.lexists(name)), len(names))
+        for name in names[:free]:
+            os.close(open_log(name))
+        if free == len(names):
+            free -= 1
+            os.unlink(names[free])
+        for place in reversed(range(free)):
+            give_name(names[place], names[place + 1])
+        if self.stream:
+            stream, self.stream = self.stream, None
+            os.close(stream.descriptor)
+
+
+def open_log(path: str) -> int:
+    """A descriptor of a log, which is made if there is none. An OSError says that the file is something else, or not this user's own."""
+    file = open_own(path, os.O_RDWR | os.O_APPEND)
+    begun = os.pread(file, LOOKED_AT, 0).lstrip(b"\0")
+    if begun.startswith(BEGINNING) or BEGINNING.startswith(begun):
+        return file
+    os.close(file)
+    raise OSError(errno.EEXIST, "it is no log of a front; move it, or name another one", path)
+
+
+@dataclass
+class Bucket:
+    """How many lines of one kind may still come, and how many were left out."""
+
+    per_second: float
+    credit: float
+    seen: float
+    left_out: int = 0
+
+    def may(self, now: float) -> bool:
+        self.credit = min(self.credit + (now - self.seen) * self.per_second, BURST_SECONDS * self.per_second)
+        self.seen = now
+        if self.credit < 1:
+            self.left_out += 1
+            return False
+        self.credit -= 1
+        return True
+
+
+@dataclass
+class Log:
+    """Takes lines from any thread, and writes them in the order in which they came.
+
+    `per_second` says how many lines of each kind may come, on the average; twice as many may come at once. Kinds that aren't named there
+    have no limit but what can be written. `warn` is told where nothing can be written, once a minute at most.
+    """
+
+    sink: Sink
+    per_second: dict[str, int] = field(default_factory=dict)
+    warn: Callable[[str], None] = lambda text: None
+
+    def __post_init__(self) -> None:
+        self.lines: queue.Queue[bytes] = queue.Queue(MOST_WAITING)
+        self.lock = threading.Lock()
+        now = time.monotonic()
+        self.buckets = {kind: Bucket(rate, BURST_SECONDS * rate, now) for kind, rate in self.per_second.items()}
+        self.lost: dict[str, int] = {}
+        self.counted = self.warned = -WARN_SECONDS
+        self.writer = threading.Thread(target=self.keep_writing, name="log", daemon=True)
+
+    def start(self) -> "Log":
+        """Starts the thread. A RuntimeError says that the system has none."""
+        self.writer.start()
+        return self
+
+    def write(self, kind: str, **fields: Field) -> None:
+        """Adds a line. It never waits, and what there is no room for is counted."""
+        with self.lock:
+            bucket = self.buckets.get(kind)
+            if bucket and not bucket.may(time.monotonic()):
+                return
+        try:
+            self.lines.put_nowait(line_of(kind, fields))
+        except queue.Full:
+            self.lose(kind)
+
+    def lose(self, kind: str) -> None:
+        with self.lock:
+            self.lost[kind] = self.lost.get(kind, 0) + 1
+
+    def keep_writing(self) -> None:
+        while True:
+            # Whatever fails, the thread goes on: without it nothing would be written any more, and nobody would be told.
+            try:
+                self.write_next()
+            except Exception as fault:
+                self.fail(fault)
+
+    def write_next(self) -> None:
+        try:
+            line = self.lines.get(timeout=COUNT_SECONDS)
+        except queue.Empty:
+            self.count()
+            return
+        try:
+            if line:
+                self.sink.write(line)
+            self.count(is_last=not line)
+        finally:
+            self.lines.task_done()
+
+    def fail(self, fault: Exception) -> None:
+        """A log that can't be written keeps nobody from bidding."""
+        with contextlib.suppress(MemoryError):
+            self.lose("unwritten")
+            now = time.monotonic()
+            if now - self.warned > WARN_SECONDS:
+                self.warned = now
+                self.warn(f"the log can't be written: {says(fault)}")
+
+    def count(self, is_last: bool = False) -> None:
+        """Writes how many lines were left out, each second at most, and at the end."""
+        now = time.monotonic()
+        if now - self.counted < COUNT_SECONDS and not is_last:
+            return
+        self.counted = now
+        for kind, number in sorted(self.take_counts().items()):
+            self.sink.write(line_of("left_out", {"of": kind, "count": number}))
+
+    def take_counts(self) -> dict[str, int]:
+        with self.lock:
+            counts, self.lost = self.lost, {}
+            for kind, bucket in self.buckets.items():
+                if bucket.left_out:
+                    counts[kind] = counts.get(kind, 0) + bucket.left_out
+                    bucket.left_out = 0
+            return counts
+
+    def end(self, seconds: float) -> None:
+        """Waits until all is written, so many seconds at most."""
+        end = time.monotonic() + seconds
+        with contextlib.suppress(queue.Full):
+            self.lines.put_nowait(b"")
+        while self.writer.is_alive() and self.lines.unfinished_tasks and time.monotonic() < end:
+            time.sleep(0.01)
+
+
+def says(fault: Exception) -> str:
+    """A fault with the file that it is of, if there is one."""
+    if not isinstance(fault, OSError) or not fault.strerror:
+        return repr(fault)
+    return f"{fault.filename}: {fault.strerror}" if fault.filename else fault.strerror
+
+
+def line_of(kind: str, fields: dict[str, Field]) -> bytes:
+    entry: dict[str, Field] = {"at": time_now(), "kind": kind, **{name: shown(name, value) for name, value in fields.items()}}
+    return json.dumps(entry, separators=(",", ":")).encode() + b"\n"
+
+
+def shown(name: str, value: Field) -> Field:
+    """A field as it may be read by anyone: a line that says a token doesn't say which."""
+    if not isinstance(value, str):
+        return value
+    if name == "line" and value.lstrip().lower().startswith("token"):
+        return "TOKEN .."
+    return value if len(value) <= MOST_TEXT else f"{value[:MOST_TEXT]}.."
+
+
+def time_now() -> str:
+    """UTC, to the microsecond."""
+    seconds, nanoseconds = divmod(time.time_ns(), 1_000_000_000)
+    return time.strftime("%Y-%m-%dT%H:%M:%S", time.gmtime(seconds)) + f".{nanoseconds // 1000:06}Z"

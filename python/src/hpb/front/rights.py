@@ -1,0 +1,72 @@
+"""The lines that a front takes, and who may send which (docs/FRONT.md)."""
+from typing import NamedTuple
+
+from hpb.rules.tree import Tree
+
+AUCTIONEER, BIDDER, OBSERVER = "auctioneer", "bidder", "observer"
+# How many words each line has.
+WORDS = {b"BID": 5, b"WAIVE": 3, b"CLOSE": 2, b"STAGE": 2, b"SHOW": 1, b"NODE": 2, b"WHO": 2}
+COMMANDS = {b"BID", b"WAIVE", b"CLOSE", b"STAGE"}
+NAMES_A_BIDDER = {b"BID", b"WAIVE", b"WHO"}
+ALLOWED = {
+    AUCTIONEER: {b"CLOSE", b"STAGE", b"SHOW", b"NODE", b"WHO"},
+    BIDDER: {b"BID", b"WAIVE", b"SHOW", b"NODE", b"WHO"},
+    OBSERVER: {b"SHOW", b"NODE"},
+}
+TOKEN = b"TOKEN "
+# The front's own refusals: what stands behind `ERR front`.
+FORM, RIGHTS, LONG, UNKNOWN, MANY, IDLE = REFUSALS = ("line", "rights", "long", "token", "many", "idle")
+
+
+def refused(word: str) -> bytes:
+    """A line of the front's own. The server has a number where this has `front`."""
+    return f"ERR front {word}".encode()
+
+
+def welcome(name: str) -> bytes:
+    """What a connection is answered whose token is that of a name."""
+    return f"WELCOME {name}".encode()
+
+
+class Role(NamedTuple):
+    """What a name may send."""
+
+    kind: str
+    bidders: tuple[str, ...] = ()
+
+    def refusal(self, line: bytes) -> str | None:
+        """By which word of the front a line is refused, or nothing."""
+        words = line.split(b" ")
+        if len(words) != WORDS.get(words[0]) or b"" in words:
+            return FORM
+        if words[0] not in ALLOWED[self.kind]:
+            return RIGHTS
+        if self.kind == BIDDER and words[0] in NAMES_A_BIDDER and words[1].decode("latin-1") not in self.bidders:
+            return RIGHTS
+        return None
+
+    def seen(self, tree: Tree) -> list[str]:
+        """The bidders of a definition that it may ask about by WHO."""
+        everyone: dict[str, list[str]] = {AUCTIONEER: list(tree.bidders), OBSERVER: []}
+        return everyone.get(self.kind, list(self.bidders))
+
+    def shown(self) -> list[str] | str:
+        """As a configuration and a record have it."""
+        return list(self.bidders) if self.kind == BIDDER else self.kind
+
+
+def role_of(shown: list[str] | str) -> Role:
+    """What `shown` of a role stands for."""
+    return Role(BIDDER, tuple(shown)) if isinstance(shown, list) else Role(shown)
+
+
+def is_command(line: bytes) -> bool:
+    """Whether a line, if it is accepted, changes the auction."""
+    return line.split(b" ", 1)[0] in COMMANDS
+
+
+def sender_and_ticket(line: bytes) -> tuple[str | None, int]:
+    """Of a command that is written as the server wants it; `None` stands for the auctioneer, and a ticket that is no number is 0."""
+    words = line.split(b" ")
+    sender, ticket = (words[1].decode("latin-1"), words[2]) if words[0] in NAMES_A_BIDDER else (None, words[1])
+    return sender, int(ticket) if ticket.isdigit() else 0

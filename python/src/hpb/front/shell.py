@@ -1,0 +1,100 @@
+"""What a front has of its process: its words, its log, signals, sockets, and the file of tokens that it changes (docs/FRONT.md)."""
+import argparse
+import os
+
+from hpb.front.config import Config
+from hpb.front.faults import Stops
+from hpb.front.network import Refused, enter_own, handed_in, take
+from hpb.front.watch import Watch
+from hpb.front.words import cry
+from hpb.streams import STANDARD_OUTPUT, write_all
+
+
+# Faults whose words are the system's or Python's own.
+SAID = (OSError, RuntimeError, MemoryError)
+
+
+def fault_says(fault):
+    """A fault's kind, and its words if nobody else's can be among them: others may carry what nobody is to read, as a token."""
+    if isinstance(fault, Stops):
+        return str(fault)
+    words = f": {fault}" if isinstance(fault, SAID) and str(fault) else ""
+    return f"a fault of the front: {type(fault).__name__}{words}"
+
+
+def end_at_once():
+    cry(b"front: a fault of the front, for which there is no memory left to say more\n")
+    os._exit(1)
+
+
+class Shell:
+    """What a front has of its process: the words that it writes, its log, and the signals."""
+
+    def __init__(self, config, teller):
+        self.teller, self.log, self.watch = teller, config.log.open(teller.say), Watch()
+
+    def start(self):
+        try:
+            self.watch.start()
+            self.teller.start()
+            self.log.start()
+        except RuntimeError as fault:
+            raise Stops(f"the system gives the front no thread: {fault}") from None
+
+
+def take_sockets(config):
+    """Those that it listens on, one for each address. The server is behind them in a network of its own."""
+    given = handed_in()
+    sockets = [take(address, given) for address in config.addresses()]
+    if config.shared_network:
+        return sockets
+    try:
+        enter_own(sockets)
+    except Refused as fault:
+        raise Stops(f"{fault}. Without one each account of this machine reaches the server; shared_network = true lets the front do "
+                    "without") from None
+    return sockets
+
+
+def change_tokens(given, teller):
+    """`tokens add`, `revoke` and `list`. A token that can't be shown is nobody's."""
+    file = Config(given.config).token_file()
+    if given.what == "list":
+        show("".join(f"{token.name} {token.id}\n" for token in file.tokens().known))
+        return
+    token, text = file.add(given.name) if given.what == "add" else (file.revoke(given.id), "")
+    teller.say("a front that runs takes this in by SIGHUP")
+    try:
+        show(" ".join(filter(None, [token.name, token.id, text])) + "\n")
+    except Stops as fault:
+        lost = f". The token {token.id} was added, and nobody has seen it: revoke it, and add another" if text else ""
+        raise Stops(f"{fault}{lost}") from None
+
+
+def show(text):
+    """Writes on standard output. A Stops says that it can't be written."""
+    try:
+        write_all(STANDARD_OUTPUT, text.encode())
+    except OSError as fault:
+        raise Stops(f"standard output can't be written: {fault.strerror}") from None
+
+
+class Words(argparse.ArgumentParser):
+    """Those of the front. Its help is written as all else is: a failure isn't passed over."""
+
+    def print_help(self, file=None):
+        show(self.format_help())
+
+
+def read_words(text, name):
+    words = Words(prog=name, description=text, formatter_class=argparse.RawDescriptionHelpFormatter)
+    words.add_argument("--config", required=True, help="the configuration, a file of TOML")
+    words.add_argument("--make-tokens", action="store_true", help="make the file of tokens, with one for each name, and end")
+    words.add_argument("--foreign", action="store_true", help="go on if the file was told commands by another way; the audit ends there")
+    words.add_argument("--set-aside", action="store_true", help="go on if the record is damaged and has no backup; all from there on is set aside, and the audit ends there")
+    commands = words.add_subparsers(dest="command", metavar="tokens", help="change the file of tokens; SIGHUP makes a front read it")
+    tokens = commands.add_parser("tokens", help="add, revoke or list tokens").add_subparsers(dest="what", required=True)
+    tokens.add_parser("add", help="a new token, which is shown this once").add_argument("name", help="whose it is")
+    tokens.add_parser("revoke", help="a token is nobody's any more").add_argument("id", help="as `tokens list` shows it")
+    tokens.add_parser("list", help="the name and the id of each token")
+    return words.parse_args()

@@ -1,0 +1,72 @@
+"""Standard streams that lead into a file of the front: what is said would be written there (docs/FRONT.md).
+
+This is looked at before anything is said, however bad the words and the configuration are.
+"""
+import contextlib
+import os
+import pathlib
+import stat
+import tomllib
+from collections.abc import Iterator, Sequence
+
+from hpb.front.files import Identity, Kept, identities, of_change, of_log, of_record
+from hpb.streams import STANDARD_ERROR, STANDARD_OUTPUT
+
+STREAMS = {STANDARD_OUTPUT: "standard output", STANDARD_ERROR: "standard error"}
+CONFIG = "--config"
+CHANGED_FIELDS, OTHER_FIELDS = ("file", "tokens"), ("certificate", "key", "program")
+# No log has more files.
+MOST_LOGS = 1_000
+
+
+def streams_lead_astray(words: Sequence[str]) -> bool:
+    """Whether a stream of a front with these words leads into one of its files. Then that is said on the other one, if it doesn't."""
+    leads = {number: found for number in STREAMS if (found := regular(number))}
+    if not leads or (path := config_in(words)) is None:
+        return False
+    into = {number: (field, name) for field, name in files_of(path) for number, found in leads.items() if found in identities(name)}
+    for number, (field, name) in into.items():
+        said = f"front: {STREAMS[number]} leads to {name}, which is the {field} or stands beside it: lead it elsewhere\n"
+        for other in STREAMS.keys() - into.keys():
+            with contextlib.suppress(OSError):
+                os.write(other, said.encode(errors="backslashreplace"))
+    return bool(into)
+
+
+def regular(stream: int) -> Identity | None:
+    status = os.fstat(stream)
+    return (status.st_dev, status.st_ino) if stat.S_ISREG(status.st_mode) else None
+
+
+def config_in(words: Sequence[str]) -> str | None:
+    """The configuration that is named, by an abbreviation as well."""
+    for place, word in enumerate(words):
+        name, is_joined, value = word.partition("=")
+        if len(name) > 2 and CONFIG.startswith(name):
+            return value if is_joined else words[place + 1] if words[place + 1 :] else None
+    return None
+
+
+def files_of(config: str) -> Iterator[tuple[str, str]]:
+    """Each file that a configuration names, and each that stands beside it under a name of the front's, as far as it can be read."""
+    path = pathlib.Path(config).resolve()
+    yield "configuration", str(path)
+    for kept in kept_in(path):
+        for name in (kept.path, *kept.made()):
+            yield kept.field, name
+
+
+def kept_in(path: pathlib.Path) -> Iterator[Kept]:
+    try:
+        given = tomllib.loads(path.read_text("utf-8"))
+    except (OSError, ValueError, RecursionError):
+        return
+    texts = {field: str(path.parent / value) for field, value in given.items() if isinstance(value, str)}
+    yield from (of_change(field, texts[field]) for field in CHANGED_FIELDS if field in texts)
+    yield from (Kept(field, texts[field]) for field in OTHER_FIELDS if field in texts)
+    if "record" in texts:
+        yield of_record(texts["record"])
+        yield of_log(f"{texts['record']}.log", MOST_LOGS)
+    log = given.get("log")
+    if isinstance(log, dict) and isinstance(log.get("to"), str):
+        yield of_log(str(path.parent / log["to"]), MOST_LOGS)

@@ -1,0 +1,275 @@
+"""TLS of a front's connections: the costly part of it is done by a thread that gives way to bidders (docs/FRONT.md).
+
+A handshake costs a signature. Each is done by one thread, step by step: addresses take turns, one address has so many a second, and all
+together have so many. What comes afterwards is cheap, and is done where the lines are read.
+"""
+import asyncio
+import collections
+import contextlib
+import os
+import queue
+import ssl
+import threading
+import time
+from collections.abc import Callable
+from typing import Protocol
+
+# A client's part of a handshake is some hundred bytes, or some thousands with what it may send along.
+MOST_HANDSHAKE = 65_536
+MOST_READ = 65_536
+# How much lower than the others the thread stands with the system's scheduler.
+NICE = 10
+BURST_SECONDS = 2
+# All handshakes of so many seconds may come at once.
+AHEAD_SECONDS = 0.25
+# So many addresses are remembered.
+MOST_ADDRESSES = 10_000
+
+
+class Inner(Protocol):
+    """What reads and writes in clear: an asyncio.Protocol, which is told why TLS has ended."""
+
+    def connection_made(self, transport: "Tls") -> None: ...
+    def connection_lost(self, fault: Exception | None) -> None: ...
+    def data_received(self, data: bytes) -> None: ...
+    def eof_received(self) -> bool | None: ...
+    def pause_writing(self) -> None: ...
+    def resume_writing(self) -> None: ...
+    def tls_failed(self, why: str) -> None: ...
+
+
+class Rates:
+    """How many handshakes each address may still begin."""
+
+    def __init__(self, per_second: float) -> None:
+        self.per_second = per_second
+        self.credits: collections.OrderedDict[str, tuple[float, float]] = collections.OrderedDict()
+
+    def may(self, address: str, now: float) -> bool:
+        most = BURST_SECONDS * self.per_second
+        credit, seen = self.credits.pop(address, (most, now))
+        credit = min(credit + (now - seen) * self.per_second, most)
+        is_right = credit >= 1
+        self.credits[address] = (credit - is_right, now)
+        if len(self.credits) > MOST_ADDRESSES:
+            self.credits.popitem(last=False)
+        return is_right
+
+
+class Handshakes:
+    """The steps of handshakes that wait, and the thread that does one after the other."""
+
+    def __init__(self, per_second: float, fail: Callable[[str], None]) -> None:
+        self.per_second, self.fail = per_second, fail
+        self.loop = asyncio.get_running_loop()
+        self.waiting: collections.OrderedDict[str, collections.deque[Tls]] = collections.OrderedDict()
+        self.at_work, self.next_at = False, 0.0
+        self.steps: queue.SimpleQueue[Tls] = queue.SimpleQueue()
+        self.thread = threading.Thread(target=self.keep_working, name="handshakes", daemon=True)
+
+    def start(self) -> None:
+        """A RuntimeError says that the system has no thread."""
+        self.thread.start()
+
+    def add(self, one: "Tls") -> None:
+        """One has come whose next step can be done."""
+        self.waiting.setdefault(one.address, collections.deque()).append(one)
+        self.go_on()
+
+    def go_on(self) -> None:
+        """Hands the next step to the thread, if it is free; addresses take turns."""
+        if self.at_work or not self.waiting:
+            return
+        self.at_work = True
+        now = self.loop.time()
+        self.next_at = max(self.next_at, now)
+        if self.next_at > now + AHEAD_SECONDS:
+            self.loop.call_at(self.next_at - AHEAD_SECONDS, self.hand_over)
+        else:
+            self.hand_over()
+
+    def hand_over(self) -> None:
+        while self.waiting:
+            one = self.next()
+            if one.is_closing():
+                continue
+            if one.is_first_step():
+                self.next_at += 1 / self.per_second
+            self.steps.put(one)
+            return
+        self.at_work = False
+
+    def next(self) -> "Tls":
+        address, some = self.waiting.popitem(last=False)
+        one = some.popleft()
+        if some:
+            self.waiting[address] = some
+        return one
+
+    def keep_working(self) -> None:
+        # It gives way as far as the system lets it.
+        with contextlib.suppress(OSError):
+            os.setpriority(os.PRIO_PROCESS, threading.get_native_id(), NICE)
+        while True:
+            # Whatever fails is told: without this thread nobody is let in any more.
+            try:
+                one = self.steps.get()
+                self.loop.call_soon_threadsafe(self.done, one, one.step())
+            except Exception as fault:
+                self.fail(f"a fault in a handshake: {fault!r}")
+
+    def done(self, one: "Tls", outcome: "Outcome") -> None:
+        self.at_work = False
+        try:
+            one.stepped(outcome)
+        finally:
+            self.go_on()
+
+
+class Outcome:
+    """Of a step: the handshake is done, or it needs more from the client, or it has failed."""
+
+    def __init__(self, is_up: bool, fault: str = "") -> None:
+        self.is_up, self.fault = is_up, fault
+
+
+class Tls(asyncio.Protocol):
+    """TLS between the transport of a connection and whoever reads and writes in clear, for whom it is the transport."""
+
+    def __init__(self, inner: Inner, context: ssl.SSLContext, handshakes: Handshakes, address: str) -> None:
+        self.inner, self.handshakes, self.address = inner, handshakes, address
+        self.incoming, self.outgoing = ssl.MemoryBIO(), ssl.MemoryBIO()
+        self.object = context.wrap_bio(self.incoming, self.outgoing, server_side=True)
+        self.transport: asyncio.Transport | None = None
+        # What has come and isn't decrypted, as long as the handshake lasts; whether a step of it is being done.
+        self.raw, self.is_busy, self.is_up, self.steps = bytearray(), False, False, 0
+        self.began = time.monotonic()
+
+    # As the protocol of the transport.
+
+    def connection_made(self, transport: asyncio.BaseTransport) -> None:
+        assert isinstance(transport, asyncio.Transport)
+        self.transport = transport
+
+    def connection_lost(self, fault: Exception | None) -> None:
+        self.inner.connection_lost(fault)
+
+    def pause_writing(self) -> None:
+        self.inner.pause_writing()
+
+    def resume_writing(self) -> None:
+        self.inner.resume_writing()
+
+    def data_received(self, data: bytes) -> None:
+        if self.is_up:
+            self.incoming.write(data)
+            self.read()
+            return
+        self.raw += data
+        if len(self.raw) > MOST_HANDSHAKE:
+            self.end_badly("its handshake is too long")
+        elif not self.is_busy:
+            self.begin_step()
+
+    def eof_received(self) -> bool:
+        if self.is_up:
+            self.inner.eof_received()
+        self.close()
+        return False
+
+    # The handshake.
+
+    def begin_step(self) -> None:
+        self.is_busy = True
+        self.incoming.write(self.raw)
+        self.raw.clear()
+        self.handshakes.add(self)
+
+    def is_first_step(self) -> bool:
+        """The costly one."""
+        return self.steps == 0
+
+    def step(self) -> Outcome:
+        """In the thread of handshakes; nothing else touches the handshake meanwhile."""
+        try:
+            self.object.do_handshake()
+        except ssl.SSLWantReadError:
+            return Outcome(False)
+        except (OSError, ValueError) as fault:
+            return Outcome(False, getattr(fault, "reason", None) or str(fault))
+        return Outcome(True)
+
+    def stepped(self, outcome: Outcome) -> None:
+        self.is_busy, self.steps = False, self.steps + 1
+        if not self.transport or self.transport.is_closing():
+            return
+        self.flush()
+        if outcome.fault:
+            self.end_badly(outcome.fault)
+        elif outcome.is_up:
+            self.is_up = True
+            self.incoming.write(self.raw)
+            self.raw.clear()
+            self.inner.connection_made(self)
+            self.read()
+        elif self.raw:
+            self.begin_step()
+
+    def end_badly(self, why: str) -> None:
+        self.inner.tls_failed(why)
+        if self.transport:
+            # What it is told of the fault is a few bytes: they are sent at once, or not at all.
+            self.transport.close()
+
+    # In clear.
+
+    def read(self) -> None:
+        """Hands on what has come."""
+        try:
+            while self.transport and not self.transport.is_closing() and (part := self.object.read(MOST_READ)):
+                self.inner.data_received(part)
+        except ssl.SSLWantReadError:
+            pass
+        except ssl.SSLZeroReturnError:
+            self.eof_received()
+        except ssl.SSLError as fault:
+            self.end_badly(fault.reason or str(fault))
+        self.flush()
+
+    def flush(self) -> None:
+        if self.transport and self.outgoing.pending and not self.transport.is_closing():
+            self.transport.write(self.outgoing.read())
+
+    # As the transport of whoever is in clear.
+
+    def write(self, data: bytes) -> None:
+        try:
+            self.object.write(data)
+        except ssl.SSLError as fault:
+            self.end_badly(fault.reason or str(fault))
+        self.flush()
+
+    def is_closing(self) -> bool:
+        return not self.transport or self.transport.is_closing()
+
+    def pause_reading(self) -> None:
+        if self.transport and not self.transport.is_closing():
+            self.transport.pause_reading()
+
+    def resume_reading(self) -> None:
+        if self.transport and not self.transport.is_closing():
+            self.transport.resume_reading()
+
+    def close(self) -> None:
+        """Says that it ends, and does."""
+        if not self.transport or self.transport.is_closing():
+            return
+        if self.is_up:
+            with contextlib.suppress(ssl.SSLError):
+                self.object.unwrap()
+            self.flush()
+        self.transport.close()
+
+    def abort(self) -> None:
+        if self.transport:
+            self.transport.abort()

@@ -1,0 +1,99 @@
+"""The page of a front, in a process of its own that the front starts: whoever floods it takes nothing from those who bid.
+
+    python3 -m hpb.front.viewers CONFIG DESCRIPTOR GIVEN
+
+Its standard input is a connection to the front, on which it asks questions; DESCRIPTOR is a socket that listens, and GIVEN a file in which
+the front has put what it has of the configuration CONFIG, of tokens and certificate. It writes `BOARD` and the address of the page once it
+can be opened, then a line of JSON for each request, and ends when the front does. docs/BOARD.md says who sees what.
+"""
+import os
+import signal
+import socket
+import sys
+import threading
+
+from hpb.front.faults import Wrong
+from hpb.front.given import Given, read, read_all
+from hpb.front.log import Log, Stream
+from hpb.pages.following import Follower
+from hpb.pages.server import Server
+from hpb.pages.view import State, View
+from hpb.pages.walls import Known, Wall
+from hpb.refusals import HpbError, says
+
+# How much lower than the front it stands with the system's scheduler: viewers wait rather than those who bid.
+NICE = 5
+
+
+def front_connection(patience: float) -> socket.socket:
+    """The connection to the front, on which an answer is waited for so many seconds."""
+    connection = socket.socket(fileno=os.dup(0))
+    connection.settimeout(patience)
+    return connection
+
+
+def known_of(given: Given, view: View) -> Known:
+    """Each name's wall, with the bidders that it may ask about."""
+    tree = given.tree
+    return Known(given.tokens, {name: Wall(tree, role.seen(tree), view, given.viewers, name) for name, role in given.roles.items()})
+
+
+def followed(follower: Follower) -> None:
+    """A page that doesn't follow any more ends, and the front starts it again."""
+    try:
+        follower.follow()
+        if follower.view.contact.state == State.OVER:
+            return
+        end("the front is gone")
+    except HpbError as fault:
+        end(says(fault))
+    except BaseException as fault:  # Whatever it is: a page that stands still in silence would be worse.
+        end(f"following ended: {fault!r}")
+
+
+def end(text: object) -> None:
+    """Says it, and ends the process."""
+    try:
+        print(f"board: {text}", file=sys.stderr, flush=True)
+    finally:
+        os._exit(1)
+
+
+def serve(given: Given, listener: socket.socket) -> None:
+    """Serves the page until the process ends."""
+    follower = Follower(given.tree, list(given.tree.bidders), front_connection, lambda view: guests.hang(view))
+    guests = known_of(given, follower.view)
+    os.nice(NICE)
+    # The front puts these lines into its log.
+    log = Log(Stream(1), {"page": given.log_lines_per_second}).start()
+
+    def note(peer: str, name: str | None, path: str | None, status: int) -> None:
+        log.write("page", peer=peer, name=name, path=path, status=status)
+
+    context = given.certificate.context if given.certificate else None
+    with Server(("", 0), given.host_names, guests, context, listener, note) as server:
+        threading.Thread(target=followed, args=(follower,), daemon=True).start()
+        print(f"BOARD {server.url()}", flush=True)
+        server.serve_forever()
+
+
+def main() -> int:
+    """Reads the words, and returns the status."""
+    signal.signal(signal.SIGTERM, lambda *_: sys.exit(0))
+    signal.signal(signal.SIGINT, signal.SIG_IGN)
+    if len(sys.argv) != 4 or not all(word.isdecimal() for word in sys.argv[2:]):
+        print(__doc__, end="")
+        return 0 if sys.argv[1:] in (["-h"], ["--help"]) else 2
+    try:
+        serve(read(read_all(int(sys.argv[3]))), socket.socket(fileno=int(sys.argv[2])))
+    except HpbError as fault:
+        end(says(fault))
+    except (Wrong, OSError, RuntimeError) as fault:
+        end(fault)
+    except Exception as fault:  # No failure may end it in silence.
+        end(repr(fault))
+    return 0
+
+
+if __name__ == "__main__":
+    sys.exit(main())

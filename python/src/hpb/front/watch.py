@@ -1,0 +1,94 @@
+"""Signals to a front, and the limit after which it ends whatever hangs (docs/FRONT.md).
+
+Two threads do nothing else: one takes signals, the other ends the process where the rest doesn't do so in time. So a loop that is held up by
+a disk, by a program that doesn't start or by a want of memory is ended as well.
+"""
+import asyncio
+import contextlib
+import os
+import signal
+import threading
+import time
+from collections.abc import Callable
+
+from hpb.front.words import cry
+
+STOPS = (signal.SIGTERM, signal.SIGINT)
+SIGNALS = {*STOPS, signal.SIGHUP}
+# From the signal, or the failure, to the end of the process.
+END_SECONDS = 9.5
+FAILED = 1
+PAUSE = 0.05
+ATTEMPTS = 20
+
+
+def hold_signals() -> None:
+    """They wait for `Watch`. It has to come before the first thread, since threads have the mask of those that start them."""
+    signal.pthread_sigmask(signal.SIG_BLOCK, SIGNALS)
+
+
+def free_signals() -> None:
+    """In a child, before another program takes its place."""
+    signal.pthread_sigmask(signal.SIG_UNBLOCK, SIGNALS)
+
+
+class Watch:
+    """Tells a loop to stop or to reload, and ends the process when that takes too long.
+
+    Before a loop is attached a stop and a reload are kept for it.
+    """
+
+    def __init__(self) -> None:
+        self.is_told, self.is_reload_told, self.armed, self.lock = False, False, threading.Event(), threading.Lock()
+        self.loop: asyncio.AbstractEventLoop | None = None
+        self.stop: Callable[[], None] = lambda: None
+        self.reload: Callable[[], None] = lambda: None
+        self.threads = [threading.Thread(target=target, daemon=True) for target in (self.take_signals, self.keep_limit)]
+
+    def start(self) -> None:
+        """A RuntimeError says that the system has no threads."""
+        for thread in self.threads:
+            thread.start()
+
+    def attach(self, loop: asyncio.AbstractEventLoop, stop: Callable[[], None], reload: Callable[[], None]) -> None:
+        """From here on `stop` and `reload` are called in the loop."""
+        with self.lock:
+            self.loop, self.stop, self.reload = loop, stop, reload
+            if self.is_told:
+                stop()
+            elif self.is_reload_told:
+                reload()
+
+    def take_signals(self) -> None:
+        while True:
+            # Whatever fails, the thread goes on: without it the front couldn't be ended but by SIGKILL.
+            with contextlib.suppress(Exception):
+                self.take(signal.sigwait(SIGNALS))
+
+    def take(self, number: int) -> None:
+        if number in STOPS:
+            self.is_told = True
+            self.armed.set()
+        for _ in range(ATTEMPTS):
+            # A want of memory may pass; a loop that is closed needs nothing.
+            try:
+                self.call(number)
+                return
+            except MemoryError:
+                time.sleep(PAUSE)
+
+    def call(self, number: int) -> None:
+        with self.lock:
+            self.is_reload_told = self.is_reload_told or number not in STOPS
+            if self.loop:
+                self.loop.call_soon_threadsafe(self.stop if number in STOPS else self.reload)
+
+    def keep_limit(self) -> None:
+        self.armed.wait()
+        time.sleep(END_SECONDS)
+        cry(b"front: it doesn't come to an end, as where a disk or a program hangs; it ends all the same, and what was answered OK is kept\n")
+        os._exit(FAILED)
+
+    def arm(self) -> None:
+        """The process ends within the limit from now on, whatever happens."""
+        self.armed.set()

@@ -1,0 +1,95 @@
+"""What a front writes on standard output and standard error (docs/FRONT.md)."""
+import contextlib
+import os
+import queue
+import select
+import threading
+import time
+from collections.abc import Callable
+
+from hpb.streams import STANDARD_ERROR, STANDARD_OUTPUT, write_all
+
+# So many lines wait to be read, as where a terminal was stopped by Ctrl-S; what comes then is counted.
+MOST_UNREAD = 1_000
+# How long the last of them may still be read.
+READ_SECONDS = 2.0
+POLL_SECONDS = 0.02
+
+
+class Writer:
+    """Writes lines to a stream in a thread of its own: nobody has to read them, and who bids doesn't wait until somebody does. `warn` is
+    told of the first line that can't be written."""
+
+    def __init__(self, stream: int, warn: Callable[[OSError], None] = lambda fault: None) -> None:
+        self.stream, self.left_out, self.warn, self.has_failed = stream, 0, warn, False
+        self.lines: queue.Queue[bytes] = queue.Queue(MOST_UNREAD)
+        self.thread = threading.Thread(target=self.keep_writing, daemon=True)
+
+    def add(self, text: str) -> None:
+        try:
+            self.lines.put_nowait(f"{text}\n".encode(errors="backslashreplace"))
+        except queue.Full:
+            self.left_out += 1
+
+    def keep_writing(self) -> None:
+        while True:
+            # Whatever fails, the thread goes on: else nothing would be told any more.
+            with contextlib.suppress(Exception):
+                self.write_next()
+
+    def write_next(self) -> None:
+        data = self.lines.get()
+        try:
+            if self.left_out:
+                data, self.left_out = data + b"front: %d lines weren't read in time, and are left out\n" % self.left_out, 0
+            write_all(self.stream, data)
+        except OSError as fault:
+            if not self.has_failed:
+                self.has_failed = True
+                self.warn(fault)
+        finally:
+            self.lines.task_done()
+
+    def end(self, seconds: float) -> None:
+        """Waits until all is read, so long at most. If the thread was never started it is written here."""
+        end = time.monotonic() + seconds
+        while not self.thread.ident and self.lines.qsize():
+            self.write_next()
+        while self.lines.unfinished_tasks and time.monotonic() < end:
+            time.sleep(POLL_SECONDS)
+
+
+class Teller:
+    """What a front says on standard error, and tells on standard output."""
+
+    def __init__(self) -> None:
+        self.errors, self.output = Writer(STANDARD_ERROR), Writer(STANDARD_OUTPUT, self.warn)
+
+    def start(self) -> None:
+        """Starts a thread for each. A RuntimeError says that the system has none."""
+        self.errors.thread.start()
+        self.output.thread.start()
+
+    def say(self, text: object) -> None:
+        """On standard error."""
+        self.errors.add(f"front: {text}")
+
+    def tell(self, text: str) -> None:
+        """On standard output."""
+        self.output.add(text)
+
+    def warn(self, fault: OSError) -> None:
+        self.say(f"standard output can't be written: {fault.strerror}")
+
+    def end(self) -> bool:
+        """Waits until all is read, two seconds at most. Whether standard output took what was told."""
+        self.output.end(READ_SECONDS / 2)
+        self.errors.end(READ_SECONDS / 2)
+        return not self.output.has_failed
+
+
+def cry(data: bytes) -> None:
+    """Writes last words on standard error, as far as they can be written at once: nothing else is sure to work any more."""
+    with contextlib.suppress(Exception):
+        if select.select([], [STANDARD_ERROR], [], 0)[1]:
+            os.write(STANDARD_ERROR, data)

@@ -1,0 +1,268 @@
+"""The lines of docs/PROTOCOL.md: commands, questions and answers, read and written.
+
+`format_line(Bid("x", "a", 100, ticket=1))` is `"BID x 1 a 100"`, and `parse_line` reads it again. Amounts are whole dollars, tickets
+numbers from 1. A ticket of 0 stands for none yet: it fits the grammar, and the auction refuses it by 13. Lines are texts without
+their LF; a byte that isn't of ASCII is the character of that number.
+"""
+import dataclasses
+import re
+from dataclasses import dataclass
+from typing import TypeAlias, TypeVar
+
+from hpb.limits import MOST_AMOUNT, MOST_COMMANDS, MOST_LINE_BYTES, MOST_TICKET, NAME
+from hpb.refusals import BadLine, FrontRefused, HpbError, Refused
+
+# Commands.
+
+
+@dataclass(frozen=True, slots=True)
+class Bid:
+    """A bid: `bidder` offers `amount` dollars for `node`."""
+
+    bidder: str
+    node: str
+    amount: int
+    ticket: int = 0
+
+
+@dataclass(frozen=True, slots=True)
+class Waive:
+    """A waiver: the bidder keeps its eligibility at the close of this round."""
+
+    bidder: str
+    ticket: int = 0
+
+
+@dataclass(frozen=True, slots=True)
+class Close:
+    """The end of the round. Where nobody bid or waived in it this ends the auction, for good."""
+
+    ticket: int = 0
+
+
+@dataclass(frozen=True, slots=True)
+class Stage:
+    """The next stage percentage."""
+
+    ticket: int = 0
+
+
+Command: TypeAlias = Bid | Waive | Close | Stage
+AnyCommand = TypeVar("AnyCommand", bound=Command)
+
+# Questions.
+
+
+@dataclass(frozen=True, slots=True)
+class Show:
+    """Asks for the state of the auction; `Shown` answers."""
+
+
+@dataclass(frozen=True, slots=True)
+class AskNode:
+    """Asks for a node after the last close; `NodeShown` answers."""
+
+    node: str
+
+
+@dataclass(frozen=True, slots=True)
+class AskWho:
+    """Asks for a bidder now; `WhoShown` answers."""
+
+    bidder: str
+
+
+Question: TypeAlias = Show | AskNode | AskWho
+Line: TypeAlias = Command | Question
+
+# Answers.
+
+
+@dataclass(frozen=True, slots=True)
+class Accepted:
+    """`OK number`: with this command `number` commands have been accepted, 1 to 1,000,000; to a repeat, the number that it got.
+
+    It is None of a command that is known to be accepted, though its number isn't: a later one of its sender was accepted before
+    its line was sent again.
+    """
+
+    number: int | None
+
+
+@dataclass(frozen=True, slots=True)
+class Shown:
+    """The answer to SHOW: the round from 1, the stage from 1 to 4, dollars of the last close, and how many commands are accepted."""
+
+    round: int
+    stage: int
+    is_over: bool
+    revenue: int
+    count: int
+
+    @property
+    def next_ticket(self) -> int:
+        """That of the auctioneer's next command."""
+        return self.round + self.stage - 1 + self.is_over
+
+
+@dataclass(frozen=True, slots=True)
+class NodeShown:
+    """The answer to NODE, of closed rounds, in dollars. `bidder` is None and `high` 0 where nobody has bid."""
+
+    name: str
+    high: int
+    bidder: str | None
+    price: int
+    minimum: int
+    wins: bool
+
+
+@dataclass(frozen=True, slots=True)
+class WhoShown:
+    """The answer to WHO: bidding units, the last ticket that was used, and the waivers left, None where the definition has none."""
+
+    bidder: str
+    eligibility: int
+    activity: int
+    ticket: int
+    waivers: int | None = None
+
+    @property
+    def waivers_left(self) -> int:
+        """How many waivers are left: 0 where the definition has none."""
+        return self.waivers or 0
+
+
+Answer: TypeAlias = Accepted | Shown | NodeShown | WhoShown | Refused | FrontRefused
+
+
+class NoAnswer(HpbError):
+    """A line that is no answer of docs/PROTOCOL.md: what answers isn't `hpb`, nor a front before it."""
+
+
+def numbered(command: AnyCommand, ticket: int) -> AnyCommand:
+    """The same command with a ticket."""
+    return dataclasses.replace(command, ticket=ticket)
+
+
+def format_line(line: Line) -> str:
+    """The text of a command or a question. ValueError where a name has a space or an LF, or a number is out of its range."""
+    match line:
+        case Bid(bidder, node, amount, ticket):
+            return f"BID {_word(bidder)} {_number(ticket, MOST_TICKET)} {_word(node)} {_number(amount, MOST_AMOUNT)}"
+        case Waive(bidder, ticket):
+            return f"WAIVE {_word(bidder)} {_number(ticket, MOST_TICKET)}"
+        case Close(ticket):
+            return f"CLOSE {_number(ticket, MOST_TICKET)}"
+        case Stage(ticket):
+            return f"STAGE {_number(ticket, MOST_TICKET)}"
+        case Show():
+            return "SHOW"
+        case AskNode(node):
+            return f"NODE {_word(node)}"
+        case AskWho(bidder):
+            return f"WHO {_word(bidder)}"
+
+
+def _word(text: str) -> str:
+    if not _WORD.fullmatch(text):
+        raise ValueError(f"{text!r} can't be a word of a line")
+    return text
+
+
+def _number(value: int, most: int) -> str:
+    if isinstance(value, bool) or not isinstance(value, int) or not 0 <= value <= most:
+        raise ValueError(f"{value!r} is no number from 0 to {most}")
+    return str(value)
+
+
+_WORD = re.compile(r"[^ \n]+")
+_DIGITS = re.compile(r"0|[1-9][0-9]*", re.ASCII)
+
+
+def parse_line(text: str) -> Line:
+    """The command or question that a line asks for; refused by `BadLine` (10) where it isn't of the grammar."""
+    if len(text) > MOST_LINE_BYTES:
+        raise BadLine(f"more than {MOST_LINE_BYTES} bytes")
+    match text.split(" "):
+        case ["BID", bidder, ticket, node, amount] if bidder and node:
+            return Bid(bidder, node, _read(amount, MOST_AMOUNT), _read(ticket, MOST_TICKET))
+        case ["WAIVE", bidder, ticket] if bidder:
+            return Waive(bidder, _read(ticket, MOST_TICKET))
+        case ["CLOSE", ticket]:
+            return Close(_read(ticket, MOST_TICKET))
+        case ["STAGE", ticket]:
+            return Stage(_read(ticket, MOST_TICKET))
+        case ["SHOW"]:
+            return Show()
+        case ["NODE", node] if node:
+            return AskNode(node)
+        case ["WHO", bidder] if bidder:
+            return AskWho(bidder)
+    raise BadLine
+
+
+def _read(word: str, most: int) -> int:
+    if not _DIGITS.fullmatch(word) or len(word) > len(str(most)) or int(word) > most:
+        raise BadLine(f"{word!r} is no number from 0 to {most}")
+    return int(word)
+
+
+_WHOLE = r"(0|[1-9][0-9]{0,19})"
+_NAME = NAME.pattern
+_SHOWN = re.compile(rf"ROUND {_WHOLE} STAGE ([1-4]) (OPEN|CLOSED) REVENUE {_WHOLE} COUNT {_WHOLE}")
+_NODE = re.compile(rf"NODE ({_NAME}) HIGH {_WHOLE} (-|{_NAME}) PRICE {_WHOLE} MIN {_WHOLE} WIN (yes|no)")
+_WHO = re.compile(rf"WHO ({_NAME}) ELIGIBILITY {_WHOLE} ACTIVITY {_WHOLE} TICKET {_WHOLE}(?: WAIVERS {_WHOLE})?")
+_OK = re.compile(r"OK ([1-9][0-9]{0,6})")
+_REFUSED = re.compile(r"ERR ([1-9][0-9]) ([a-z]+)")
+_FRONT = re.compile(r"ERR front ([a-z]+)")
+
+
+def parse_answer(text: str) -> Answer:
+    """What an answer says. A refusal is handed back, not raised; `NoAnswer` is raised where the line is no answer at all."""
+    if found := _OK.fullmatch(text):
+        return _accepted(text, int(found[1]))
+    if found := _REFUSED.fullmatch(text):
+        return _refused(text, int(found[1]), found[2])
+    if found := _SHOWN.fullmatch(text):
+        return Shown(int(found[1]), int(found[2]), found[3] == "CLOSED", int(found[4]), int(found[5]))
+    if found := _NODE.fullmatch(text):
+        bidder = None if found[3] == "-" else found[3]
+        return NodeShown(found[1], int(found[2]), bidder, int(found[4]), int(found[5]), found[6] == "yes")
+    if found := _WHO.fullmatch(text):
+        waivers = None if found[5] is None else int(found[5])
+        return WhoShown(found[1], int(found[2]), int(found[3]), int(found[4]), waivers)
+    if found := _FRONT.fullmatch(text):
+        return FrontRefused(found[1])
+    raise NoAnswer(f"this is no answer of an auction: {text[:100]!r}")
+
+
+def _accepted(text: str, number: int) -> Accepted:
+    if number > MOST_COMMANDS:
+        raise NoAnswer(f"there are {MOST_COMMANDS:,} commands at most: {text!r}")
+    return Accepted(number)
+
+
+def _refused(text: str, number: int, word: str) -> Refused:
+    kind = Refused.by_number.get(number)
+    if kind is None or kind.word != word:
+        raise NoAnswer(f"this is no refusal of docs/PROTOCOL.md: {text!r}")
+    return kind()
+
+
+def format_answer(answer: Answer) -> str:
+    """The text of an answer. ValueError where it is one that is known to be accepted without its number."""
+    match answer:
+        case Accepted(None):
+            raise ValueError("it has no number")
+        case Accepted(number):
+            return f"OK {number}"
+        case Shown(round_, stage, is_over, revenue, count):
+            return f"ROUND {round_} STAGE {stage} {'CLOSED' if is_over else 'OPEN'} REVENUE {revenue} COUNT {count}"
+        case NodeShown(name, high, bidder, price, minimum, wins):
+            return f"NODE {name} HIGH {high} {bidder or '-'} PRICE {price} MIN {minimum} WIN {'yes' if wins else 'no'}"
+        case WhoShown(bidder, eligibility, activity, ticket, waivers):
+            told = "" if waivers is None else f" WAIVERS {waivers}"
+            return f"WHO {bidder} ELIGIBILITY {eligibility} ACTIVITY {activity} TICKET {ticket}{told}"
+        case Refused() | FrontRefused():
+            return answer.line

@@ -1,0 +1,118 @@
+"""How a client reaches a front: its place, its certificate, and the token that is said first (docs/FRONT.md)."""
+import argparse
+import errno
+import os
+import re
+import socket
+import ssl
+import stat
+
+ADDRESS = "127.0.0.1"
+TOKEN = re.compile(r"[!-~]{16,128}")
+# Answered to no line: a connection, or its session, is ended by them.
+ENDS = (b"ERR 95 order", b"ERR front idle", b"ERR front many")
+MOST_WELCOME = 256
+
+
+class GivesUp(Exception):
+    """What trying again can't help."""
+
+
+def read_place(text: str) -> tuple[str, int]:
+    """A host and a port, or a port of this machine: `auction.example:6000`, `[::1]:6000`, `5000`."""
+    found = re.fullmatch(r"(?:(?:\[([^\[\]]+)\]|([^:\[\]]+)):)?([0-9]{1,5})", text)
+    if not found or not 1 <= int(found[3]) <= 65535:
+        raise argparse.ArgumentTypeError(f"{text!r} is no port, and no host and port as localhost:6000 is")
+    return found[1] or found[2] or ADDRESS, int(found[3])
+
+
+def add_options(words: argparse.ArgumentParser) -> None:
+    """What is told of a front besides its place."""
+    words.add_argument("--token", metavar="FILE", help="of a front: a file with the token, which nobody else may read")
+    words.add_argument("--name", help="whose token it is, where the file has several")
+    words.add_argument("--ca", metavar="FILE", help="the certificate by which a front is known (default: those that the system knows)")
+    words.add_argument("--plain", action="store_true", help="a front without a certificate: token and lines go in clear")
+
+
+def look_at_options(words: argparse.ArgumentParser, given: argparse.Namespace) -> None:
+    """Ends the program where they don't go together."""
+    if not given.token and (given.name or given.ca or given.plain):
+        words.error("--name, --ca and --plain go with --token")
+    if given.ca and given.plain:
+        words.error("--ca and --plain don't go together")
+
+
+def read_token(path: str, name: str | None) -> str:
+    """The token that stands in a file, which nobody but its owner may read: alone in a line, or behind its name."""
+    with open(path, encoding="ascii") as file:
+        status = os.fstat(file.fileno())
+        if stat.S_ISREG(status.st_mode) and status.st_mode & 0o077:
+            raise GivesUp(f"{path}: others may read it; `chmod 600` it")
+        rows = [line.split() for line in file if line.strip() and not line.startswith("#")]
+    found = [row[-1] for row in rows if len(row) <= 2 and (not name or len(row) == 1 or row[0] == name)]
+    if not found or (len(found) > 1 and not name):
+        raise GivesUp(f"{path}: {f'there is no token of {name}' if name else 'it has not one token; say --name'}")
+    if not TOKEN.fullmatch(found[0]):
+        raise GivesUp(f"{path}: a token has 16 to 128 characters")
+    return found[0]
+
+
+def context_of(given: argparse.Namespace) -> ssl.SSLContext | None:
+    """That of TLS, or nothing where all is in clear."""
+    if given.plain:
+        return None
+    try:
+        return ssl.create_default_context(cafile=given.ca)
+    except OSError as fault:
+        raise GivesUp(f"{given.ca}: {fault.strerror or fault}") from None
+
+
+def connected(place: tuple[str, int], token: str | None, context: ssl.SSLContext | None, patience: float) -> socket.socket:
+    """A connection, which has been welcomed where there is a token. An OSError may pass."""
+    connection = dialled(place, patience)
+    try:
+        if context:
+            connection = over_tls(connection, place, context)
+        if token:
+            be_welcome(connection, token)
+    except BaseException:
+        connection.close()
+        raise
+    return connection
+
+
+def dialled(place: tuple[str, int], patience: float) -> socket.socket:
+    """A connection to a place. If nobody listens at a port that the system gives to connections, it may give that one to this connection,
+    which is then its own other end. That is refused as by a port at which nobody listens."""
+    connection = socket.create_connection(place, patience)
+    if connection.getsockname() == connection.getpeername():
+        connection.close()
+        raise ConnectionRefusedError(errno.ECONNREFUSED, os.strerror(errno.ECONNREFUSED))
+    return connection
+
+
+def over_tls(connection: socket.socket, place: tuple[str, int], context: ssl.SSLContext) -> ssl.SSLSocket:
+    try:
+        return context.wrap_socket(connection, server_hostname=place[0])
+    except ssl.SSLCertVerificationError as fault:
+        raise GivesUp(f"{place[0]} isn't known by its certificate: {fault.verify_message}") from None
+    except (ssl.SSLEOFError, ssl.SSLZeroReturnError):
+        # It was ended in the middle, and may be there again.
+        raise
+    except ssl.SSLError as fault:
+        raise GivesUp(f"no TLS with {place[0]}, port {place[1]}: {fault.reason or fault}") from None
+
+
+def be_welcome(connection: socket.socket, token: str) -> None:
+    connection.sendall(f"TOKEN {token}\n".encode())
+    line = b""
+    # Byte by byte: what comes behind is for others to read.
+    while not line.endswith(b"\n") and len(line) < MOST_WELCOME:
+        if not (part := connection.recv(1)):
+            raise ConnectionError("it ends the connection")
+        line += part
+    answer = line.rstrip(b"\n")
+    if answer in ENDS:
+        raise ConnectionError(f"it answers {answer.decode()}")
+    if not answer.startswith(b"WELCOME "):
+        raise GivesUp(f"the token is answered {answer.decode('latin-1')}")

@@ -1,0 +1,260 @@
+"""Serves the page of an auction to browsers: whoever may see it, its events, and what a viewer may take up (docs/BOARD.md)."""
+import collections
+import contextlib
+import socket
+import socketserver
+import ssl
+import sys
+import threading
+import time
+from collections.abc import Callable, Iterable, Mapping
+from types import TracebackType
+from typing import Any, Final
+
+from hpb.pages.page import HEADERS, ICONS, PICTURE, PICTURE_POLICY
+from hpb.pages.requests import REQUEST_SECONDS, Bad, Request, is_own, read_request
+from hpb.pages.walls import MOST_VIEWERS, Guests, Wall
+
+MOST_CONNECTIONS: Final = 256
+# An event that isn't taken for so long ends its page's connection, which then asks for another one.
+_VIEWER_SECONDS = 20
+_BEAT_SECONDS = 5
+# What the system keeps of events that a viewer doesn't take.
+_MOST_UNREAD = 65_536
+# How long a connection that has to make room may take to be gone.
+_ROOM_SECONDS = 0.2
+_REASONS: Final = {
+    200: "OK",
+    400: "Bad Request",
+    401: "Unauthorized",
+    404: "Not Found",
+    405: "Method Not Allowed",
+    408: "Request Timeout",
+    421: "Misdirected Request",
+    503: "Service Unavailable",
+}
+_TEXT = "text/plain; charset=utf-8"
+# A browser asks for name and token by this.
+_WHO_ARE_YOU: Final = {"WWW-Authenticate": 'Basic realm="Auction: name and token", charset="UTF-8"'}
+# A proxy that keeps what comes until there is more of it would keep events.
+_EVENT_HEADERS: Final = {**HEADERS, "Content-Type": "text/event-stream; charset=utf-8", "X-Accel-Buffering": "no", "Connection": "close"}
+
+# Is given each request: who sent it, the name that signed in, the path, and the status.
+Note = Callable[[str, str | None, str | None, int], None]
+
+
+def _no_note(peer: str, name: str | None, path: str | None, status: int) -> None:
+    """Of requests to this server nothing is kept."""
+
+
+class Viewer(socketserver.BaseRequestHandler):
+    """One connection, for one request."""
+
+    server: "Server"
+    request: socket.socket
+
+    def handle(self) -> None:
+        """As `socketserver` wants it."""
+        try:
+            self._begin()
+            self._answer_or_refuse()
+        except OSError:
+            pass  # The viewer has gone, or takes nothing.
+
+    def _answer_or_refuse(self) -> None:
+        self._path: str | None = None
+        try:
+            self._answer(read_request(self.request))
+        except Bad as bad:
+            status = bad.status
+            self._note(None, status)
+            self._give(status, _TEXT, f"{status} {_REASONS[status]}\n".encode(), _WHO_ARE_YOU if status == 401 else {})
+
+    def _note(self, name: str | None, status: int) -> None:
+        self.server.note(" ".join(map(str, self.client_address[:2])), name, self._path, status)
+
+    def _begin(self) -> None:
+        if isinstance(self.request, ssl.SSLSocket):
+            self.request.settimeout(REQUEST_SECONDS)
+            self.request.do_handshake()
+
+    def _answer(self, request: Request) -> None:
+        self._path = request.path
+        self.server.has_asked(self.request)
+        self.request.settimeout(_VIEWER_SECONDS)
+        if request.method not in ("GET", "HEAD"):
+            raise Bad(405)
+        if not is_own(request.one("host"), self.server.names):
+            raise Bad(421)
+        wall = self.server.guests.wall_of((request.all("authorization") or [""])[0])
+        name = request.path.removeprefix("/")
+        if name == "events" and request.method == "GET":
+            self._follow(wall)
+        else:
+            kind, data, headers = _found(wall, name)
+            self._note(wall.name, 200)
+            self._give(200, kind, data, headers, request.method == "GET")
+
+    def _give(self, status: int, kind: str, data: bytes, headers: Mapping[str, str], has_body: bool = True) -> None:
+        head = {**HEADERS, "Content-Type": kind, "Content-Length": str(len(data)), "Connection": "close", **headers}
+        self._send(_head_of(status, head) + (data if has_body else b""))
+
+    def _send(self, data: bytes) -> None:
+        self.request.sendall(data)
+
+    def _follow(self, wall: Wall) -> None:
+        with _Taken(self.server.viewers), _Taken(wall.viewers):
+            self.request.setsockopt(socket.SOL_SOCKET, socket.SO_SNDBUF, _MOST_UNREAD)
+            self._note(wall.name, 200)
+            self._send(_head_of(200, _EVENT_HEADERS) + b"retry: 2000\n\n")
+            self._send_events(wall)
+
+    def _send_events(self, wall: Wall) -> None:
+        _, known, number = wall.now()
+        self._send(wall.page.event(None, known))
+        while True:
+            model, newest, said = wall.next(number, _BEAT_SECONDS)
+            if newest == number:
+                self._send(b"event: beat\ndata: " + time.strftime("%H:%M:%S").encode() + b"\n\n")
+            else:
+                self._send(wall.page.event(known, model, said))
+            known, number = model, newest
+
+
+class _Taken:
+    """One of so many places, given back in the end; where none is left the request is refused."""
+
+    def __init__(self, places: threading.Semaphore) -> None:
+        self._places = places
+
+    def __enter__(self) -> None:
+        if not self._places.acquire(blocking=False):
+            raise Bad(503)
+
+    def __exit__(self, kind: type[BaseException] | None, fault: BaseException | None, trace: TracebackType | None) -> None:
+        self._places.release()
+
+
+def _found(wall: Wall, name: str) -> tuple[str, bytes, Mapping[str, str]]:
+    """What stands under a path, its kind, and fields of its own."""
+    view, model, _ = wall.now()
+    if name == "":
+        return "text/html; charset=utf-8", wall.page.html(model), {}
+    name = ICONS.get(name, name)
+    if name in wall.page.assets:
+        return *wall.page.assets[name], {}
+    picture = wall.page.picture(view) if name == PICTURE else None
+    if picture is None:
+        raise Bad(404)
+    return "image/svg+xml", picture, {"Content-Security-Policy": PICTURE_POLICY}
+
+
+def _head_of(status: int, fields: Mapping[str, str]) -> bytes:
+    lines = [f"HTTP/1.1 {status} {_REASONS[status]}", *(f"{name}: {value}" for name, value in fields.items())]
+    return ("\r\n".join(lines) + "\r\n\r\n").encode()
+
+
+class Server(socketserver.ThreadingTCPServer):
+    """A thread for each connection, and so many at most. Where one more comes, of those that haven't asked for anything yet the first
+    one of the address ends that has the most of them; where there is none the new one does."""
+
+    daemon_threads = allow_reuse_address = True
+    block_on_close = False
+    request_queue_size = 128
+
+    def __init__(
+        self, address: tuple[str, int], names: Iterable[str], guests: Guests, context: ssl.SSLContext | None = None,
+        listener: socket.socket | None = None, note: Note = _no_note,
+    ) -> None:
+        """At an address, or on a socket that listens already. It may be asked for by `names`, too."""
+        self.note = note
+        self.address_family = listener.family if listener else socket.AF_INET6 if ":" in address[0] else socket.AF_INET
+        self.names, self.guests, self._context = {"localhost", *(name.lower() for name in names)}, guests, context
+        self._room, self.viewers = threading.BoundedSemaphore(MOST_CONNECTIONS), threading.BoundedSemaphore(MOST_VIEWERS)
+        self._silent: dict[socket.socket, str] = {}
+        self._inside: set[socket.socket] = set()
+        self._lock = threading.Lock()
+        self._is_refused = False
+        super().__init__(address, Viewer, bind_and_activate=listener is None)
+        if listener:
+            self.socket.close()
+            self.socket, self.server_address = listener, listener.getsockname()
+
+    def url(self) -> str:
+        """The address of the page."""
+        host, port = self.socket.getsockname()[:2]
+        return f"http{'s' if self._context else ''}://{f'[{host}]' if ':' in host else host}:{port}/"
+
+    def get_request(self) -> tuple[socket.socket, Any]:
+        """As `socketserver` wants it."""
+        try:
+            request, address = super().get_request()
+        except BlockingIOError:
+            raise  # Who came is gone again.
+        except OSError as fault:
+            self._wait_after(fault)
+            raise
+        self._is_refused = False
+        if self._context:
+            request = self._context.wrap_socket(request, server_side=True, do_handshake_on_connect=False)
+        return request, address
+
+    def _wait_after(self, fault: OSError) -> None:
+        """It stays to be taken, as where there are no descriptors left: that is told once, and tried again."""
+        if not self._is_refused:
+            print(f"board: a connection can't be taken: {fault.strerror or fault}", file=sys.stderr)
+        self._is_refused = True
+        time.sleep(_ROOM_SECONDS)
+
+    def process_request(self, request: Any, address: Any) -> None:
+        """As `socketserver` wants it."""
+        if not self._room.acquire(blocking=False) and not (self._end_silent() and self._room.acquire(timeout=_ROOM_SECONDS)):
+            self.shutdown_request(request)
+            return
+        try:
+            with self._lock:
+                self._inside.add(request)
+                self._silent[request] = address[0]
+            super().process_request(request, address)
+        except BaseException:
+            # It has no thread, which would give its place back.
+            self._give_back(request)
+            raise
+
+    def process_request_thread(self, request: Any, address: Any) -> None:
+        """As `socketserver` wants it."""
+        try:
+            super().process_request_thread(request, address)
+        finally:
+            self._give_back(request)
+
+    def _give_back(self, request: socket.socket) -> None:
+        """Its place, once."""
+        with self._lock:
+            self._silent.pop(request, None)
+            if request not in self._inside:
+                return
+            self._inside.discard(request)
+        self._room.release()
+
+    def has_asked(self, request: socket.socket) -> None:
+        """A connection has asked for something, and isn't ended to make room."""
+        with self._lock:
+            self._silent.pop(request, None)
+
+    def _end_silent(self) -> bool:
+        """Whether there was one that could be ended."""
+        with self._lock:
+            if not self._silent:
+                return False
+            crowd = collections.Counter(self._silent.values()).most_common(1)[0][0]
+            first = next(request for request, address in self._silent.items() if address == crowd)
+            del self._silent[first]
+        with contextlib.suppress(OSError):
+            # Its thread then reads an end; one over TLS is ended below that.
+            socket.socket.shutdown(first, socket.SHUT_RDWR)
+        return True
+
+    def handle_error(self, request: object, address: object) -> None:
+        """As `socketserver` wants it."""
+        print(f"board: {sys.exc_info()[1]!r}", file=sys.stderr)

@@ -1,0 +1,113 @@
+"""What is known of an auction that is followed: how it stands, how it stood before the last close, and how the round began."""
+from collections.abc import Iterable, Mapping
+from dataclasses import replace
+from enum import StrEnum
+from typing import Final, NamedTuple
+
+from hpb.lines import Shown, WhoShown
+from hpb.rules.told import Told
+from hpb.rules.tree import Tree
+
+# A front counts no connections.
+ENDLESS: Final = float("inf")
+
+
+class State(StrEnum):
+    """How it stands with the server."""
+
+    WAITING = "waiting"
+    LIVE = "live"
+    SILENT = "silent"
+    LOST = "lost"
+    OVER = "over"
+
+
+class Contact(NamedTuple):
+    """How it stands with the server, since when in seconds of the system's clock, and how many more connections may be made."""
+
+    state: State
+    since: float
+    places: float
+
+
+class Begin(NamedTuple):
+    """How a round stood when it was first seen. It is exact where nothing had been accepted in the round by then."""
+
+    shown: Shown
+    whos: Mapping[str, WhoShown]
+    is_exact: bool
+
+
+class Seen(NamedTuple):
+    """How an auction stands. `before` is what was last seen before the last close, or None where no close was seen."""
+
+    standing: Told
+    before: Told | None
+    begin: Begin
+
+    def accepted(self) -> int:
+        """How many bids and waivers were seen to be accepted in this round."""
+        now, then = self.standing.shown, self.begin.shown
+        return now.count - then.count - (now.stage - then.stage)
+
+    def would_end(self) -> bool | None:
+        """Whether a close now would end the auction; None where that can't be known."""
+        if self.standing.shown.is_over or self.accepted() > 0:
+            return False
+        return True if self.begin.is_exact else None
+
+    def only(self, bidders: Iterable[str]) -> "Seen":
+        """The same to whom these bidders alone are shown."""
+        names = list(bidders)
+        before = self.before and _only(self.before, names)
+        return Seen(_only(self.standing, names), before, self.begin._replace(whos=_kept(self.begin.whos, names)))
+
+
+class View(NamedTuple):
+    """What is known: None of the auction before anything was answered."""
+
+    seen: Seen | None
+    contact: Contact
+
+    def only(self, bidders: Iterable[str]) -> "View":
+        """The same to whom these bidders alone are shown."""
+        return self._replace(seen=self.seen and self.seen.only(bidders))
+
+
+def _only(told: Told, bidders: Iterable[str]) -> Told:
+    return replace(told, whos=_kept(told.whos, bidders))
+
+
+def _kept(whos: Mapping[str, WhoShown], bidders: Iterable[str]) -> dict[str, WhoShown]:
+    return {name: whos[name] for name in bidders if name in whos}
+
+
+def taken(tree: Tree, bidders: Iterable[str], old: Seen | None, now: Told) -> Seen:
+    """What is known once an auction stands so; `old` is what was known before."""
+    if old is None or _is_another(old.standing, now):
+        return Seen(now, None, _begin_of(tree, bidders, None, now))
+    if period(old.standing.shown) != period(now.shown):
+        return Seen(now, old.standing, _begin_of(tree, bidders, old.standing, now))
+    return old._replace(standing=now)
+
+
+def period(shown: Shown) -> tuple[int, bool]:
+    """What nodes and winners are the same in."""
+    return shown.round, shown.is_over
+
+
+def _is_another(old: Told, now: Told) -> bool:
+    """Whether what is served doesn't go on from what was seen, as where an older copy was taken back."""
+    same_period = period(now.shown) == period(old.shown)
+    return now.shown.count < old.shown.count or (same_period and now.nodes != old.nodes)
+
+
+def _begin_of(tree: Tree, bidders: Iterable[str], old: Told | None, now: Told) -> Begin:
+    """How the round began that this standing is of; `old` is what was last seen before it, if anything was."""
+    shown = now.shown
+    if shown.round == 1 and not shown.is_over:
+        waivers = tree.definition.waivers
+        whos = {name: WhoShown(name, tree.bidders[name].units, 0, 0, waivers) for name in bidders}
+        return Begin(Shown(1, 1, False, 0, 0), whos, True)
+    is_exact = old is not None and not shown.is_over and shown.round == old.shown.round + 1 and shown.count == old.shown.count + 1
+    return Begin(shown, now.whos, is_exact)

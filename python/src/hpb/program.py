@@ -1,0 +1,73 @@
+"""The program `hpb`, which is asked about a copy of an auction's file, or told lines for an auction in memory."""
+import os
+import pathlib
+import subprocess
+import tempfile
+from collections.abc import Sequence
+from os import PathLike
+from types import TracebackType
+from typing import Final
+
+from hpb.refusals import HpbError
+from hpb.rules.definition import Definition
+from hpb.rules.writing import definition_line
+
+# A folder in memory, where a copy waits for no disk.
+MEMORY: Final = "/dev/shm"
+
+
+class NotAnswered(HpbError):
+    """The program can't be started, refuses a file, or doesn't answer each line."""
+
+
+class Copy:
+    """An auction's file in a folder of its own, which is removed at the end of `with`, and a program that is asked about it."""
+
+    def __init__(self, program: str | PathLike[str], image: bytes) -> None:
+        self._program, self._image = program, image
+
+    def __enter__(self) -> "Copy":
+        self._room = tempfile.TemporaryDirectory(prefix="hpb-copy-", dir=MEMORY if os.access(MEMORY, os.W_OK) else None)
+        self._file = pathlib.Path(self._room.name, "auction.hpb")
+        self._file.write_bytes(self._image)
+        return self
+
+    def __exit__(self, kind: type[BaseException] | None, fault: BaseException | None, trace: TracebackType | None) -> None:
+        self._room.cleanup()
+
+    def check(self) -> list[str]:
+        """The answers to SHOW, and to NODE of each node. `NotAnswered` is raised where the file is refused."""
+        return self._told(["check", "--file", str(self._file)])
+
+    def run(self, lines: Sequence[str]) -> list[str]:
+        """The answer to each line. What they change stays in the copy. `NotAnswered` is raised where the file is refused, or an answer is
+        missing."""
+        answers = self._told(["run", "--file", str(self._file)], "".join(f"{line}\n" for line in lines))
+        if len(answers) != len(lines):
+            raise NotAnswered(f"{len(lines)} lines got {len(answers)} answers")
+        return answers
+
+    def _told(self, words: Sequence[str], text: str = "") -> list[str]:
+        try:
+            ran = subprocess.run([self._program, *words], input=text, capture_output=True, encoding="utf-8", errors="backslashreplace")
+        except OSError as fault:
+            raise NotAnswered(f"the program can't be started: {fault}") from None
+        lines = ran.stdout.splitlines()
+        if ran.returncode:
+            refusal = next((line for line in lines if line.startswith("ERR ")), f"status {ran.returncode}")
+            raise NotAnswered(refusal.removeprefix("ERR ") + ": " + (ran.stderr.strip() or "hpb says no more"))
+        return lines
+
+
+def answers_in_memory(program: str | PathLike[str], definition: Definition, lines: Sequence[str]) -> list[str]:
+    """What a new auction in memory answers to each line. `NotAnswered` is raised where an answer is missing."""
+    text = definition_line(definition) + "".join(f"{line}\n" for line in lines)
+    try:
+        ran = subprocess.run([program], input=text.encode("latin-1"), capture_output=True)
+    except OSError as fault:
+        raise NotAnswered(f"{program} can't be started: {fault.strerror}") from None
+    answers = ran.stdout.decode("latin-1").splitlines()
+    if ran.returncode or len(answers) != len(lines):
+        said = ran.stderr.decode("latin-1").strip()
+        raise NotAnswered(f"hpb ended with {ran.returncode} after {len(answers)} answers to {len(lines)} lines: {said}")
+    return answers

@@ -1,0 +1,33 @@
+"""The record of a front: entries of one line each, each of which names the hash of the one before, in segments (docs/FRONT.md).
+
+`read_record` and `record_entries` read one, all its segments in order, and raise `Damaged` where it isn't as a front wrote it.
+`RecordFile` is the record that a front goes on with.
+"""
+from collections.abc import Iterator
+from os import PathLike
+
+from hpb.record.entries import (
+    FIRST_FORM, FORM, HASH_BYTES, OK, Damaged, Entry, InTheWay, InUse, New, Place, WrongSegment, entries_of, entry_line, sealed, text_of,
+    time_now,
+)
+from hpb.record.file import RecordFile
+from hpb.record.segments import Reader
+from hpb.record.state import State
+
+__all__ = [
+    "FIRST_FORM", "FORM", "HASH_BYTES", "OK", "Damaged", "Entry", "InTheWay", "InUse", "New", "Place", "RecordFile", "State",
+    "WrongSegment", "entries_of", "entry_line", "read_record", "record_entries", "sealed", "text_of", "time_now",
+]
+
+
+def record_entries(path: str | PathLike[str]) -> Iterator[tuple[Entry, Place]]:
+    """Each entry of a record, with the place behind it."""
+    return Reader(str(path)).entries()
+
+
+def read_record(path: str | PathLike[str]) -> tuple[list[Entry], Place]:
+    """All entries of a record, and the place behind the last."""
+    entries, place = [], Place()
+    for entry, place in record_entries(path):
+        entries.append(entry)
+    return entries, place

@@ -1,0 +1,116 @@
+"""What stands beside a record, in `auction.record.asked`: the commands that the server may have been told and that have no answer yet, and
+how far the record is known to be on the disk (docs/FRONT.md).
+
+The file has places of 1,024 bytes, each a sealed line filled up with spaces. The first names the last entry that was synced; each of the
+others has a command, and is used again once that is answered. So the file stays as small as the commands that wait at one time.
+"""
+import os
+from typing import NamedTuple
+
+from hpb.own_files import open_own
+from hpb.record.entries import HASH_BYTES, NO_HASH, Damaged, Entry, Place, content_of, is_sealed, json_of, sealed, text_of, time_now
+
+PLACE_BYTES = 1_024
+FORM = 1
+EMPTY = bytes(PLACE_BYTES)
+
+
+class Mark(NamedTuple):
+    """An entry that was on the disk, and the first entry of its record."""
+
+    synced: Place
+    first: str = NO_HASH
+
+
+class Asked(NamedTuple):
+    """A command that the server may have been told."""
+
+    name: str
+    line: bytes
+
+
+def filled(fields: Entry) -> bytes:
+    """A place that has these fields."""
+    line = sealed(json_of(fields))
+    if len(line) > PLACE_BYTES:
+        raise ValueError(f"{len(line)} bytes don't go into a place of {PLACE_BYTES}")
+    return line[:-1].ljust(PLACE_BYTES - 1) + b"\n"
+
+
+def fields_of(place: bytes) -> Entry:
+    """What a place has: nothing where it was never written, or a crash tore it while it was."""
+    line = place.rstrip(b" \n") + b"\n"
+    if len(line) <= HASH_BYTES or not is_sealed(line):
+        return {}
+    try:
+        fields: Entry = content_of(line)
+    except Damaged:
+        return {}
+    return fields
+
+
+class AskedFile:
+    """The file beside a record. Whoever has the record's lock has this one, too."""
+
+    def __init__(self, record: str) -> None:
+        self.path = f"{record}.asked"
+        self.file = open_own(self.path, os.O_RDWR)
+        self.first = NO_HASH
+
+    def places(self) -> list[Entry]:
+        data = self.data()
+        return [fields_of(data[at : at + PLACE_BYTES]) for at in range(0, len(data), PLACE_BYTES)]
+
+    def mark(self) -> Mark:
+        """How far the record was on the disk, as far as that is known."""
+        places = self.places()
+        fields = places[0] if places else {}
+        try:
+            return Mark(Place(int(fields["entry"]), str(fields["hash"])), str(fields["first"]))
+        except (LookupError, TypeError, ValueError):
+            return Mark(Place())
+
+    def left(self) -> list[Asked]:
+        """The commands that stand there. Those that are in the record, or were refused, may be among them."""
+        return [Asked(fields["name"], fields["line"].encode("latin-1")) for fields in self.places()[1:] if "line" in fields]
+
+    def note(self, synced: Place) -> None:
+        """Notes that this entry is on the disk. The note itself is there by the next sync: until then less is known, and nothing wrong."""
+        if synced.number == 1:
+            self.first = synced.hash
+        fields = {"form": FORM, "entry": synced.number, "hash": synced.hash, "first": self.first}
+        write_at(self.file, filled(fields), 0)
+
+    def put(self, places: dict[int, Asked | None]) -> None:
+        """Fills these places, counted from 0, or empties them. What is put there is on the disk when this returns."""
+        for number, asked in places.items():
+            place = filled({"name": asked.name, "line": text_of(asked.line), "at": time_now()}) if asked else EMPTY
+            write_at(self.file, place, (1 + number) * PLACE_BYTES)
+        if any(places.values()):
+            self.sync()
+
+    def clear(self) -> None:
+        """Empties all places of commands, once each is in the record or is known not to be in the file."""
+        if os.fstat(self.file).st_size > PLACE_BYTES:
+            os.ftruncate(self.file, PLACE_BYTES)
+            self.sync()
+
+    def forget(self) -> None:
+        """Empties the file."""
+        os.ftruncate(self.file, 0)
+
+    def sync(self) -> None:
+        os.fdatasync(self.file)
+
+    def data(self) -> bytes:
+        """All that stands in the file."""
+        return os.pread(self.file, os.fstat(self.file).st_size, 0)
+
+    def close(self) -> None:
+        os.close(self.file)
+
+
+def write_at(file: int, data: bytes, at: int) -> None:
+    while data:
+        written = os.pwrite(file, data, at)
+        data, at = data[written:], at + written

@@ -1,0 +1,131 @@
+"""Entries of a record: a line each, that begins with its hash and names the hash of the entry before (docs/FRONT.md)."""
+import hashlib
+import json
+import time
+from collections.abc import Iterator
+from typing import Any, BinaryIO, NamedTuple
+
+# That of records whose entries stand in one file, with questions among them; and of those in segments.
+FIRST_FORM, FORM = 1, 2
+NO_HASH = "0" * 64
+HASH_BYTES = len(NO_HASH)
+OK = "OK "
+MEGABYTE = 1_000_000
+# No entry is longer, in bytes; what is, isn't read into memory.
+MOST_ENTRY = 2 * MEGABYTE
+# No write has more bytes, but one that has one entry alone.
+MOST_WRITE = 65_536
+# What stands behind the hash of the first entry.
+FIRST = b' {"entry":1,"before":"' + NO_HASH.encode()
+
+Entry = dict[str, Any]
+
+
+class Damaged(Exception):
+    """A record that isn't as a front wrote it."""
+
+
+class WrongSegment(Damaged):
+    """A segment before the last is missing, or isn't the one that the next names."""
+
+
+class InTheWay(WrongSegment):
+    """Another file has the name of a segment."""
+
+    def __init__(self, name: str) -> None:
+        super().__init__(f"{name} stands where a segment of the record belongs, and isn't it")
+
+
+class InUse(Exception):
+    """Another front has the record."""
+
+
+class Place(NamedTuple):
+    """Where a record ends: the number of its last entry, and its hash."""
+
+    number: int = 0
+    hash: str = NO_HASH
+
+
+class New(NamedTuple):
+    """An entry that is still to be written, and the time at which it came."""
+
+    kind: str
+    fields: Entry
+    at: str
+
+
+def sealed(content: bytes) -> bytes:
+    """The line of an entry."""
+    return hashlib.sha256(content).hexdigest().encode() + b" " + content + b"\n"
+
+
+def is_sealed(line: bytes) -> bool:
+    return len(line) > HASH_BYTES + 1 and sealed(line[HASH_BYTES + 1 : -1]) == line
+
+
+def content_of(line: bytes) -> Any:
+    """What stands in a sealed line. A Damaged says that it is no object of JSON."""
+    try:
+        content = json.loads(line[HASH_BYTES + 1 :])
+    except (ValueError, RecursionError):
+        raise Damaged("it is no entry of a record") from None
+    if not isinstance(content, dict):
+        raise Damaged("it is no entry of a record")
+    return content
+
+
+def json_of(fields: Entry) -> bytes:
+    return json.dumps(fields, separators=(",", ":")).encode()
+
+
+def entry_line(place: Place, kind: str, fields: Entry, at: str | None = None, synced: int | None = None) -> tuple[bytes, Place]:
+    """The line of the entry behind this place, and the place behind it. `synced` is the number of the last entry that is on the disk by
+    then; entries of the first form name none."""
+    entry = {"entry": place.number + 1, "before": place.hash}
+    if synced is not None:
+        entry["synced"] = synced
+    line = sealed(json_of({**entry, "at": at or time_now(), "kind": kind, **fields}))
+    return line, Place(place.number + 1, line[:HASH_BYTES].decode())
+
+
+def time_now() -> str:
+    """UTC, to the microsecond."""
+    seconds, nanoseconds = divmod(time.time_ns(), 1_000_000_000)
+    return time.strftime("%Y-%m-%dT%H:%M:%S", time.gmtime(seconds)) + f".{nanoseconds // 1000:06}Z"
+
+
+def text_of(line: bytes) -> str:
+    """A line of any bytes as a text, each byte a character."""
+    return line.decode("latin-1")
+
+
+def read_entry(line: bytes, place: Place) -> Entry:
+    """The entry of a line that stands behind this place. A Damaged says why it is none."""
+    if not line.endswith(b"\n"):
+        raise Damaged("it is cut short")
+    if not is_sealed(line):
+        raise Damaged("its hash isn't that of its text")
+    entry: Entry = content_of(line)
+    if not {"entry", "before", "kind"} <= entry.keys():
+        raise Damaged("it is no entry of a record")
+    if entry["entry"] != place.number + 1:
+        raise Damaged(f"it has the number {entry['entry']}")
+    if entry["before"] != place.hash:
+        raise Damaged("the hash that it names isn't that of the entry before it")
+    return entry
+
+
+def place_of(line: bytes, entry: Entry) -> Place:
+    return Place(entry["entry"], line[:HASH_BYTES].decode())
+
+
+def entries_of(file: BinaryIO, place: Place = Place()) -> Iterator[tuple[Entry, Place]]:
+    """Each entry of an open file, with the place behind it. A Damaged names the first that isn't as a front wrote it."""
+    while line := file.readline(MOST_ENTRY):
+        try:
+            entry = read_entry(line, place)
+        except Damaged as fault:
+            raise Damaged(f"entry {place.number + 1}: {fault}") from None
+        place = place_of(line, entry)
+        yield entry, place

@@ -1,0 +1,194 @@
+"""The record that a front goes on with: its last segment, what a crash left torn at its end, and the next segment (docs/FRONT.md)."""
+import fcntl
+import hashlib
+import os
+from collections.abc import Iterator, Sequence
+
+from hpb.own_files import look_at_owner, open_own
+from hpb.record.asked import AskedFile, Mark
+from hpb.record.entries import (
+    FIRST, FIRST_FORM, FORM, HASH_BYTES, MEGABYTE, NO_HASH, Damaged, Entry, InUse, New, Place, content_of, entries_of, entry_line,
+    time_now,
+)
+from hpb.record.segments import (
+    MOST_SEGMENT, Behind, digest_of, first_line, head_line, head_of, look_at_seals, segment_path, segment_paths, sync_folder, write_aside,
+    write_segment,
+)
+from hpb.record.state import State
+from hpb.record.torn import may_be_first, may_be_one_write
+
+HOW = os.O_RDWR | os.O_APPEND
+
+
+class RecordFile:
+    """A record that entries are added to. `place` is the last entry that is on the disk, and `state` what all up to it come to."""
+
+    def __init__(self, path: str, most_segment: int = MOST_SEGMENT) -> None:
+        """Takes the record's lock, and makes the record where there is none. An InUse says that another front has it, a WrongSegment that
+        one is missing, and an OSError that somebody else owns it or may write it."""
+        self.path, self.most_segment = str(path), most_segment
+        paths = segment_paths(self.path)
+        self.lock = open_own(self.path, HOW, may_make=not paths)
+        self.file = self.lock
+        try:
+            fcntl.flock(self.lock, fcntl.LOCK_EX | fcntl.LOCK_NB)
+            self.asked = AskedFile(self.path)
+            sync_folder(self.path)
+        except BlockingIOError:
+            os.close(self.lock)
+            raise InUse from None
+        except OSError:
+            os.close(self.lock)
+            raise
+        self.place, self.state, self.digest, self.length = Place(), State(), hashlib.sha256(), 0
+        self.segment = 1
+
+    # The start.
+
+    def open(self, may_set_aside: bool = False) -> Entry | None:
+        """Reads the last segment, and compares the seals of those before. What a crash left torn is set aside; its length and the file that
+        it is put into, or nothing. A Damaged says what was changed, is missing, or belongs to something else."""
+        paths, mark = segment_paths(self.path), self.asked.mark()
+        for path in paths:
+            look_at_owner(path, os.stat(path))
+        look_at_seals(paths)
+        self.segment = len(paths)
+        if self.segment > 1:
+            self.file = open_own(paths[-1], HOW, may_make=False)
+        marked, fault = self.read_segment(paths[-1], mark)
+        torn = os.fstat(self.file).st_size - self.length
+        try:
+            if torn:
+                self.look_behind(paths[-1], fault)
+            self.look_at_mark(mark, marked)
+        except Damaged:
+            if not may_set_aside:
+                raise
+        # A front that was killed may have left entries that aren't on the disk yet.
+        os.fdatasync(self.file)
+        self.take_asked(mark)
+        return self.set_aside(torn) if torn else None
+
+    def read_segment(self, path: str, mark: Mark) -> tuple[str, str]:
+        """The hash of the entry that is marked, where it stands there, and why the entry behind the whole ones isn't whole."""
+        self.place = head_of(path)[1] if self.segment > 1 else Place()
+        marked = fault = ""
+        with open(path, "rb") as file:
+            try:
+                for entry, self.place in entries_of(file, self.place):
+                    self.state.take(entry)
+                    self.length = file.tell()
+                    marked = self.place.hash if self.place.number == mark.synced.number else marked
+            except Damaged as damage:
+                fault = str(damage)
+        self.digest = digest_of(path, self.length)
+        return marked, fault
+
+    def look_behind(self, path: str, fault: str) -> None:
+        """A crash tears what was written last and not synced. A Damaged says that what stands behind the whole entries isn't that."""
+        with open(path, "rb") as file:
+            if not self.place.number and not may_be_first(file.read(HASH_BYTES + len(FIRST))):
+                raise Damaged("entry 1 isn't one: is it another file?")
+            file.seek(self.length)
+            if not may_be_one_write(file, self.place.number + 1, self.state.form if self.place.number else FORM):
+                raise Damaged(f"{fault}; what stands behind it shows that it was on the disk, so it was changed")
+
+    def look_at_mark(self, mark: Mark, marked: str) -> None:
+        """Whether the record is the one that was synced, as far as the file beside it knows."""
+        name = os.path.basename(self.path)
+        if self.place.number and mark.synced.number and mark.first != first_hash(self.path):
+            raise Damaged(f"{os.path.basename(self.asked.path)} belongs to another record than {name}")
+        if mark.synced.number > self.place.number:
+            raise Damaged(f"entry {mark.synced.number} was on the disk, and {name} ends behind entry {self.place.number}: it was changed or cut, "
+                          "or is an older copy")
+        if marked and marked != mark.synced.hash:
+            raise Damaged(f"entry {mark.synced.number} isn't the one that was on the disk: {name} is another copy")
+
+    def take_asked(self, mark: Mark) -> None:
+        """Goes on with the file beside the record. One that belongs to another record is set aside."""
+        first = first_hash(self.path) if self.place.number else NO_HASH
+        if mark.synced.number and mark.first != first:
+            write_aside(self.asked.path, [self.asked.data()])
+            self.asked.forget()
+        self.asked.first = first
+        if self.place.number:
+            self.asked.note(self.place)
+
+    def set_aside(self, torn: int) -> Entry:
+        """Puts what stands behind the whole entries into a file of its own."""
+        aside = write_aside(self.path, self.pieces(self.length))
+        os.ftruncate(self.file, self.length)
+        os.fsync(self.file)
+        return {"bytes": torn, "aside": os.path.basename(aside)}
+
+    def pieces(self, at: int) -> Iterator[bytes]:
+        """What stands in the last segment from there on."""
+        while piece := os.pread(self.file, MEGABYTE, at):
+            at += len(piece)
+            yield piece
+
+    # Entries.
+
+    def write(self, entries: Sequence[New]) -> None:
+        """Adds entries by one write. They are on the disk when this returns. An OSError says that they may be there or not: the record is
+        then opened anew before anything is added."""
+        if self.needs_segment():
+            self.begin_segment()
+        self.add(entries)
+        # A segment whose successor finds its name taken goes on; the next start says so.
+        if self.length >= self.most_segment and not os.path.lexists(segment_path(self.path, self.segment + 1)):
+            self.add([New("sealed", {"bytes": self.length, "sha256": self.digest.hexdigest()}, time_now())])
+            self.begin_segment()
+
+    def add(self, entries: Sequence[New]) -> None:
+        place, lines = self.place, []
+        for entry in entries:
+            line, place = entry_line(place, entry.kind, entry.fields, entry.at, self.place.number)
+            lines.append(line)
+        data = b"".join(lines)
+        write_all(self.file, data)
+        os.fdatasync(self.file)
+        for line in lines:
+            self.state.take(content_of(line))
+        self.digest.update(data)
+        self.length, self.place = self.length + len(data), place
+        self.asked.note(place)
+        if entries[-1].kind == "stopped":
+            self.asked.sync()
+
+    def begin(self, definition: object) -> None:
+        """Begins a new record."""
+        state = {"state": State().head()}
+        self.add([New("begin", {"form": FORM, "segment": 1, "definition": definition, **state}, time_now())])
+
+    def needs_segment(self) -> bool:
+        """Whether the last one is sealed, or is that of another form, to which nothing is added."""
+        return self.place.number > 0 and (self.state.is_sealed or self.state.form == FIRST_FORM)
+
+    def begin_segment(self) -> None:
+        """Puts a new segment behind the last one."""
+        behind = Behind(self.length, self.digest.hexdigest())
+        line, place = head_line(self.place, self.state, self.segment + 1, behind)
+        path = write_segment(self.path, self.segment + 1, line)
+        self.segment += 1
+        if self.file != self.lock:
+            os.close(self.file)
+        self.file = open_own(path, HOW, may_make=False)
+        self.state.take(content_of(line))
+        self.digest, self.length, self.place = hashlib.sha256(line), len(line), place
+        self.asked.note(place)
+
+    def close(self) -> None:
+        """Lets go of the record."""
+        for file in {self.file, self.lock}:
+            os.close(file)
+        self.asked.close()
+
+
+def first_hash(path: str) -> str:
+    return first_line(path)[:HASH_BYTES].decode("latin-1")
+
+
+def write_all(file: int, data: bytes) -> None:
+    while data:
+        data = data[os.write(file, data) :]

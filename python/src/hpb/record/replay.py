@@ -1,0 +1,93 @@
+"""The commands of a record, told to an auction in memory, and what that shows compared with what others saw."""
+from collections.abc import Iterable, Iterator
+from dataclasses import dataclass, field
+from os import PathLike
+
+from hpb.file import read_head, read_image
+from hpb.lines import Shown
+from hpb.program import Copy, answers_in_memory
+from hpb.record.story import Command, Story
+from hpb.rules.told import NotTold, Told, read_standing, read_told
+
+
+@dataclass
+class Replay:
+    """What an auction in memory shows that was told all commands. `standings` has how it stood before the first close and after each one;
+    `end` the answers to `questions` behind all commands; `faults` what differs from the record."""
+
+    story: Story
+    standings: list[Told] = field(default_factory=list)
+    end: list[str] = field(default_factory=list)
+    faults: list[str] = field(default_factory=list)
+    _shows: dict[int, str] = field(default_factory=dict)
+
+    @property
+    def questions(self) -> list[str]:
+        """Those about all that an auction shows."""
+        tree = self.story.tree
+        return ["SHOW", *(f"NODE {name}" for name in tree.nodes), *(f"WHO {bidder}" for bidder in tree.bidders)]
+
+    def look_at_shown(self, shown: Iterable[tuple[int, str]], where: str) -> None:
+        """Answers to SHOW, each with its number there, have to be what the auction in memory shows after as many commands. `NotTold` is
+        raised where one is no whole answer."""
+        for number, answer in shown:
+            count = _read_shown(answer).count
+            if self._shows.get(count) != answer:
+                self.faults.append(f"{where} {number}: {answer!r} was shown, and after {count} commands it is {self._shows.get(count)!r}")
+
+    def compare(self, path: str | PathLike[str], program: str | PathLike[str]) -> None:
+        """With what a file keeps, of which the program is asked by a copy. Raises what `read_image`, `read_head` and `Copy` raise."""
+        image = read_image(path)
+        if read_head(image).definition != self.story.tree.definition:
+            self.faults.append("the file has another definition")
+            return
+        questions = self.questions
+        with Copy(program, image) as copy:
+            kept = copy.check()
+            kept += copy.run(questions[len(kept) :])
+        for question, mine, its in zip(questions, self.end, kept, strict=True):
+            if mine != its:
+                self.faults.append(f"{question}: by the record {mine!r}, in the file {its!r}")
+
+    def _tell(self, program: str | PathLike[str]) -> None:
+        questions, commands = self.questions, self.story.commands
+        lines = list(questions)
+        for command in commands:
+            lines += [command.line, "SHOW", *(questions if _closes(command) else [])]
+        answers = iter(answers_in_memory(program, self.story.tree.definition, lines + questions))
+        self._stand(answers)
+        for command in commands:
+            self._judge(command, next(answers), next(answers))
+            if _closes(command):
+                self._stand(answers)
+        self.end = list(answers)
+
+    def _stand(self, answers: Iterator[str]) -> None:
+        told = [next(answers) for _ in self.questions]
+        standing = read_told(self.story.tree, told)
+        self._shows.setdefault(standing.shown.count, told[0])
+        self.standings.append(standing)
+
+    def _judge(self, command: Command, answer: str, shown: str) -> None:
+        if answer != f"OK {command.number}":
+            self.faults.append(f"command {command.number}, {command.line!r}, is answered {answer} in memory")
+        self._shows[command.number] = shown
+
+
+def replay(story: Story, program: str | PathLike[str]) -> Replay:
+    """Tells a program the commands of a record. `NotAnswered` is raised where it doesn't answer each line, and `NotTold` where an answer
+    isn't whole."""
+    made = Replay(story)
+    made._tell(program)
+    return made
+
+
+def _closes(command: Command) -> bool:
+    return command.words[0] == "CLOSE"
+
+
+def _read_shown(answer: str) -> Shown:
+    shown = read_standing(answer)
+    if not isinstance(shown, Shown):
+        raise NotTold(f"this is no answer to SHOW: {answer!a}")
+    return shown

@@ -1,0 +1,257 @@
+"""The segments of a record: `auction.record`, and behind it `auction.record.2`, `auction.record.3`, .. (docs/FRONT.md).
+
+A segment that is full ends by an entry `sealed` with the SHA-256 of all that stands before that entry. The next one begins with the
+length and the SHA-256 of the whole file before it, and with the state that its entries lead to: so a start reads the last one alone.
+"""
+import hashlib
+import itertools
+import os
+import re
+import stat
+from collections.abc import Iterable, Iterator
+from dataclasses import dataclass
+
+from hpb.own_files import MODE, give_name, open_own
+from hpb.record.entries import (
+    FIRST_FORM, FORM, HASH_BYTES, MEGABYTE, MOST_ENTRY, Damaged, Entry, InTheWay, Place, WrongSegment, content_of, entries_of, entry_line,
+    is_sealed,
+)
+from hpb.record.state import State
+
+# A segment of so many bytes is sealed.
+MOST_SEGMENT = 4 * MEGABYTE
+# How the first entry of a segment behind another begins.
+HEAD = re.compile(rb'[0-9a-f]{64} \{"entry":(?!1,)[0-9]+,"before":"')
+
+
+@dataclass(frozen=True)
+class Behind:
+    """The file that a segment stands behind: its bytes, and their SHA-256."""
+
+    bytes: int
+    sha256: str
+
+    def fields(self) -> Entry:
+        return {"bytes": self.bytes, "sha256": self.sha256}
+
+
+def segment_path(path: str, number: int) -> str:
+    """The name of a segment of the record at this path, counted from 1."""
+    return path if number == 1 else f"{path}.{number}"
+
+
+def segment_paths(path: str) -> list[str]:
+    """The segments that there are, in order. Another file with the name of one, as a copy with a date behind its name, is passed over. A
+    WrongSegment says that a segment is missing, and an InTheWay that another file stands in its place, or in that of the next one."""
+    folder, name = os.path.split(os.path.abspath(path))
+    try:
+        there = {number for found in os.listdir(folder) if (number := number_of(found, name))}
+    except FileNotFoundError:
+        return []
+    known = {number for number in there if number == 1 or begins_segment(segment_path(path, number), number)}
+    last = max(known, default=0)
+    for number in range(1, max(last, 1) + 2):
+        if number in there - known:
+            raise InTheWay(segment_path(name, number))
+        if number <= last and number not in known:
+            raise WrongSegment(f"its segment {segment_path(name, number)} is missing")
+    return [segment_path(path, number) for number in sorted(known)]
+
+
+def begins_segment(path: str, number: int) -> bool:
+    """Whether a file begins as the segment with this number does: a copy or another file has another beginning."""
+    # A pipe would be waited for.
+    if not stat.S_ISREG(os.lstat(path).st_mode):
+        return False
+    try:
+        head, _ = head_of(path)
+    except Damaged:
+        return False
+    return bool(head["kind"] == "begin" and head["segment"] == number)
+
+
+def number_of(found: str, name: str) -> int:
+    """Which segment of the record of this name a file is, or 0."""
+    if found == name:
+        return 1
+    tail = found.removeprefix(f"{name}.")
+    return int(tail) if tail != found and tail.isascii() and tail.isdigit() and tail[0] != "0" and tail != "1" else 0
+
+
+def first_line(path: str) -> bytes:
+    with open(path, "rb") as file:
+        return file.readline(MOST_ENTRY)
+
+
+def last_hash(path: str) -> str:
+    """The hash that the last line of a segment begins with, or an empty text where there is no whole line."""
+    with open(path, "rb") as file:
+        length = file.seek(0, os.SEEK_END)
+        file.seek(max(0, length - MOST_ENTRY))
+        tail = file.read()
+    line = tail[tail.rfind(b"\n", 0, -1) + 1 :]
+    return line[:HASH_BYTES].decode("latin-1") if is_sealed(line) else ""
+
+
+def head_of(path: str) -> tuple[Entry, Place]:
+    """The first entry of a segment behind another, and the place before it. A WrongSegment says that there is none."""
+    line, name = first_line(path), os.path.basename(path)
+    if not line.endswith(b"\n") or not is_sealed(line):
+        raise WrongSegment(f"{name}: its first entry isn't as it was written")
+    head: Entry = content_of(line)
+    try:
+        place = Place(int(head["entry"]) - 1, str(head["before"]))
+        Behind(int(head["behind"]["bytes"]), str(head["behind"]["sha256"]))
+        int(head["segment"])
+        str(head["kind"])
+    except (LookupError, TypeError, ValueError):
+        raise WrongSegment(f"{name}: it doesn't begin as a segment does") from None
+    return head, place
+
+
+def look_at_seals(paths: list[str]) -> None:
+    """Whether each segment but the last is the one that the next names: by its length and the hash of its last entry, without reading it
+    whole. A WrongSegment names one that isn't."""
+    for path, next_path in zip(paths, paths[1:]):
+        head, before = head_of(next_path)
+        if os.stat(path).st_size != head["behind"]["bytes"] or last_hash(path) != before.hash:
+            raise WrongSegment(f"{os.path.basename(path)} isn't the segment that {os.path.basename(next_path)} goes on from")
+
+
+class Reader:
+    """Reads all segments whole, and checks each seal against what is there."""
+
+    def __init__(self, path: str) -> None:
+        self.paths = segment_paths(path) or [path]
+        self.place, self.state = Place(), State()
+
+    def entries(self) -> Iterator[tuple[Entry, Place]]:
+        """Each entry, with the place behind it. A Damaged says what isn't as a front wrote it."""
+        for number, path in enumerate(self.paths, 1):
+            first = self.place.number + 1
+            with open(path, "rb") as file:
+                for entry, self.place in entries_of(file, self.place):
+                    if number > 1 and entry["entry"] == first:
+                        self.look_at_head(entry, number)
+                    if entry["kind"] == "sealed":
+                        look_at_seal(entry, path)
+                    self.state.take(entry)
+                    yield entry, self.place
+
+    def look_at_head(self, entry: Entry, number: int) -> None:
+        """The first entry of a segment has to name the file before it, and what that leads to."""
+        before = self.paths[number - 2]
+        if entry["kind"] != "begin" or entry.get("form") != FORM or entry.get("segment") != number:
+            raise Damaged(f"entry {entry['entry']}: it doesn't begin segment {number}")
+        if not self.state.is_sealed and self.state.form != FIRST_FORM:
+            raise Damaged(f"entry {entry['entry']}: {os.path.basename(before)}, before it, has no seal")
+        if entry.get("behind") != file_behind(before).fields():
+            raise Damaged(f"entry {entry['entry']}: {os.path.basename(before)}, before it, isn't the segment that it names")
+        if entry.get("definition") != self.state.definition or entry.get("state") != self.state.head():
+            raise Damaged(f"entry {entry['entry']}: what it says of the segments before it isn't so")
+
+
+def look_at_seal(entry: Entry, path: str) -> None:
+    length = entry.get("bytes")
+    if type(length) is not int or digest_of(path, length).hexdigest() != entry.get("sha256"):
+        raise Damaged(f"entry {entry['entry']}: its seal isn't that of {os.path.basename(path)}")
+    with open(path, "rb") as file:
+        file.seek(length)
+        if file.readline(MOST_ENTRY)[HASH_BYTES + 1 :].startswith(b'{"entry":%d,' % entry["entry"]) and not file.read(1):
+            return
+    raise Damaged(f"entry {entry['entry']}: it doesn't end {os.path.basename(path)}")
+
+
+def digest_of(path: str, length: int) -> "hashlib._Hash":
+    """The SHA-256 of the first bytes of a file, which may go on."""
+    digest, left = hashlib.sha256(), length
+    with open(path, "rb") as file:
+        while left > 0 and (piece := file.read(min(left, MEGABYTE))):
+            digest.update(piece)
+            left -= len(piece)
+    return digest
+
+
+def file_behind(path: str) -> Behind:
+    length = os.stat(path).st_size
+    return Behind(length, digest_of(path, length).hexdigest())
+
+
+def head_line(place: Place, state: State, segment: int, behind: Behind) -> tuple[bytes, Place]:
+    """The first entry of the segment with this number, behind a state that is on the disk; and the place behind it."""
+    fields = {"form": FORM, "segment": segment, "behind": behind.fields(), "definition": state.definition, "state": state.head()}
+    return entry_line(place, "begin", fields, synced=place.number)
+
+
+def write_segment(record: str, number: int, line: bytes) -> str:
+    """The name of a new segment, which has it once its first entry is on the disk: so a segment has a whole one. An InTheWay says that
+    another file has that name."""
+    path, new = segment_path(record, number), free_name(record, number)
+    write_new(new, [line])
+    try:
+        give_name(new, path)
+    except FileExistsError:
+        os.unlink(new)
+        raise InTheWay(os.path.basename(path)) from None
+    sync_folder(path)
+    return path
+
+
+def free_name(record: str, number: int) -> str:
+    """A name for the segment with this number before it has its own. What a front left there that was killed goes; nothing else does."""
+    for place in itertools.count(1):
+        new = f"{record}.new" if place == 1 else f"{record}.new-{place}"
+        if os.path.lexists(new) and is_rest(new, segment_path(record, number - 1)):
+            os.unlink(new)
+        if not os.path.lexists(new):
+            return new
+    raise AssertionError("names don't end")
+
+
+def is_rest(new: str, last: str) -> bool:
+    """Whether a front left this that was killed while it made a segment: the second name of the last one, or a first entry as far as it
+    was written."""
+    try:
+        with open(open_own(new, os.O_RDONLY, may_make=False), "rb") as begun:
+            return os.path.samefile(new, last) or may_be_head(begun.read(MOST_ENTRY + 1))
+    except OSError:
+        return False
+
+
+def may_be_head(data: bytes) -> bool:
+    """Whether this may be the first entry of a segment behind another, as far as it was written, and nothing behind it."""
+    line, _, more = data.rstrip(b"\0").partition(b"\n")
+    is_front = re.fullmatch(rb"[0-9a-f]*", line[:HASH_BYTES]) is not None and (len(line) <= HASH_BYTES or HEAD.match(line) is not None)
+    return not more and is_front
+
+
+def sync_folder(path: str) -> None:
+    """Returns when the names of the folder that a file is in are on the disk."""
+    folder = os.open(os.path.dirname(os.path.abspath(path)), os.O_RDONLY | os.O_DIRECTORY | os.O_CLOEXEC)
+    try:
+        os.fsync(folder)
+    finally:
+        os.close(folder)
+
+
+def write_new(path: str, pieces: Iterable[bytes]) -> None:
+    """A file that wasn't there, with these pieces; it is on the disk when this returns. Where that fails there is none."""
+    file = os.open(path, os.O_WRONLY | os.O_CREAT | os.O_EXCL | os.O_CLOEXEC, MODE)
+    try:
+        with open(file, "wb") as out:
+            out.writelines(pieces)
+            out.flush()
+            os.fsync(out.fileno())
+    except OSError:
+        os.unlink(path)
+        raise
+
+
+def write_aside(path: str, pieces: Iterable[bytes]) -> str:
+    """The name of a new file beside a record, with these pieces."""
+    number = 1
+    while os.path.lexists(aside := f"{path}.torn-{number}"):
+        number += 1
+    write_new(aside, pieces)
+    sync_folder(aside)
+    return aside

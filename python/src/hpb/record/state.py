@@ -1,0 +1,74 @@
+"""What the entries of a record come to: all that a front has to know of them when it starts (docs/FRONT.md)."""
+from dataclasses import dataclass, field
+from typing import Any
+
+from hpb.front.rights import sender_and_ticket
+from hpb.record.entries import FIRST_FORM, FORM, Damaged, Entry
+
+# Stands for the auctioneer among the senders of a head.
+AUCTIONEER = ""
+
+
+@dataclass
+class State:
+    """What a record says of its auction.
+
+    `count` is how many commands were accepted, `used` the last ticket of each sender, and `foreign` how many commands didn't come through
+    the front. `open` has the lines that were told to the server and have no answer, each under the number of its entry: records of the
+    first form keep them, those of the second keep them beside the record.
+    """
+
+    definition: Any = None
+    form: int = FORM
+    segment: int = 1
+    names: dict[str, Any] = field(default_factory=dict)
+    count: int = 0
+    used: dict[str | None, int] = field(default_factory=dict)
+    foreign: int = 0
+    open: dict[int, tuple[str, bytes]] = field(default_factory=dict)
+    is_sealed: bool = False
+
+    def take(self, entry: Entry) -> None:
+        """Goes on by an entry. A LookupError, TypeError, ValueError or AttributeError says that no front writes it."""
+        kind = entry["kind"]
+        if kind == "begin":
+            self.begin(entry)
+        elif kind == "started":
+            self.names = entry["names"]
+        elif kind == "asked":
+            self.open[entry["entry"]] = (entry["name"], entry["line"].encode("latin-1"))
+        elif kind == "foreign":
+            self.count = entry["to"]
+            self.foreign += entry["to"] - entry["from"] + 1
+        elif kind == "accepted":
+            self.accept(entry["line"].encode("latin-1"))
+        elif kind == "sealed":
+            self.is_sealed = True
+        if "asked" in entry:
+            self.open.pop(entry["asked"], None)
+
+    def accept(self, line: bytes) -> None:
+        self.count += 1
+        sender, ticket = sender_and_ticket(line)
+        self.used[sender] = max(self.used.get(sender, 0), ticket)
+
+    def begin(self, entry: Entry) -> None:
+        """The first entry of a segment, which has all that came before it."""
+        if entry["form"] not in (FIRST_FORM, FORM):
+            raise Damaged(f"it is of form {entry['form']!r}, and this program knows {FIRST_FORM} and {FORM}")
+        self.form, self.definition, self.is_sealed = entry["form"], entry["definition"], False
+        if self.form != FIRST_FORM:
+            head = entry["state"]
+            self.segment, self.names, self.count, self.foreign = entry["segment"], head["names"], head["count"], head["foreign"]
+            self.used = {sender or None: ticket for sender, ticket in head["used"].items()}
+            self.open = {number: (name, line.encode("latin-1")) for number, name, line in head["open"]}
+
+    def head(self) -> Entry:
+        """What the first entry of a segment says of all that came before it."""
+        return {
+            "names": self.names,
+            "count": self.count,
+            "foreign": self.foreign,
+            "used": {sender or AUCTIONEER: ticket for sender, ticket in self.used.items()},
+            "open": [[number, name, line.decode("latin-1")] for number, (name, line) in self.open.items()],
+        }

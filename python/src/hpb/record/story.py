@@ -1,0 +1,102 @@
+"""What a record tells: the commands that were accepted, whoever sent them, and whether its entries fit one another."""
+from collections.abc import Iterable
+from dataclasses import dataclass, field
+
+from hpb.front.rights import Role, role_of
+from hpb.record.entries import FIRST_FORM, FORM, Damaged, Entry, Place
+from hpb.rules.tree import Tree, tree_of
+from hpb.rules.writing import read_fields
+
+
+@dataclass(frozen=True, slots=True)
+class Command:
+    """One that was accepted: its number from 1, when, whoever sent it, and its line."""
+
+    number: int
+    at: str
+    name: str
+    line: str
+
+    @property
+    def words(self) -> list[str]:
+        """Those of its line."""
+        return self.line.split(" ")
+
+
+@dataclass
+class Story:
+    """What a record has, as far as its entries fit one another; `faults` says how they don't. `place` is its last entry, and `shown` has
+    each answer to SHOW that stands in it, with the number of its entry."""
+
+    tree: Tree
+    commands: list[Command] = field(default_factory=list)
+    shown: list[tuple[int, str]] = field(default_factory=list)
+    faults: list[str] = field(default_factory=list)
+    segments: int = 0
+    place: Place = Place()
+    _form: int = FORM
+    _roles: dict[str, Role] = field(default_factory=dict)
+    _asked: dict[int, tuple[str, str]] = field(default_factory=dict)
+
+    def take(self, entry: Entry, place: Place) -> None:
+        """Goes on by an entry. `Damaged` is raised where commands stand nowhere; an entry that no front writes may raise what comes of
+        that."""
+        self.place = place
+        match entry["kind"]:
+            case "begin":
+                self._form, self.segments = entry["form"], self.segments + 1
+            case "started":
+                self._roles = {name: role_of(given) for name, given in entry["names"].items()}
+            case "asked":
+                self._asked[entry["entry"]] = (entry["name"], entry["line"])
+            case "accepted":
+                self._accepted(entry)
+            case "foreign":
+                lost = f"commands {entry['from']} to {entry['to']}"
+                raise Damaged(f"entry {entry['entry']}: {lost} weren't told by the front, and stand nowhere")
+            case "answered":
+                self._answered(entry)
+
+    def _accepted(self, entry: Entry) -> None:
+        command = Command(len(self.commands) + 1, entry["at"], entry["name"], entry["line"])
+        if entry["answer"] != f"OK {command.number}":
+            self.faults.append(f"entry {entry['entry']}: {entry['answer']} stands where command {command.number} should")
+        if not self._was_asked(entry, command):
+            self.faults.append(f"entry {entry['entry']}: it answers no entry that asked this")
+        role = self._roles.get(command.name)
+        if role is None or role.refusal(command.line.encode("latin-1")):
+            self.faults.append(f"entry {entry['entry']}: {command.name} had no right to send {command.line!r}")
+        self.commands.append(command)
+
+    def _was_asked(self, entry: Entry, command: Command) -> bool:
+        """In the first form each command has an entry by which it was asked. In the second that stands beside the record, but for those
+        that a record of the first form left."""
+        if self._form != FIRST_FORM and "asked" not in entry:
+            return True
+        return self._asked.pop(entry["asked"], None) == (command.name, command.line)
+
+    def _answered(self, entry: Entry) -> None:
+        answer: str = entry["answer"]
+        self._asked.pop(entry.get("asked", 0), None)
+        if entry["line"] == "SHOW" and answer.startswith("ROUND "):
+            self.shown.append((entry["entry"], answer))
+        elif answer.startswith("OK "):
+            number = int(answer[3:])
+            if not 1 <= number <= len(self.commands) or self.commands[number - 1].line != entry["line"]:
+                self.faults.append(f"entry {entry['entry']}: {answer} repeats no command with that line")
+
+
+def read_story(entries: Iterable[tuple[Entry, Place]]) -> Story:
+    """The story of all entries of a record. Raises what `Story.take` does, `Damaged` where it doesn't begin as a record, and a refusal
+    where its definition is none."""
+    story: Story | None = None
+    for entry, place in entries:
+        story = story or _begun(entry)
+        story.take(entry, place)
+    return story or _begun({"kind": "nothing"})
+
+
+def _begun(entry: Entry) -> Story:
+    if entry["kind"] != "begin" or entry["form"] not in (FIRST_FORM, FORM):
+        raise Damaged(f"it doesn't begin as a record of form {FIRST_FORM} or {FORM}")
+    return Story(tree_of(read_fields(entry["definition"])))

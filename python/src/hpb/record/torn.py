@@ -1,0 +1,44 @@
+"""Whether what stands at a record's end may be one write that a crash tore, or was changed (docs/FRONT.md).
+
+A crash may keep any part of the last write that wasn't synced, and lose any other. So behind the first entry that isn't whole there may
+be whole ones, but none that was written after that entry was synced. Entries of the second form say how far the record was synced when
+they were written. Those of the first form say less: an answer was written after the entry that asked was synced.
+"""
+import re
+from collections.abc import Iterator
+from typing import BinaryIO
+
+from hpb.record.entries import FIRST, FIRST_FORM, HASH_BYTES, MOST_ENTRY, MOST_WRITE, Entry, content_of, is_sealed
+
+START = re.compile(rb'[0-9a-f]{64} \{"entry":')
+
+
+def may_be_first(data: bytes) -> bool:
+    """Whether a crash may have left this of a record's first entry: a front of it, with zeros where nothing was written."""
+    data = data[: HASH_BYTES + len(FIRST)].rstrip(b"\0")
+    return re.fullmatch(rb"[0-9a-f]*", data[:HASH_BYTES]) is not None and FIRST.startswith(data[HASH_BYTES:])
+
+
+def may_be_one_write(file: BinaryIO, first: int, form: int) -> bool:
+    """Whether all from here on may be one write that wasn't synced, and of which the entry with the number `first` isn't whole."""
+    begin, last, told = file.tell(), first - 1, set()
+    for entry in whole_entries(file):
+        number, synced = entry.get("entry"), entry.get("asked", 0) if form == FIRST_FORM else entry.get("synced")
+        if type(number) is not int or type(synced) is not int or number <= last or synced >= first:
+            return False
+        last = number
+        told.add(synced)
+    if form == FIRST_FORM:
+        return not told or file.tell() - begin <= MOST_WRITE
+    return len(told) <= 1
+
+
+def whole_entries(file: BinaryIO) -> Iterator[Entry]:
+    """The entries that can be read from here on, wherever they stand: the end of the line before may be lost or changed."""
+    while line := file.readline(MOST_ENTRY):
+        starts = [found.start() for found in START.finditer(line)]
+        ends = [start - 1 for start in starts[1:]] + [len(line) - 1]
+        for start, end in zip(starts, ends):
+            entry = line[start:end] + b"\n"
+            if is_sealed(entry):
+                yield content_of(entry)

@@ -1,0 +1,1 @@
+"""Clients of several languages, driven by lines against a real server that is killed."""

@@ -1,0 +1,258 @@
+"""Options and fixtures of all tests.
+
+    /usr/bin/python3 -m pytest -n 4 tests --program crates/hpb/out/hpb --program crates/hpb/out/hpb.by-rattle
+
+Each test that asks for `program` runs once for each one that is named. What needs rights or tools that the machine lacks is left out
+with its reason; with `--complete` it fails instead, as in the gate.
+"""
+
+from __future__ import annotations
+
+import os
+import shutil
+import tempfile
+from collections.abc import Callable, Iterator
+from contextlib import AbstractContextManager, ExitStack, suppress
+from pathlib import Path
+from typing import TypeVar
+
+import pytest
+
+from harness import building
+from harness.auctions import Layout
+from harness.conditions import NORMAL, Conditions
+from harness.disks import SOURCE, CutDisk, mounted_disk
+from harness.file_systems import FileSystem, Lacking
+from harness.fronts import Configured, Front, LetIn, with_package
+from harness.namespaces import Network, leave_mounts, new_network
+from harness.programs import Program, Stream
+from harness.serving import Serve, Server
+from harness.users import User
+
+TOP = Path(__file__).resolve().parents[1]
+BUILT = TOP / "crates" / "hpb" / "out" / "hpb"
+REACHABLE = 0o711
+PROGRAMS = pytest.StashKey[list[Path]]()
+
+Lack = Callable[[object], None]
+Library = Callable[[Path], Path]
+Value = TypeVar("Value")
+
+
+def pytest_addoption(parser: pytest.Parser) -> None:
+    """The options of these tests."""
+    group = parser.getgroup("hpb")
+    group.addoption("--program", action="append", type=Path, help="a built hpb; may be given more than once")
+    group.addoption("--complete", action="store_true", help="what the machine lacks for a test makes it fail")
+    group.addoption("--cuts", type=int, default=2000, help="how many power cuts are made in all (default 2,000)")
+    group.addoption("--seed", type=int, help="the one story of power cuts that is told")
+    group.addoption("--long", action="store_true", help="run what takes minutes, too")
+
+
+def pytest_configure(config: pytest.Config) -> None:
+    """Takes mounts of its own where it may, so that none outlives this process however it ends. What is started finds the package."""
+    os.environ.update(with_package(os.environ))
+    if os.geteuid() == 0:
+        with suppress(PermissionError):
+            leave_mounts()
+
+
+def pytest_generate_tests(metafunc: pytest.Metafunc) -> None:
+    """One test for each program that is named."""
+    if "built" in metafunc.fixturenames:
+        programs = programs_of(metafunc.config)
+        metafunc.parametrize("built", programs, ids=[program.name for program in programs], scope="session")
+
+
+def programs_of(config: pytest.Config) -> list[Path]:
+    """Those under test: the same list each time, so that a fixture of one of them lasts for the whole run."""
+    if PROGRAMS not in config.stash:
+        config.stash[PROGRAMS] = found_programs(config)
+    return config.stash[PROGRAMS]
+
+
+def found_programs(config: pytest.Config) -> list[Path]:
+    """Those that are named, or else the one that is built here, or that of the path."""
+    if named := config.getoption("--program"):
+        return [program.resolve() for program in named]
+    if BUILT.exists():
+        return [BUILT]
+    if found := shutil.which("hpb"):
+        return [Path(found)]
+    raise pytest.UsageError("there is no hpb, built or on the path: name one by --program")
+
+
+def pytest_collection_modifyitems(config: pytest.Config, items: list[pytest.Item]) -> None:
+    """Leaves out what takes minutes, and what needs root's rights where they lack."""
+    long = pytest.mark.skip(reason="takes minutes: --long runs it")
+    rights = pytest.mark.skip(reason="needs the rights of root")
+    for item in items:
+        if item.get_closest_marker("long") and not config.getoption("--long"):
+            item.add_marker(long)
+        if item.get_closest_marker("as_root") and os.geteuid() != 0 and not config.getoption("--complete"):
+            item.add_marker(rights)
+
+
+@pytest.fixture(scope="session")
+def lack(request: pytest.FixtureRequest) -> Lack:
+    """Leaves a test out with this reason; with `--complete` it fails by it."""
+
+    def lacks(reason: object) -> None:
+        if request.config.getoption("--complete"):
+            pytest.fail(str(reason))
+        pytest.skip(str(reason))
+
+    return lacks
+
+
+@pytest.fixture(scope="session")
+def place() -> Iterator[Path]:
+    """A folder of this run that every user may pass through."""
+    made = Path(tempfile.mkdtemp(prefix="hpb-tests-"))
+    made.chmod(REACHABLE)
+    yield made
+    shutil.rmtree(made, ignore_errors=True)
+
+
+@pytest.fixture
+def room(place: Path) -> Iterator[Path]:
+    """A folder of this test that every user may pass through, and its owner alone may write."""
+    made = Path(tempfile.mkdtemp(prefix="room-", dir=place))
+    made.chmod(REACHABLE)
+    yield made
+    shutil.rmtree(made, ignore_errors=True)
+
+
+@pytest.fixture(scope="session")
+def program(built: Path, place: Path, request: pytest.FixtureRequest) -> Program:
+    """The program under test: a copy that every user may run, made once in a run."""
+    copy = place / f"program-{programs_of(request.config).index(built)}" / "hpb"
+    if not copy.exists():
+        copy.parent.mkdir(REACHABLE)
+        shutil.copyfile(built, copy)
+        copy.chmod(0o755)
+    return Program(copy)
+
+
+@pytest.fixture(params=list(Layout), ids=[layout.name.lower() for layout in Layout])
+def layout(request: pytest.FixtureRequest) -> Layout:
+    """Each layout of a file."""
+    value: Layout = request.param
+    return value
+
+
+@pytest.fixture
+def file(program: Program, layout: Layout, room: Path) -> Path:
+    """A new auction of the first example, in the test's own room, with the least journal."""
+    made = room / "F"
+    ran = program.format(made, layout)
+    assert ran.status == 0, ran
+    return made
+
+
+@pytest.fixture
+def cleanup() -> Iterator[ExitStack]:
+    """What is entered here ends with the test."""
+    with ExitStack() as stack:
+        yield stack
+
+
+@pytest.fixture
+def serve(program: Program, cleanup: ExitStack) -> Serve:
+    """Starts `hpb serve`: `serve(file, sessions=2, ..)`, by the words of `harness.serving.Server`. It is killed with the test."""
+
+    def serves(
+        file: Path,
+        sessions: int = 1,
+        port: int | None = None,
+        errors: Stream | None = None,
+        conditions: Conditions = NORMAL,
+    ) -> Server:
+        return cleanup.enter_context(Server(program, file, sessions, port, errors, conditions))
+
+    return serves
+
+
+@pytest.fixture
+def configured(program: Program, file: Path, room: Path) -> Configured:
+    """The configuration of a front for `file`, not written yet: an auctioneer desk, ann with x, bob with y and z, carl with w, and an
+    observer public. The record is `R` beside the file."""
+    names = {"desk": "auctioneer", "ann": ["x"], "bob": ["y", "z"], "carl": ["w"], "public": "observer"}
+    return Configured(room, program, file, room / "R", names)
+
+
+@pytest.fixture
+def let_in(cleanup: ExitStack) -> LetIn:
+    """Starts a front: `let_in(configured.write())`. It is killed with the test."""
+
+    def lets_in(configured: Configured, *words: str, conditions: Conditions = NORMAL) -> Front:
+        return cleanup.enter_context(Front(configured, *words, conditions=conditions))
+
+    return lets_in
+
+
+@pytest.fixture(scope="session")
+def nobody(lack: Lack) -> User:
+    """The user nobody, whose rights no test's owner has given."""
+    if os.geteuid() != 0:
+        lack("only root can be another user")
+    return User.named("nobody")
+
+
+@pytest.fixture
+def network(lack: Lack, cleanup: ExitStack) -> Network:
+    """A network of its own, with its loopback: `Conditions(network=network)` starts a program there."""
+    return entered(new_network(), cleanup, lack)
+
+
+@pytest.fixture(params=list(FileSystem), ids=[kind.value for kind in FileSystem])
+def file_system(request: pytest.FixtureRequest) -> FileSystem:
+    """Each kind of file system."""
+    value: FileSystem = request.param
+    return value
+
+
+@pytest.fixture
+def mounted(file_system: FileSystem, room: Path, lack: Lack, cleanup: ExitStack) -> Path:
+    """A folder on a new file system of each kind, where every user may make files."""
+    return entered(file_system.mounted(room / file_system.value), cleanup, lack)
+
+
+@pytest.fixture(scope="session")
+def library(place: Path, lack: Lack) -> Library:
+    """Builds a library of a C source, once a run: `Conditions().with_library(library(source))` loads it before the C library."""
+    made: dict[Path, Path] = {}
+    folder = Path(tempfile.mkdtemp(prefix="libraries-", dir=place))
+    folder.chmod(REACHABLE)
+
+    def builds(source: Path) -> Path:
+        if source not in made:
+            try:
+                made[source] = building.library(source, folder)
+            except Lacking as reason:
+                lack(reason)
+        return made[source]
+
+    return builds
+
+
+@pytest.fixture(scope="session")
+def disk(place: Path, lack: Lack) -> Iterator[CutDisk]:
+    """The disk whose power can be cut, mounted once for many cuts; `disk.reset()` makes it empty."""
+    with ExitStack() as stack:
+        try:
+            program = building.executable(SOURCE, place, "fuse3")
+            made = stack.enter_context(mounted_disk(program, place / "disk"))
+        except (Lacking, PermissionError) as reason:
+            lack(reason)
+            raise
+        yield made
+
+
+def entered(manager: AbstractContextManager[Value], stack: ExitStack, lack: Lack) -> Value:
+    """What a context gives, to be left with the stack; the test is left out if the machine lacks what it needs."""
+    try:
+        return stack.enter_context(manager)
+    except (Lacking, PermissionError) as reason:
+        lack(reason)
+        raise

@@ -1,0 +1,82 @@
+"""Cuts of a front with its record and its server: it starts again by itself, nothing that was answered OK is lost, and record and file
+agree."""
+
+from __future__ import annotations
+
+import random
+from contextlib import ExitStack
+from pathlib import Path
+
+from cuts.bidders import AHEAD, BIDDERS, BIDS, cutting, hold, new_bidders
+from cuts.setting import Setting, new_file
+from harness.bidding import Bidder, attend_all, bidders_definition
+from harness.fronts import Configured, Front, NotLetting, run_tool
+
+CUTS = 4
+LIMITS = {"lines_per_second": 100_000}
+
+
+def story(setting: Setting, seed: int) -> None:
+    """A front that is cut, and started again on what that left."""
+    dice = random.Random(seed)
+    data = new_file(setting.program, setting.layout, setting.layout.least_journal, bidders_definition(BIDDERS), setting.beside)
+    setting.disk.reset(setting.lie)
+    setting.disk.put(setting.file.name, data)
+    bidders = new_bidders()
+    configured = configuration(setting, bidders)
+    for _ in range(CUTS):
+        let_in_until_cut(configured, setting, dice, bidders)
+        hold(setting.program, setting.file, bidders, setting.leave(dice))
+    agree(configured, bidders)
+
+
+def configuration(setting: Setting, bidders: list[Bidder]) -> Configured:
+    """A name for each bidder; file and record are on the disk, and tokens aren't."""
+    names: dict[str, str | list[str]] = {name_of(bidder): [bidder.name] for bidder in bidders}
+    names["desk"] = "auctioneer"
+    return Configured(setting.beside, setting.program, setting.file, record(setting), names, LIMITS).write()
+
+
+def name_of(bidder: Bidder) -> str:
+    """Whose the bidder is."""
+    return f"name_of_{bidder.name}"
+
+
+def record(setting: Setting) -> Path:
+    """The record on the disk."""
+    return setting.disk.folder / "R"
+
+
+def let_in_until_cut(configured: Configured, setting: Setting, dice: random.Random, bidders: list[Bidder]) -> None:
+    """Lets all bidders in until the power is cut or all have bid, or cuts it while the front starts; the front is then killed."""
+    if dice.randrange(4) == 0:
+        setting.disk.arm(dice.randint(1, 8))
+        try:
+            front = Front(configured)
+        except NotLetting as fault:
+            assert setting.disk.is_cut(), fault
+            return
+    else:
+        front = Front(configured)
+    with front, ExitStack() as stack:
+        try:
+            clients = [stack.enter_context(front.client(name_of(bidder))) for bidder in bidders]
+        except OSError:
+            assert setting.disk.is_cut()
+            return
+        attend_all(list(zip(bidders, clients)), BIDS, dice.choice(AHEAD), cutting(setting, dice))
+
+
+def agree(configured: Configured, bidders: list[Bidder]) -> None:
+    """A front with power lets each go on, stops when it is told to, and leaves a record that agrees with the file."""
+    with Front(configured) as front:
+        for bidder in bidders:
+            with front.client(name_of(bidder)) as client:
+                if bidder.ticket:
+                    assert client.ask(bidder.bid(bidder.ticket)) == f"OK {bidder.numbers[bidder.ticket]}"
+                bidder.attend(client, 1)
+                assert not bidder.refused, bidder
+        ran = front.stop()
+        assert ran.status == 0, ran
+    ran = run_tool("replay", configured.record, "--file", configured.file, "--program", configured.program.path)
+    assert ran.status == 0, ran

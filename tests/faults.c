@@ -1,0 +1,143 @@
+/* Loaded before a program of Python (LD_PRELOAD): one call to the system fails, or hangs.
+ *
+ *   FAULT_IN      the module whose process it is for, as "hpb.commands.front" or "hpb.front.viewers"
+ *   FAULT_FROM    the path of a file: calls are counted from the first time on that it is opened
+ *   FAULT         call:number:error, as read:17:5, and :times where more than one fails, from that one on; with the error 0
+ *                 the call never returns. Without it calls are only counted
+ *   FAULT_COUNTS  a file of 64-bit numbers, to be made beforehand: how often each call was made, in the order of
+ *                 CALLS and REQUESTS; behind them, how often one failed
+ *
+ * All arguments of these calls are whole numbers and pointers, which the calling convention of x86-64 hands over alike.
+ */
+#define _GNU_SOURCE
+#include <dlfcn.h>
+#include <errno.h>
+#include <fcntl.h>
+#include <stdatomic.h>
+#include <stdint.h>
+#include <stdlib.h>
+#include <string.h>
+#include <sys/mman.h>
+#include <sys/syscall.h>
+#include <unistd.h>
+
+#define CALLS(X) \
+    X(read) X(write) X(recv) X(send) X(sendto) X(accept4) X(connect) X(socket) X(socketpair) X(bind) X(listen) X(getsockname) \
+    X(getsockopt) X(setsockopt) X(shutdown) X(close) X(open) X(open64) X(openat) X(fstat) X(fstat64) X(stat) X(stat64) X(lstat) \
+    X(lstat64) X(lseek) X(lseek64) X(pread64) X(fsync) X(fdatasync) X(ftruncate64) X(rename) X(unlink) X(flock) X(fcntl) X(fcntl64) \
+    X(ioctl) X(epoll_create1) X(epoll_ctl) X(epoll_wait) X(poll) X(select) X(pipe2) X(dup) X(fork) X(waitpid) X(wait4) \
+    X(prctl) X(unshare) X(setrlimit) X(setrlimit64) X(mmap) X(pthread_create) X(pthread_sigmask) X(sigwait) X(setpriority) X(syscall)
+
+/* Requests for memory, each of which may be refused. With PYTHONMALLOC=malloc they are all that the program makes. */
+#define REQUESTS(X) X(malloc) X(calloc) X(realloc)
+
+enum {
+#define NUMBER(name) CALL_##name,
+    CALLS(NUMBER)
+    REQUESTS(NUMBER)
+    COUNT
+};
+
+static const char *const names[] = {
+#define NAME(name) #name,
+    CALLS(NAME)
+    REQUESTS(NAME)
+};
+
+typedef long call(long, long, long, long, long, long, long);
+static call *real[COUNT];
+static _Atomic uint64_t *counts;
+static const char *from;
+static int is_active, chosen = -1, error;
+static uint64_t number, times = 1;
+
+/* Whether the module of this process is the one. */
+static int is_mine(const char *wanted) {
+    char line[4096];
+    int file = syscall(SYS_openat, AT_FDCWD, "/proc/self/cmdline", O_RDONLY | O_CLOEXEC);
+    long length = syscall(SYS_read, file, line, sizeof line - 1);
+    syscall(SYS_close, file);
+    if (length <= 0) return 0;
+    line[length] = 0;
+    for (char *word = line; word < line + length; word += strlen(word) + 1) {
+        const char *name = strrchr(word, '/');
+        if (!strcmp(name ? name + 1 : word, wanted)) return 1;
+    }
+    return 0;
+}
+
+__attribute__((constructor)) static void begin(void) {
+    for (int i = 0; i < CALL_malloc; i++) real[i] = (call *)dlsym(RTLD_NEXT, names[i]);
+    const char *path = getenv("FAULT_COUNTS"), *who = getenv("FAULT_IN"), *fault = getenv("FAULT");
+    from = getenv("FAULT_FROM");
+    if (!path || !who || !from || !is_mine(who)) return;
+    int file = real[CALL_open]((long)path, O_RDWR | O_CLOEXEC, 0, 0, 0, 0, 0);
+    void *room = (void *)real[CALL_mmap](0, (COUNT + 1) * sizeof *counts, PROT_READ | PROT_WRITE, MAP_SHARED, file, 0, 0);
+    real[CALL_close](file, 0, 0, 0, 0, 0, 0);
+    if (room == MAP_FAILED) abort();
+    counts = room;
+    if (!fault) return;
+    char name[64] = "";
+    const char *end = strchr(fault, ':');
+    if (!end || (size_t)(end - fault) >= sizeof name) abort();
+    memcpy(name, fault, end - fault);
+    for (int i = 0; i < COUNT; i++)
+        if (!strcmp(name, names[i])) chosen = i;
+    if (chosen < 0) abort();
+    number = strtoull(end + 1, (char **)&end, 10);
+    error = strtol(end + 1, (char **)&end, 10);
+    if (*end == ':') times = strtoull(end + 1, NULL, 10);
+}
+
+static int fails(int which, long first, long second) {
+    if (!counts) return 0;
+    if (!is_active) {
+        int is_open = which == CALL_open || which == CALL_open64 || which == CALL_openat;
+        const char *path = (const char *)(which == CALL_openat ? second : first);
+        if (!is_open || !path || strcmp(path, from)) return 0;
+        is_active = 1;
+    }
+    /* Of these the only one that is looked at. */
+    if (which == CALL_syscall && first != SYS_pidfd_open) return 0;
+    uint64_t made = atomic_fetch_add(&counts[which], 1) + 1;
+    if (which != chosen || made < number || made >= number + times) return 0;
+    atomic_fetch_add(&counts[COUNT], 1);
+    while (!error) real[CALL_poll](0, 0, -1, 0, 0, 0, 0);
+    return 1;
+}
+
+static long refused(int which, long a) {
+    if (which == CALL_close) real[which](a, 0, 0, 0, 0, 0, 0);
+    if (which == CALL_pthread_create || which == CALL_pthread_sigmask || which == CALL_sigwait) return error;
+    errno = error;
+    return -1;
+}
+
+#define WRAPPED(name) \
+    __attribute__((visibility("default"))) long wrapped_##name(long a, long b, long c, long d, long e, long f, long g) __asm__(#name); \
+    long wrapped_##name(long a, long b, long c, long d, long e, long f, long g) { \
+        if (fails(CALL_##name, a, b)) return refused(CALL_##name, a); \
+        return real[CALL_##name](a, b, c, d, e, f, g); \
+    }
+#undef fork
+CALLS(WRAPPED)
+
+/* They are asked for before `begin` has run, and by it. */
+void *__libc_malloc(size_t);
+void *__libc_calloc(size_t, size_t);
+void *__libc_realloc(void *, size_t);
+
+void *malloc(size_t size) {
+    if (is_active && fails(CALL_malloc, 0, 0)) return errno = ENOMEM, NULL;
+    return __libc_malloc(size);
+}
+
+void *calloc(size_t count, size_t size) {
+    if (is_active && fails(CALL_calloc, 0, 0)) return errno = ENOMEM, NULL;
+    return __libc_calloc(count, size);
+}
+
+void *realloc(void *old, size_t size) {
+    if (is_active && fails(CALL_realloc, 0, 0)) return errno = ENOMEM, NULL;
+    return __libc_realloc(old, size);
+}

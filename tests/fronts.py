@@ -1,0 +1,269 @@
+"""Fronts for the tests: each in a folder of its own, with the file `F`, the record `R`, the tokens `T` and the configuration `C`.
+
+What is loaded before a front isn't loaded before the program behind it, which is started by the script `P`.
+"""
+
+from __future__ import annotations
+
+import base64
+import contextlib
+import http.client
+import json
+import os
+import signal
+import socket
+import ssl
+import subprocess
+import tempfile
+import time
+from collections.abc import Iterator, Mapping
+from dataclasses import dataclass, field
+from pathlib import Path
+
+from harness.conditions import NORMAL, Conditions
+from harness.fronts import tool_words, with_package
+from harness.programs import Program, Ran, shown
+from harness.serving import Client, Ended, read_line
+
+ADDRESS = "127.0.0.1"
+# What a loaded machine may take for anything that is quick.
+SECONDS = 60
+# A front ends within ten seconds of SIGTERM; so much more is left to the machine.
+STOP_SECONDS = 10 + 5
+
+NAMES: Mapping[str, object] = {"desk": "auctioneer", "ann": ["x"], "bob": ["y", "z"], "carl": ["w"], "public": "observer"}
+
+
+def token_of(name: str) -> str:
+    """The token that stands in the file `T` for a name."""
+    return f"token-of-{name}-in-a-trial"
+
+
+class StartsNot(AssertionError):
+    """A front that ended before it listened. It has what was written and said."""
+
+    def __init__(self, ran: Ran) -> None:
+        super().__init__(repr(ran))
+        self.ran = ran
+
+
+@dataclass
+class Front:
+    """A front, which is started as often as a test likes."""
+
+    program: Program
+    folder: Path
+    names: Mapping[str, object] = field(default_factory=lambda: NAMES)
+    limits: Mapping[str, int] = field(default_factory=dict)
+    fields: Mapping[str, object] = field(default_factory=dict)
+    has_board: bool = False
+    context: ssl.SSLContext | None = None
+
+    def __post_init__(self) -> None:
+        self.process: subprocess.Popen[bytes] | None = None
+        self.said = tempfile.TemporaryFile()
+        self.port = self.board_port = 0
+        self.write_tokens({name: token_of(name) for name in self.names})
+        script = self.folder / "P"
+        script.write_text(f'#!/bin/sh\nunset LD_PRELOAD PYTHONMALLOC\nexec {self.program.path} "$@"\n')
+        script.chmod(0o755)
+        self.write_config()
+
+    @property
+    def file(self) -> Path:
+        return self.folder / "F"
+
+    @property
+    def record(self) -> Path:
+        return self.folder / "R"
+
+    @property
+    def tokens(self) -> Path:
+        return self.folder / "T"
+
+    @property
+    def config(self) -> Path:
+        return self.folder / "C"
+
+    @property
+    def log(self) -> Path:
+        return self.folder / "R.log"
+
+    def write_tokens(self, tokens: Mapping[str, str]) -> None:
+        self.tokens.touch(mode=0o600)
+        self.tokens.write_text("".join(f"{name} {token}\n" for name, token in tokens.items()))
+
+    def write_config(self, **more: object) -> None:
+        """Writes the configuration; `more` are fields that take the place of others."""
+        fields: dict[str, object] = {"file": "F", "record": "R", "tokens": "T", "listen": f"{ADDRESS}:0", "program": "./P"}
+        tables: dict[str, Mapping[str, object]] = {"names": self.names, "limits": self.limits}
+        if self.has_board:
+            tables["board"] = {"listen": f"{ADDRESS}:0"}
+        self.config.write_text(toml({**fields, **self.fields, **more}, tables))
+
+    def words(self, *words: str) -> list[str]:
+        return [*tool_words("front"), "--config", str(self.config), *words]
+
+    def begin(
+        self, *words: str, conditions: Conditions = NORMAL, descriptors: tuple[int, ...] = (), errors: int | None = None
+    ) -> subprocess.Popen[bytes]:
+        """Starts it, and doesn't wait until it listens. Its standard error may lead elsewhere than to `words_said`."""
+        self.said.seek(0)
+        self.said.truncate()
+        self.process = subprocess.Popen(
+            self.words(*words),
+            stdin=subprocess.DEVNULL,
+            stdout=subprocess.PIPE,
+            stderr=self.said if errors is None else errors,
+            cwd=conditions.folder,
+            env=with_package(conditions.variables()),
+            preexec_fn=conditions.prepare,
+            pass_fds=descriptors,
+        )
+        return self.process
+
+    def start(self, *words: str, conditions: Conditions = NORMAL, descriptors: tuple[int, ...] = ()) -> Front:
+        """Starts it, and returns once it listens. StartsNot if it ends before, or takes too long."""
+        process = self.begin(*words, conditions=conditions, descriptors=descriptors)
+        first = read_line(process, SECONDS)
+        if not first.startswith("LISTENING "):
+            raise StartsNot(self.ended())
+        self.port = int(first.split()[2])
+        if self.has_board:
+            self.board_port = int(read_line(process, SECONDS).removesuffix("/").rsplit(":", 1)[1])
+        return self
+
+    def run(self, *words: str, conditions: Conditions = NORMAL) -> Ran:
+        """Runs it to its end."""
+        self.begin(*words, conditions=conditions)
+        return self.ended(SECONDS)
+
+    def is_running(self) -> bool:
+        return self.process is not None and self.process.poll() is None
+
+    def signal(self, number: int) -> None:
+        assert self.process
+        self.process.send_signal(number)
+
+    def stop(self, seconds: float = STOP_SECONDS) -> Ran:
+        """SIGTERM, and its end. AssertionError if that takes longer than it may."""
+        self.signal(signal.SIGTERM)
+        return self.ended(seconds)
+
+    def ended(self, seconds: float = STOP_SECONDS) -> Ran:
+        """What it still writes, what it has said, and its status. AssertionError if it doesn't end in time."""
+        assert self.process
+        began = time.monotonic()
+        try:
+            written, _ = self.process.communicate(timeout=seconds)
+        except subprocess.TimeoutExpired:
+            self.process.kill()
+            self.process.communicate()
+            raise AssertionError(f"the front didn't end within {seconds} seconds: {self.words_said()}") from None
+        return Ran(shown(written), self.words_said(), self.process.returncode, time.monotonic() - began)
+
+    def kill(self) -> None:
+        if self.process and self.process.poll() is None:
+            self.process.kill()
+            self.process.communicate()
+
+    def words_said(self) -> str:
+        """What it has said on standard error since it was started."""
+        size = os.fstat(self.said.fileno()).st_size
+        return shown(os.pread(self.said.fileno(), size, 0))
+
+    def wait_until_said(self, words: str, seconds: float = SECONDS) -> None:
+        end = time.monotonic() + seconds
+        while words not in self.words_said():
+            assert time.monotonic() < end, f"{words!r} isn't in {self.words_said()!r}"
+            time.sleep(0.01)
+
+    def child(self, word: str) -> int:
+        """The process of its own whose words have one that ends so, as `serve`; 0 if there is none."""
+        assert self.process
+        for number in children(self.process.pid):
+            with contextlib.suppress(OSError):
+                words = Path(f"/proc/{number}/cmdline").read_bytes().split(b"\0")
+                if any(known.endswith(word.encode()) for known in words[:4]):
+                    return number
+        return 0
+
+    def client(self, name: str | None = None, seconds: float = SECONDS, token: str | None = None) -> Client:
+        """A connection; with a name it has been welcomed. `Ended` if it was ended before that."""
+        client = Client(self.port, seconds)
+        if self.context:
+            client.socket = self.context.wrap_socket(client.socket, server_hostname="localhost")
+        if name or token:
+            client.welcome = client.ask(f"TOKEN {token or token_of(name or '')}")  # type: ignore[attr-defined]
+        return client
+
+    def page(self, name: str, token: str | None = None, seconds: float = SECONDS) -> int:
+        """The status of the page for a name."""
+        said = base64.b64encode(f"{name}:{token or token_of(name)}".encode()).decode()
+        if self.context:
+            connection: http.client.HTTPConnection = http.client.HTTPSConnection("localhost", self.board_port, timeout=seconds, context=self.context)
+        else:
+            connection = http.client.HTTPConnection("localhost", self.board_port, timeout=seconds)
+        try:
+            connection.request("GET", "/", headers={"Authorization": f"Basic {said}"})
+            return connection.getresponse().status
+        finally:
+            connection.close()
+
+    def log_lines(self, *kinds: str) -> list[dict[str, object]]:
+        """The log's lines of these kinds, or all."""
+        lines = [json.loads(line) for line in self.log.read_text().splitlines()]
+        return [line for line in lines if not kinds or line["kind"] in kinds]
+
+
+def children(process: int) -> Iterator[int]:
+    with contextlib.suppress(OSError):
+        yield from map(int, Path(f"/proc/{process}/task/{process}/children").read_text().split())
+
+
+def toml(fields: Mapping[str, object], tables: Mapping[str, Mapping[str, object]]) -> str:
+    lines = [f"{name} = {json.dumps(value)}" for name, value in fields.items()]
+    for table, rows in tables.items():
+        lines += [f"[{table}]", *(f"{name} = {json.dumps(value)}" for name, value in rows.items())]
+    return "\n".join(lines) + "\n"
+
+
+@dataclass
+class Caller:
+    """Sends lines for a name as a client should: on a new connection if one is lost, and the last line again until it is answered."""
+
+    front: Front
+    name: str
+    seconds: float = SECONDS
+    client: Client | None = None
+
+    def ask(self, line: str) -> str:
+        """The answer. TimeoutError if there is none within the time of this caller."""
+        end = time.monotonic() + self.seconds
+        while time.monotonic() < end:
+            try:
+                if self.client is None:
+                    self.client = self.front.client(self.name, seconds=self.seconds)
+                return self.client.ask(line)
+            except (OSError, Ended):
+                self.hang_up()
+                time.sleep(0.05)
+        raise TimeoutError(f"{self.name}: no answer to {line!r}")
+
+    def hang_up(self) -> None:
+        if self.client:
+            self.client.close()
+        self.client = None
+
+
+def make_certificate(folder: Path, days: int = 2, name: str = "localhost") -> ssl.SSLContext:
+    """A certificate `S` and its key `K` of a trial; the context of clients that know it."""
+    words = f"req -x509 -newkey rsa:2048 -nodes -days {days} -subj /CN={name} -addext subjectAltName=DNS:{name} -keyout K -out S"
+    subprocess.run(["openssl", *words.split()], cwd=folder, check=True, capture_output=True, timeout=SECONDS)
+    (folder / "K").chmod(0o600)
+    return ssl.create_default_context(cafile=folder / "S")
+
+
+def listening_socket() -> socket.socket:
+    """One that listens at a free port of this machine."""
+    return socket.create_server((ADDRESS, 0))

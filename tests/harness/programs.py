@@ -1,0 +1,119 @@
+"""The program under test: how it is run to its end, and what it then has answered and said."""
+
+from __future__ import annotations
+
+import subprocess
+import time
+from dataclasses import dataclass
+from pathlib import Path
+from typing import IO
+
+from harness.auctions import Layout, definition
+from harness.conditions import NORMAL, Conditions
+
+SECONDS = 20
+
+Stream = int | IO[bytes]
+
+
+@dataclass(frozen=True)
+class Ran:
+    """What a program wrote on standard output and standard error, its status (below 0: minus the signal), and its seconds."""
+
+    output: str
+    errors: str
+    status: int
+    seconds: float
+
+    def lines(self) -> list[str]:
+        """The lines of standard output."""
+        return self.output.splitlines()
+
+
+class TookTooLong(AssertionError):
+    """A program was killed here because it didn't end within its time."""
+
+
+@dataclass(frozen=True)
+class Program:
+    """A built `hpb`, which every user may run."""
+
+    path: Path
+
+    def start(
+        self,
+        *words: object,
+        input: Stream = subprocess.DEVNULL,
+        output: Stream = subprocess.PIPE,
+        errors: Stream = subprocess.PIPE,
+        conditions: Conditions = NORMAL,
+    ) -> subprocess.Popen[bytes]:
+        """Starts it; the caller ends it."""
+        return subprocess.Popen(
+            ["hpb", *map(str, words)],
+            executable=self.path,
+            stdin=input,
+            stdout=output,
+            stderr=errors,
+            cwd=conditions.folder,
+            env=conditions.variables(),
+            preexec_fn=conditions.prepare,
+        )
+
+    def run(
+        self,
+        *words: object,
+        text: bytes = b"",
+        output: Stream = subprocess.PIPE,
+        errors: Stream = subprocess.PIPE,
+        conditions: Conditions = NORMAL,
+        seconds: float = SECONDS,
+    ) -> Ran:
+        """Runs it on this text to its end. TookTooLong if that takes longer than so many seconds."""
+        began = time.monotonic()
+        process = self.start(*words, input=subprocess.PIPE, output=output, errors=errors, conditions=conditions)
+        try:
+            written, said = process.communicate(text, timeout=seconds)
+        except subprocess.TimeoutExpired:
+            process.kill()
+            written, said = process.communicate()
+            raise TookTooLong(f"hpb {words}: {shown(written)} {shown(said)}") from None
+        return Ran(shown(written), shown(said), process.returncode, time.monotonic() - began)
+
+    def format(
+        self,
+        file: Path,
+        layout: Layout = Layout.PAGES,
+        journal: int | None = None,
+        text: bytes | None = None,
+        conditions: Conditions = NORMAL,
+    ) -> Ran:
+        """Runs `format`; without a journal one of the least length, without a text the definition of the first example."""
+        words = format_words(file, layout, journal)
+        return self.run(*words, text=definition() if text is None else text, conditions=conditions)
+
+    def run_lines(self, file: Path, text: bytes, *words: object, conditions: Conditions = NORMAL, seconds: float = SECONDS) -> Ran:
+        """Runs `run` on a file, with these lines and these more words."""
+        return self.run("run", "--file", file, *words, text=text, conditions=conditions, seconds=seconds)
+
+    def check(self, file: Path, conditions: Conditions = NORMAL) -> Ran:
+        """Runs `check` on a file."""
+        return self.run("check", "--file", file, conditions=conditions)
+
+    def count(self, file: Path) -> int:
+        """How many commands a file keeps, by `check`. AssertionError, with what is said, if it can't be opened."""
+        found = self.check(file)
+        first = found.output.split("\n")[0]
+        assert found.status == 0 and " COUNT " in first, found
+        return int(first.rsplit(" ", 1)[1])
+
+
+def format_words(file: Path, layout: Layout = Layout.PAGES, journal: int | None = None) -> list[object]:
+    """The words of `format`. The first layout needs none of its own."""
+    chosen = [] if layout is Layout.PAGES else ["--layout", int(layout)]
+    return ["format", "--file", file, "--journal", layout.least_journal if journal is None else journal, *chosen]
+
+
+def shown(data: bytes | None) -> str:
+    """Bytes of a stream as text; those that are none are escaped."""
+    return (data or b"").decode(errors="backslashreplace")

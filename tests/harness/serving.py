@@ -1,0 +1,197 @@
+"""Servers and their clients: each wait has a limit of time."""
+
+from __future__ import annotations
+
+import os
+import random
+import select
+import socket
+import subprocess
+import tempfile
+import time
+from collections.abc import Callable
+from pathlib import Path
+from types import TracebackType
+from typing import Protocol
+
+from harness.conditions import NORMAL, Conditions
+from harness.programs import Program, Ran, Stream, TookTooLong, shown
+
+ADDRESS = "127.0.0.1"
+SECONDS = 20
+# Where ports that may be free begin, and those that the system gives to connections by itself.
+LEAST_PORT, LEAST_GIVEN = 10_000, 32_768
+TRIES = 3
+
+
+class Ended(ConnectionError):
+    """The other end has ended the connection."""
+
+
+def free_port() -> int:
+    """A port of the loopback that is free now, below those that the system gives to connections."""
+    while True:
+        with socket.socket() as probe:
+            try:
+                probe.bind((ADDRESS, random.randrange(LEAST_PORT, LEAST_GIVEN)))
+            except OSError:
+                continue
+            port: int = probe.getsockname()[1]
+            return port
+
+
+class Client:
+    """A connection to a server: lines go, answers come. OSError (TimeoutError) if one takes longer than its seconds."""
+
+    def __init__(self, port: int, seconds: float = SECONDS, address: str = ADDRESS) -> None:
+        self.socket = socket.create_connection((address, port), timeout=seconds)
+        self.socket.setsockopt(socket.IPPROTO_TCP, socket.TCP_NODELAY, 1)
+        self._received = b""
+
+    def send(self, data: bytes) -> None:
+        """Sends these bytes."""
+        self.socket.sendall(data)
+
+    def line(self) -> str:
+        """The next line, without its newline. `Ended` if the other end has ended the connection."""
+        while b"\n" not in self._received:
+            part = self.socket.recv(1 << 16)
+            if not part:
+                raise Ended(shown(self._received))
+            self._received += part
+        line, self._received = self._received.split(b"\n", 1)
+        return shown(line)
+
+    def ask(self, line: str) -> str:
+        """Sends a line, and gives its answer."""
+        self.send(f"{line}\n".encode())
+        return self.line()
+
+    def finish(self) -> list[str]:
+        """Sends no more, reads to the end, and gives the lines that still came."""
+        self.socket.shutdown(socket.SHUT_WR)
+        lines = []
+        try:
+            while True:
+                lines.append(self.line())
+        except Ended:
+            return lines
+        finally:
+            self.close()
+
+    def close(self) -> None:
+        """Ends the connection."""
+        self.socket.close()
+
+    def __enter__(self) -> Client:
+        return self
+
+    def __exit__(self, kind: type[BaseException] | None, fault: BaseException | None, trace: TracebackType | None) -> None:
+        self.close()
+
+
+class NotServing(AssertionError):
+    """A server ended, or was ended here, before it wrote LISTENING. It has what was written and said."""
+
+    def __init__(self, ran: Ran) -> None:
+        super().__init__(repr(ran))
+        self.ran = ran
+
+
+class Server:
+    """`hpb serve` on a file. Without a port a free one is taken. It is killed at the end of `with`."""
+
+    def __init__(
+        self,
+        program: Program,
+        file: Path,
+        sessions: int = 1,
+        port: int | None = None,
+        errors: Stream | None = None,
+        conditions: Conditions = NORMAL,
+        seconds: float = SECONDS,
+    ) -> None:
+        self.sessions = sessions
+        self._began = time.monotonic()
+        self._said = tempfile.TemporaryFile()
+        for _ in range(TRIES):
+            self.port = free_port() if port is None else port
+            words = ("serve", "--file", file, "--port", self.port, "--sessions", sessions)
+            self.process = program.start(*words, errors=self._said if errors is None else errors, conditions=conditions)
+            first = read_line(self.process, seconds)
+            if first == f"LISTENING {self.port}":
+                return
+            self.kill()
+            if port is not None or first != "ERR 92 stream":
+                break
+        raise NotServing(Ran(first, self.said(), self.process.returncode, time.monotonic() - self._began))
+
+    def connect(self, seconds: float = SECONDS) -> Client:
+        """A client that is connected to it."""
+        return Client(self.port, seconds)
+
+    def said(self) -> str:
+        """What it has said on standard error up to now, if that wasn't given elsewhere."""
+        size = os.fstat(self._said.fileno()).st_size
+        return shown(os.pread(self._said.fileno(), size, 0))
+
+    def wait_until_said(self, words: str, seconds: float = SECONDS) -> str:
+        """Returns what it has said once these words are in it. AssertionError if that takes longer."""
+        wait_until(lambda: words in self.said(), seconds, f"{words!r} in {self.said()!r}")
+        return self.said()
+
+    def ended(self, seconds: float = SECONDS) -> Ran:
+        """Waits for its end, and gives what it wrote behind LISTENING, what it said and its status."""
+        try:
+            written, _ = self.process.communicate(timeout=seconds)
+        except subprocess.TimeoutExpired:
+            self.kill()
+            raise TookTooLong(f"serve didn't end: {self.said()}") from None
+        return Ran(shown(written), self.said(), self.process.returncode, time.monotonic() - self._began)
+
+    def kill(self) -> None:
+        """Ends it by SIGKILL, and waits for that."""
+        self.process.kill()
+        self.process.communicate()
+
+    def __enter__(self) -> Server:
+        return self
+
+    def __exit__(self, kind: type[BaseException] | None, fault: BaseException | None, trace: TracebackType | None) -> None:
+        if self.process.poll() is None:
+            self.kill()
+        self._said.close()
+
+
+class Serve(Protocol):
+    """Starts a server that ends with its test."""
+
+    def __call__(
+        self,
+        file: Path,
+        sessions: int = 1,
+        port: int | None = None,
+        errors: Stream | None = None,
+        conditions: Conditions = NORMAL,
+    ) -> Server:
+        """As `Server`, of the program under test."""
+
+
+def read_line(process: subprocess.Popen[bytes], seconds: float = SECONDS) -> str:
+    """The next line of standard output, as much as came of it until the time was over or it ended."""
+    assert process.stdout is not None
+    stream, received, end = process.stdout.fileno(), b"", time.monotonic() + seconds
+    while not received.endswith(b"\n") and select.select([stream], [], [], max(0.0, end - time.monotonic()))[0]:
+        part = os.read(stream, 1)
+        if not part:
+            break
+        received += part
+    return shown(received).removesuffix("\n")
+
+
+def wait_until(holds: Callable[[], bool], seconds: float, what: str) -> None:
+    """Returns once this holds. AssertionError if it takes longer."""
+    end = time.monotonic() + seconds
+    while not holds():
+        assert time.monotonic() < end, f"after {seconds} seconds: {what}"
+        time.sleep(0.005)

@@ -1,0 +1,164 @@
+"""Front and page take the same at SIGHUP, and none is lost: not one that comes while the page comes up, nor in the first moment."""
+
+from __future__ import annotations
+
+import asyncio
+import os
+import signal
+import time
+from collections.abc import Iterator
+from contextlib import suppress
+from pathlib import Path
+
+import pytest
+from faults import FRONT, PAGE
+from fronts import Front, make_certificate, token_of
+from harness.conditions import Conditions
+from harness.programs import Program
+from harness.serving import wait_until
+
+from hpb.front.watch import Watch
+
+READ_AGAIN = "tokens, certificate and limits were read again"
+NEW = "a-new-token-of-ann-0123"
+SECONDS = 30
+
+
+@pytest.fixture
+def front(program: Program, room: Path) -> Iterator[Front]:
+    """A front with a page, of a new auction, which isn't started."""
+    made = Front(program, room, has_board=True)
+    assert program.format(made.file).status == 0
+    yield made
+    made.kill()
+
+
+def shows(front: Front, token: str | None = None) -> int:
+    """The status of ann's page, once there is one."""
+    end = time.monotonic() + SECONDS
+    while time.monotonic() < end:
+        with suppress(OSError):
+            return front.page("ann", token)
+        time.sleep(0.05)
+    raise AssertionError("there is no page")
+
+
+def kill_page(front: Front) -> None:
+    """Kills the page, and returns once there is another one."""
+    page = front.child(PAGE)
+    os.kill(page, signal.SIGKILL)
+    wait_until(lambda: front.child(PAGE) not in (0, page), SECONDS, "another page")
+
+
+def new_token(front: Front) -> None:
+    front.write_tokens({name: token_of(name) for name in front.names} | {"ann": NEW})
+
+
+def before_python(front: Front, text: str) -> Conditions:
+    """What is read before each program of Python."""
+    folder = front.folder / "before"
+    folder.mkdir()
+    (folder / "sitecustomize.py").write_text(text)
+    return Conditions(environment={"PYTHONPATH": str(folder)})
+
+
+def test_a_page_that_is_started_again_takes_what_the_front_has(front: Front) -> None:
+    """Not what stands in the files by then, which the front wasn't told to read."""
+    front.start()
+    assert shows(front) == 200
+    new_token(front)
+    front.config.write_text("colour = 1\n")
+    kill_page(front)
+    assert (shows(front), shows(front, NEW)) == (200, 401)
+    assert front.client("ann").welcome == "WELCOME ann"  # type: ignore[attr-defined]
+    assert front.stop().status == 0
+
+
+def test_what_the_front_refuses_the_page_doesnt_take(front: Front) -> None:
+    front.start()
+    new_token(front)
+    front.config.write_text("colour = 1\n")
+    front.signal(signal.SIGHUP)
+    front.wait_until_said("stay in force: colour")
+    kill_page(front)
+    assert (shows(front), shows(front, NEW)) == (200, 401)
+
+
+def test_what_stays_for_the_front_stays_for_the_page(front: Front) -> None:
+    """Names are read at the start alone: a name of the configuration of then is no name of the page either."""
+    front.start()
+    front.names = {**front.names, "eve": "observer"}
+    front.write_config()
+    front.signal(signal.SIGHUP)
+    front.wait_until_said("these stay as they were until the front is started again: roles")
+    front.wait_until_said(READ_AGAIN)
+    assert shows(front) == 200
+    kill_page(front)
+    assert shows(front) == 200
+
+
+def test_the_page_shows_the_certificate_that_the_front_shows(front: Front) -> None:
+    """Also if there is another one, or none, when it is started again."""
+    front.context = make_certificate(front.folder)
+    front.write_config(certificate="S", key="K")
+    front.start()
+    assert shows(front) == 200
+    for name in ("S", "K"):
+        (front.folder / name).unlink()
+    kill_page(front)
+    assert shows(front) == 200
+    assert front.stop().status == 0
+
+
+SLOW_PAGE = """
+import os, sys, time
+if %r in sys.orig_argv:
+    def slowly(_):
+        open(%r, "w").close()
+        time.sleep(2)
+    os.nice = slowly
+"""
+
+
+def test_a_signal_while_the_page_comes_up_reaches_it(front: Front) -> None:
+    """The page has read all by then, and takes two more seconds to come up."""
+    mark = front.folder / "mark"
+    front.begin(conditions=before_python(front, SLOW_PAGE % (PAGE, str(mark))))
+    wait_until(mark.exists, SECONDS, "a page that comes up")
+    new_token(front)
+    front.signal(signal.SIGHUP)
+    front.wait_until_said(READ_AGAIN)
+    assert front.process and front.process.stdout
+    assert front.process.stdout.readline().startswith(b"LISTENING ")
+    front.board_port = int(front.process.stdout.readline().decode().rstrip("/\n").rsplit(":", 1)[1])
+    wait_until(lambda: shows(front, NEW) == 200, SECONDS, "a page by the new token")
+    assert shows(front) == 401
+    assert front.stop().status == 0
+
+
+FIRST_MOMENT = """
+import os, signal, sys
+class Hook:
+    def find_spec(self, name, *_):
+        if name == "asyncio":
+            sys.meta_path.remove(self)
+            os.kill(os.getpid(), signal.SIGHUP)
+if %r in sys.orig_argv:
+    sys.meta_path.insert(0, Hook())
+"""
+
+
+def test_a_signal_in_the_first_moment_is_kept(front: Front) -> None:
+    """When the front has read nothing yet of what it is made of."""
+    front.start(conditions=before_python(front, FIRST_MOMENT % FRONT))
+    front.wait_until_said(READ_AGAIN)
+    assert front.stop().status == 0
+
+
+def test_a_signal_before_there_is_a_loop_is_kept() -> None:
+    told: list[str] = []
+    watch, loop = Watch(), asyncio.new_event_loop()
+    watch.take(signal.SIGHUP)
+    watch.attach(loop, lambda: told.append("stop"), lambda: told.append("reload"))
+    loop.close()
+    assert told == ["reload"]

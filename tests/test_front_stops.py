@@ -1,0 +1,146 @@
+"""A front ends within ten seconds of SIGTERM whatever hangs, and no failure of a call leaves it standing in silence."""
+
+from __future__ import annotations
+
+import errno
+import os
+import signal
+import time
+from collections.abc import Callable, Iterator
+from contextlib import suppress
+from pathlib import Path
+
+import pytest
+from faults import FRONT, PAGE, Faults
+from fronts import STOP_SECONDS, Caller, Front, StartsNot
+from harness.programs import Program
+from harness.serving import Ended, wait_until
+
+PAGE_CONNECTIONS = 256
+# So many threads the page has before anybody asks it, and a few more.
+BEFORE_REQUESTS = 6
+
+
+@pytest.fixture
+def front(program: Program, room: Path) -> Iterator[Front]:
+    """A front with a page, of a new auction, which isn't started."""
+    made = Front(program, room, has_board=True)
+    assert program.format(made.file).status == 0
+    yield made
+    made.kill()
+
+
+@pytest.fixture
+def faults(library: Callable[[Path], Path], room: Path) -> Faults:
+    return Faults.built(library, room)
+
+
+def ends_on_time(front: Front, status: int) -> str:
+    """What a front says that is told to stop."""
+    ran = front.stop()
+    assert ran.status == status, ran
+    return ran.errors
+
+
+def test_a_program_that_says_nothing_is_given_up(front: Front) -> None:
+    silent = front.folder / "silent"
+    silent.write_text("#!/bin/sh\nexec sleep 1000\n")
+    silent.chmod(0o755)
+    front.write_config(program=str(silent))
+    front.begin()
+    wait_until(lambda: front.child("sleep") != 0, 30, "a program that says nothing")
+    assert "told to stop before clients were let in" in ends_on_time(front, 0)
+
+
+@pytest.mark.parametrize("call", ["flock", "fdatasync"])
+def test_a_record_whose_disk_hangs_at_the_start(front: Front, faults: Faults, call: str) -> None:
+    front.begin(conditions=faults.of(FRONT, front.config, call, 1, 0))
+    wait_until(lambda: faults.failed() == 1, 30, f"{call} hangs")
+    assert "told to stop before clients were let in" in ends_on_time(front, 0)
+
+
+@pytest.mark.timeout(180)
+def test_a_record_whose_disk_hangs_under_a_bid(front: Front, program: Program, room: Path, faults: Faults) -> None:
+    """The first sync that comes once another front of that kind would listen."""
+    folder = room / "counted"
+    folder.mkdir()
+    counted = Front(program, folder, has_board=True)
+    assert program.format(counted.file).status == 0
+    counted.start(conditions=faults.of(FRONT, counted.config))
+    number = faults.counts()["fdatasync"] + 1
+    counted.kill()
+    front.start(conditions=faults.of(FRONT, front.config, "fdatasync", number, 0))
+    client = front.client("ann", seconds=STOP_SECONDS)
+    client.send(b"BID x 1 a 100\n")
+    wait_until(lambda: faults.failed() == 1, 30, "fdatasync hangs")
+    ran = front.stop()
+    assert "1 lines that were taken have no answer" in ran.errors
+    with pytest.raises((Ended, ConnectionError)):
+        client.line()
+
+
+def test_a_server_that_is_stopped_holds_up_no_end(front: Front) -> None:
+    front.start()
+    client = front.client("ann")
+    os.kill(front.child("serve"), signal.SIGSTOP)
+    client.send(b"BID x 1 a 100\n")
+    time.sleep(0.3)
+    assert ends_on_time(front, 0)
+
+
+def test_standard_error_that_nobody_reads_holds_up_no_end(front: Front) -> None:
+    """What the program says itself leads elsewhere."""
+    quiet = front.folder / "quiet"
+    quiet.write_text(f'#!/bin/sh\nexec {front.program.path} "$@" 2>/dev/null\n')
+    quiet.chmod(0o755)
+    front.write_config(program=str(quiet))
+    reader, writer = os.pipe()
+    os.set_blocking(writer, False)
+    try:
+        while True:
+            os.write(writer, b"x" * 65_536)
+    except BlockingIOError:
+        os.set_blocking(writer, True)
+    process = front.begin(errors=writer)
+    assert process.stdout and process.stdout.readline().startswith(b"LISTENING ")
+    began = time.monotonic()
+    process.send_signal(signal.SIGTERM)
+    process.communicate(timeout=STOP_SECONDS)
+    assert time.monotonic() - began < STOP_SECONDS
+    os.close(reader)
+
+
+@pytest.mark.parametrize("number", range(1, 8))
+def test_a_thread_that_is_refused_is_told(front: Front, faults: Faults, number: int) -> None:
+    """Each thread that a front starts: it ends by it with words, or tries again with words, and serves."""
+    try:
+        front.start(conditions=faults.of(FRONT, front.config, "pthread_create", number, errno.EAGAIN))
+    except StartsNot as ended:
+        assert (ended.ran.status, "thread" in ended.ran.errors) == (1, True), ended.ran
+        front.start()
+    assert Caller(front, "ann").ask("BID x 1 a 100") == "OK 1"
+    front.stop()
+
+
+def test_the_page_gives_places_back_whose_threads_are_refused(front: Front, faults: Faults) -> None:
+    """More threads in turn than the page has places, once it is up."""
+    many = PAGE_CONNECTIONS + 50
+    front.start(conditions=faults.of(PAGE, front.file, "pthread_create", BEFORE_REQUESTS, errno.EAGAIN, many))
+    for _ in range(BEFORE_REQUESTS + many):
+        if faults.failed() == many:
+            break
+        with suppress(OSError):
+            front.page("ann", seconds=20)
+    assert faults.failed() == many
+    assert front.page("ann") == 200
+    front.stop()
+
+
+def test_two_signals_and_more_end_it_once(front: Front) -> None:
+    front.start()
+    assert front.process
+    for _ in range(3):
+        front.signal(signal.SIGTERM)
+        front.signal(signal.SIGINT)
+    ran = front.ended()
+    assert ran.status == 0 and ran.output.splitlines()[-1].startswith("STOPPED 0 ")

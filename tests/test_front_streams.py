@@ -1,0 +1,153 @@
+"""What a front says and tells never stands in one of its files, and a failure of standard output isn't passed over."""
+
+from __future__ import annotations
+
+import os
+import re
+import subprocess
+from collections.abc import Iterator
+from pathlib import Path
+
+import pytest
+from fronts import Caller, Front, token_of
+from harness.fronts import tool_words
+from harness.programs import Program
+from test_front_tokens import id_of, tokens
+
+FULL = "/dev/full"
+SAID_FULL = "front: standard output can't be written: No space left on device"
+
+
+@pytest.fixture
+def front(program: Program, room: Path) -> Iterator[Front]:
+    """A front of a new auction with a record of two segments and a log, which isn't running."""
+    made = Front(program, room)
+    assert program.format(made.file).status == 0
+    for name in ("R", "R.2", "R.asked", "R.log", "R.log.3"):
+        (room / name).touch(mode=0o600)
+    yield made
+    made.kill()
+
+
+def shell(front: Front, redirection: str, *words: str) -> subprocess.CompletedProcess[str]:
+    """Runs the front to its end with a redirection of the shell."""
+    command = ["bash", "-c", f'exec "$@" {redirection}', "bash", *front.words(*words)]
+    return subprocess.run(command, cwd=front.folder, capture_output=True, text=True, timeout=60, stdin=subprocess.DEVNULL)
+
+
+@pytest.mark.parametrize(
+    ("name", "field"),
+    [
+        ("F", "file"),
+        ("R", "record"),
+        ("R.2", "record"),
+        ("R.asked", "record"),
+        ("R.log", "log"),
+        ("R.log.3", "log"),
+        ("T", "tokens"),
+        ("C", "configuration"),
+        ("P", "program"),
+    ],
+)
+@pytest.mark.parametrize(("number", "stream"), [(1, "standard output"), (2, "standard error")])
+def test_a_stream_that_leads_into_a_file_of_the_front_is_refused(front: Front, name: str, field: str, number: int, stream: str) -> None:
+    """The words go to the other one."""
+    path = front.folder / name
+    before = path.read_bytes()
+    ran = shell(front, f"{number}>> {name}")
+    said = f"front: {stream} leads to {path}, which is the {field} or stands beside it: lead it elsewhere\n"
+    assert (ran.returncode, ran.stdout, ran.stderr) == (2, "" if number == 1 else said, said if number == 1 else "")
+    assert path.read_bytes() == before
+
+
+@pytest.mark.parametrize("words", [["--colour"], ["tokens", "paint"], ["tokens", "add", "eve"], ["--help"]])
+def test_words_that_are_wrong_arent_written_into_the_record(front: Front, words: list[str]) -> None:
+    """Neither where both streams lead there: then nothing is said."""
+    ran = shell(front, ">> R 2>&1", *words)
+    assert (ran.returncode, ran.stdout, ran.stderr) == (2, "", "")
+    assert front.record.read_bytes() == b""
+
+
+@pytest.mark.parametrize("text", ["colour = 1\n", "limits = 7\n", '[names]\nann = "king"\n'])
+def test_a_wrong_configuration_isnt_written_into_the_record(front: Front, text: str) -> None:
+    front.config.write_text(f"record = 'R'\ntokens = 7\n{text}")
+    assert shell(front, "2>> R").returncode == 2
+    assert front.record.read_bytes() == b""
+
+
+@pytest.mark.parametrize("option", ["--conf {}", "--config={}", "--c={}", "tokens list --config {}"])
+def test_a_configuration_that_is_named_in_another_way(front: Front, option: str) -> None:
+    command = f"exec {' '.join(tool_words('front'))} {option.format('C')} 2>> R"
+    assert subprocess.run(["bash", "-c", command], cwd=front.folder, capture_output=True, timeout=60).returncode == 2
+    assert front.record.read_bytes() == b""
+
+
+def test_a_name_that_was_added_isnt_written_into_the_tokens(front: Front) -> None:
+    before = front.tokens.read_bytes()
+    assert shell(front, ">> T", "tokens", "add", "ann").returncode == 2
+    assert front.tokens.read_bytes() == before
+
+
+def test_nothing_gets_the_number_of_a_stream_that_is_closed(front: Front) -> None:
+    """Else the record would, and what the front says would stand in it."""
+    for name in ("R", "R.2", "R.asked", "R.log", "R.log.3"):
+        (front.folder / name).unlink()
+    words = ["bash", "-c", 'exec "$@" 0<&- 2>&-', "bash", *front.words()]
+    front.process = subprocess.Popen(words, stdout=subprocess.PIPE)
+    assert front.process.stdout
+    listening = front.process.stdout.readline().decode()
+    front.port = int(listening.split()[2])
+    assert Caller(front, "ann").ask("BID x 1 a 100") == "OK 1"
+    os.kill(front.child("serve"), 9)
+    assert Caller(front, "ann").ask("SHOW").endswith(" COUNT 1")
+    assert front.stop().status == 0
+    for path in (front.record, front.folder / "R.asked", front.file, front.log):
+        assert b"front: " not in path.read_bytes()
+    assert re.fullmatch(r'([0-9a-f]{64} \{"entry":.*\}\n)+', front.record.read_text())
+
+
+# Standard output that fails.
+
+
+def test_a_front_whose_output_fails_says_so_and_ends_with_1(front: Front) -> None:
+    for name in ("R", "R.2", "R.asked"):
+        (front.folder / name).unlink()
+    with open(FULL, "wb") as full:
+        front.process = subprocess.Popen(front.words(), stdout=full, stderr=front.said)
+    front.wait_until_said(SAID_FULL)
+    ran = front.stop()
+    assert ran.status == 1 and ran.errors.count("can't be written") == 1
+
+
+def test_help_that_cannot_be_written(front: Front) -> None:
+    for words in (["--help"], ["tokens", "add", "--help"]):
+        ran = shell(front, f"> {FULL}", *words)
+        assert (ran.returncode, ran.stderr) == (1, f"{SAID_FULL}\n")
+
+
+def test_tokens_that_cannot_be_shown(front: Front) -> None:
+    """One that was added and that nobody has seen is named, to be revoked."""
+    ran = shell(front, f"> {FULL}", "tokens", "list")
+    assert (ran.returncode, ran.stderr) == (1, f"{SAID_FULL}\n")
+    ran = shell(front, f"> {FULL}", "tokens", "add", "ann")
+    [id] = [id for name, id in tokens(front, "list") if name == "ann" and id != id_of(token_of("ann"))]
+    last = f"{SAID_FULL}. The token {id} was added, and nobody has seen it: revoke it, and add another\n"
+    assert (ran.returncode, ran.stderr) == (1, f"front: a front that runs takes this in by SIGHUP\n{last}")
+
+
+def test_a_terminal_that_is_set_not_to_block_is_waited_for(front: Front) -> None:
+    """The pipe is full of another program's bytes, and is read later."""
+    reader, writer = os.pipe()
+    os.set_blocking(writer, False)
+    filled = 0
+    while True:
+        try:
+            filled += os.write(writer, b"x" * 65_536)
+        except BlockingIOError:
+            break
+    process = subprocess.Popen(front.words("tokens", "list"), stdout=writer, stderr=subprocess.PIPE)
+    os.close(writer)
+    with open(reader, "rb") as rest:
+        data = rest.read()
+    assert process.communicate(timeout=60)[1] == b"" and process.returncode == 0
+    assert data[filled:].decode().splitlines()[0] == f"desk {id_of(token_of('desk'))}"
