@@ -125,6 +125,15 @@ def test_sessions_share_one_auction_and_a_later_server_goes_on_with_it(serve: Se
     ended_well(server, 2)
 
 
+def test_listening_is_written_before_anyone_connects(serve: Serve, file: Path) -> None:
+    # `serve` returns once the first line is there, and nobody has connected by then.
+    server = serve(file)
+    caller = server.connect()
+    assert caller.ask("BID x 1 a 100") == "OK 1"
+    assert caller.finish() == []
+    ended_well(server, 1)
+
+
 def test_one_connection_too_many_is_turned_away(serve: Serve, file: Path) -> None:
     server = serve(file, sessions=2)
     first, second = server.connect(), server.connect()

@@ -3,7 +3,7 @@
 use std::alloc::{AllocError, Global};
 
 /// How many bytes of the stack the program takes at most, and some more.
-const STACK_BYTES: usize = 512 * 1_024;
+const STACK_BYTES: usize = 1_024 * 1_024;
 
 /// How many of them each step takes that goes down the stack. One that took all of them at once would be made a part of
 /// its caller.

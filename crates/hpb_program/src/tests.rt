@@ -205,6 +205,10 @@ fn a_stream_that_must_not_wait_is_waited_for(rt: HostRuntime) -> Result<(), Fail
 /// More notices than any pipe has room for, each of which takes nearly a page of it.
 const MANY_NOTICES: usize = 40;
 
+/// How many letters such a notice has, and how many bytes its line: `hpb: ` before them, and a line feed.
+const NOTICE_LETTERS: usize = 4_000;
+const NOTICE_BYTES: usize = 4_006;
+
 /// What a pipe has at the moment, which must not wait.
 fn taken(alloc: Global, pipe: &mut PipeReader) -> Result<String, Fail> {
     let mut bytes = Vec::new(alloc);
@@ -227,17 +231,18 @@ fn notices_without_room_are_counted(rt: HostRuntime) -> Result<(), Fail> {
     os::set_nonblocking(lines.as_raw_fd(), true);
     let relay = Relay::over(alloc, Some(Ends { lines, over }));
     let mut long = String::new(alloc);
-    for _ in 0..4_000 {
+    for _ in 0..NOTICE_LETTERS {
         long.push('x')?;
     }
     for _ in 0..MANY_NOTICES {
         relay.notify(long.as_str());
     }
     let found = taken(alloc, &mut reader)?;
-    let count = found.as_str().lines().count();
-    assert_eq!(rt; found.len(), count * 4_006);
+    let count = found.len() / NOTICE_BYTES;
+    assert_eq!(rt; found.len() % NOTICE_BYTES, 0);
+    assert_eq!(rt; found.as_str().lines().count(), count);
     relay.notify("the last");
-    let left_out = MANY_NOTICES - count.min(MANY_NOTICES);
+    let left_out = MANY_NOTICES.saturating_sub(count);
     let wanted = format!(in alloc;
         "hpb: {left_out} notices were not written: nobody read standard error, or memory was refused\nhpb: the last\n"
     )?;

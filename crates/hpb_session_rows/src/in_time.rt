@@ -1,7 +1,6 @@
 //! A session on a house that is given some time.
 
 use crate::one_session::{Outcome, run_on_new_device};
-use crate::serving::goes_up;
 use hpb_codec::JournalShape;
 use std::alloc::Global;
 use std::sync::atomic::{AtomicBool, Ordering};
@@ -9,7 +8,23 @@ use std::sync::{Arc, Wait};
 use std::test::Fail;
 use std::thread;
 use std::thread::Threads;
-use std::time::Clock;
+use std::time::{Clock, Duration};
+
+/// How often a flag is looked at at most, and how many milliseconds lie between two looks.
+const TRIES: u32 = 2_000;
+
+const PAUSE: u64 = 10;
+
+/// Waits until a flag is up. `false` says that it isn't after the most tries.
+fn goes_up<H: Clock>(rt: &H, flag: &AtomicBool) -> bool {
+    for _ in 0..TRIES {
+        if flag.load(Ordering::SeqCst) {
+            return true;
+        }
+        thread::sleep(rt, Duration::from_millis(PAUSE));
+    }
+    false
+}
 
 /// What came of a session, if it could be run, and what it wrote.
 #[derive(Drop)]

@@ -1,11 +1,9 @@
-//! Tests of sessions on a house, and of sessions over connections; of what a viewer sees; and of devices, engines and houses
-//! of the least and the greatest sizes.
+//! Tests of sessions on a house; of what a viewer sees; and of devices, engines and houses of the least and the greatest
+//! sizes.
 #![tactic(auto)]
 
 #[cfg(test)]
 mod auctions;
-#[cfg(test)]
-mod caller;
 #[cfg(test)]
 mod devices;
 #[cfg(test)]
@@ -19,16 +17,8 @@ mod outputs;
 #[cfg(test)]
 mod rows;
 #[cfg(test)]
-mod rows_of_callers;
-#[cfg(test)]
-mod rows_of_faults;
-#[cfg(test)]
 mod rows_of_flights;
 #[cfg(test)]
 mod rows_of_houses;
 #[cfg(test)]
-mod rows_of_sessions;
-#[cfg(test)]
 mod rows_of_views;
-#[cfg(test)]
-mod serving;

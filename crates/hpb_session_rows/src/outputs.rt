@@ -1,10 +1,7 @@
-//! Outputs that tell of what is written, and one that fails.
+//! An output that counts how often it is written, and one that fails.
 
-use std::alloc::Global;
 use std::io;
 use std::io::{ErrorKind, Write};
-use std::sync::Arc;
-use std::sync::atomic::{AtomicBool, Ordering};
 
 /// An output that fails.
 #[derive(Drop)]
@@ -17,26 +14,6 @@ impl Write for Deaf {
 
     fn flush(&mut self) -> io::Result<()> {
         Err(ErrorKind::BrokenPipe.into())
-    }
-}
-
-/// An output that tells when a line was handed on.
-#[derive(Drop)]
-pub(crate) struct Heard {
-    pub(crate) bytes: Vec<u8>,
-    /// Whether what was handed on last ended with an LF.
-    pub(crate) has_line: Arc<AtomicBool, Global>,
-}
-
-impl Write for Heard {
-    fn write(&mut self, bytes: &[u8]) -> io::Result<usize> {
-        self.bytes.write(bytes)
-    }
-
-    fn flush(&mut self) -> io::Result<()> {
-        self.has_line
-            .store(self.bytes.ends_with(b"\n"), Ordering::SeqCst);
-        Ok(())
     }
 }
 
