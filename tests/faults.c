@@ -1,7 +1,7 @@
 /* Loaded before a program of Python (LD_PRELOAD): one call to the system fails, or hangs.
  *
  *   FAULT_IN      the module whose process it is for, as "hpb.commands.front" or "hpb.front.viewers"
- *   FAULT_FROM    the path of a file: calls are counted from the first time on that it is opened
+ *   FAULT_FROM    the path of a file: calls are counted from the first time on that it is opened; empty: from the start
  *   FAULT         call:number:error, as read:17:5, and :times where more than one fails, from that one on; with the error 0
  *                 the call never returns. Without it calls are only counted
  *   FAULT_COUNTS  a file of 64-bit numbers, to be made beforehand: how often each call was made, in the order of
@@ -76,6 +76,7 @@ __attribute__((constructor)) static void begin(void) {
     real[CALL_close](file, 0, 0, 0, 0, 0, 0);
     if (room == MAP_FAILED) abort();
     counts = room;
+    is_active = !*from;
     if (!fault) return;
     char name[64] = "";
     const char *end = strchr(fault, ':');

@@ -34,14 +34,16 @@ class Faults:
     def built(cls, library: Callable[[Path], Path], folder: Path) -> Faults:
         return cls(library(SOURCE), folder / "faults")
 
-    def of(self, module: str, begun_at: Path, call: str = "", number: int = 0, error: int = 0, times: int = 1) -> Conditions:
-        """A process of this module in which a call fails by this number of an error, or never returns where that is 0. Calls are
-        counted from the first opening of a file on."""
+    def of(
+        self, module: str, begun_at: Path | None, call: str = "", number: int = 0, error: int = 0, times: int = 1
+    ) -> Conditions:
+        """A process of this module in which a call fails by this number of an error, or never returns if that is 0. Calls are
+        counted from the first opening of a file on, or from the start."""
         self.counted.write_bytes(bytes(NUMBER.size * (len(calls()) + 1)))
         more = {"PYTHONMALLOC": "malloc"} if call in MEMORY or not call else {}
         more |= {"FAULT": f"{call}:{number}:{error}:{times}"} if call else {}
         return NORMAL.with_library(
-            self.library, FAULT_IN=module, FAULT_FROM=str(begun_at), FAULT_COUNTS=str(self.counted), **more
+            self.library, FAULT_IN=module, FAULT_FROM=str(begun_at or ""), FAULT_COUNTS=str(self.counted), **more
         )
 
     def counts(self) -> dict[str, int]:

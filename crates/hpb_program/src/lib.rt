@@ -26,6 +26,3 @@ pub use serving::{FileEnd, ServeEnd, serve_kept};
 pub use stack::hold_stack;
 pub use streams::hold_streams;
 pub use waiting::Waiting;
-
-#[cfg(test)]
-mod tests;

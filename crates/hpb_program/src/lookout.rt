@@ -76,10 +76,11 @@ impl<'a> Lookout<'a> {
         disk: &FileDisk,
         relay: &'a Relay,
     ) -> Result<Lookout<'a>, FileFault> {
+        let file = File::open(rt, path)?;
+        // Compared behind the opening: a file that takes the place of this one in between would be watched in its stead.
         if !disk.stamp()?.is_at(rt, path) {
             return Err(FileFault::Busy);
         }
-        let file = File::open(rt, path)?;
         let seen = Seen::of(alloc, &file)?;
         Ok(Lookout {
             alloc,

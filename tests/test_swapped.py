@@ -1,0 +1,49 @@
+"""A file that somebody replaces by another one while `serve` opens it, before each call that names it."""
+
+from __future__ import annotations
+
+from collections.abc import Callable
+from pathlib import Path
+
+from harness.auctions import Layout
+from harness.conditions import NORMAL
+from harness.programs import Program
+from harness.serving import NotServing, Serve
+
+SOURCE = Path(__file__).with_name("swap.c")
+# Calls that name a file: to look at streams, to open it, to compare what was opened, to watch it; one more is never reached.
+LEAST_CALLS, MOST_CALLS = 3, 20
+BID = "BID x 1 a 100"
+
+
+def test_what_is_accepted_is_in_the_file_or_it_is_said_that_it_is_not(
+    program: Program, room: Path, layout: Layout, serve: Serve, library: Callable[[Path], Path]
+) -> None:
+    loaded = library(SOURCE)
+    refused = replaced = 0
+    for number in range(1, MOST_CALLS):
+        file, other = room / f"F{number}", room / f"G{number}"
+        for made in (file, other):
+            assert program.format(made, layout).status == 0
+        conditions = NORMAL.with_library(loaded, SWAPPED=str(file), SWAPPED_BY=str(other), SWAP_AT=str(number))
+        try:
+            server = serve(file, conditions=conditions)
+        except NotServing as reason:
+            # What was opened isn't what stands there now.
+            assert (reason.ran.output, other.exists()) == ("ERR 91 device", False), reason.ran
+            assert reason.ran.errors.startswith("hpb: 91 device: "), reason.ran
+            assert program.count(file) == 0
+            refused += 1
+            continue
+        if other.exists():
+            # No call has this number.
+            assert number > LEAST_CALLS and refused and replaced
+            return
+        with server.connect() as client:
+            assert client.ask(BID) == "OK 1"
+            assert client.finish() == []
+        ran = server.ended()
+        assert ran.output == "CLOSED 1\n", ran
+        assert program.count(file) == 1 or "no name" in ran.errors, ran
+        replaced += 1
+    raise AssertionError(f"more than {MOST_CALLS} calls name the file")
