@@ -1,7 +1,7 @@
--- What can be found after a stop of a run, whenever the stop comes. Source: this project's own. It is durable
--- linearizability: every answer that was given holds after a stop, and nothing is found that wasn't requested.
--- (Izraelevitz, Mendes, Scott, Linearizability of Persistent Memory Objects under a Full-System-Crash Failure Model,
--- 2016.)
+-- What can be found after a stop of a run, whenever the stop comes.
+-- Source: this project's own. It is durable linearizability: every answer that was given holds after a stop, and
+-- nothing is found that wasn't requested. (Izraelevitz, Mendes, Scott, Linearizability of Persistent Memory Objects
+-- under a Full-System-Crash Failure Model, 2016.)
 use Rattle.std.specs.Prelude.{◌≡◌, ◌⊎◌, ℕ, ◌+◌, ◌≤◌, Bool, false, List, [], ◌∷◌, ◌++◌, Option, None, length, All}
 use Rattle.hpb_rules.specs.declared.command.Command.{Command}
 use Rattle.hpb_rules.specs.declared.letter.Answer.{Answer}
