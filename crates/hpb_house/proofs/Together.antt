@@ -27,7 +27,8 @@ command_of a = a.letter.command
 abbrev seat_of : Answer → ℕ
 seat_of a = a.letter.seat
 
--- ---- the commands of one seat: if none is newly accepted, none of a seat is
+-- ---- the commands of one seat
+-- if none is newly accepted, none of a seat is
 none_of_seat : (seat : ℕ) (answers : List Answer) → length (new_commands answers) ≡ 0 → new_commands (filter (λ a. seat_of a == seat) answers) ≡ []
 none_of_seat seat answers none =
     let long = length-map (filter is_answer_new answers) command_of in

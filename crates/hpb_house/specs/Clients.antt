@@ -8,7 +8,7 @@ use Rattle.hpb_house.specs.declared.keeper.Halt.{Halt}
 use Rattle.hpb_rings.specs.declared.client.Client.{Client}
 use Rattle.hpb_rings.specs.declared.report.Report.{Report}
 
--- **Whose report it is.** A client goes on as it began: on its board, with its seat, and with the ring that it began
+-- **The owner of a report.** A client goes on as it began: on its board, with its seat, and with the ring that it began
 -- with. So does its report, which keeps the client's end of that ring. Nothing else has that end, so no other report is
 -- this client's.
 --
