@@ -93,8 +93,8 @@ fn commit_all<D: Disk + Drop>(
 /// Commits letters as one batch: either all are answered and the accepted commands acknowledged, or none. If no clean
 /// frame is left for them, it first makes a whole checkpoint, which leaves one.
 ///
-/// The fault says why there are no answers: 91 if a call of the device failed in the commit, and 93 if one failed
-/// before or a batch is in flight.
+/// The fault says why there are no answers. 91: a call of the device failed in the commit. 93: one failed before, or a
+/// batch is in flight.
 ///
 /// 90 if memory is refused: no letter is taken, and the acknowledged commands stay.
 pub fn commit_letters<D: Disk + Drop>(
