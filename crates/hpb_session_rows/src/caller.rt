@@ -6,10 +6,10 @@ use std::io::{BufRead, BufReader, ErrorKind, Read, Write};
 use std::net::{Ipv4Addr, Net, Shutdown, TcpListener, TcpStream};
 use std::time::Duration;
 
-/// How many seconds a caller waits at most for what comes, or until what it sends is taken.
+/// How many seconds a caller waits, at most, for bytes to come or to be taken.
 const WAIT: u64 = 20;
 
-/// A caller of a session. No call of it waits longer than `WAIT` seconds: then it fails.
+/// A caller of a session. If a call waits longer than `WAIT` seconds, it fails.
 #[derive(Drop)]
 pub(crate) struct Caller {
     reader: BufReader<TcpStream>,
@@ -43,14 +43,14 @@ impl Caller {
         stream.write_all(bytes)
     }
 
-    /// The next answer, with its LF. It is empty where the session has ended.
+    /// The next answer, with its LF. It is empty if the session has ended.
     pub(crate) fn answer(&mut self) -> io::Result<String> {
         let mut answer = String::new(self.alloc);
         self.reader.read_line(&mut answer)?;
         Ok(answer)
     }
 
-    /// Sends lines one at a time, each once the one before is answered: their answers.
+    /// Sends lines one at a time, each once the one before is answered. Gives their answers.
     pub(crate) fn ask(&mut self, lines: &[&str]) -> io::Result<String> {
         let mut answers = String::new(self.alloc);
         for line in lines {
@@ -62,13 +62,13 @@ impl Caller {
         Ok(answers)
     }
 
-    /// Sends no more, and reads what is answered until the session ends.
+    /// Ends its side, and reads the answers until the session ends.
     pub(crate) fn end(self) -> io::Result<String> {
         self.stream().shutdown(Shutdown::Write)?;
         io::read_to_string(self.alloc, self.reader)
     }
 
-    /// Whether the connection is at its end, or was reset, before anything came.
+    /// Whether the connection ended or was reset before anything came.
     pub(crate) fn is_turned_away(&self) -> bool {
         // A connection that was reset takes nothing.
         let _ = self.send(b"SHOW\n");

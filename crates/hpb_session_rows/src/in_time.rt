@@ -1,4 +1,4 @@
-//! A session on a house that is given some time.
+//! A session on a house that must end within some time.
 
 use crate::one_session::{Outcome, run_on_new_device};
 use crate::serving::goes_up;
@@ -11,15 +11,15 @@ use std::thread;
 use std::thread::Threads;
 use std::time::Clock;
 
-/// What came of a session, if it could be run, and what it wrote.
+/// The result of a session, if it could be run, and its output.
 #[derive(Drop)]
 pub(crate) struct Spoken {
     pub(crate) outcome: Option<Outcome>,
     pub(crate) answers: Vec<u8>,
 }
 
-/// Runs a session on these lines, on a house over a new device in memory, by a thread of its own. Fails where it has
-/// not ended after the most tries.
+/// Runs a session on these lines in a thread of its own, on a house over a new device in memory. Fails if it hasn't
+/// ended after the most tries.
 pub(crate) fn run_in_time<H: Threads + Wait + Clock + Sync + Send + Copy + 'static>(
     rt: &H,
     alloc: Global,

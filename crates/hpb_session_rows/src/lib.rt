@@ -1,5 +1,5 @@
-//! Tests of sessions on a house, and of sessions over connections; of what a viewer sees; and of devices, engines and houses
-//! of the least and the greatest sizes.
+//! Tests of sessions on a house, and over connections; of a viewer's views; and of devices, engines and houses of the
+//! least and the greatest sizes.
 #![tactic(auto)]
 
 #[cfg(test)]

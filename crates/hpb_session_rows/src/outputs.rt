@@ -1,4 +1,4 @@
-//! Outputs that tell of what is written, and one that fails.
+//! Outputs that report writes, and one that fails.
 
 use std::alloc::Global;
 use std::io;
@@ -20,11 +20,11 @@ impl Write for Deaf {
     }
 }
 
-/// An output that tells when a line was handed on.
+/// An output that reports when a line was flushed.
 #[derive(Drop)]
 pub(crate) struct Heard {
     pub(crate) bytes: Vec<u8>,
-    /// Whether what was handed on last ended with an LF.
+    /// Whether the bytes that were flushed last ended with an LF.
     pub(crate) has_line: Arc<AtomicBool, Global>,
 }
 
@@ -40,7 +40,7 @@ impl Write for Heard {
     }
 }
 
-/// An output that tells how often is written.
+/// An output that counts writes.
 #[derive(Drop)]
 pub(crate) struct Counted {
     pub(crate) bytes: Vec<u8>,

@@ -1,4 +1,4 @@
-//! Callers that don't do their part, beside one that does.
+//! Callers that misbehave, beside one that doesn't.
 
 use crate::caller::Caller;
 use crate::serving::{Serving, serve_new_device, well};
@@ -40,19 +40,19 @@ fn call_two<
     })
 }
 
-/// What the other caller asks, and what it is answered where it alone has bid.
+/// The other caller's lines, and their answers if it alone has bid.
 const BIDS: [&str; 4] = ["BID y 1 b 150", "SHOW", "BID w 1 c 100", "WHO w"];
 
 const ANSWERS: &str =
     "OK 1\nROUND 1 STAGE 1 OPEN REVENUE 0 COUNT 1\nOK 2\nWHO w ELIGIBILITY 25 ACTIVITY 20 TICKET 1\n";
 
-/// The most lines that are sent until no more are taken, in thousands.
+/// How many lines are sent, at most, until no more are taken, in thousands.
 const MOST_THOUSANDS: u32 = 40_000;
 
-/// For how many milliseconds nothing is taken of a caller, until its session is held to be stuck.
+/// For how many milliseconds nothing is taken from a caller until its session counts as stuck.
 const STUCK: u64 = 500;
 
-/// Sends `SHOW` lines and reads nothing, until no more are taken: `false` where the most are.
+/// Sends `SHOW` lines and reads nothing, until no more are taken. `false` if the most lines are taken.
 fn fill(caller: &Caller) -> io::Result<bool> {
     let mut stream = caller.stream();
     stream.set_write_timeout(Some(Duration::from_millis(STUCK)))?;
@@ -142,7 +142,7 @@ fn client_that_resets(rt: HostRuntime) -> Result<(), Fail> {
         } = call_two(&rt, rt.alloc(), shape)?;
         odd.send(b"BID x 1 a 100\nSHOW\n")?;
         assert_eq!(rt; odd.stream().peek(&mut [0; 1])?, 1);
-        // What it was answered is not read: so its connection is reset.
+        // The answers are not read, so the connection is reset.
         drop(odd);
         assert_eq!(rt;
             other.ask(&["SHOW", "BID y 1 b 150"])?.as_str(),

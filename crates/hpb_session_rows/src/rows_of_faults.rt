@@ -1,4 +1,4 @@
-//! Sessions on a device that fails, and a line that nobody hears.
+//! Sessions on a device that fails, and a line that nobody reads.
 
 use crate::caller::Caller;
 use crate::outputs::Deaf;
@@ -11,7 +11,7 @@ use std::test::*;
 fn device_fault_in_the_first_commit(rt: HostRuntime) -> Result<(), Fail> {
     let alloc = rt.alloc();
     over_layouts!(shape => {
-        // Each of the four calls of the first commit.
+        // Each of the four calls of the first commit fails in turn.
         for call in 1..5 {
             let serving = serve_faulty_device(&rt, alloc, shape, call)?;
             let mut first = Caller::connect(&rt, alloc, serving.port)?;

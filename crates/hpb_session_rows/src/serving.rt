@@ -20,12 +20,12 @@ use std::thread;
 use std::thread::{JoinHandle, Threads};
 use std::time::{Clock, Duration};
 
-/// How often a flag is looked at at most, and how many milliseconds lie between two looks.
+/// How often a flag is looked at, at most, and how many milliseconds lie between two looks.
 const TRIES: u32 = 2_000;
 
 const PAUSE: u64 = 10;
 
-/// Waits until a flag is up: `false` where it isn't after the most tries.
+/// Waits until a flag is up. `false` if it isn't after the most tries.
 pub(crate) fn goes_up<H: Clock>(rt: &H, flag: &AtomicBool) -> bool {
     for _ in 0..TRIES {
         if flag.load(Ordering::SeqCst) {
@@ -36,7 +36,7 @@ pub(crate) fn goes_up<H: Clock>(rt: &H, flag: &AtomicBool) -> bool {
     false
 }
 
-/// What sessions that have all ended came to.
+/// The result of sessions that have all ended.
 #[derive(Clone, Copy, Debug, PartialEq, Eq)]
 pub(crate) struct Came {
     /// How many commands are accepted in all.
@@ -45,14 +45,14 @@ pub(crate) struct Came {
     pub(crate) has_failed: bool,
 }
 
-/// What serving came to, and its output.
+/// The result of serving, and its output.
 #[derive(Drop)]
 pub(crate) struct Ended<W: Drop> {
     pub(crate) served: Result<Came, Refusal>,
     pub(crate) output: W,
 }
 
-/// What it comes to where so many commands are accepted in all, and no call of the device has failed.
+/// The result if so many commands are accepted in all, and no call of the device has failed.
 pub(crate) fn well(count: u32) -> Result<Came, Refusal> {
     Ok(Came {
         count,
@@ -69,7 +69,7 @@ pub(crate) struct Serving<W: Drop> {
 }
 
 impl<W: Drop> Serving<W> {
-    /// What it came to, once all sessions have ended. Fails where they haven't after the most tries.
+    /// The result, once all sessions have ended. Fails if they haven't after the most tries.
     pub(crate) fn ended<H: Threads + Clock>(self, rt: &H) -> Result<Ended<W>, Fail> {
         let Serving {
             thread,
@@ -84,7 +84,7 @@ impl<W: Drop> Serving<W> {
     }
 }
 
-/// Serves so many sessions with what was opened, at a port that nobody else has.
+/// Serves so many sessions with an opened device, at a port that nobody else has.
 fn serve_over<
     H: Net<Listener = TcpListener, Stream = TcpStream>
         + Threads
@@ -145,7 +145,8 @@ pub(crate) fn serve_new_device<
     serve_over(rt, alloc, new_opened(alloc, shape)?, sessions, output)
 }
 
-/// Serves two sessions with a new device in memory of which one call fails: so many after it was opened, from 1.
+/// Serves two sessions with a new device in memory with one call that fails: the one of this number after the opening,
+/// counted from 1.
 pub(crate) fn serve_faulty_device<
     H: Net<Listener = TcpListener, Stream = TcpStream>
         + Threads

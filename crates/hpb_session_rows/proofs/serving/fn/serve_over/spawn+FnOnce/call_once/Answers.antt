@@ -1,6 +1,6 @@
 use Rattle.hpb_session_rows.proofs.serving.fn.serve_over.spawn+FnOnce.call_once.Goals as goal
 
--- what the thread's closure asks stands among what the thread is started with
+-- the requirements of the thread's closure are among the facts with which the thread is started
 pub spawn-requires : goal.spawn-requires
 spawn-requires g c =
     let asked = c.requires.1.1.1 in
