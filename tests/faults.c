@@ -1,11 +1,11 @@
 /* Loaded before a program of Python (LD_PRELOAD): one call to the system fails, or hangs.
  *
- *   FAULT_IN      the module whose process it is for, as "hpb.commands.front" or "hpb.front.viewers"
- *   FAULT_FROM    the path of a file: calls are counted from the first time on that it is opened; empty: from the start
- *   FAULT         call:number:error, as read:17:5, and :times where more than one fails, from that one on; with the error 0
- *                 the call never returns. Without it calls are only counted
- *   FAULT_COUNTS  a file of 64-bit numbers, to be made beforehand: how often each call was made, in the order of
- *                 CALLS and REQUESTS; behind them, how often one failed
+ *   FAULT_IN      The module of the process, as "hpb.commands.front" or "hpb.front.viewers", or the name of a program.
+ *   FAULT_FROM    The path of a file. Calls are counted from its first opening on, and from the start if this is empty.
+ *   FAULT         A call:number:error, as read:17:5. With :times more than one call fails, from that one on. With the error 0
+ *                 the call never returns. Without FAULT calls are only counted.
+ *   FAULT_COUNTS  A file of 64-bit numbers, made beforehand. It gets how often each call was made, in the order of CALLS and
+ *                 REQUESTS. The last number is how often one failed.
  *
  * All arguments of these calls are whole numbers and pointers, which the calling convention of x86-64 hands over alike.
  */

@@ -1,8 +1,8 @@
 /* Loaded before a program (LD_PRELOAD): a file is replaced by another one while the program opens it.
  *
- *   SWAPPED   the path of the file
- *   SWAPPED_BY   the path of the other one, on the same file system
- *   SWAP_AT   the number, from 1, of the call before which that happens, of those that name the file
+ *   SWAPPED      the path of the file.
+ *   SWAPPED_BY   The path of the other one, on the same file system.
+ *   SWAP_AT      A number from 1 on, among the calls that name the file. The swap comes before that call.
  */
 #define _GNU_SOURCE
 #include <dlfcn.h>

@@ -94,5 +94,40 @@ def test_a_page_above_its_bound_is_refused(tmp_path: Path) -> None:
     assert run(good, bad) == (told, 1)
 
 
-def test_the_pages_that_have_a_bound_keep_it() -> None:
+@pytest.mark.parametrize(
+    ("name", "source", "places"),
+    [
+        ("a.rt", "//! What is here.\n\n/// All is\n/// told. It is\n/// told.\nfn f() {}", ["1: what is", "3: is told", "4: is told"]),
+        ("a.rt", "fn f() {\n    // Where it is.\n    g(); // what is done\n}", ["2: where", "3: what is"]),
+        ("a.rt", 'const A: &[u8] = b"// where \\" // where"; // is told\nconst B: u8 = b\'"\'; // where', ["1: is told", "2: where"]),
+        ("a.rt", 'const A: &str = r#"a " // where"#;\nfn f<\'a>(x: &\'a str) {} // where\'s', ["2: where"]),
+        ("a.rt", "/// It is\nenum A {\n    B, // told\n    C, // told\n}", []),
+        ("a.rt", "/// Some code:\n///\n///     where\n///\n/// - where\n", ["5: where"]),
+        ("a.antt", "-- Where it is.\nf : ℕ -- what is it\nwhere\n", ["1: where", "2: what is"]),
+        ("a.antt", 'f = codes "-- where" ++ ◌--where -- is told\n-- ---- where\n', ["1: is told", "2: where"]),
+        ("a.antt", "-- It ends.\n--\n-- It is\n-- told.\n", ["3: is told"]),
+        ("a.edit", "old: where\nnew: where\n-- wrong body: is told\n-- refused at: a::where: b (what is (so))\n", ["3: is told", "4: what is"]),
+        ("a.c", '/* It\n * is told. */\nchar *a = "// where /*"; // where\n', ["1: is told", "3: where"]),
+        ("a.py", '"""It says\nwhere.\n\n    where\n"""\na = "where"  # what is\n# told\n', ["1: where", "6: what is"]),
+        ("a.py", 'def f() -> None:\n    """Plain.\n\n    It is told.\n\n        where\n    """\n    # It is\n    # told.\n', ["4: is told", "8: is told"]),
+        ("a", '#!/usr/bin/env python3\n"""Where."""\n', ["2: where"]),
+    ],
+)
+def test_the_comments_of_a_source_are_read(tmp_path: Path, name: str, source: str, places: list[str]) -> None:
+    path = tmp_path / name
+    path.write_text(source, encoding="utf-8")
+    lines = run(path)[0].splitlines()
+    assert [":".join(line.removeprefix(f"{path}:").split(":")[:2]) for line in lines[:-1]] == places
+
+
+def test_a_folder_has_the_sources_below_it(tmp_path: Path) -> None:
+    texts = {"src/a.rt": "// where", "out/a.rt": "// where", "a.md": "where", "run": "#!/bin/bash\n# where", "b/c.py": "# told\n# where"}
+    for name, text in texts.items():
+        (tmp_path / name).parent.mkdir(exist_ok=True)
+        (tmp_path / name).write_text(text, encoding="utf-8")
+    told = [f"{tmp_path}/b/c.py:1: where: told where", f"{tmp_path}/src/a.rt:1: where: where"]
+    assert run(tmp_path)[0].splitlines() == [*told, f"{tmp_path}: 2 places to be said more plainly, and 0 are allowed"]
+
+
+def test_the_pages_and_folders_that_have_a_bound_keep_it() -> None:
     assert run() == ("", 0)

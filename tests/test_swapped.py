@@ -11,7 +11,7 @@ from harness.programs import Program
 from harness.serving import NotServing, Serve
 
 SOURCE = Path(__file__).with_name("swap.c")
-# Calls that name a file: to look at streams, to open it, to compare what was opened, to watch it; one more is never reached.
+# The calls that name the file look at streams, open the file, watch it and compare both. They are fewer than the most.
 LEAST_CALLS, MOST_CALLS = 3, 20
 BID = "BID x 1 a 100"
 
@@ -29,7 +29,7 @@ def test_what_is_accepted_is_in_the_file_or_it_is_said_that_it_is_not(
         try:
             server = serve(file, conditions=conditions)
         except NotServing as reason:
-            # What was opened isn't what stands there now.
+            # The path leads to another file now than the one that was opened.
             assert (reason.ran.output, other.exists()) == ("ERR 91 device", False), reason.ran
             assert reason.ran.errors.startswith("hpb: 91 device: "), reason.ran
             assert program.count(file) == 0

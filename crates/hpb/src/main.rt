@@ -34,7 +34,7 @@ fn main(rt: HostRuntime) -> ExitCode {
     ExitCode::from(status)
 }
 
-/// The words that the program was started by, once its stack has its room.
+/// The words with which the program was started. The stack gets its room first.
 fn words(rt: &HostRuntime) -> io::Result<Vec<String>> {
     hold_stack(rt.alloc())?;
     Ok(std::env::args(rt)?.collect(rt.alloc())?)

@@ -7,12 +7,13 @@ use hpb_rules::{BidderId, Command, Commands, NodeId, Reply};
 use hpb_tree::{BidderDraft, Definition, Draft, NodeDraft, TermsDraft};
 use std::alloc::Global;
 
-/// What bids are multiples of, and what a licence opens at.
+/// The unit of bids, and the opening of a licence.
 const STEP: u64 = 10;
 
 const OPENING: u64 = 100;
 
-/// A full binary tree of so many nodes, the last half of them licences, and so many bidders, who may each bid on all.
+/// A full binary tree of this many nodes, the last half of them licences, with this many bidders. Each bidder may bid
+/// on all nodes.
 pub(crate) fn full_tree(alloc: Global, nodes: u64, bidders: u64) -> Result<Definition> {
     let packages = nodes / 2;
     let mut draft = Draft {
@@ -50,17 +51,17 @@ pub(crate) fn full_tree(alloc: Global, nodes: u64, bidders: u64) -> Result<Defin
     Ok(Definition::check(alloc, &draft)?)
 }
 
-/// An auction that has taken in no command.
+/// An auction that has accepted no command.
 pub(crate) fn new_auction(alloc: Global, definition: &Definition) -> Result<Auction> {
     Ok(Auction::new(alloc, definition)?)
 }
 
-/// How many commands an auction has taken in.
+/// How many commands an auction has accepted.
 pub(crate) fn count_of(auction: &Auction) -> u64 {
     u64::from(auction.count())
 }
 
-/// The next bid of a bidder on a node, so many steps above its minimum. Both are counted round and round.
+/// The next bid of a bidder on a node, so many steps above its minimum. Places of bidders and nodes wrap around.
 pub(crate) fn next_bid(auction: &Auction, bidder: usize, node: usize, steps: u8) -> Command {
     let definition = auction.definition();
     let bidder = BidderId::new(bidder % definition.bidder_count());
@@ -75,14 +76,14 @@ pub(crate) fn next_bid(auction: &Auction, bidder: usize, node: usize, steps: u8)
     }
 }
 
-/// The next close. All commands of the auctioneer were closes.
+/// The next close. All commands of the auctioneer so far were closes.
 pub(crate) fn next_close(auction: &Auction) -> Command {
     Command::Close {
         ticket: auction.round(),
     }
 }
 
-/// Puts a command behind others, where the auction newly accepts it.
+/// Appends a command, if the auction newly accepts it.
 pub(crate) fn take(auction: &mut Auction, command: Command, taken: &mut Commands) {
     let number = auction.count() + 1;
     if auction.apply(&command) == Reply::Ok(number) {
@@ -90,7 +91,7 @@ pub(crate) fn take(auction: &mut Auction, command: Command, taken: &mut Commands
     }
 }
 
-/// Some commands that the auction accepts newly: none only where it is over.
+/// Some commands that the auction newly accepts; none only if it is over.
 pub(crate) fn play(auction: &mut Auction, dice: &mut Dice) -> Commands {
     let mut taken = Commands::new();
     for _ in 0..1 + dice.below(6) {

@@ -15,15 +15,15 @@ pub(crate) const OPEN: u8 = 0xa5;
 /// The first page of the journal.
 pub(crate) const JOURNAL: usize = 13;
 
-/// Where the body of a frame begins in its page, with the index of its batch.
+/// The first byte of a frame's body in its page, which begins with the index of the frame's batch.
 pub(crate) const BODY: usize = 16;
 
-/// Where the slots begin. The body of each begins a page later.
+/// The first bytes of the slots. The body of each begins a page later.
 const FIRST_SLOT: usize = 12_288;
 
 const SECOND_SLOT: usize = 32_768;
 
-/// Puts bytes at an offset. What doesn't fit is left out.
+/// Puts bytes at an offset. Bytes that don't fit are left out.
 pub(crate) fn put(bytes: &mut [u8], at: usize, part: &[u8]) {
     if at <= bytes.len() && part.len() <= bytes.len() - at {
         bytes[at..at + part.len()].copy_from_slice(part);
@@ -47,7 +47,7 @@ pub(crate) fn new_device(alloc: Global, definition: &Definition, frames: u16) ->
     }
 }
 
-/// Puts a batch into a frame, whose gate is open then.
+/// Puts a batch into a frame, and opens its gate.
 pub(crate) fn put_batch(
     alloc: Global,
     bytes: &mut [u8],
@@ -74,7 +74,7 @@ pub(crate) fn close_frames(bytes: &mut [u8], frames: u16) {
     }
 }
 
-/// Puts the state of an auction that covers so many batches into a slot, whose gate is open then.
+/// Puts the state of an auction into a slot, as one that covers so many batches, and opens its gate.
 pub(crate) fn put_state(
     alloc: Global,
     bytes: &mut [u8],

@@ -1,4 +1,4 @@
-//! Numbers as from dice, the same for a seed each time.
+//! Numbers that look random, the same for a seed each time.
 ghost use Rattle.std.specs.Prelude.{◌<◌};
 
 /// The xorshift generator of 64 bits.
@@ -8,7 +8,7 @@ pub(crate) struct Dice {
 }
 
 impl Dice {
-    /// Dice of a seed. With seed 0 all numbers would be 0, so it counts as 1.
+    /// Dice with a seed. Seed 0 would give 0 each time, so it counts as 1.
     pub(crate) fn new(seed: u64) -> Dice {
         Dice { state: seed.max(1) }
     }

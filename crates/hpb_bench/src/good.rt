@@ -9,7 +9,7 @@ use hpb_codec::Batch;
 use hpb_tree::Definition;
 use std::alloc::Global;
 
-/// How many devices there are of each kind: that many auctions, under one definition and with one number of frames.
+/// How many devices there are of each kind: as many auctions, with one definition and one number of frames.
 pub(crate) const OF_A_KIND: usize = 8;
 
 /// The kinds: how many nodes, bidders and frames.
@@ -68,7 +68,7 @@ impl Writer {
     }
 }
 
-/// A device with as many batches as an auction has, up to some number, and a checkpoint now and then.
+/// A device with all batches of an auction, up to some number, and a checkpoint now and then.
 fn good_device(
     alloc: Global,
     dice: &mut Dice,

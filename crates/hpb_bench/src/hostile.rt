@@ -1,4 +1,4 @@
-//! Devices that nobody wrote.
+//! Devices that no program wrote.
 
 use crate::bytes::{BODY, JOURNAL, OPEN, put};
 use crate::dice::Dice;
@@ -6,7 +6,7 @@ use crate::good::OF_A_KIND;
 use hpb_codec::PAGE_BYTES;
 use std::alloc::{AllocError, Global};
 
-/// How a device is made.
+/// The ways to make a device.
 #[derive(Clone, Copy)]
 pub(crate) enum Making {
     /// From some page on its bytes are random.
@@ -17,7 +17,7 @@ pub(crate) enum Making {
     Spliced,
 }
 
-/// A device that is made of good ones.
+/// A device that is made from good ones.
 pub(crate) fn hostile_device(
     alloc: Global,
     dice: &mut Dice,
@@ -53,8 +53,8 @@ fn another(dice: &mut Dice, place: usize, count: usize) -> usize {
     }
 }
 
-/// The bytes from some page on are random. Of each such page the gate may be open, and a frame may have its own index.
-/// A few devices are shortened, or made longer by less than a page.
+/// Makes the bytes from some page on random. Each such page may have an open gate, and a frame its own index. A few
+/// devices are cut, or made longer by less than a page.
 fn fill_from_a_page(bytes: &mut Vec<u8>, dice: &mut Dice) -> Result<(), AllocError> {
     match dice.below(16) {
         0 => bytes.truncate(dice.below(bytes.len() + 1)),
@@ -75,7 +75,7 @@ fn fill_from_a_page(bytes: &mut Vec<u8>, dice: &mut Dice) -> Result<(), AllocErr
     Ok(())
 }
 
-/// One to eight bytes are changed, most of them near the beginning of a page.
+/// Changes one to eight bytes, most of them near the beginning of a page.
 fn flip_some(bytes: &mut [u8], dice: &mut Dice) {
     for _ in 0..1 + dice.below(8) {
         let page = dice.below(bytes.len() / PAGE_BYTES + 1);
@@ -92,7 +92,7 @@ fn flip_some(bytes: &mut [u8], dice: &mut Dice) {
     }
 }
 
-/// Some pages become those of the other device, a few of them from another place.
+/// Takes some pages from the other device, a few of them from another place.
 fn splice(bytes: &mut [u8], other: &[u8], dice: &mut Dice) {
     let pages = other.len() / PAGE_BYTES + 1;
     for (page, part) in bytes.chunks_mut(PAGE_BYTES).enumerate() {

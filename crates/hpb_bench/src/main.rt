@@ -1,6 +1,7 @@
-//! Does what is timed, and what has to hold however often: calls that take no memory, of bodies, auctions and lists
-//! (`bench/codec`; that they take none `examples/take-no-memory` sees); and openings, of devices that nobody wrote, or of
-//! the largest device (`bench/open`).
+//! The calls that are timed, and those whose results must hold however often they are made.
+//!
+//! `bench/codec` times calls that take no memory, of bodies, auctions and lists; `examples/take-no-memory` checks that
+//! they take none. `bench/open` times openings, of devices that no program wrote, or of the largest device.
 #![tactic(auto)]
 
 mod auctions;
@@ -36,7 +37,7 @@ fn main(rt: HostRuntime) -> ExitCode {
     }
 }
 
-/// Does what the words say.
+/// Does the job that the words name.
 fn run(rt: &HostRuntime) -> Result<()> {
     let alloc = rt.alloc();
     let words: Vec<String> = std::env::args(rt)?.collect(alloc)?;
@@ -74,7 +75,7 @@ fn sum_of(alloc: Global, call: &str, rounds: u64) -> Result<u64> {
     }
 }
 
-/// Opens so many hostile devices, and prints how many had each answer.
+/// Opens so many hostile devices, and prints how many had each result.
 fn print_trial(rt: &HostRuntime, count: u64, seed: u64) -> Result<()> {
     let trial = try_devices(rt.alloc(), count, seed)?;
     println!(rt; "random: {}", trial.random)?;
@@ -83,7 +84,7 @@ fn print_trial(rt: &HostRuntime, count: u64, seed: u64) -> Result<()> {
     Ok(())
 }
 
-/// Opens so many hostile devices. Each answer has to be given to some of each making.
+/// Opens so many hostile devices. Some devices of each making must have each result.
 fn check_trial(rt: &HostRuntime, count: u64, seed: u64) -> Result<()> {
     if !try_devices(rt.alloc(), count, seed)?.has_all() {
         bail!("an answer was never given");

@@ -4,7 +4,7 @@ use hpb_disk::MemoryDisk;
 use hpb_recover::{Cause, open};
 use std::alloc::Global;
 
-/// Opens a device: how many commands its auction has taken in, or why it isn't opened. The device is handed back.
+/// Opens a device. Gives how many commands its auction has accepted, or why it isn't opened, and hands the device back.
 pub(crate) fn opened(alloc: Global, disk: MemoryDisk) -> (MemoryDisk, Result<u32, Cause>) {
     match open(alloc, disk) {
         Ok(opened) => {

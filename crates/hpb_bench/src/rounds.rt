@@ -1,4 +1,4 @@
-//! So many rounds of one call. Each answers a sum of what it wrote or read, so that no call can be left out.
+//! Rounds of one call. Each gives a sum of the bytes that it wrote or read, so that no call can be left out.
 
 use crate::bodies::{batch, definition, saved};
 use anyhow::Result;
@@ -124,7 +124,7 @@ pub(crate) fn restores(alloc: Global, rounds: u64) -> Result<u64> {
     Ok(sum)
 }
 
-/// Copies an auction into its copy, which was closed before; at most once.
+/// Copies an auction into its copy, in which a round was closed before; at most once.
 pub(crate) fn copies(alloc: Global, rounds: u64) -> Result<u64> {
     let auction = Auction::new(alloc, &definition(alloc)?)?;
     let mut copy = auction.copy(alloc)?;
@@ -150,7 +150,7 @@ fn answer() -> Answer {
     }
 }
 
-/// A list of letters that is full, and one of answers: how long they are.
+/// A full list of letters, and one of answers: how long they are.
 fn full_lists() -> usize {
     let mut letters = Letters::new();
     let mut answers = Answers::new();

@@ -1,4 +1,4 @@
-//! How often each answer was given.
+//! How often each result came.
 
 use hpb_recover::Flaw;
 use std::fmt;
@@ -36,7 +36,7 @@ impl Tally {
         *counter = counter.wrapping_add(1);
     }
 
-    /// Whether each answer was given.
+    /// Whether each result came.
     pub(crate) fn has_all(&self) -> bool {
         self.opened > 0
             && self.unformatted > 0

@@ -11,7 +11,7 @@ use hpb_disk::MemoryDisk;
 use hpb_recover::{Cause, Flaw};
 use std::alloc::Global;
 
-/// Opens a device, which has to be handed back with the bytes that it had: its flaw, if it has one.
+/// Opens a device, which must be handed back with the same bytes. Gives its flaw, if it has one.
 fn flaw_of(alloc: Global, bytes: &[u8]) -> Result<Option<Flaw>> {
     let disk = MemoryDisk::of(alloc, bytes.to_vec(alloc)?)?;
     let (mut disk, found) = opened(alloc, disk);
@@ -25,7 +25,7 @@ fn flaw_of(alloc: Global, bytes: &[u8]) -> Result<Option<Flaw>> {
     }
 }
 
-/// What was answered, by how the devices were made.
+/// The results, by how the devices were made.
 #[derive(Drop)]
 pub(crate) struct Trial {
     pub(crate) random: Tally,
@@ -50,7 +50,7 @@ impl Trial {
         }
     }
 
-    /// Whether each answer was given to devices of each making.
+    /// Whether devices of each making had each result.
     pub(crate) fn has_all(&self) -> bool {
         self.random.has_all() && self.flipped.has_all() && self.spliced.has_all()
     }

@@ -1,4 +1,4 @@
--- What a turn and a step ask for, by how many were made.
+-- The calls that a turn and a step make, by how many were made before.
 use Rattle.std.proofs.Common.{◌≡◌, ℕ, ◌-◌, ◌<◌, ◌≤◌, Bool, true, false, [], ◌∷◌, if◌then◌else◌, ◌∙◌, ap, arith}
 use Rattle.std.proofs.lemmas.Bool.Decides.{nat_tests}
 use Rattle.hpb_journal.specs.Places.{closes_frame}

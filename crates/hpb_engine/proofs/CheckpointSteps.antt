@@ -1,4 +1,4 @@
--- What stays so through the steps of a checkpoint.
+-- The facts that hold through the steps of a checkpoint.
 use Rattle.std.proofs.Common.{◌≡◌, ◌≢◌, inl, inr, ℕ, suc, ◌+◌, ◌-◌, ◌%◌, ◌<◌, ◌≤◌, nat_le, Bool, true, false, ◌||◌, List, length, take, drop, refl, sym, ◌∙◌, ap, subst, arith, length-append, length-drop}
 use Rattle.std.proofs.lemmas.Bool.{cases_lt, cases_eq, false_from_ne_true}
 use Rattle.std.proofs.lemmas.Bool.Decides.{nat_tests}
@@ -39,7 +39,7 @@ other_back : (slot : Slot) → other_of (other_of slot) ≡ slot
 other_back First = refl
 other_back Second = refl
 
--- A test of numbers that is false.
+-- A comparison of numbers that comes out false.
 not_less : (a b : ℕ) → nat_le b a ≡ false → a < b
 not_less a b off = grind (arith, nat_tests)
 
@@ -141,7 +141,7 @@ module _ (laws : Laws) (s : Progress) (k : Cut) (fits : Fits s k) where
   }) (λ on. absurd (cc)) (λ _. subst (IsSnapshot k.rules other.checkpoint.body.items s.window.next) (sym (upto_all k (s.window.next - s.window.covered) (omega (arith, fits.next)))) snapshot)
 
   module _ (steps : s.checkpoint.steps ≡ 0) where
-    -- The gate of the other slot is closed where it may be open.
+    -- The gate of the other slot may be open, and is closed.
     module _ (was : s.checkpoint.other_open ≡ true) (other : Progress) (old new : List ℕ) (facts : Facts s k old) where
       pub snapped_torn : ChangesGate (other_of s.checkpoint.newest) old new → Facts (snapped s other) k new
       snapped_torn changes = record {
@@ -168,7 +168,7 @@ module _ (laws : Laws) (s : Progress) (k : Cut) (fits : Fits s k) where
         retirement = retirement_stays old new changes.behind reads.retirement;
       }
 
-    -- It stands closed already.
+    -- The gate is closed already.
     module _ (off : s.checkpoint.other_open ≡ false) (other : Progress) (image : List ℕ) (facts : Facts s k image) where
       pub snapped_none : Facts (snapped s other) k image
       snapped_none = record {
@@ -232,7 +232,7 @@ module _ (laws : Laws) (s : Progress) (k : Cut) (fits : Fits s k) where
         retirement = reads.retirement;
       }
 
-  -- After the second step there are so many.
+  -- The checkpoint has made so many steps, and more than one.
   stepped_fits : (steps : ℕ) → 2 ≤ s.checkpoint.steps → steps ≤ 8 → Fits (stepped s steps) k
   stepped_fits steps from most = goes_on (stepped s steps).checkpoint (record {
     steps = most;
@@ -340,9 +340,9 @@ module _ (laws : Laws) (s : Progress) (k : Cut) (fits : Fits s k) where
         retirement = retirement_stays old new changes.behind reads.retirement;
       }
 
-  -- The steps to the newest state: where the gate of the other slot is open, it is that.
+  -- The last step to the newest state: the gate of the other slot is open.
   module _ (steps : s.checkpoint.steps ≡ 8) where
-    -- So many batches more are covered.
+    -- How many more batches are covered.
     abbrev more : ℕ
     more = s.checkpoint.covers - s.window.covered
 
@@ -424,7 +424,7 @@ module _ (laws : Laws) (s : Progress) (k : Cut) (fits : Fits s k) where
           let one : b ≡ b - count = sym has ∙ ap (layout_of s.window).index body ∙ own.1 in
           omega (arith, one, far, fits.safe.window.least)
 
-      -- The frame of a batch so far on had another batch since the device was opened, so its gate may be open.
+      -- The frame of such a later batch held another batch since the device was opened, so its gate may be open.
       may_be : (b : ℕ) → end_of s.window ≤ b → may_be_open s.window b ≡ false → ⊥
       may_be b far off = omega (arith, far, fits.safe.window.opened, not_less b (s.window.opened_at + (count_of s.window)) (left _ _ off))
         where

@@ -1,4 +1,4 @@
--- What holds of a progress and of the images through the steps of a commit.
+-- The facts about a progress and about the images, through the turns of a commit.
 use Rattle.std.proofs.Common.{◌≡◌, ◌≢◌, inl, inr, ℕ, suc, ◌+◌, ◌-◌, ◌<◌, ◌≤◌, List, [], ◌∷◌, ◌++◌, length, true, false, refl, sym, ◌∙◌, ap, subst, arith, length-append}
 use Rattle.std.proofs.lemmas.Bool.{cases_lt, cases_eq}
 use Rattle.hpb_rules.specs.declared.command.Command.{Command}
@@ -59,7 +59,7 @@ module _ (laws : Laws) (s : Progress) (k : Cut) (fits : Fits s k) where
         | inr after ↦ (journal.near s.window.next b (omega (arith, after, other)) (omega (arith, below, safe.window.covered))).0
       ]
 
-  -- Where the other frames stay, what is so of them stays, too.
+  -- If the other frames stay, the facts about them stay, too.
   module _ (busy : s.commit.busy ≡ true) (old new : List ℕ) (same : (b : ℕ) → s.window.covered ≤ b → b < end_of s.window → b ≢ s.window.next → SameFrame (layout_of s.window) b old new) where
     journal_stays : (turns : ℕ) → InJournal k.rules s.window s.commit k old → (turns < 3 → IsClosed (layout_of s.window) s.window.next new)
         → (2 ≤ turns → Says (layout_of s.window) k.rules s.commit.batch new) → InJournal k.rules s.window (turned s turns).commit k new
@@ -141,7 +141,7 @@ module _ (laws : Laws) (s : Progress) (k : Cut) (fits : Fits s k) where
   says_still : (old new : List ℕ) → ChangesGate (layout_of s.window) s.window.next old new → Says (layout_of s.window) k.rules s.commit.batch old → Says (layout_of s.window) k.rules s.commit.batch new
   says_still old new changes says = subst (λ (bytes : List ℕ). (layout_of s.window).spells k.rules bytes s.commit.batch) (sym (changes.bodies s.commit.batch.index)) says
 
-  -- The gate is written: the batch is whole, so open or closed is all one.
+  -- The gate is written: the batch is whole, so it doesn't matter whether the gate is open or closed.
   pub gate_torn : s.commit.busy ≡ true → s.commit.turns ≡ 2 → (old new : List ℕ) → Facts s k old → ChangesGate (layout_of s.window) s.window.next old new → Facts (turned s 3) k new
   gate_torn busy turns old new facts changes =
       let same : (b : ℕ) → s.window.covered ≤ b → b < end_of s.window → b ≢ s.window.next → SameFrame (layout_of s.window) b old new =
@@ -166,7 +166,7 @@ module _ (laws : Laws) (s : Progress) (k : Cut) (fits : Fits s k) where
         };
       }
 
-  -- After the new batch there are as many commands as batches, at least.
+  -- After the new batch there still are at least as many commands as batches.
   still_enough : s.commit.busy ≡ true → (count : ℕ) → count ≤ length (landed k s.commit.batch.commands).batches
       → s.window.covered + count ≤ length (upto (landed k s.commit.batch.commands) count)
   still_enough busy count le =
@@ -229,7 +229,7 @@ module _ (laws : Laws) (s : Progress) (k : Cut) (fits : Fits s k) where
             subst (IsSnapshot k.rules s.checkpoint.body.items s.checkpoint.covers) (sym (upto_landed k commands (s.checkpoint.covers - s.window.covered) covered)) (fits.snapshot late);
       }
 
-  -- Where the gate is open the batch counts.
+  -- If the gate is open, the batch counts.
   pub gate_opened : s.commit.busy ≡ true → s.commit.turns ≡ 3 → (image : List ℕ) → Facts s k image → IsOpen (layout_of s.window) s.window.next image
       → Facts (acknowledged s) (landed k s.commit.batch.commands) image
   gate_opened busy turns image facts is_open =

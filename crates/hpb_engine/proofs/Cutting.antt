@@ -1,4 +1,4 @@
--- The acknowledged commands, cut into batches: with one batch more, and with a checkpoint that covers the first of them too.
+-- The acknowledged commands, cut into batches: with one more batch, and with a checkpoint that covers more of them.
 use Rattle.std.proofs.Common.{◌≡◌, ℕ, zero, suc, ◌+◌, ◌≤◌, List, [], ◌∷◌, ◌++◌, length, take, drop, refl, sym, ◌∙◌, ap, arith, append_assoc}
 use Rattle.std.proofs.lemmas.List.{append-nil, take_all, take-append-le}
 use Rattle.hpb_rules.specs.declared.command.Command.{Command}
@@ -45,7 +45,7 @@ joined_takes (suc n) m (commands ∷ batches) =
     ∙ ap (λ (l : List Command). commands ++ l) (joined_takes n m batches)
     ∙ ap (λ (i : ℕ). joined (take i (commands ∷ batches))) (sym e)
 
--- So many batches more are as many more of the whole.
+-- So many more batches are as many more of the whole.
 pub upto_shortened : (k : Cut) (n m : ℕ) → upto (shortened k n) m ≡ upto k (n + m)
 upto_shortened k n m =
     append_assoc k.before (joined (take n k.batches)) (joined (take m (drop n k.batches)))

@@ -1,4 +1,4 @@
--- One call of the device, and what is kept after it.
+-- One call of the device, and the facts that are kept after it.
 use Rattle.std.proofs.Common.{◌≡◌, inl, inr, ⊎_elim, ℕ, ◌+◌, List, [], ◌∷◌, ◌++◌, Bool, true, false, Result, Ok, Err, refl, sym, ◌∙◌, ap, subst, arith}
 use Rattle.std.specs.Prelude.{IsErrAnd, IsOk, MatchResult, OnOk, ⊤}
 use Rattle.hpb_rules.specs.declared.command.Command.{Command}
@@ -16,7 +16,7 @@ use Rattle.hpb_engine.specs.declared.step.Fault.TheVariants as faults
 use Rattle.hpb_engine.proofs.Machines.{leaves_same}
 use Rattle.hpb_engine.proofs.Standing.{may_stand}
 
--- How one call is told: where it fails, the engine has failed.
+-- How the outcome of one call is reported: if the call fails, the engine has failed.
 abbrev pub Tells : {T E : Type 0} → Result T E → Result ⊤ Fault → Bool → Type 0
 Tells done result after = MatchResult done (λ _. IsOk result × (after ≡ false)) (λ _. (result ≡ Err faults.Device) × (after ≡ true))
 
@@ -28,7 +28,7 @@ pub told_off : {T E : Type 0} {after : Bool} (fault : Fault) (done : Result T E)
 told_off fault (Ok x) told = absurd (cc told.0)
 told_off fault (Err e) told = told.1
 
--- One call, by how it is told.
+-- One call, by how its outcome is reported.
 on_device : {D E : Type 0} {moment : D → ℕ} {failures : D → ℕ} {trace : D → List Asked} {old new : D} {failed after : Bool} {count : ℕ} {call asks : List Asked}
     (done : Result ⊤ E) (result : Result ⊤ Fault) → Tells done result after → CountsFailure done (failures old) (failures new) → Asks done call (trace old) (trace new)
     → moment new ≡ moment old + 1 → (count ≡ 1) × (asks ≡ call) → OnDevice moment failures trace old new failed after (outcome_of result) count asks
@@ -53,7 +53,7 @@ on_device {moment = moment} {trace = trace} {old = old} {new = new} (Err e) (Err
 on_device (Ok x) (Err fault) told cause asked next one = absurd (cc told.0)
 on_device (Err e) (Ok y) told cause asked next one = absurd (cc told.0)
 
--- Whatever it tells.
+-- The same, whatever the step's value is.
 pub device_of : {D T : Type 0} {moment : D → ℕ} {failures : D → ℕ} {trace : D → List Asked} {old new : D} {failed after : Bool} {count : ℕ} {call : List Asked} (result : Result T Fault)
     → OnDevice moment failures trace old new failed after (outcome_of result) count call → OnDevice moment failures trace old new failed after result count call
 device_of (Ok told) is = record { calls = is.calls; asked = is.asked; cause = λ no. absurd (cc); counted = is.counted; stays = λ no. absurd (cc); works = is.works; fails = tt }
@@ -156,7 +156,7 @@ module _ (laws : Laws) {D : Type 0} {seen : D → List ℕ} {may_leave : D → L
       device = on_device done result told cause asked time.next one;
     }
 
-    -- One that fails may leave the progress as it was, where that is so of the images too.
+    -- A write that fails may leave the progress as it was, if the facts about the images hold of that too.
     pub forgotten : after ≡ true → ((k : Cut) (image : List ℕ) → Fits s k → Facts t k image → Facts s k image)
         → Called seen may_leave moment left_since failures trace old new s s failed after (outcome_of result) (λ history. history) count asks
     forgotten off back =
@@ -168,7 +168,8 @@ module _ (laws : Laws) {D : Type 0} {seen : D → List ℕ} {may_leave : D → L
           device = on_device done result told cause asked time.next one;
         }
 
-  -- A sync that works: the progress is t, the commands are those that follow, cut anew, and what was read is all that is left.
+  -- A sync that works: the progress is t, and the commands are those that follow, cut anew. The bytes that were read
+  -- are all that a crash may leave.
   module _ {new : D} {after : Bool} (one : (count ≡ 1) × (asks ≡ syncs ∷ [])) where
     pub synced : {t : Progress} {later : List Command → List Command} → Synced seen may_leave moment left_since failures trace old new after (Ok tt) → may_leave old (seen old) → failed ≡ false
         → (recut : Cut → Cut) → ((k : Cut) → later (all k) ≡ all (recut k)) → ((k : Cut) → Fits s k → Fits t (recut k))

@@ -1,4 +1,4 @@
--- What a stop of a run left is found.
+-- An image that a stop of a run left is found.
 use Rattle.std.proofs.Common.{ℕ, List, Option}
 use Rattle.hpb_rules.specs.declared.letter.Answer.{Answer}
 use Rattle.hpb_rules.specs.declared.command.Command.{Command}
@@ -7,7 +7,7 @@ use Rattle.hpb_engine.specs.declared.event.Event.{Event}
 use Rattle.hpb_engine.specs.declared.step.Fault.{Fault}
 use Rattle.hpb_engine.specs.Points.{start_at, Finds, IsLeft, Point, Survives}
 
--- what was left since a point of a run that survives is found as it is at the point
+-- an image that was left since a point of a run that survives is found as at that point
 pub found_at : {rules : Rules} {first : List Command} {start now : ℕ} {since : ℕ → List ℕ → Type 0} {events : List Event} {answers : List Answer} {fault : Option Fault} {image : List ℕ}
     → (run : Survives rules first start now since events answers fault) (before : List Point) (point : Point) (later : List Point)
     → IsLeft (start_at start) run.points before point later since image → Finds rules first point later image

@@ -1,4 +1,4 @@
--- Numbers that change beside what is committed.
+-- Numbers that change without the committed auction.
 use Rattle.std.proofs.Common.{◌≡◌, ℕ, ◌-◌, ◌≤◌, true}
 use Rattle.hpb_engine.specs.declared.progress.Checkpoint.{Checkpoint}
 use Rattle.hpb_engine.specs.declared.progress.Commit.{Commit}
@@ -17,7 +17,7 @@ beside s clean_end commit checkpoint retirement = record s {
   retirement = retirement;
 }
 
--- It goes with the same acknowledged commands.
+-- It agrees with the same acknowledged commands.
 pub refitted : (s : Progress) (k : Cut) → Fits s k → (clean_end : ℕ) (commit : Commit) (checkpoint : Checkpoint) (retirement : Retirement)
     → IsSafe (beside s clean_end commit checkpoint retirement)
     → (commit.busy ≡ true → IsFlight k.rules s.window.next s.committed (all k) commit)

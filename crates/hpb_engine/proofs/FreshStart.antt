@@ -1,4 +1,4 @@
--- From an image that stands for a history, and what was read in it, to what is kept.
+-- From an image that stands for a history, and the bytes read in it, to an engine that keeps the history.
 use Rattle.std.proofs.Common.{◌≡◌, ◌⊎◌, ◌↔◌, ℕ, zero, suc, ◌+◌, ◌-◌, ◌<◌, ◌≤◌, nat_le, List, [], ◌∷◌, ◌++◌, length, take, slice_index_or, Bool, true, false, ◌||◌, sym, ◌∙◌, ap, subst, arith, length-append}
 use Rattle.std.proofs.lemmas.Bool.Decides.{nat_tests}
 use Rattle.hpb_rules.specs.declared.command.Command.{Command}
@@ -40,7 +40,7 @@ same_count : (s : Progress) (plan : Plan) → IsFresh s plan → count_of s.wind
 same_count s plan fresh = ap (λ (j : JournalShape). j.frames) fresh.window.frames
 
 module _ (s : Progress) (plan : Plan) (image : List ℕ) (fresh : IsFresh s plan) (is : IsPlan plan image) where
-  -- Whether the image stands for a history or not.
+  -- The numbers agree whether the image stands for a history or not.
   pub fresh_safe : IsSafe s
   fresh_safe = record {
     window = record {
@@ -103,7 +103,7 @@ module _ (layout : Layout) (journal : IsJournal layout) (rules : Rules) (image :
       omega (arith, some, counted (suc b) (first + length commands) batches kept.1 count (omega (arith, le)), length-append commands (joined (take count batches)))
 
 module _ (laws : Laws) (s : Progress) (plan : Plan) (history : List Command) (image : List ℕ) (fresh : IsFresh s plan) (is : IsPlan plan image) (stands : Stands history image) where
-  -- What is read in the image.
+  -- The findings of a read of the image.
   abbrev found : Found
   found = record { head = stands.head; slot = stands.slot; covered = stands.covered; saved = stands.saved; batches = stands.batches }
 
@@ -193,7 +193,7 @@ module _ (laws : Laws) (s : Progress) (plan : Plan) (history : List Command) (im
     whole = λ late. absurd (omega (arith, late, fresh.checkpoint.steps));
   }
 
-  -- A frame that isn't clean may be open exactly where it is.
+  -- A frame that isn't clean may be open if and only if it is.
   known : (b : ℕ) → s.window.clean_end ≤ b → b < end_of s.window → may_be_open s.window b ≡ slice_index_or plan.gates.items (b - plan.covered) false
   known b late below = left (nat_le (s.window.opened_at + count_of s.window) b) (slice_index_or s.window.gates.items (b - s.window.opened_at) false)
       (slice_index_or plan.gates.items (b - plan.covered) false) far same
@@ -242,7 +242,7 @@ module _ (laws : Laws) (s : Progress) (plan : Plan) (history : List Command) (im
     journal = fresh_journal;
   }
 
--- A device of which nothing is pending.
+-- A device on which nothing is pending.
 module _ (laws : Laws) {D : Type 0} (seen : D → List ℕ) (may_leave : D → List ℕ → Type 0) (disk : D) (s : Progress) (plan : Plan) (failed : Bool) (history : List Command)
     (durable : Only (seen disk) (may_leave disk)) (fresh : IsFresh s plan) (is : IsPlan plan (seen disk)) (stands : Stands history (seen disk)) where
   pub fresh_inside : Inside seen may_leave disk s failed history

@@ -29,7 +29,7 @@ some_of : (commands : List Command) → (commands ≡ [] → ⊥) → 0 < length
 some_of [] not = absurd (not refl)
 some_of (command ∷ commands) not = omega arith
 
--- What judging letters says of the commands that are new among them.
+-- The commands that are newly accepted when letters are judged.
 module _ (laws : Laws) (s : Progress) (free : s.commit.busy ≡ false) (rest : s.commit.working ≡ s.committed) (letters : List Letter) (new : AreOld s letters → ⊥) (room : s.window.next < s.window.clean_end)
     {answers : List Answer} {commands : List Command} {after : AuctionValue} (value : answers ≡ judged_in s.commit.working letters) (commands_are : commands ≡ new_commands answers)
     (accepted : AllAccepted s.commit.working commands) (leads : after ≡ value_after s.commit.working commands) (ruled : after.rules ≡ s.commit.working.rules)
@@ -100,14 +100,14 @@ module _ (shown : JudgedIsShown) {D : Type 0} {seen : D → List ℕ} {may_leave
       ap (λ (flight : Option Flight). take_letters s.committed.rules (at_flight machine.acknowledged flight) letters) rests
       ∙ ap (λ (given : List Answer). offered machine.acknowledged given (new_commands given)) (sym (is ∙ answers_of))
 
-  -- Where none is new it stays, and the answers leave.
+  -- If none is new, the machine stays, and the answers leave.
   pub taken_old : (answers : List Answer) → answers ≡ judged_in s.committed letters → AreOld s letters
       → take_letters s.committed.rules machine letters ≡ record { leaving = answers; machine = machine }
   taken_old answers is old =
       taken answers is ∙ ap (offered machine.acknowledged answers) (ap new_commands is ∙ old)
       ∙ ap (λ (flight : Option Flight). lets_leave answers (at_flight machine.acknowledged flight)) (sym rests)
 
-  -- Else they are in flight.
+  -- Otherwise they are in flight.
   pub taken_new : (answers : List Answer) → answers ≡ judged_in s.committed letters → (AreOld s letters → ⊥)
       → take_letters s.committed.rules machine letters ≡ record { leaving = []; machine = in_flight machine.acknowledged answers 0 }
   taken_new answers is new =

@@ -1,4 +1,4 @@
--- What is kept after a step is the machine's.
+-- The machine that is kept after a step is the machine's next state.
 use Rattle.std.proofs.Common.{◌≡◌, inl, inr, ⊎_elim, ℕ, zero, suc, ◌+◌, ◌<◌, ◌≤◌, Bool, true, false, List, ◌++◌, Option, Some, None, Result, Ok, Err, refl, sym, ◌∙◌, ap, subst, arith}
 use Rattle.hpb_rules.specs.declared.command.Command.{Command}
 use Rattle.hpb_disk.specs.Images.{LeavesOnly}
@@ -20,7 +20,7 @@ use Rattle.hpb_engine.specs.declared.step.Step.TheVariants as steps
 use Rattle.hpb_engine.specs.Checkpoints.{SameCore}
 use Rattle.hpb_engine.specs.Steps.{TurnLeads, acknowledged_by, turn_by}
 
--- What an image of one set is, one of another is too.
+-- If each image of one set is in another, the images since the start are, too.
 pub since_map : {before now : ℕ} {past since : ℕ → List ℕ → Type 0} {left : List ℕ → Type 0} (images others : List ℕ → Type 0)
     → ((image : List ℕ) → images image → others image) → LeavesOnly before now past since left images → LeavesOnly before now past since left others
 since_map images others each leaves = record {
@@ -45,7 +45,7 @@ machine_is : {D : Type 0} {seen : D → List ℕ} {may_leave : D → List ℕ �
     → machine_of s machine.acknowledged ≡ machine
 machine_is {machine = machine} keeps = ap (with_flight machine.acknowledged) (sym keeps.flight)
 
--- A step that leaves what is acknowledged and what is in flight.
+-- A step that changes neither the acknowledged commands nor the batch in flight.
 module _ {D : Type 0} {seen : D → List ℕ} {may_leave : D → List ℕ → Type 0} {old : D} {s t : Progress} {failed : Bool} {machine : Machine}
     (keeps : Keeps seen may_leave old s failed machine) (same : SameCore s t) where
   still : machine_of t machine.acknowledged ≡ machine
@@ -59,7 +59,7 @@ module _ {D : Type 0} {seen : D → List ℕ} {may_leave : D → List ℕ → Ty
   since_still leaves = since_map (StandsBetween s t machine.acknowledged) (StandsFor machine)
       (λ image stands. ⊎_elim (λ one. subst (λ (m : Machine). StandsFor m image) (machine_is keeps) one) (λ other. subst (λ (m : Machine). StandsFor m image) still other) stands) leaves
 
--- The machine by whether a batch is in flight.
+-- The machine, by whether a batch is in flight.
 pub machine_by : {busy : Bool} (s : Progress) (history : List Command) → s.commit.busy ≡ busy
     → machine_of s history ≡ with_flight history (if busy then Some (record { answers = s.commit.answers; turns = s.commit.turns }) else None)
 machine_by s history is = ap (λ (busy : Bool). with_flight history (if busy then Some (record { answers = s.commit.answers; turns = s.commit.turns }) else None)) is
@@ -71,7 +71,7 @@ turns_on history answers (suc zero) less = refl
 turns_on history answers (suc (suc zero)) less = refl
 turns_on history answers (suc (suc (suc turns))) less = absurd (omega (arith, less))
 
--- One whose call fails: it stays, unless it lands.
+-- A turn whose call fails: the machine stays, unless the flight lands.
 fails_back : (history : List Command) (answers : List Answer) (turns : ℕ) → turns ≤ 3 → (turns ≡ 2 → ⊥) → (turn false (in_flight history answers turns)).machine ≡ in_flight history answers turns
 fails_back history answers zero most not = refl
 fails_back history answers (suc zero) most not = refl
@@ -113,7 +113,7 @@ module _ {D : Type 0} {seen : D → List ℕ} {may_leave : D → List ℕ → Ty
   kept_turn {new = new} {after = after} laws inside =
       subst (Keeps seen may_leave new t after) becomes (kept_inside laws seen may_leave new t after (acknowledged_by result s machine.acknowledged) inside)
 
-  -- Until it is acknowledged a flight may be lost.
+  -- Until it is acknowledged, a flight may be lost.
   before_done : (answers : List Answer) (image : List ℕ) → result ≡ Ok (steps.Done answers) → StandsFor (machine_of t machine.acknowledged) image → StandsFor machine image
   before_done answers image same stands =
       let done : TurnLeads failed (Ok (steps.Done answers)) s t = subst (λ (r : Result Step Fault). TurnLeads failed r s t) same leads in

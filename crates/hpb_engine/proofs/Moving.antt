@@ -1,4 +1,4 @@
--- Events are moves of the machine without a disk, and what it keeps is kept.
+-- Events are moves of the machine without a disk, and the facts that the machine keeps are kept.
 use Rattle.std.proofs.Common.{◌≡◌, inl, inr, ℕ, suc, ◌+◌, ◌≤◌, Bool, true, false, List, [], ◌∷◌, ◌++◌, Option, Some, None, Result, Ok, Err, length, refl, sym, ◌∙◌, ap, subst, arith, append_assoc}
 use Rattle.std.proofs.lemmas.List.{append-nil}
 use Rattle.std.specs.Prelude.{slice_index_or, if◌then◌else◌, not, ◌&&◌, ◌==◌}
@@ -72,7 +72,7 @@ module _ (rules : Rules) (before after : Pause) (leaving : List Answer) (fault :
     works = λ well. works;
   }
 
-  -- Those that are taken are one.
+  -- Letters that are taken are one move.
   taken : (letters : List Letter) → after.machine ≡ (take_letters rules before.machine letters).machine → leaving ≡ (take_letters rules before.machine letters).leaving
       → after.progress.committed.rules ≡ rules → after.moment ≡ before.moment → after.failed ≡ false → Moved rules (events.Offer letters) before after leaving fault
   taken letters becomes leaves ruled moment works = record {
@@ -86,7 +86,7 @@ module _ (rules : Rules) (before after : Pause) (leaving : List Answer) (fault :
     works = λ well. works;
   }
 
-  -- A turn is one, whatever becomes of it.
+  -- A turn is one move, whatever becomes of it.
   turned : (result : Result Step Fault) → IsTurned result before after leaving → before.progress.committed.rules ≡ rules → (move : machine.Event) → IsMove events.Commit (move ∷ [])
       → after.machine ≡ (run rules before.machine (move ∷ [])).machine → leaving ≡ (run rules before.machine (move ∷ [])).leaving → (fault ≡ None → after.failed ≡ false)
       → Moved rules events.Commit before after leaving fault
@@ -101,7 +101,7 @@ module _ (rules : Rules) (before after : Pause) (leaving : List Answer) (fault :
     works = works;
   }
 
-  -- A step of a checkpoint is none.
+  -- A step of a checkpoint is no move.
   stepped : (result : Result Rest Fault) → IsStepped result before after leaving → before.progress.committed.rules ≡ rules → (fault ≡ None → after.failed ≡ false)
       → Moved rules events.Checkpoint before after leaving fault
   stepped result told ruled works = record {
@@ -153,7 +153,7 @@ module _ (run_joins : RunJoins) (rules : Rules) (first : List Command) where
     told : told_at rules first (point_of pause moves) ++ answers ≡ told_at rules first (last_of (point_of pause moves) points)
     ends : (last_of (point_of pause moves) points).moment ≡ (runs.last_of pause pauses).moment
 
-  -- After an event more the machine is at its next point.
+  -- After one more event the machine is at its next point.
   module _ (event : Event) (pause after : Pause) (moves : List machine.Event) (leaving : List Answer) (fault : Option Fault) (is : machine_at rules first (point_of pause moves) ≡ pause.machine)
       (it : Moved rules event pause after leaving fault) where
     joins : machine_at rules first (point_of after (moves ++ it.moves)) ≡ after.machine
@@ -203,7 +203,7 @@ module _ (run_joins : RunJoins) (rules : Rules) (first : List Command) where
         ends = ap (λ (ms : List Pause). (runs.last_of after ms).moment) (sym it.2);
       }
 
--- ---- what the machine keeps
+-- ---- facts that the machine keeps
 module _ (run_joins : RunJoins) (run_is_moves : RunIsMoves) (rest_is_sound : RestIsSound) (fits_grow : FitsGrow) (counts : (rules : Rules) (seen : List Command) (answered : Answer) → Fits rules seen answered → IsCounted seen answered)
     (rules : Rules) (first : List Command) (is : IsHistory rules first) where
   durable : (moves : List machine.Event) → IsDurable rules (at_rest first) (run rules (at_rest first) moves).leaving (run rules (at_rest first) moves).machine

@@ -1,4 +1,4 @@
--- What stays in the parts of an image that a step doesn't touch.
+-- The parts of an image that stay while a step writes other parts.
 use Rattle.std.proofs.Common.{◌≡◌, ℕ, ◌*◌, ◌%◌, ◌≤◌, List, length, sym, ◌∙◌, subst, arith}
 use Rattle.hpb_codec.specs.declared.head.Head.{Head}
 use Rattle.hpb_codec.specs.declared.head.TheConstants.{HEAD_SIZE}
@@ -36,7 +36,7 @@ head_stays head old new same size was = record {
 pub before_slots : (old new : List ℕ) → SameBefore JOURNAL_AT old new → SameBefore SLOTS_AT old new
 before_slots old new same at count below = same at count (omega (arith, below))
 
--- What lies before the journal stays where a step writes the journal alone.
+-- A step that writes the journal alone leaves all bytes before the journal as they are.
 module _ (laws : Laws) (old new : List ℕ) (same : SameBefore JOURNAL_AT old new) where
   slot_same : (slot : Slot) → (gate_of slot new ≡ gate_of slot old) × (body_of slot new ≡ body_of slot old)
   slot_same slot = laws.slots_stay slot old new (λ at count from below. same at count (omega (arith, below)))

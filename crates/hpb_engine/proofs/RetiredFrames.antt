@@ -1,4 +1,4 @@
--- What stays so while frames become clean again.
+-- The facts that hold while frames become clean again.
 use Rattle.std.proofs.Common.{◌≡◌, ◌≢◌, inl, inr, ℕ, suc, ◌+◌, ◌<◌, ◌≤◌, true, false, List, length, refl, sym, ◌∙◌, ap, subst, arith}
 use Rattle.std.proofs.lemmas.Bool.{cases_lt, cases_eq, true_from_ne_false}
 use Rattle.hpb_journal.specs.Changes.{ChangesGate}
@@ -23,7 +23,7 @@ module _ (laws : Laws) (s : Progress) (k : Cut) (fits : Fits s k) where
   in_use : s.window.covered ≤ s.window.clean_end
   in_use = omega (arith, fits.safe.window.covered, fits.safe.window.clean)
 
-  -- A frame more is closed: no frame that is in use, and no clean one.
+  -- One more frame is closed: neither one in use nor a clean one.
   module _ (left : s.retirement.upto < end_of s.window) where
     apart : (b : ℕ) → s.window.covered ≤ b → b < end_of s.window → b ≢ s.retirement.upto → AreApart (layout_of s.window) s.retirement.upto b
     apart b from below not = elim (cases_lt b s.retirement.upto) [
@@ -50,7 +50,7 @@ module _ (laws : Laws) (s : Progress) (k : Cut) (fits : Fits s k) where
       kept_same : (b : ℕ) → s.window.covered ≤ b → b < s.window.covered + length k.batches → SameFrame (layout_of s.window) b old new
       kept_same b from below = record { gate = changes.gates b (apart_before b from (omega (arith, below, fits.next, fits.safe.window.clean))); body = changes.bodies b }
 
-      -- Its gate is closed where it may be open.
+      -- Its gate may be open, and is closed.
       pub retired_torn : may_be_open s.window s.retirement.upto ≡ true → Facts (retired s) k new
       retired_torn may = let was = facts.journal in record {
         head = head_stays (head_of s.window k.rules) old new (before_slots old new changes.before) changes.size facts.head;
@@ -81,7 +81,7 @@ module _ (laws : Laws) (s : Progress) (k : Cut) (fits : Fits s k) where
         };
       }
 
-  -- A frame more is to be closed.
+  -- One more frame is to be closed.
   pub retired_fits : s.checkpoint.steps ≡ 0 → s.retirement.upto < end_of s.window → Fits (retired s) k
   retired_fits steps left = refitted s k fits s.window.clean_end s.commit s.checkpoint (retired s).retirement
       (record {
@@ -99,7 +99,7 @@ module _ (laws : Laws) (s : Progress) (k : Cut) (fits : Fits s k) where
       })
       fits.flight fits.snapshot
 
-  -- It stands closed already.
+  -- The gate is closed already.
   module _ (left : s.retirement.upto < end_of s.window) (not : may_be_open s.window s.retirement.upto ≡ false) (image : List ℕ) (facts : Facts s k image) where
     pub retired_none : Facts (retired s) k image
     retired_none = record { head = facts.head; slots = facts.slots; journal = facts.journal }

@@ -1,4 +1,4 @@
--- One event more of a run.
+-- One more event of a run.
 use Rattle.std.proofs.Common.{◌≡◌, ◌⊎◌, inl, inr, ⊎_elim, ℕ, ◌+◌, ◌<◌, Bool, true, false, Option, Some, None, Result, Ok, Err, List, [], ◌∷◌, ◌++◌, length, get_or, take, drop, refl, sym, ◌∙◌, ap, subst, arith, append_assoc}
 use Rattle.std.specs.Prelude.{is_some}
 use Rattle.std.proofs.lemmas.List.{append-nil, take_more, take-append-drop}
@@ -26,7 +26,7 @@ pause_of moment disk s failed machine = record { moment = moment disk; progress 
 
 module _ {D : Type 0} {seen : D → List ℕ} {may_leave : D → List ℕ → Type 0} {moment : D → ℕ} {left_since : D → ℕ → List ℕ → Type 0}
     (only_now : (disk : D) (image : List ℕ) → left_since disk (moment disk) image → may_leave disk image) where
-  -- Without an event.
+  -- A run without an event.
   pub ran_none : {disk : D} {s : Progress} {failed : Bool} {machine : Machine} → Keeps seen may_leave disk s failed machine
       → Ran seen may_leave moment left_since (pause_of moment disk s failed machine) [] disk s failed [] None
   ran_none keeps = record {
@@ -39,7 +39,7 @@ module _ {D : Type 0} {seen : D → List ℕ} {may_leave : D → List ℕ → Ty
     keeps = keeps;
   }
 
--- What is told at a pause whose machine is kept.
+-- The facts at a pause whose machine is kept.
 pub told_of : {D : Type 0} {seen : D → List ℕ} {may_leave : D → List ℕ → Type 0} {disk : D} {now : ℕ} {s : Progress} {failed : Bool} {machine : Machine} → IsSafe s
     → Keeps seen may_leave disk s failed machine → IsTold (record { moment = now; progress = s; failed = failed; machine = machine })
 told_of safe keeps = record { safe = safe; shows = keeps.shows; flight = keeps.flight }
@@ -55,7 +55,7 @@ stands_still next [] image none = absurd none
 stands_still next (m ∷ pauses) image (inl here) = inl here
 stands_still next (m ∷ pauses) image (inr later) = inr (stands_still next pauses image later)
 
--- What holds since each pause holds after an event more, and since the pause after it.
+-- The facts since each pause hold after one more event, and since the pause after it.
 module _ (before now : ℕ) (past since : ℕ → List ℕ → Type 0) (left images : List ℕ → Type 0) (leaves : LeavesOnly before now past since left images) (next : Pause)
     (here : next.moment ≡ now) (only : (image : List ℕ) → since next.moment image → StandsFor next.machine image) where
   pub holds_on : (pause : Pause) (pauses : List Pause) → ((image : List ℕ) → images image → StandsFor (last_of pause pauses).machine image ⊎ StandsFor next.machine image)
@@ -121,11 +121,11 @@ module _ {D : Type 0} {seen : D → List ℕ} {may_leave : D → List ℕ → Ty
     keeps = subst (λ (m : Pause). Keeps seen may_leave new t after_failed m.machine) (sym after_last) took.keeps;
   }
 
-  -- It goes on with an event that works.
+  -- A run goes on with an event that works.
   pub ran_on : fault ≡ None → Ran seen may_leave moment left_since start (events ++ event ∷ []) new t after_failed (answers ++ leaving) None
   ran_on none = more (event ∷ []) None (inl (leaving, [], subst (Follows event (last_of start ran.pauses) next leaving) none follows, (refl, refl), sym (append-nil leaving)))
 
-  -- It ends with one at which the device fails; the others aren't taken.
+  -- A run ends with an event at which the device fails; the others aren't taken.
   pub ran_off : (others : List Event) (why : Fault) → fault ≡ Some why → Ran seen may_leave moment left_since start (events ++ event ∷ others) new t after_failed (answers ++ leaving) (Some why)
   ran_off others why some = more (event ∷ others) (Some why) (inr (why, subst (Follows event (last_of start ran.pauses) next leaving) some follows, refl, refl))
 
@@ -148,7 +148,7 @@ module _ (events : List Event) (at : ℕ) (event : Event) (inside : at < length 
       sym (take-append-drop (at + 1) events) ∙ ap (λ (front : List Event). front ++ drop (at + 1) events) front_more
       ∙ append_assoc (take at events) (event ∷ []) (drop (at + 1) events)
 
--- Whether an engine has failed, and its device, by what its step answered.
+-- Whether an engine has failed, and its device, by the result of its step.
 module _ {D T : Type 0} {moment : D → ℕ} {failures : D → ℕ} {trace : D → List Asked} {old new : D} {failed after : Bool} {count : ℕ} {call : List Asked} where
   pub failed_is : (result : Result T Fault) → OnDevice moment failures trace old new failed after result count call → after ≡ failed_by result
   failed_is (Ok told) is = is.works
@@ -159,7 +159,7 @@ module _ {D T : Type 0} {moment : D → ℕ} {failures : D → ℕ} {trace : D �
   has_failed (Err faults.Device) is = (refl, is.cause refl)
   has_failed (Err faults.Failed) is = ap failures (is.stays refl)
 
--- A turn and the step that tells of it fail alike, and have the same fault.
+-- A turn and the step that reports it fail alike, and have the same fault.
 pub failed_step : (result : Result Turned Fault) (leaving : List Answer) → failed_by result ≡ failed_by (step_of result leaving)
 failed_step (Ok turns.Idle) leaving = refl
 failed_step (Ok turns.Went) leaving = refl
@@ -173,7 +173,7 @@ fault_step (Ok turns.Done) leaving = refl
 fault_step (Err faults.Device) leaving = refl
 fault_step (Err faults.Failed) leaving = refl
 
--- What is begun by a weight has that weight.
+-- A result made from a weight has that weight.
 pub weight_begun : (weight : Weight) (letters : List Letter) (leaving : List Answer) → weight_of (begun_of weight letters leaving) ≡ weight
 weight_begun weights.Failed letters leaving = refl
 weight_begun weights.Busy letters leaving = refl

@@ -1,4 +1,5 @@
--- An image of which the facts hold stands for the acknowledged commands or, once a batch has landed, for these with its commands.
+-- An image with these facts stands for the acknowledged commands or, once a batch has landed, for these with its
+-- commands.
 use Rattle.std.proofs.Common.{◌≡◌, ◌⊎◌, inl, inr, ℕ, ◌-◌, ◌<◌, ◌≤◌, List, ◌++◌, Bool, true, false, Some, None, if◌then◌else◌, refl, sym, ap, subst, arith}
 use Rattle.std.proofs.lemmas.Bool.{cases_lt, cases_eq}
 use Rattle.hpb_rules.specs.declared.command.Command.{Command}
@@ -31,7 +32,7 @@ same_or_other Second First = inr refl
 same_or_other Second Second = inl refl
 
 module _ (laws : Laws) (s : Progress) (k : Cut) (image : List ℕ) (fits : Fits s k) (facts : Facts s k image) where
-  -- Where neither a batch in flight nor a new slot shows.
+  -- Neither a batch in flight nor a new slot shows.
   module _ (no_next : s.commit.turns ≡ 3 → IsClosed (layout_of s.window) s.window.next image) (no_other : s.checkpoint.steps ≡ 8 → IsClosedSlot (other_of s.checkpoint.newest) image) where
     older : (i : ℕ) (saved : Saved) → Holds k.rules (other_of s.checkpoint.newest) i saved image → (flag : Bool) → s.checkpoint.other_open ≡ flag
         → (i < s.window.covered) ⊎ ((i ≡ s.window.covered) × (place_of s.checkpoint.newest ≤ place_of (other_of s.checkpoint.newest)))
@@ -88,7 +89,7 @@ module _ (laws : Laws) (s : Progress) (k : Cut) (image : List ℕ) (fits : Fits 
       ends = λ b from below own. ended b (omega (arith, from, fits.next)) below own (cases_lt b s.window.clean_end);
     }
 
--- Where no batch in flight shows; a checkpoint changes nothing of it.
+-- No batch in flight shows; a checkpoint doesn't change that.
 settled : (laws : Laws) (s : Progress) (k : Cut) (image : List ℕ) → Fits s k → Facts s k image → (s.commit.turns ≡ 3 → IsClosed (layout_of s.window) s.window.next image)
     → Stands (all k) image
 settled laws s k image fits facts no_next = elim (cases_eq s.checkpoint.steps 8) [
@@ -119,7 +120,7 @@ stands_either laws s k image fits facts busy = elim (cases_eq s.commit.turns 3) 
   ]
 ]
 
--- What the machine is where it is busy or not.
+-- The machine, by whether a batch is in flight.
 abbrev in_flight : (s : Progress) (history : List Command) → Bool → Machine
 in_flight s history busy = record { acknowledged = history; flight = if busy then Some (record { answers = s.commit.answers; turns = s.commit.turns }) else None }
 
@@ -134,7 +135,7 @@ may_stand laws s k image fits facts = by_busy s.commit.busy refl
       | inr it ↦ (all k ++ s.commit.batch.commands, inr (it.0, ap (λ (commands : List Command). all k ++ commands) (fits.flight busy).new), it.1)
     ]
 
--- What is kept inside keeps what a caller has.
+-- The facts inside give the sentence for callers.
 pub kept_inside : (laws : Laws) {D : Type 0} (seen : D → List ℕ) (may_leave : D → List ℕ → Type 0) (disk : D) (s : Progress) (failed : Bool) (history : List Command)
     → Inside seen may_leave disk s failed history → Keeps seen may_leave disk s failed (machine_of s history)
 kept_inside laws seen may_leave disk s failed history inside = record {

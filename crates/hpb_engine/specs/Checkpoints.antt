@@ -1,4 +1,4 @@
--- Where a step of a checkpoint leads, in numbers of batches and of steps.
+-- The result of a step of a checkpoint, in numbers of batches and of steps.
 use Rattle.std.specs.Prelude.{◌≡◌, ℕ, suc, ◌+◌, ◌-◌, ◌≤◌, ◌==◌, nat_le, Bool, true, false, not, ◌&&◌, ◌||◌, Result, Ok, Err, if◌then◌else◌}
 use Rattle.hpb_engine.specs.declared.progress.Progress.{Progress}
 use Rattle.hpb_engine.specs.Numbers.{count_of, end_of, may_be_open}
@@ -9,25 +9,25 @@ use Rattle.hpb_engine.specs.declared.step.Part.TheVariants as parts
 use Rattle.hpb_engine.specs.declared.step.Rest.{Rest}
 use Rattle.hpb_engine.specs.declared.step.Rest.TheVariants as rests
 
--- **Steps of a checkpoint.** Nothing of the commands changes. A checkpoint aims at all batches that are committed at its first step. Nine steps write
--- its state; then each frame that it makes free is one, and a sync is the last, where there are frames to free. At rest, with all covered and clean,
--- a step is idle, and at no other time.
+-- **Steps of a checkpoint.** The commands don't change. A checkpoint aims at all batches that are committed at its
+-- first step. Nine steps write its state. Then each frame that it frees takes one step; if there are any, a sync is the
+-- last. A step is idle if and only if all batches are covered and all other frames are clean.
 --
--- What is acknowledged and what is in flight are the same.
+-- The acknowledged commands and the batch in flight are the same.
 pub record SameCore (s t : Progress) : Type 0 where
   pub committed : t.committed ≡ s.committed
   pub commit : t.commit ≡ s.commit
   pub next : t.window.next ≡ s.window.next
   pub frames : t.window.frames ≡ s.window.frames
 
--- At rest: no checkpoint is begun, the newest one covers all, and all other frames are clean.
+-- Nothing is left to do: no checkpoint is begun, the newest one covers all batches, and all other frames are clean.
 pub record IsSettled (s : Progress) : Type 0 where
   pub begun : s.checkpoint.steps ≡ 0
   pub retiring : s.retirement.going ≡ false
   pub covered : s.window.covered ≡ s.window.next
   pub clean : s.window.clean_end ≡ end_of s.window
 
--- How many batches the checkpoint that is on its way covers; without one, how many the next would.
+-- How many batches the checkpoint on its way covers; without one, how many the next would cover.
 abbrev pub aim : Progress → ℕ
 aim s = if s.retirement.going then s.window.covered else (if s.checkpoint.steps == 0 then s.window.next else s.checkpoint.covers)
 
@@ -35,33 +35,35 @@ aim s = if s.retirement.going then s.window.covered else (if s.checkpoint.steps 
 abbrev pub to_retire : Progress → ℕ
 to_retire s = aim s + count_of s.window - s.retirement.upto
 
--- How many steps it takes to the last one: nine for the state, one for each frame to retire, and a sync. None where all is covered and clean.
+-- How many steps are left up to the last one: nine for the state, one for each frame to retire, and a sync. None if all
+-- batches are covered and all other frames are clean.
 abbrev pub steps_left : Progress → ℕ
 steps_left s =
     if s.retirement.going then suc (to_retire s) else
     (if (s.checkpoint.steps == 0) && (s.window.covered == s.window.next) then (if to_retire s == 0 then 0 else suc (to_retire s)) else 10 - s.checkpoint.steps + to_retire s)
 
--- The part that is next.
+-- The part that the next step does.
 abbrev pub part_of : Progress → Part
 part_of s =
     if nat_le 2 s.checkpoint.steps && nat_le s.checkpoint.steps 5 then parts.Chunk (s.checkpoint.steps - 2) else
     (if (s.checkpoint.steps == 0) && (s.retirement.going || (s.window.covered == s.window.next)) then parts.Retired else parts.Other)
 
--- Where a step leads.
+-- What a step changes, by its result.
 abbrev pub StepLeads : Result Rest Fault → Progress → Progress → Type 0
 StepLeads (Ok rests.Idle) s t = IsSettled s × (t ≡ s)
 -- one of the steps that are left, which isn't the last one
 StepLeads (Ok (rests.Went part)) s t = (part ≡ part_of s) × (steps_left s ≡ suc (steps_left t)) × (1 ≤ steps_left t) × (aim t ≡ aim s)
--- the last one: the newest checkpoint covers what it was to cover, and all other frames are clean
+-- the last one: the newest checkpoint covers all that it aimed at, and all other frames are clean
 StepLeads (Ok rests.Whole) s t = (steps_left s ≡ 1) × (t.window.covered ≡ aim s) × (t.window.clean_end ≡ end_of t.window) × (t.checkpoint.steps ≡ 0) × (t.retirement.going ≡ false)
 StepLeads (Err fault) s t = IsSettled s → ⊥
 
--- The same after a fault too: then there is no step.
+-- The same, after a fault too: then no step is made.
 abbrev pub CheckpointLeads : (failed : Bool) → Result Rest Fault → Progress → Progress → Type 0
 CheckpointLeads true result s t = (result ≡ Err faults.Failed) × (t ≡ s)
 CheckpointLeads false result s t = StepLeads result s t × (result ≡ Err faults.Failed → ⊥)
 
--- How many calls of the device a step makes: none at rest, none to close a gate that is closed already, and else one.
+-- How many calls of the device a step makes: none if nothing is left to do, none for a gate that is closed already, and
+-- otherwise one.
 abbrev pub step_calls : Progress → ℕ
 step_calls s =
     if not (s.checkpoint.steps == 0) then 1 else
@@ -69,6 +71,6 @@ step_calls s =
     (if s.retirement.upto == end_of s.window then (if s.retirement.going then 1 else 0) else
     (if may_be_open s.window s.retirement.upto then 1 else 0)))
 
--- The same after a fault too: then there is none.
+-- The same, after a fault too: then it makes none.
 abbrev pub checkpoint_calls : (failed : Bool) → Progress → ℕ
 checkpoint_calls failed s = if failed then 0 else step_calls s

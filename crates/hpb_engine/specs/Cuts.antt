@@ -1,4 +1,4 @@
--- How the acknowledged commands lie on a device: a checkpoint shows the first of them, and batches spell the rest.
+-- How the acknowledged commands lie on a device: a checkpoint shows the first of them, and batches hold the rest.
 use Rattle.std.specs.Prelude.{ℕ, List, [], ◌∷◌, ◌++◌, take, drop}
 use Rattle.hpb_rules.specs.declared.command.Command.{Command}
 use Rattle.hpb_rules.specs.Tree.{Rules}
@@ -18,10 +18,10 @@ all cut = cut.before ++ joined cut.batches
 abbrev pub upto : Cut → ℕ → List Command
 upto cut count = cut.before ++ joined (take count cut.batches)
 
--- With one batch more.
+-- The same with one more batch.
 abbrev pub landed : Cut → List Command → Cut
 landed cut commands = record cut { batches = cut.batches ++ commands ∷ [] }
 
--- With a checkpoint after so many batches.
+-- The same with a checkpoint after so many batches.
 abbrev pub shortened : Cut → ℕ → Cut
 shortened cut count = record cut { before = upto cut count; batches = drop count cut.batches }

@@ -1,4 +1,4 @@
--- What is so of each image that a crash may leave, and of what a read gives beside that.
+-- Facts about every image that a crash may leave, and about the bytes that a read gives.
 use Rattle.std.specs.Prelude.{◌≡◌, ◌⊎◌, ℕ, suc, ◌+◌, ◌-◌, ◌<◌, ◌≤◌, true, false, List, length}
 use Rattle.hpb_rules.specs.declared.command.Command.{Command}
 use Rattle.hpb_rules.specs.declared.saved.Saved.{Saved}
@@ -23,7 +23,8 @@ use Rattle.hpb_engine.specs.declared.progress.Window.{Window}
 use Rattle.hpb_engine.specs.Cuts.{Cut, all, upto}
 use Rattle.hpb_engine.specs.Numbers.{IsSafe, end_of, layout_of, may_be_open}
 
--- The batch in flight goes on with the acknowledged commands: each of its commands is newly accepted, and its answers say so.
+-- The batch in flight continues the acknowledged commands: each of its commands is newly accepted, and its answers say
+-- so.
 pub record IsFlight (rules : Rules) (next : ℕ) (committed : AuctionValue) (history : List Command) (commit : Commit) : Type 0 where
   pub kept : MayBeKept rules commit.batch
   pub index : commit.batch.index ≡ next
@@ -32,13 +33,13 @@ pub record IsFlight (rules : Rules) (next : ℕ) (committed : AuctionValue) (his
   pub after : commit.working ≡ value_after committed commit.batch.commands
   pub new : commit.batch.commands ≡ new_commands commit.answers
 
--- Bytes spell, in the second format, a state of so many batches that shows a history.
+-- The bytes spell, in the second format, a state of so many batches that shows a history.
 pub record IsSnapshot (rules : Rules) (body : List ℕ) (covers : ℕ) (history : List Command) : Type 0 where
   pub saved : Saved
   pub spelled : SpellsStateIn Two rules body saved covers
   pub shows : Shows (restored rules saved) history
 
--- The numbers and values of a progress go with the acknowledged commands as they are cut.
+-- The numbers and values of a progress agree with the acknowledged commands as they are cut.
 pub record Fits (s : Progress) (cut : Cut) : Type 0 where
   pub safe : IsSafe s
   pub rules : s.committed.rules ≡ cut.rules
@@ -58,7 +59,8 @@ pub record InHead (head : Head) (image : List ℕ) : Type 0 where
   pub formatted : IsFormatted image
   pub laid : IsLaidOut head image
 
--- The newest slot shows the first commands, and what the other slot holds is older, until the checkpoint's gate is written.
+-- The newest slot shows the first commands. Until the checkpoint's gate is written, any state in the other slot is
+-- older.
 pub record InSlots (rules : Rules) (covered : ℕ) (checkpoint : Checkpoint) (before : List Command) (image : List ℕ) : Type 0 where
   pub saved : Saved
   pub holds : Holds rules checkpoint.newest covered saved image
@@ -68,8 +70,8 @@ pub record InSlots (rules : Rules) (covered : ℕ) (checkpoint : Checkpoint) (be
   pub shut : checkpoint.steps < 8 → checkpoint.other_open ≡ false → IsClosedSlot (other_of checkpoint.newest) image
   pub whole : 7 ≤ checkpoint.steps → body_of (other_of checkpoint.newest) image ≡ checkpoint.body.items
 
--- The batches after it are whole. Clean frames are closed, but for that of a batch whose gate is written; and no other frame has its own index
--- where it may be open.
+-- The batches after it are whole. Clean frames are closed, except the frame of a batch whose gate is written. No other
+-- frame that may be open holds the index of the batch that it is to serve.
 pub record InJournal (rules : Rules) (window : Window) (commit : Commit) (cut : Cut) (image : List ℕ) : Type 0 where
   pub kept : Kept (layout_of window) rules window.covered (suc (length cut.before)) cut.batches image
   pub clean : (b : ℕ) → window.next ≤ b → b < window.clean_end → (b ≡ window.next → commit.turns < 3) → IsClosed (layout_of window) b image
@@ -77,7 +79,7 @@ pub record InJournal (rules : Rules) (window : Window) (commit : Commit) (cut : 
   pub shut : (b : ℕ) → window.clean_end ≤ b → b < end_of window → may_be_open window b ≡ false → IsClosed (layout_of window) b image
   pub staged : 2 ≤ commit.turns → Says (layout_of window) rules commit.batch image
 
--- What is so of each image that a crash may leave, of its head, its slots and its journal.
+-- The facts about each image that a crash may leave: its head, its slots and its journal.
 pub record Facts (s : Progress) (cut : Cut) (image : List ℕ) : Type 0 where
   pub head : InHead (head_of s.window cut.rules) image
   pub slots : InSlots cut.rules s.window.covered s.checkpoint cut.before image
@@ -88,7 +90,7 @@ pub record ReadsCommit (rules : Rules) (window : Window) (commit : Commit) (seen
   pub written : 1 ≤ commit.turns → Says (layout_of window) rules commit.batch seen
   pub opened : 3 ≤ commit.turns → IsOpen (layout_of window) window.next seen
 
--- The parts of a checkpoint that are written. After the second step each writes one chunk more.
+-- The parts of a checkpoint that are written. Each step after the second writes one more chunk.
 pub record ReadsCheckpoint (checkpoint : Checkpoint) (seen : List ℕ) : Type 0 where
   pub closed : 1 ≤ checkpoint.steps → checkpoint.steps < 8 → IsClosedSlot (other_of checkpoint.newest) seen
   pub copied : 2 ≤ checkpoint.steps → checkpoint.steps ≤ 6 → HasChunks (other_of checkpoint.newest) (checkpoint.steps - 2) checkpoint.body.items seen
@@ -98,7 +100,7 @@ pub record ReadsCheckpoint (checkpoint : Checkpoint) (seen : List ℕ) : Type 0 
 pub record ReadsRetirement (window : Window) (retirement : Retirement) (seen : List ℕ) : Type 0 where
   pub retired : (b : ℕ) → window.clean_end ≤ b → b < retirement.upto → IsClosed (layout_of window) b seen
 
--- What a read gives beside the facts of each image: the parts that were written are there.
+-- The facts about the bytes that a read gives, beyond those about each image: the parts that were written are there.
 pub record Reads (s : Progress) (cut : Cut) (seen : List ℕ) : Type 0 where
   pub commit : ReadsCommit cut.rules s.window s.commit seen
   pub checkpoint : ReadsCheckpoint s.checkpoint seen

@@ -1,4 +1,4 @@
--- What is kept: the sentence that a caller has, and what it rests on.
+-- What an engine keeps: the sentence for callers, and the facts on which it rests.
 use Rattle.std.specs.Prelude.{◌≡◌, ◌⊎◌, ℕ, Bool, false, List, Option, Some, None, if◌then◌else◌}
 use Rattle.hpb_rules.specs.declared.command.Command.{Command}
 use Rattle.hpb_rules.specs.AuctionValue.{Shows}
@@ -11,20 +11,21 @@ use Rattle.hpb_engine.specs.Facts.{Facts, Fits, Reads}
 
 -- **Keeps.**
 --
--- The flight of the machine without a disk that a commit is.
+-- The commit's batch, as a flight of the machine without a disk.
 abbrev pub flight_of : Commit → Option Flight
 flight_of commit = if commit.busy then Some (record { answers = commit.answers; turns = commit.turns }) else None
 
--- The machine with these acknowledged commands and what is in flight by a progress.
+-- The machine with these acknowledged commands, and with the batch in flight of a progress.
 abbrev pub machine_of : Progress → List Command → Machine
 machine_of s history = record { acknowledged = history; flight = flight_of s.commit }
 
--- **Stands for.** An image stands for what a stop of a machine may leave: the acknowledged commands or, once a flight has landed, these with its
--- commands. From one machine to the next it stands for what a stop of either may leave.
+-- **Stands for.** An image stands for what a stop of a machine may leave: the acknowledged commands or, once a flight
+-- has landed, these with its commands. From one machine to the next it stands for what a stop of either may leave.
 abbrev pub StandsFor : Machine → List ℕ → Type 0
 StandsFor machine image = (history : List Command) × MayStand machine history × Stands history image
 
--- What an image stands for that a crash may leave from one state of the machine without a disk to the next.
+-- An image that a crash leaves between one state of the machine and the next stands for what a stop of either may
+-- leave.
 abbrev pub StandsEither : Machine → Machine → List ℕ → Type 0
 StandsEither before after image = StandsFor before image ⊎ StandsFor after image
 
@@ -32,7 +33,7 @@ StandsEither before after image = StandsFor before image ⊎ StandsFor after ima
 abbrev pub StandsBetween : Progress → Progress → List Command → List ℕ → Type 0
 StandsBetween s t history image = StandsEither (machine_of s history) (machine_of t history) image
 
--- What the sentence rests on, in terms of the device's parts.
+-- The facts on which the sentence rests, in terms of the device's parts.
 pub record Inside {D : Type 0} (seen : D → List ℕ) (may_leave : D → List ℕ → Type 0) (disk : D) (s : Progress) (failed : Bool) (history : List Command) : Type 0 where
   pub cut : Cut
   pub whole : history ≡ all cut
@@ -40,8 +41,9 @@ pub record Inside {D : Type 0} (seen : D → List ℕ) (may_leave : D → List �
   pub images : (image : List ℕ) → may_leave disk image → Facts s cut image
   pub reads : failed ≡ false → Reads s cut (seen disk)
 
--- An engine keeps a machine, that without a disk, where what is committed shows its acknowledged commands, the same is in flight with as many turns,
--- and every image that a crash now may leave stands for what a stop of the machine may leave.
+-- An engine keeps a machine if three things hold. Its committed auction shows the machine's acknowledged commands. The
+-- same batch is in flight, with as many turns. Every image that a crash now may leave stands for what a stop of the
+-- machine may leave.
 pub record Keeps {D : Type 0} (seen : D → List ℕ) (may_leave : D → List ℕ → Type 0) (disk : D) (s : Progress) (failed : Bool) (machine : Machine) : Type 0 where
   pub shows : Shows s.committed machine.acknowledged
   pub flight : machine.flight ≡ flight_of s.commit

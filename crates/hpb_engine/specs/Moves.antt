@@ -1,4 +1,4 @@
--- Where each step leads.
+-- The progress after each step.
 use Rattle.std.specs.Prelude.{ℕ, ◌+◌, true, false, List, []}
 use Rattle.hpb_rules.specs.declared.letter.Answer.{Answer}
 use Rattle.hpb_rules.specs.AuctionValue.{AuctionValue}
@@ -11,8 +11,8 @@ use Rattle.hpb_engine.specs.Numbers.{end_of}
 abbrev pub begun : Progress → Batch → List Answer → AuctionValue → Progress
 begun s batch answers working = record s { commit = record { busy = true; turns = 0; batch = batch; answers = answers; working = working } }
 
--- **Turns.** Where a turn leads: the fourth alone is the last one, and a third one that fails counts all the same. To the machine it is a turn, of
--- which the device call works or fails; after a fault there is none.
+-- **Turns.** The fourth turn alone is the last one, and a third one that fails counts all the same. To the machine a
+-- turn is a turn whose device call works or fails; after a fault there is none.
 --
 -- A batch in flight has had so many turns.
 abbrev pub turned : Progress → ℕ → Progress
@@ -26,7 +26,8 @@ acknowledged s = record s {
   commit = record s.commit { busy = false; turns = 0; answers = [] };
 }
 
--- A checkpoint of all that is acknowledged is begun, with the bytes of another progress, and the other slot's gate is written.
+-- A checkpoint of all that is acknowledged is begun. Its bytes are those of another progress, and the other slot's gate
+-- is written.
 abbrev pub snapped : Progress → Progress → Progress
 snapped s other = record s { checkpoint = record s.checkpoint { steps = 1; covers = s.window.next; body = other.checkpoint.body } }
 
@@ -38,7 +39,7 @@ emptied s = record s { checkpoint = record s.checkpoint { steps = 2; other_open 
 abbrev pub stepped : Progress → ℕ → Progress
 stepped s steps = record s { checkpoint = record s.checkpoint { steps = steps } }
 
--- The checkpoint is the newest state. Frames that it covers are to be retired.
+-- The checkpoint is the newest state. Frames that it covers are retired next.
 abbrev pub renewed : Progress → Progress
 renewed s = record s {
   window = record s.window { covered = s.checkpoint.covers };
@@ -46,7 +47,7 @@ renewed s = record s {
   retirement = record s.retirement { going = true };
 }
 
--- One frame more is closed.
+-- One more frame is closed.
 abbrev pub retired : Progress → Progress
 retired s = record s { retirement = record { going = true; upto = s.retirement.upto + 1 } }
 

@@ -1,4 +1,4 @@
--- What is so of the numbers and values of a progress, whatever is on the device.
+-- How the numbers and values of a progress agree, whatever is on the device.
 use Rattle.std.specs.Prelude.{◌≡◌, ℕ, suc, ◌+◌, ◌-◌, ◌<◌, ◌≤◌, nat_le, Bool, true, false, ◌||◌, length, slice_index_or}
 use Rattle.hpb_rules.specs.declared.limits.TheConstants.{MOST_COMMANDS}
 use Rattle.hpb_rules.specs.AuctionValue.{AuctionValue}
@@ -16,20 +16,20 @@ use Rattle.hpb_engine.specs.declared.progress.Window.{Window}
 abbrev pub count_of : Window → ℕ
 count_of window = (shape_of window.frames).frames
 
--- Where they stand.
+-- The places of the frames on the device.
 abbrev pub layout_of : Window → Layout
 layout_of window = shaped (shape_of window.frames)
 
--- The end of the frames that serve the batches from the newest slot's index on: that index and the number of frames.
+-- The end of the frames that serve the batches from the newest slot's index on: that index plus the number of frames.
 abbrev pub end_of : Window → ℕ
 end_of window = window.covered + count_of window
 
--- Whether the gate of a frame that isn't clean may be open: that of a batch that was there when the device was opened, or
--- was committed since, is; any other is as it was then.
+-- Whether the gate of a frame that isn't clean may be open. It may if the frame's batch was there when the device was
+-- opened, or was committed since. Otherwise it is as it was at the opening.
 abbrev pub may_be_open : Window → ℕ → Bool
 may_be_open window b = nat_le (window.opened_at + count_of window) b || slice_index_or window.gates.items (b - window.opened_at) false
 
--- The indexes follow each other, and all frames up to the end of the clean ones serve them.
+-- The indexes are in order, and each frame up to the end of the clean ones serves one of them.
 pub record WindowFits (window : Window) : Type 0 where
   pub least : LEAST_FRAMES ≤ count_of window
   pub most : count_of window ≤ MOST_FRAMES
@@ -39,7 +39,8 @@ pub record WindowFits (window : Window) : Type 0 where
   pub clean : window.next ≤ window.clean_end
   pub end : window.clean_end ≤ end_of window
 
--- A batch in flight has a clean frame, and the auction after it has a command more at least. Without one the working auction is the committed one.
+-- A batch in flight has a clean frame, and the auction after it has at least one more command. With none in flight, the
+-- working auction is the committed one.
 pub record CommitFits (window : Window) (committed : AuctionValue) (commit : Commit) : Type 0 where
   pub turns : commit.turns ≤ 3
   pub idle : commit.busy ≡ false → commit.turns ≡ 0
@@ -48,7 +49,7 @@ pub record CommitFits (window : Window) (committed : AuctionValue) (commit : Com
   pub room : commit.busy ≡ true → window.next < window.clean_end
   pub more : commit.busy ≡ true → suc committed.count ≤ commit.working.count
 
--- A checkpoint covers more batches than the newest slot, at most all.
+-- A checkpoint covers more batches than the newest slot does, and at most all.
 pub record CheckpointFits (window : Window) (checkpoint : Checkpoint) : Type 0 where
   pub steps : checkpoint.steps ≤ 8
   pub size : length checkpoint.body.items ≡ STATE_SIZE
@@ -56,7 +57,7 @@ pub record CheckpointFits (window : Window) (checkpoint : Checkpoint) : Type 0 w
   pub old : 1 ≤ checkpoint.steps → checkpoint.covers ≤ window.next
   pub closed : 2 ≤ checkpoint.steps → checkpoint.other_open ≡ false
 
--- Frames are retired while no checkpoint is written, and only where some aren't clean.
+-- Frames are retired only while no checkpoint is written, and only if some aren't clean.
 pub record RetirementFits (window : Window) (checkpoint : Checkpoint) (retirement : Retirement) : Type 0 where
   pub alone : retirement.going ≡ true → checkpoint.steps ≡ 0
   pub idle : retirement.going ≡ false → retirement.upto ≡ window.clean_end
@@ -64,8 +65,8 @@ pub record RetirementFits (window : Window) (checkpoint : Checkpoint) (retiremen
   pub from : window.clean_end ≤ retirement.upto
   pub to : retirement.upto ≤ end_of window
 
--- The numbers and values of a progress fit each other, whatever is on the device: indexes in their order, turns up to 3, steps up to 8, and no index
--- beyond all bounds. As each batch has a command, no index is beyond all bounds.
+-- The numbers and values of a progress agree, whatever is on the device: indexes are in order, turns are at most 3, and
+-- steps at most 8. Each batch has a command, so indexes stay within bounds.
 pub record IsSafe (s : Progress) : Type 0 where
   pub window : WindowFits s.window
   pub commit : CommitFits s.window s.committed s.commit

@@ -1,6 +1,7 @@
--- What a stop may find of a run, whenever it comes.
--- Source: this project's own. That what has been answered is found after a stop, and nothing but what was asked for: durable linearizability (Izraelevitz, Mendes,
--- Scott, Linearizability of Persistent Memory Objects under a Full-System-Crash Failure Model, 2016).
+-- What can be found after a stop of a run, whenever the stop comes.
+-- Source: this project's own. It is durable linearizability: every answer that was given holds after a stop, and
+-- nothing is found that wasn't requested. (Izraelevitz, Mendes, Scott, Linearizability of Persistent Memory Objects
+-- under a Full-System-Crash Failure Model, 2016.)
 use Rattle.std.specs.Prelude.{◌≡◌, ◌⊎◌, ℕ, ◌+◌, ◌≤◌, Bool, false, List, [], ◌∷◌, ◌++◌, Option, None, length, All}
 use Rattle.hpb_rules.specs.declared.command.Command.{Command}
 use Rattle.hpb_rules.specs.declared.letter.Answer.{Answer}
@@ -21,15 +22,17 @@ use Rattle.hpb_engine.specs.Starts.{IsStarted}
 use Rattle.hpb_engine.specs.declared.progress.Progress.{Progress}
 use Rattle.hpb_recover.specs.declared.plan.Plan.{Plan}
 
--- **The points of a run.** What a caller is told of a run who knows nothing of an engine's insides. A run has a point at its start and one after each
--- event that was taken, and between two of them the device has one call at most.
+-- **The points of a run.** These describe a run to a caller who knows nothing of an engine's insides. A run has a point
+-- at its start and one after each event that was taken. Between two of them the device has at most one call.
 --
--- A point of a run, its start or the end of an event: the moment of the device, and the moves that the machine without a disk has made.
+-- A point of a run, its start or the end of an event: the moment of the device, and the moves that the machine without
+-- a disk has made.
 pub record Point : Type 0 where
   pub moment : ℕ
   pub moves : List machine.Event
 
--- An event is at most one move of the machine: letters are offered or dropped; a turn is made, or its device call fails; and a step of a checkpoint is none.
+-- An event is at most one move of the machine. Letters are offered or dropped; a turn is made, or its device call
+-- fails; a step of a checkpoint is no move.
 abbrev pub IsMove : Event → List machine.Event → Type 0
 IsMove (events.Offer letters) moves = (moves ≡ machine.offer letters ∷ []) ⊎ (moves ≡ [])
 IsMove events.Commit moves = (moves ≡ machine.commit ∷ []) ⊎ (moves ≡ machine.failed_commit ∷ [])
@@ -63,10 +66,11 @@ abbrev pub IsCounted : List Command → Answer → Type 0
 IsCounted acknowledged answered = (number : ℕ) → answered.reply ≡ replies.Ok number → (1 ≤ number) × (number ≤ length acknowledged)
 
 module _ (rules : Rules) (first : List Command) where
-  -- What is acknowledged at a point, and which answers have left by then, follow from its moves and from the commands that the device stood for at
-  -- first.
+  -- The acknowledged commands at a point, and the answers that have left by then, follow from its moves and from the
+  -- commands that the device stood for at first.
   --
-  -- The machine at a point: from rest with the first commands on, after the point's moves. The answers that have left by then, and what is acknowledged.
+  -- The machine at a point: from rest with the first commands on, after the point's moves. The answers that have left
+  -- by then, and the acknowledged commands.
   abbrev pub machine_at : Point → Machine
   machine_at point = (run rules (at_rest first) point.moves).machine
 
@@ -76,23 +80,26 @@ module _ (rules : Rules) (first : List Command) where
   abbrev pub acknowledged_at : Point → List Command
   acknowledged_at point = (machine_at point).acknowledged
 
-  -- The points of a run are those of the engine's own pauses: each has the moment of its pause, and the machine that the engine keeps there.
+  -- The points of a run are those of the engine's own pauses: each has the moment of its pause, and the machine that
+  -- the engine keeps there.
   abbrev pub AreOfPauses : List Pause → List Point → Type 0
   AreOfPauses [] [] = Unit {0}
   AreOfPauses [] (point ∷ points) = ⊥
   AreOfPauses (pause ∷ pauses) [] = ⊥
   AreOfPauses (pause ∷ pauses) (point ∷ points) = (point.moment ≡ pause.moment) × (machine_at point ≡ pause.machine) × AreOfPauses pauses points
 
-  -- **What a crash leaves of a run.** Whatever a stop left since a point stands for a history that begins with all that was acknowledged there. It is
-  -- whole batches: what may stand after a stop at that point or at a later one. And each answer that had left by the point is true of it.
+  -- **What a crash leaves of a run.** Bytes that a stop left since a point stand for a history that begins with all
+  -- that was acknowledged there. The history is whole batches: one that may stand after a stop at that point or at a
+  -- later one. Each answer that had left by the point is true of it.
   --
   -- A stop at one of the points may leave this history.
   abbrev pub MayStandAt : List Point → List Command → Type 0
   MayStandAt [] history = ⊥
   MayStandAt (point ∷ points) history = MayStand (machine_at point) history ⊎ MayStandAt points history
 
-  -- What is found of an image that a stop left at a point or later: it stands for a history that begins with all that was acknowledged at the point, by
-  -- whole batches: it is what a stop may leave at this point or at a later one. The answers that had left are true of it.
+  -- An image that a stop left at a point or later stands for a history that begins with all that was acknowledged at
+  -- the point. The history is whole batches: a stop at this point or at a later one may leave it. The answers that had
+  -- left are true of it.
   pub record Finds (point : Point) (later : List Point) (image : List ℕ) : Type 0 where
     pub history : List Command
     pub stands : Stands history image
@@ -100,22 +107,24 @@ module _ (rules : Rules) (first : List Command) where
     pub batches : MayStandAt (point ∷ later) history
     pub true_of : All (Fits rules history) (told_at point)
 
-  -- What is so at a point, of which later ones follow.
+  -- The facts at a point, given the points after it.
   pub record IsKept (since : ℕ → List ℕ → Type 0) (point : Point) (later : List Point) : Type 0 where
-    -- The acknowledged commands are a history that begins with the first ones, and the answers in flight, if any, are those of letters judged after it.
+    -- The acknowledged commands are a history that begins with the first ones. Answers in flight, if any, are those of
+    -- letters judged after it.
     pub sound : IsSound rules (machine_at point)
     pub begins : IsFront first (acknowledged_at point)
     -- Each answer that has left is true of them, and one that accepts a command names one of them.
     pub true_of : All (Fits rules (acknowledged_at point)) (told_at point)
     pub counted : All (IsCounted (acknowledged_at point)) (told_at point)
-    -- Whatever a stop at this moment or later left.
+    -- These hold of every image that a stop at this moment or later left.
     pub finds : (image : List ℕ) → since point.moment image → Finds point later image
 
--- A run of a device that stood for the first commands survives every stop where this is so at each of its points, however they are cut at one. Its
--- last point is its end, whose answers are those that were handed out; without a fault each event has a point.
+-- A run of a device that stood for the first commands survives every stop if these facts hold at each of its points,
+-- however the points are cut at one. Its last point is its end, with the answers that were handed out. Without a fault,
+-- each event has a point.
 --
--- A run of a device that stood for the first commands: there are points, one at the start and one after each event, at each of which nothing is lost that was
--- acknowledged there.
+-- A run of a device that stood for the first commands: there are points, one at the start and one after each event. No
+-- command that was acknowledged at one of them is lost.
 pub record Survives (rules : Rules) (first : List Command) (start now : ℕ) (since : ℕ → List ℕ → Type 0) (events : List Event) (answers : List Answer) (fault : Option Fault) : Type 0 where
   pub points : List Point
   pub go : Go events (start_at start) points
@@ -127,8 +136,8 @@ pub record Survives (rules : Rules) (first : List Command) (start now : ℕ) (si
   -- However the points are cut at one of them.
   pub kept : (before : List Point) (point : Point) (later : List Point) → start_at start ∷ points ≡ before ++ point ∷ later → IsKept rules first since point later
 
--- What is found after a stop: the auction shows a history that begins with all that was acknowledged at the point, by whole batches from the first on, and the
--- answers that had left by then are true of it.
+-- The auction found after a stop. It shows a history that begins with all that was acknowledged at the point. It
+-- is whole batches from the first on, and the answers that had left by then are true of it.
 pub record IsFound (rules : Rules) (first : List Command) (point : Point) (later : List Point) (auction : AuctionValue) : Type 0 where
   pub history : List Command
   pub shows : Shows auction history
@@ -136,13 +145,14 @@ pub record IsFound (rules : Rules) (first : List Command) (point : Point) (later
   pub batches : MayStandAt rules first (point ∷ later) history
   pub true_of : All (Fits rules history) (told_at rules first point)
 
--- Since a point of a run an image may have been left.
+-- An image that may have been left since a point of a run.
 pub record IsLeft (start : Point) (points before : List Point) (point : Point) (later : List Point) (since : ℕ → List ℕ → Type 0) (image : List ℕ) : Type 0 where
   pub cut : start ∷ points ≡ before ++ point ∷ later
   pub left : since point.moment image
 
--- The points are those of a run of an engine that was started with what was opened, over a device that stood for the first commands. The run says of each event
--- what became of it, and where it stood: an offer is dropped only where a batch is in flight or no clean frame is left.
+-- The points are those of a run of an engine that was started with the opened device, which stood for the first
+-- commands. The run says for each event what became of it and at which pause. An offer is dropped only if a batch is in
+-- flight or no clean frame is left.
 pub record AreOfRun {D : Type 0} (seen : D → List ℕ) (may_leave : D → List ℕ → Type 0) (moment : D → ℕ) (left_since : D → ℕ → List ℕ → Type 0)
     (plan : Plan) (start : Point) (first : List Command) (points : List Point) (events : List Event) (disk : D) (progress : Progress) (failed : Bool) (answers : List Answer) (fault : Option Fault) : Type 0 where
   pub begun : Progress

@@ -1,4 +1,4 @@
--- Runs of an engine: events one after another, with what holds since each of them.
+-- Runs of an engine: events one after another, with the facts that hold since each of them.
 use Rattle.std.specs.Prelude.{◌≡◌, ◌⊎◌, ℕ, ◌+◌, ◌<◌, ◌≤◌, Bool, true, false, List, [], ◌∷◌, ◌++◌, Option, Some, None, Result, Ok, Err}
 use Rattle.hpb_rules.specs.declared.letter.Answer.{Answer}
 use Rattle.hpb_rules.specs.declared.letter.Letter.{Letter}
@@ -19,34 +19,36 @@ use Rattle.hpb_engine.specs.Checkpoints.{CheckpointLeads, SameCore, checkpoint_c
 use Rattle.hpb_engine.specs.Offers.{StaysUnlessInFlight, Weighs, offer_by, weight_of}
 use Rattle.hpb_engine.specs.Steps.{TurnLeads, turn_by, turn_calls}
 
--- **Runs.** A pause is where an engine is between two events. One event leads from a pause to the next: letters are offered, a turn or a step is made,
--- with what leaves and whether the device fails. A run has a pause after each event that was taken; the first at which the device fails (91) is the
--- last.
+-- **Runs.** A pause is the state of an engine between two events. One event leads from a pause to the next: letters are
+-- offered, or a turn or a step is made. It says which answers leave and whether the device fails. A run has a pause
+-- after each event that was taken; the first at which the device fails (91) is the last.
 --
--- Where an engine is between two events: the moment, its progress, whether the device has failed, and the state of the machine without a disk that it keeps.
+-- The state of an engine between two events: the moment, its progress, whether the device has failed, and the machine
+-- without a disk that it keeps.
 pub record Pause : Type 0 where
   pub moment : ℕ
   pub progress : Progress
   pub failed : Bool
   pub machine : Machine
 
--- A run ends with the fault of a device alone: 93 ends none.
+-- A run ends with a fault of the device alone: 93 ends none.
 abbrev pub fault_in : {T : Type 0} → Result T Fault → Option Fault
 fault_in (Ok told) = None
 fault_in (Err faults.Device) = Some faults.Device
 fault_in (Err faults.Failed) = None
 
--- After a step the engine counts as failed exactly where the step was refused.
+-- After a step the engine counts as failed if and only if the step was refused.
 abbrev pub failed_by : {T : Type 0} → Result T Fault → Bool
 failed_by (Ok told) = false
 failed_by (Err fault) = true
 
--- A fault is told exactly where the number of the device's failures has risen, and it is that of a device (91).
+-- A fault is reported if and only if the number of the device's failures has risen, and it is 91.
 abbrev pub HasFailed : Option Fault → (before after : ℕ) → Type 0
 HasFailed None before after = after ≡ before
 HasFailed (Some fault) before after = (fault ≡ faults.Device) × (before < after)
 
--- At a pause the committed auction shows the acknowledged commands, the batch in flight is the machine's, and the numbers of batches and frames fit each other.
+-- At a pause the committed auction shows the acknowledged commands. The batch in flight is the machine's, and the
+-- numbers of batches and frames agree.
 pub record IsTold (pause : Pause) : Type 0 where
   pub safe : IsSafe pause.progress
   pub shows : Shows pause.progress.committed pause.machine.acknowledged
@@ -85,7 +87,7 @@ pub record IsStepped (result : Result Rest Fault) (before after : Pause) (leavin
   pub later : before.moment ≤ after.moment
   pub call : after.moment ≡ before.moment + checkpoint_calls before.failed before.progress
 
--- One event: what leaves with it, and whether the device fails in it.
+-- One event: the answers that leave with it, and whether the device fails in it.
 abbrev pub Follows : Event → Pause → Pause → List Answer → Option Fault → Type 0
 Follows (events.Offer letters) before after leaving fault = (begun : Begun) × IsOffered letters begun before after leaving × (fault ≡ None)
 Follows events.Commit before after leaving fault = (result : Result Step Fault) × IsTurned result before after leaving × (fault ≡ fault_in result)
@@ -110,27 +112,28 @@ abbrev pub StandsAtOne : List Pause → List ℕ → Type 0
 StandsAtOne [] image = ⊥
 StandsAtOne (pause ∷ pauses) image = StandsFor pause.machine image ⊎ StandsAtOne pauses image
 
--- Since each pause every image that a crash may have left stands for what a stop may leave at that pause or at a later one. As acknowledged commands
--- only grow from pause to pause, it holds all that were acknowledged at that one.
+-- Every image that a crash may have left since a pause stands for what a stop may leave at that pause or at a later
+-- one. Acknowledged commands only grow from pause to pause, so the image holds all that were acknowledged at that
+-- pause.
 abbrev pub Holds : (now : ℕ) (since : ℕ → List ℕ → Type 0) → Pause → List Pause → Type 0
 Holds now since pause [] = (pause.moment ≤ now) × ((image : List ℕ) → since pause.moment image → StandsAtOne (pause ∷ []) image)
 Holds now since pause (next ∷ pauses) = (pause.moment ≤ now) × ((image : List ℕ) → since pause.moment image → StandsAtOne (pause ∷ next ∷ pauses) image) × Holds now since next pauses
 
--- What is so after a run from a pause.
+-- The facts after a run from a pause.
 pub record Ran {D : Type 0} (seen : D → List ℕ) (may_leave : D → List ℕ → Type 0) (moment : D → ℕ) (left_since : D → ℕ → List ℕ → Type 0)
     (start : Pause) (events : List Event) (disk : D) (progress : Progress) (failed : Bool) (answers : List Answer) (fault : Option Fault) : Type 0 where
   pub pauses : List Pause
   -- Each event does what it does to the machine without a disk, and these are the answers that leave, in order.
   pub drove : Drove events start pauses answers fault
-  -- Since each pause nothing that was acknowledged at it is lost.
+  -- Since each pause, no command that was acknowledged at it is lost.
   pub holds : Holds (moment disk) (left_since disk) start pauses
-  -- The last pause is that of the end, and what it says is kept.
+  -- The last pause is that of the end, and the engine keeps its machine.
   pub at_end : (last_of start pauses).moment ≡ moment disk
   pub progress_is : (last_of start pauses).progress ≡ progress
   pub failed_is : (last_of start pauses).failed ≡ failed
   pub keeps : Keeps seen may_leave disk progress failed (last_of start pauses).machine
 
--- One event of an engine: the machine afterwards, which it keeps, and what a crash may have left since.
+-- One event of an engine: the machine afterwards, which it keeps, and the images that a crash may have left since.
 pub record Took {D : Type 0} (seen : D → List ℕ) (may_leave : D → List ℕ → Type 0) (moment : D → ℕ) (left_since : D → ℕ → List ℕ → Type 0)
     (event : Event) (old new : D) (s t : Progress) (failed after_failed : Bool) (machine : Machine) (leaving : List Answer) (fault : Option Fault) : Type 0 where
   pub after : Machine

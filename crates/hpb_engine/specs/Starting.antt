@@ -1,4 +1,4 @@
--- What an engine starts with: what was read of a device.
+-- The progress with which an engine starts, by the plan of the opened device.
 use Rattle.std.specs.Prelude.{◌≡◌, ℕ, false, List, length}
 use Rattle.hpb_rules.specs.declared.command.Command.{Command}
 use Rattle.hpb_codec.specs.declared.state.TheConstants.{STATE_SIZE}
@@ -39,7 +39,7 @@ pub record IsFreshRetirement (retirement : Retirement) (plan : Plan) : Type 0 wh
   pub going : retirement.going ≡ false
   pub upto : retirement.upto ≡ plan.clean_end
 
--- A progress is where a plan says, with nothing on its way.
+-- The progress is the plan's, with nothing on its way.
 pub record IsFresh (s : Progress) (plan : Plan) : Type 0 where
   pub committed : s.committed ≡ plan.auction
   pub window : IsFreshWindow s.window plan

@@ -1,4 +1,4 @@
--- What steps answer, where they lead, and what a crash since then may leave.
+-- The results of steps, their effects, and the images that a crash may leave since.
 use Rattle.std.specs.Prelude.{◌≡◌, ℕ, ◌+◌, ◌<◌, Bool, true, false, List, [], ◌∷◌, ◌++◌, Result, Ok, Err, MatchResult, OnOk, OnErr, ⊤, if◌then◌else◌}
 use Rattle.hpb_rules.specs.declared.command.Command.{Command}
 use Rattle.hpb_rules.specs.declared.letter.Answer.{Answer}
@@ -18,12 +18,12 @@ use Rattle.hpb_engine.specs.declared.step.Step.TheVariants as steps
 use Rattle.hpb_engine.specs.declared.step.Turned.{Turned}
 use Rattle.hpb_engine.specs.declared.step.Turned.TheVariants as turns
 
--- The refusal that a fault is told by.
+-- The refusal by which a fault is reported.
 abbrev pub refusal_of : Fault → Refusal
 refusal_of faults.Device = refusals.Device
 refusal_of faults.Failed = refusals.Failed
 
--- What a step answers, by what its turn did and by the answers that leave.
+-- The result of a step, by what its turn did and by the answers that leave.
 abbrev pub step_of : Result Turned Fault → List Answer → Result Step Fault
 step_of (Ok turns.Idle) leaving = Ok steps.Idle
 step_of (Ok turns.Went) leaving = Ok steps.Went
@@ -37,7 +37,8 @@ acknowledged_by (Ok steps.Went) s history = history
 acknowledged_by (Ok (steps.Done answers)) s history = history ++ s.commit.batch.commands
 acknowledged_by (Err fault) s history = history
 
--- What a turn does to the machine without a disk: a turn that works, or one whose device call fails. After a fault there is none.
+-- What a turn does to the machine without a disk: a turn that works, or one whose device call fails. After a fault
+-- there is none.
 abbrev pub turn_by : Result Step Fault → Machine → Effect
 turn_by (Ok step) machine = turn true machine
 turn_by (Err faults.Device) machine = turn false machine
@@ -54,7 +55,7 @@ leaving_with (Err fault) = []
 abbrev pub turn_calls : (failed : Bool) → Progress → ℕ
 turn_calls failed s = if failed then 0 else (if s.commit.busy then 1 else 0)
 
--- Where a turn leads: the fourth alone is the last one, and a failed third one counts.
+-- What a turn changes, by its result: the fourth alone is the last one, and a failed third one counts.
 abbrev pub TurnLeads : (failed : Bool) → Result Step Fault → Progress → Progress → Type 0
 TurnLeads failed (Ok steps.Idle) s t = (failed ≡ false) × (s.commit.busy ≡ false) × (t ≡ s)
 TurnLeads failed (Ok steps.Went) s t = (failed ≡ false) × (s.commit.busy ≡ true) × (s.commit.turns < 3) × (t ≡ turned s (s.commit.turns + 1))
@@ -62,26 +63,27 @@ TurnLeads failed (Ok (steps.Done answers)) s t = (failed ≡ false) × (s.commit
 TurnLeads failed (Err faults.Device) s t = (failed ≡ false) × (s.commit.busy ≡ true) × (s.commit.turns ≡ 2 → t ≡ turned s 3) × ((s.commit.turns ≡ 2 → ⊥) → t ≡ s)
 TurnLeads failed (Err faults.Failed) s t = (failed ≡ true) × (t ≡ s)
 
--- An image that a crash may have left since before it stands for what a stop may leave, before the call or after it.
+-- An image that a crash may have left since before the call stands for what a stop may leave, before the call or after
+-- it.
 abbrev pub LeavesBetween : {D : Type 0} (seen : D → List ℕ) (may_leave : D → List ℕ → Type 0) (moment : D → ℕ) (left_since : D → ℕ → List ℕ → Type 0)
     (old new : D) (s t : Progress) (failed : Bool) → Type 0
 LeavesBetween seen may_leave moment left_since old new s t failed =
     (history : List Command) → Inside seen may_leave old s failed history
     → LeavesOnly (moment old) (moment new) (left_since old) (left_since new) (may_leave new) (StandsBetween s t history)
 
--- What a step answers, apart from what it tells.
+-- The result of a step without its value: done, or a fault.
 abbrev pub outcome_of : {T : Type 0} → Result T Fault → Result ⊤ Fault
 outcome_of (Ok told) = Ok tt
 outcome_of (Err fault) = Err fault
 
--- What a step is to the device, which may have failed before it.
+-- A step as the device sees it. The device may have failed before.
 pub record OnDevice {D T : Type 0} (moment : D → ℕ) (failures : D → ℕ) (trace : D → List Asked) (old new : D) (failed after : Bool) (result : Result T Fault)
     (count : ℕ) (call : List Asked) : Type 0 where
   -- Its calls of the device are known beforehand: at most one.
   pub calls : moment new ≡ moment old + count
-  -- It asks the device for the one call of this step, if it has one, whether that succeeds or not.
+  -- It makes the one call of this step, if there is one, whether that succeeds or not.
   pub asked : failed ≡ false → Asks result call (trace old) (trace new)
-  -- 91 comes only where the device failed in this call, and 93 exactly after a 91.
+  -- 91 comes only if a call of the device failed in this step, and 93 if and only if one failed before it.
   pub cause : result ≡ Err faults.Device → failures old < failures new
   pub counted : OnOk result (failures new ≡ failures old)
   -- After a fault there is no call.
@@ -89,7 +91,8 @@ pub record OnDevice {D T : Type 0} (moment : D → ℕ) (failures : D → ℕ) (
   pub works : OnOk result (after ≡ false)
   pub fails : OnErr result (after ≡ true)
 
--- The same, and what is kept: what rests on the parts of the device before a step rests on them after it, with the acknowledged commands that follow.
+-- The same, and: if the facts about the parts of the device hold before a step, they hold after it, with the
+-- acknowledged commands that follow.
 pub record Called {D : Type 0} (seen : D → List ℕ) (may_leave : D → List ℕ → Type 0) (moment : D → ℕ) (left_since : D → ℕ → List ℕ → Type 0) (failures : D → ℕ)
     (trace : D → List Asked) (old new : D) (s t : Progress) (failed after : Bool) (outcome : Result ⊤ Fault) (later : List Command → List Command)
     (count : ℕ) (call : List Asked) : Type 0 where
@@ -97,7 +100,7 @@ pub record Called {D : Type 0} (seen : D → List ℕ) (may_leave : D → List �
   pub since : LeavesBetween seen may_leave moment left_since old new s t failed
   pub device : OnDevice moment failures trace old new failed after outcome count call
 
--- A sync whose failure is told.
+-- A sync whose failure is reported.
 pub record Synced {D : Type 0} (seen : D → List ℕ) (may_leave : D → List ℕ → Type 0) (moment : D → ℕ) (left_since : D → ℕ → List ℕ → Type 0) (failures : D → ℕ)
     (trace : D → List Asked) (old new : D) (after : Bool) (result : Result ⊤ Fault) : Type 0 where
   pub durable : OnOk result (Only (seen old) (may_leave new))

@@ -1,43 +1,43 @@
-//! What becomes of an offer.
+//! What becomes of letters that are offered to an engine.
 use hpb_rules::{Answers, Letters};
 
-/// What would become of letters that are offered.
+/// What would become of letters if they were offered now. Of several that apply, the first counts.
 #[derive(Clone, Copy, Debug, PartialEq, Eq)]
 pub enum Weight {
-    /// A call of the device has failed.
+    /// 93: a call of the device has failed before.
     Failed,
-    /// A batch is in flight.
+    /// A batch is in flight. The letters can be offered again once it is acknowledged.
     Busy,
-    /// All of them are refused or repeats, or there is none.
+    /// No letter is new: each is refused or a repeat, or there is none.
     Old,
-    /// There are new commands among them, and no clean frame is left.
+    /// Some letters are new, and no clean frame is left. A checkpoint makes frames clean again.
     Full,
-    /// There are new commands among them.
+    /// Some letters are new, and nothing bars them.
     New,
 }
 
-/// What bars letters that are offered from being taken.
+/// Why letters that are offered can't be taken. Of several that apply, the first counts.
 #[derive(Clone, Copy, Debug, PartialEq, Eq)]
 pub enum Bar {
-    /// 93: a call of the device has failed.
+    /// 93: a call of the device has failed before.
     Failed,
     /// A batch is in flight.
     Busy,
-    /// There are new commands among them, and no clean frame is left.
+    /// Some letters are new, and no clean frame is left.
     Full,
 }
 
 /// What became of letters that were offered. Letters that aren't taken are handed back.
 #[derive(Drop)]
 pub enum Begun {
-    /// 93: a call of the device has failed.
+    /// 93: a call of the device has failed before.
     Failed(Letters),
     /// A batch is in flight.
     Busy(Letters),
-    /// None of them is new: these are all answers, and nothing changes.
+    /// No letter is new. These are the answers to all of them, and nothing changes.
     Answered(Answers),
-    /// No clean frame is left for the new commands among them.
+    /// Some letters are new, and no clean frame is left.
     Full(Letters),
-    /// Their new commands are in flight.
+    /// The new commands are in flight.
     InFlight,
 }

@@ -1,11 +1,12 @@
-//! One call of the device, and how its failure is told.
+//! One call of the device, and how a failure of it is reported.
 ghost use Rattle.std.specs.Prelude.{◌≡◌, ◌∷◌, [], Err, IsOk, MatchResult, false, true};
 ghost use Rattle.hpb_engine.specs.Steps.{Synced};
 
 use crate::step::Fault;
 use hpb_disk::{Disk, DiskFailed};
 
-/// Tells whether a call was done: where it failed, the engine counts as failed from then on.
+/// Turns the outcome of a call into that of a step. If the call failed, the step's fault is 91 `device`, and the engine
+/// counts as failed from then on.
 pub(crate) fn tell(done: Result<(), DiskFailed>, failed: &mut bool) -> Result<(), Fault>
     requires works { failed.old ≡ false }
     ensures { MatchResult done (λ _. IsOk result × (failed.new ≡ false)) (λ _. (result ≡ Err Fault.Device) × (failed.new ≡ true)) }
@@ -19,7 +20,7 @@ pub(crate) fn tell(done: Result<(), DiskFailed>, failed: &mut bool) -> Result<()
     }
 }
 
-/// A sync.
+/// Syncs the device. If the sync fails, the fault is 91 `device`, and the engine counts as failed from then on.
 pub(crate) fn sync<D: Disk + Drop>(disk: &mut D, failed: &mut bool) -> Result<(), Fault>
     requires works { failed.old ≡ false }
     ensures { Synced D.seen D.may_leave D.moment D.left_since D.failures D.asked disk.old disk.new failed.new result }

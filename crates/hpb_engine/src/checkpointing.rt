@@ -1,4 +1,4 @@
-//! A checkpoint, by steps of at most one device call each.
+//! A checkpoint, written by steps of at most one device call each.
 ghost use Rattle.std.specs.Prelude.{◌≡◌, ◌+◌, ◌<◌, ◌≤◌, false, IfErr, OnErr, OnOk};
 ghost use Rattle.hpb_engine.specs.Moves.{snapped, emptied, stepped, renewed};
 ghost use Rattle.hpb_engine.specs.Asking.{step_asks};
@@ -14,7 +14,8 @@ use hpb_disk::Disk;
 use hpb_slots::{close_slot, open_slot, write_chunk};
 
 impl<D: Disk + Drop> Engine<D> {
-    /// Takes a snapshot of what is committed, not of a batch in flight, and closes the gate of the other slot, if it may be open.
+    /// Step 1: takes a snapshot of the committed auction, without a batch in flight. Closes the gate of the other slot,
+    /// if it may be open.
     pub(crate) fn begin_checkpoint(&mut self) -> Result<(), Fault>
         requires steps { self.old.progress.checkpoint.steps ≡ 0 }
         requires rest { self.old.progress.retirement.going ≡ false }
@@ -40,7 +41,7 @@ impl<D: Disk + Drop> Engine<D> {
         tell(done, &mut self.failed)
     }
 
-    /// It is closed on the device.
+    /// Step 2: syncs, so that the gate is closed on the device.
     pub(crate) fn sync_closed(&mut self) -> Result<(), Fault>
         requires steps { self.old.progress.checkpoint.steps ≡ 1 }
         requires works { self.old.failed ≡ false }
@@ -56,7 +57,7 @@ impl<D: Disk + Drop> Engine<D> {
         Ok(())
     }
 
-    /// Writes the next chunk of the body.
+    /// Steps 3 to 6: writes the next of the body's four chunks.
     pub(crate) fn write_next_chunk(&mut self) -> Result<(), Fault>
         requires from { 2 ≤ self.old.progress.checkpoint.steps }
         requires to { self.old.progress.checkpoint.steps ≤ 5 }
@@ -74,7 +75,7 @@ impl<D: Disk + Drop> Engine<D> {
         tell(done, &mut self.failed)
     }
 
-    /// All four are on the device.
+    /// Step 7: syncs, so that all four chunks are on the device.
     pub(crate) fn sync_chunks(&mut self) -> Result<(), Fault>
         requires steps { self.old.progress.checkpoint.steps ≡ 6 }
         requires works { self.old.failed ≡ false }
@@ -89,7 +90,7 @@ impl<D: Disk + Drop> Engine<D> {
         Ok(())
     }
 
-    /// Opens the gate of the new state.
+    /// Step 8: opens the gate of the other slot, which holds the new state.
     pub(crate) fn open_other(&mut self) -> Result<(), Fault>
         requires steps { self.old.progress.checkpoint.steps ≡ 7 }
         requires works { self.old.failed ≡ false }
@@ -104,7 +105,7 @@ impl<D: Disk + Drop> Engine<D> {
         tell(done, &mut self.failed)
     }
 
-    /// The new state is the newest. Frames that it covers are to be retired.
+    /// Step 9: syncs, so that the new state is the newest. Frames that it covers are retired next.
     pub(crate) fn sync_renewed(&mut self) -> Result<(), Fault>
         requires steps { self.old.progress.checkpoint.steps ≡ 8 }
         requires works { self.old.failed ≡ false }

@@ -17,7 +17,7 @@ use hpb_rules::{Answers, MOST_COMMANDS};
 use std::mem;
 
 impl<D: Disk + Drop> Engine<D> {
-    /// Writes the body of the batch behind its closed gate.
+    /// Turn 1: writes the body of the batch behind its closed gate.
     fn write_body(&mut self) -> Result<(), Fault>
         requires busy { self.old.progress.commit.busy ≡ true }
         requires turns { self.old.progress.commit.turns ≡ 0 }
@@ -38,7 +38,7 @@ impl<D: Disk + Drop> Engine<D> {
         Ok(())
     }
 
-    /// The body is on the device.
+    /// Turn 2: syncs, so that the body is on the device.
     fn sync_body(&mut self) -> Result<(), Fault>
         requires busy { self.old.progress.commit.busy ≡ true }
         requires turns { self.old.progress.commit.turns ≡ 1 }
@@ -54,7 +54,7 @@ impl<D: Disk + Drop> Engine<D> {
         Ok(())
     }
 
-    /// Writes the gate. From here on the batch has landed, whether the call worked or not.
+    /// Turn 3: writes the gate. From here on the batch has landed, even if the call fails.
     fn write_gate(&mut self) -> Result<(), Fault>
         requires busy { self.old.progress.commit.busy ≡ true }
         requires turns { self.old.progress.commit.turns ≡ 2 }
@@ -70,7 +70,7 @@ impl<D: Disk + Drop> Engine<D> {
         tell(done, &mut self.failed)
     }
 
-    /// The gate is on the device: the batch is acknowledged, and its answers leave.
+    /// Turn 4: syncs, so that the gate is on the device. The batch is acknowledged, and its answers leave.
     fn sync_gate(&mut self, leaving: &mut Answers) -> Result<(), Fault>
         requires busy { self.old.progress.commit.busy ≡ true }
         requires turns { self.old.progress.commit.turns ≡ 3 }
@@ -97,13 +97,13 @@ impl<D: Disk + Drop> Engine<D> {
         Ok(())
     }
 
-    /// One turn, by the parts of the device.
+    /// Makes the turn that is next, and keeps what the specs say of the device's parts.
     fn turn(&mut self, leaving: &mut Answers) -> Result<Turned, Fault>
         requires none { leaving.old ≡ [] }
         ensures leads { TurnLeads self.old.failed (step_of result leaving.new) self.old.progress self.new.progress }
         ensures leaving { leaving.new ≡ leaving_with (step_of result leaving.new) }
         ensures rules { self.new.progress.committed.rules ≡ self.old.progress.committed.rules }
-        // A turn with nothing in flight has no call.
+        // A turn with nothing in flight makes no call.
         ensures idle { result ≡ Ok Turned.Idle → self.new.disk ≡ self.old.disk }
         ensures called { Called D.seen D.may_leave D.moment D.left_since D.failures D.asked self.old.disk self.new.disk self.old.progress self.new.progress self.old.failed self.new.failed (outcome_of result) (acknowledged_by (step_of result leaving.new) self.old.progress) (turn_calls self.old.failed self.old.progress) (turn_asks self.old.progress) }
     {
@@ -134,28 +134,31 @@ impl<D: Disk + Drop> Engine<D> {
         }
     }
 
-    /// Makes a turn as `commit_step` does, with the answers that leave in a list of the caller's: those of the batch after its
-    /// last turn, and after any other call none, whatever was in the list. A caller that makes all turns needs one list for them.
+    /// Makes a turn as `commit_step` does, and puts the answers that leave into the caller's list.
+    ///
+    /// After the last turn of a batch the list has that batch's answers. After any other call it is empty, whatever it
+    /// held before. A caller that makes all turns needs one list for them.
     ///
     /// 91 `device`: the call failed. 93 `failed`: an earlier call failed; the device has to be opened again.
     pub fn make_turn(&mut self, leaving: &mut Answers) -> Result<Turned, Fault>
-        // What is kept before a turn is kept after it, by the machine's turn, and its answers leave with it.
+        // If a machine is kept before the turn, its next turn is kept after it, and the machine's answers leave.
         ensures keeps { (machine : Machine) → Keeps D.seen D.may_leave self.old.disk self.old.progress self.old.failed machine
             → Keeps D.seen D.may_leave self.new.disk self.new.progress self.new.failed (turn_by (step_of result leaving.new) machine).machine }
         ensures leaving { (machine : Machine) → Keeps D.seen D.may_leave self.old.disk self.old.progress self.old.failed machine
             → leaving.new ≡ (turn_by (step_of result leaving.new) machine).leaving }
         // Answers leave with the last turn, and with no other.
         ensures last { leaving.new ≡ leaving_with (step_of result leaving.new) }
-        // An image since the call began stands for what a stop of the machine may leave, before the turn or after it.
+        // An image that a crash may leave since the call began stands for what a stop may leave before the turn or
+        // after it.
         ensures since { (machine : Machine) → Keeps D.seen D.may_leave self.old.disk self.old.progress self.old.failed machine
             → LeavesOnly (D.moment self.old.disk) (D.moment self.new.disk) (D.left_since self.old.disk) (D.left_since self.new.disk)
             (D.may_leave self.new.disk) (StandsEither machine (turn_by (step_of result leaving.new) machine).machine) }
         // It is idle with nothing in flight, and done on the fourth turn, and on no other.
         ensures leads { TurnLeads self.old.failed (step_of result leaving.new) self.old.progress self.new.progress }
         ensures rules { self.new.progress.committed.rules ≡ self.old.progress.committed.rules }
-        // At most one call of the device, known beforehand, and how its failure is told.
+        // It makes at most one call of the device, known beforehand, and reports its failure.
         ensures device { OnDevice D.moment D.failures D.asked self.old.disk self.new.disk self.old.failed self.new.failed result (turn_calls self.old.failed self.old.progress) (turn_asks self.old.progress) }
-        // A turn with nothing in flight has no call.
+        // A turn with nothing in flight makes no call.
         ensures idle { result ≡ Ok Turned.Idle → self.new.disk ≡ self.old.disk }
     {
         laws_below();
@@ -163,29 +166,30 @@ impl<D: Disk + Drop> Engine<D> {
         self.turn(leaving)
     }
 
-    /// One turn of the batch in flight: its body is written; a sync; its gate is written; a sync. At the fourth its commands
-    /// are acknowledged, and all its answers leave.
+    /// Makes one turn of the batch in flight: its body is written; a sync; its gate is written; a sync. At the fourth
+    /// turn its commands are acknowledged, and all its answers leave.
     ///
-    /// What the machine without a disk keeps, the engine keeps after it: a third turn whose call fails lands the batch all
-    /// the same, any other changes nothing. It makes at most one call of the device, and takes no memory.
+    /// If the call of the third turn fails, the batch has landed all the same. If the call of any other turn fails,
+    /// nothing changes. A turn makes at most one call of the device, and takes no memory.
     ///
     /// 91 `device`: the call failed. 93 `failed`: an earlier call failed; the device has to be opened again.
     pub fn commit_step(&mut self) -> Result<Step, Fault>
-        // What is kept before a turn is kept after it, by the machine's turn, and its answers leave with it.
+        // If a machine is kept before the turn, its next turn is kept after it, and the machine's answers leave.
         ensures keeps { (machine : Machine) → Keeps D.seen D.may_leave self.old.disk self.old.progress self.old.failed machine
             → Keeps D.seen D.may_leave self.new.disk self.new.progress self.new.failed (turn_by result machine).machine }
         ensures leaving { (machine : Machine) → Keeps D.seen D.may_leave self.old.disk self.old.progress self.old.failed machine
             → leaving_with result ≡ (turn_by result machine).leaving }
-        // An image since the call began stands for what a stop of the machine may leave, before the turn or after it.
+        // An image that a crash may leave since the call began stands for what a stop may leave before the turn or
+        // after it.
         ensures since { (machine : Machine) → Keeps D.seen D.may_leave self.old.disk self.old.progress self.old.failed machine
             → LeavesOnly (D.moment self.old.disk) (D.moment self.new.disk) (D.left_since self.old.disk) (D.left_since self.new.disk)
             (D.may_leave self.new.disk) (StandsEither machine (turn_by result machine).machine) }
         // It is idle with nothing in flight, and done on the fourth turn, and on no other.
         ensures leads { TurnLeads self.old.failed result self.old.progress self.new.progress }
         ensures rules { self.new.progress.committed.rules ≡ self.old.progress.committed.rules }
-        // At most one call of the device, known beforehand, and how its failure is told.
+        // It makes at most one call of the device, known beforehand, and reports its failure.
         ensures device { OnDevice D.moment D.failures D.asked self.old.disk self.new.disk self.old.failed self.new.failed result (turn_calls self.old.failed self.old.progress) (turn_asks self.old.progress) }
-        // A turn with nothing in flight has no call.
+        // A turn with nothing in flight makes no call.
         ensures idle { result ≡ Ok Step.Idle → self.new.disk ≡ self.old.disk }
     {
         let mut leaving = Answers::new();

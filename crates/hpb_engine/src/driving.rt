@@ -1,4 +1,4 @@
-//! Events one after another.
+//! Events, taken one after another.
 ghost use Rattle.std.specs.Prelude.{◌≡◌, ◌+◌, ◌*◌, ◌≤◌, ◌++◌, List, [], length, vec_len, vec_capacity, IfOk, IfErr, OnErr};
 ghost use Rattle.hpb_rules.specs.declared.limits.TheConstants.{MOST_LETTERS};
 ghost use Rattle.hpb_rules.specs.Machine.{Machine};
@@ -12,26 +12,27 @@ use hpb_disk::Disk;
 use hpb_rules::{Answer, Answers, MOST_LETTERS};
 use std::alloc::{AllocError, Global};
 
-/// What events came to.
+/// The result of [`drive`]: the engine after the events, and what left it.
 #[derive(Drop)]
 pub struct Driven<D: Disk + Drop> {
     pub engine: Engine<D>,
-    /// The answers that left, in their order.
+    /// The answers that left, in order.
     pub answers: Vec<Answer>,
-    /// 91, where a call of the device failed: no event was taken after it.
+    /// 91 if a call of the device failed: no event was taken after it. `None` if none failed.
     pub fault: Option<Fault>,
 }
 
-/// What events came to, for an engine that stays where it is.
+/// The result of [`Engine::run`]: what left the engine, which stays in its place.
 #[derive(Drop)]
 pub struct Run {
-    /// The answers that left, in their order.
+    /// The answers that left, in order.
     pub answers: Vec<Answer>,
-    /// 91, where a call of the device failed: no event was taken after it.
+    /// 91 if a call of the device failed: no event was taken after it. `None` if none failed.
     pub fault: Option<Fault>,
 }
 
-/// Takes one event, and puts the answers that leave where there is none yet. The fault is 91, where the device fails in it.
+/// Takes one event. Answers that leave go into the list, which is empty before. The result is 91 if a call of the
+/// device fails in the event.
 fn take_event<D: Disk + Drop>(
     engine: &mut Engine<D>,
     event: &Event,
@@ -53,7 +54,7 @@ fn take_event<D: Disk + Drop>(
     }
 }
 
-/// Whether the device failed in a step.
+/// The fault of a step if its call of the device failed. 93 is none.
 fn failure_in<T: Drop>(step: Result<T, Fault>) -> Option<Fault>
     ensures { result ≡ fault_in step }
 {
@@ -63,7 +64,7 @@ fn failure_in<T: Drop>(step: Result<T, Fault>) -> Option<Fault>
     }
 }
 
-/// Takes the events in order, up to the first at which the device fails.
+/// Takes the events in order, up to the first at which a call of the device fails.
 fn take_all<D: Disk + Drop>(
     engine: &mut Engine<D>,
     events: &[Event],
@@ -91,15 +92,15 @@ fn take_all<D: Disk + Drop>(
 }
 
 impl<D: Disk + Drop> Engine<D> {
-    /// Takes events in order, as [`drive`] does, where it stands.
+    /// Takes events in order, as [`drive`] does, on an engine that stays in its place.
     ///
-    /// Room for all answers is made first: where memory is refused (90), no event is taken and nothing changes.
+    /// Room for all answers is made first. 90 if memory is refused: no event is taken, and nothing changes.
     pub fn run(&mut self, alloc: Global, events: &[Event]) -> Result<Run, AllocError>
         ensures ran { (machine : Machine) → Keeps D.seen D.may_leave self.old.disk self.old.progress self.old.failed machine
             → IfOk result (λ run. Ran D.seen D.may_leave D.moment D.left_since
             (record { moment = D.moment self.old.disk; progress = self.old.progress; failed = self.old.failed; machine = machine })
             events.now self.new.disk self.new.progress self.new.failed run.answers.items run.fault) }
-        // 91 comes only where the device failed in this call, and only where it didn't is there none.
+        // The fault is 91 if and only if a call of the device failed in this run.
         ensures cause { IfOk result (λ run. HasFailed run.fault (D.failures self.old.disk) (D.failures self.new.disk)) }
         ensures disk { OnErr result (self.new.disk ≡ self.old.disk) }
         ensures progress { OnErr result (self.new.progress ≡ self.old.progress) }
@@ -111,15 +112,16 @@ impl<D: Disk + Drop> Engine<D> {
     }
 }
 
-/// Takes events in order: letters are offered, and turns of commits and steps of checkpoints are made, in any order among
-/// each other. It stops at the first at which a call of the device fails (91). An offer is dropped where a batch is in
-/// flight, where there are new commands in it and no clean frame is left, and after a fault; so are turns with nothing in
-/// flight.
+/// Takes events in order. Offers of letters, turns of commits and steps of checkpoints may come in any order. It stops
+/// after the first event at which a call of the device fails (91).
 ///
-/// What is acknowledged is never lost: whenever a crash comes, at any moment from the start on, within a call or between
-/// two, what it leaves stands for the commands that were acknowledged by then, perhaps with those of batches after them.
+/// An offer is dropped if a batch is in flight, if it has new commands and no clean frame is left, and after a fault. A
+/// turn with nothing in flight does nothing.
 ///
-/// Room for all answers is made first: 90 where memory is refused, and the engine is handed back as it was.
+/// No acknowledged command is ever lost. A crash may come at any moment from the start on, within a call or between
+/// two. It leaves bytes that stand for all commands acknowledged by then, perhaps with those of later batches.
+///
+/// Room for all answers is made first. 90 if memory is refused: the engine is handed back as it was.
 pub fn drive<D: Disk + Drop>(
     alloc: Global,
     engine: Engine<D>,
@@ -129,7 +131,7 @@ pub fn drive<D: Disk + Drop>(
         → IfOk result (λ driven. Ran D.seen D.may_leave D.moment D.left_since
         (record { moment = D.moment engine.disk; progress = engine.progress; failed = engine.failed; machine = machine })
         events.now driven.engine.disk driven.engine.progress driven.engine.failed driven.answers.items driven.fault) }
-    // 91 comes only where the device failed in this call, and only where it didn't is there none.
+    // The fault is 91 if and only if a call of the device failed in this run.
     ensures cause { IfOk result (λ driven. HasFailed driven.fault (D.failures engine.disk) (D.failures driven.engine.disk)) }
     ensures back { IfErr result (λ back. (back.disk ≡ engine.disk) × (back.progress ≡ engine.progress) × (back.failed ≡ engine.failed)) }
 {

@@ -10,37 +10,39 @@ use crate::Progress;
 use hpb_auction::Auction;
 use hpb_disk::Disk;
 
-/// An auction on a device: what is acknowledged, a batch in flight or none, and a checkpoint on its way or none.
+/// An auction on a device: the acknowledged commands, at most one batch in flight, and at most one checkpoint on its
+/// way.
 #[derive(Drop)]
 pub struct Engine<D: Disk + Drop> {
     pub disk: D,
     pub progress: Progress,
-    /// Whether a call of the device has failed.
+    /// Whether a call of the device has failed. No step is made afterwards.
     pub failed: bool,
     pub ghost safe: { IsSafe progress },
     pub ghost sized: { length (D.seen disk) ≡ (layout_of progress.window).size },
 }
 
 impl<D: Disk + Drop> Engine<D> {
-    /// The auction after the acknowledged commands. It answers after a fault too.
+    /// The auction after the acknowledged commands. It can be read after a fault too.
     pub fn committed(&self) -> &Auction
         ensures { result.now ≡ self.now.progress.committed }
     {
         &self.progress.committed
     }
 
-    /// `Disk::still_holds` of its device.
+    /// Whether the device still holds these bytes at `at`, as its `Disk::still_holds` says.
     pub fn still_holds(&self, at: usize, room: &mut [u8]) -> bool
-        // A caller stays within the device.
+        // The range must lie within the device.
         requires range { at + length room.old ≤ length (D.seen self.now.disk) }
     {
         self.disk.still_holds(at, room)
     }
 
-    /// The device, with what is committed on it: opened again, it shows the same commands.
+    /// Gives the device back, with the committed auction on it: opened again, it shows the same commands.
     pub fn finish(self) -> D
         ensures disk { result ≡ self.disk }
-        // With nothing in flight what a read gives stands for the acknowledged commands, so that `open` shows them.
+        // With nothing in flight, the bytes that a read gives stand for the acknowledged commands, so `open` shows
+        // them.
         ensures stands { (history : List Command) → Keeps D.seen D.may_leave self.disk self.progress self.failed (at_rest history) → Stands history (D.seen result) }
     {
         let Engine { disk, .. } = self;

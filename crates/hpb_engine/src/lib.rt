@@ -1,8 +1,10 @@
-//! The engine: an auction on a device. Commands are acknowledged once they are on the device, and never lost.
+//! The engine: an auction on a device. It acknowledges commands once they are on the device, and never loses one.
 //!
-//! The promise in one call is `drive_then_open`: what was acknowledged at any point of a run is found after every stop.
-//! A batch is committed in four turns and a checkpoint is written in steps, in any order among each other; each makes at
-//! most one call of the device, and takes no memory.
+//! The one-call promise is stated for `drive_then_open`: after any stop of a run, the device shows all commands that
+//! were acknowledged by then.
+//!
+//! A batch is committed in four turns, and a checkpoint is written in steps. Turns and steps may come in any order.
+//! Each makes at most one call of the device, and takes no memory.
 #![tactic(auto)]
 
 mod begun;

@@ -1,4 +1,4 @@
-//! Taking in letters.
+//! Offering letters to an engine.
 ghost use Rattle.std.specs.Prelude.{◌≡◌, [], IfSome, None};
 ghost use Rattle.hpb_rules.specs.Machine.{Machine, take_letters};
 ghost use Rattle.hpb_engine.specs.Keeping.{Keeps};
@@ -13,7 +13,8 @@ use hpb_disk::Disk;
 use hpb_rules::{Answers, Letters, judged_is_shown};
 
 impl<D: Disk + Drop> Engine<D> {
-    /// What would become of letters, were they offered now. Nothing changes, and the device has no call.
+    /// Says what would become of the letters if they were offered now. Changes nothing, and makes no call of the
+    /// device.
     pub fn weigh(&self, letters: &Letters) -> Weight
         ensures { Weighs self.now.failed self.now.progress letters.now result }
     {
@@ -32,8 +33,8 @@ impl<D: Disk + Drop> Engine<D> {
         Weight::New
     }
 
-    /// What bars letters, were they offered now: the first that applies. Nothing changes, and the device has no call. Where a
-    /// clean frame is left none of them is judged.
+    /// Says what would bar the letters if they were offered now: the first reason that applies. Changes nothing, and
+    /// makes no call of the device. If a clean frame is left, it judges none of them.
     pub fn bars(&self, letters: &Letters) -> Option<Bar>
         ensures barred { IfSome result (λ bar. Weighs self.now.failed self.now.progress letters.now (weight_by bar)) }
         ensures clear { result ≡ None → CanTake self.now.failed self.now.progress letters.now }
@@ -53,11 +54,12 @@ impl<D: Disk + Drop> Engine<D> {
         None
     }
 
-    /// Takes letters that nothing bars. Each is judged once: the answers leave where none is new, and else the new commands
-    /// are in flight, and none leaves. The device has no call, and it takes no memory.
+    /// Takes letters that nothing bars, and judges each once. If none is new, the answers leave at once. Otherwise the
+    /// new commands are in flight, and no answer leaves yet. It makes no call of the device, and takes no memory.
     pub fn take(&mut self, letters: &Letters) -> Option<Answers>
         requires clear { CanTake self.old.failed self.old.progress letters.now }
-        // What is kept before is kept after it, as the machine without a disk takes the letters, and its answers leave.
+        // If a machine is kept before, then after it the machine that takes the letters is kept, and the machine's
+        // answers leave.
         ensures keeps { (machine : Machine) → Keeps D.seen D.may_leave self.old.disk self.old.progress self.old.failed machine
             → Keeps D.seen D.may_leave self.new.disk self.new.progress self.new.failed (take_letters self.old.progress.committed.rules machine letters.now).machine }
         ensures leaving { (machine : Machine) → Keeps D.seen D.may_leave self.old.disk self.old.progress self.old.failed machine
@@ -86,13 +88,16 @@ impl<D: Disk + Drop> Engine<D> {
         None
     }
 
-    /// Offers letters, as `weigh` weighs them: answers them at once where none is new, and else puts their new commands in
-    /// flight. The device has no call, and it takes no memory.
+    /// Offers letters. If none is new, it answers them at once. Otherwise it puts their new commands in flight. It
+    /// makes no call of the device, and takes no memory.
     ///
-    /// Letters are handed back where something bars them: where a call of the device has failed (93), where a batch is in
-    /// flight, and where there are new commands among them and no clean frame is left.
+    /// It hands the letters back in three cases, of which the first that applies counts:
+    /// - a call of the device has failed (93);
+    /// - a batch is in flight;
+    /// - some letters are new, and no clean frame is left.
     pub fn begin(&mut self, letters: Letters) -> Begun
-        // What is kept before an offer is kept after it, as the machine takes it, and its answers leave with it.
+        // If a machine is kept before, then after it the machine that is offered the letters is kept, and the machine's
+        // answers leave.
         ensures keeps { (machine : Machine) → Keeps D.seen D.may_leave self.old.disk self.old.progress self.old.failed machine
             → Keeps D.seen D.may_leave self.new.disk self.new.progress self.new.failed (offer_by result self.old.progress.committed.rules machine letters).machine }
         ensures leaving { (machine : Machine) → Keeps D.seen D.may_leave self.old.disk self.old.progress self.old.failed machine
@@ -115,11 +120,11 @@ impl<D: Disk + Drop> Engine<D> {
         }
     }
 
-    /// Offers letters that are lent, as `begin` does for those that are given, and puts the answers that leave where there
-    /// is none yet.
+    /// Offers letters as `begin` does, but borrows them. Answers that leave go into the list, which is empty before.
     pub(crate) fn offer(&mut self, letters: &Letters, leaving: &mut Answers) -> Weight
         requires none { leaving.old ≡ [] }
-        // What is kept before an offer is kept after it, as the machine takes it, and its answers leave with it.
+        // If a machine is kept before, then after it the machine that is offered the letters is kept, and the machine's
+        // answers leave.
         ensures keeps { (machine : Machine) → Keeps D.seen D.may_leave self.old.disk self.old.progress self.old.failed machine
             → Keeps D.seen D.may_leave self.new.disk self.new.progress self.new.failed (offer_by (begun_of result letters.now leaving.new) self.old.progress.committed.rules machine letters.now).machine }
         ensures leaving { (machine : Machine) → Keeps D.seen D.may_leave self.old.disk self.old.progress self.old.failed machine

@@ -8,7 +8,7 @@ use hpb_journal::{AnyFrames, Frames};
 use hpb_rules::Answers;
 use hpb_slots::Slot;
 
-/// Where an engine stands between two of its steps.
+/// All that an engine knows between two steps, apart from its device.
 #[derive(Drop)]
 pub struct Progress {
     /// The auction after the acknowledged commands.
@@ -22,17 +22,17 @@ pub struct Progress {
 /// The frames of the journal, by the indexes of their batches: which are in use, and which are clean.
 #[derive(Drop)]
 pub struct Window {
-    /// Where the frames stand.
+    /// The places of the frames on the device.
     pub frames: AnyFrames,
     /// How many batches the newest slot covers.
     pub covered: u64,
     /// The index of the next batch.
     pub next: u64,
-    /// The end of the clean frames: those from `next` on, up to here, are closed in all that a crash may leave.
+    /// The end of the clean frames: those from `next` up to here are closed in every image that a crash may leave.
     pub clean_end: u64,
-    /// What `covered` was when the device was opened.
+    /// The value of `covered` when the device was opened.
     pub opened_at: u64,
-    /// Of each frame, from that of batch `opened_at` on, whether its gate was open then.
+    /// For each frame, beginning with that of batch `opened_at`: whether its gate was open when the device was opened.
     pub gates: Vec<bool>,
 }
 
@@ -47,7 +47,7 @@ impl Window {
         self.covered + u64::from(self.frames.count())
     }
 
-    /// Whether the gate of a frame that isn't clean may be open.
+    /// Whether the gate of this frame, which isn't clean, may be open.
     pub fn may_be_open(&self, index: u64) -> bool
         requires { self.now.opened_at ≤ index }
         ensures { result ≡ may_be_open self.now index }
@@ -63,42 +63,44 @@ impl Window {
     }
 }
 
-/// A batch on its way to the device.
+/// The batch on its way to the device, if there is one.
 #[derive(Drop)]
 pub struct Commit {
-    /// Whether there is one in flight. Without one the other fields but `working` say nothing.
+    /// Whether a batch is in flight. If none is, the other fields but `working` mean nothing.
     pub busy: bool,
-    /// How many turns it has had, at most three: its body is written, is on the device, and its gate is written.
+    /// How many turns the batch has had, at most three: its body is written; the body is on the device; its gate is
+    /// written.
     pub turns: u8,
     /// Its new commands.
     pub batch: Batch,
     /// The answers to all its letters.
     pub answers: Answers,
-    /// The auction after it.
+    /// The auction after the batch. With none in flight, a copy of the committed auction.
     pub working: Auction,
 }
 
-/// A checkpoint on its way to the device.
+/// The checkpoint on its way to the device, if there is one.
 #[derive(Drop)]
 pub struct Checkpoint {
-    /// The slot with the newest state. The other one is the checkpoint's.
+    /// The slot with the newest state. The checkpoint is written into the other one.
     pub newest: Slot,
     /// Whether the gate of the other slot may be open.
     pub other_open: bool,
-    /// How many steps it has made, at most eight: the other gate is closed; that is on the device; four chunks are
-    /// written; they are on the device; the gate is open. 0 where there is none.
+    /// How many steps the checkpoint has made, 0 to 8; 0 if none is begun. After 1 the other slot's gate is closed, and
+    /// after 2 that is on the device. After 6 the four chunks are written, and after 7 they are on the device. After 8
+    /// the gate is open.
     pub steps: u8,
     /// How many batches it covers.
     pub covers: u64,
-    /// Its bytes.
+    /// Its bytes, `STATE_SIZE` of them.
     pub body: Vec<u8>,
 }
 
-/// Frames on their way to be clean again.
+/// The frames that are being made clean again.
 #[derive(Drop)]
 pub struct Retirement {
-    /// Whether it has begun.
+    /// Whether it has begun, and its sync isn't done yet.
     pub going: bool,
-    /// The frames from the end of the clean ones up to here are closed. Where it hasn't begun, that end itself.
+    /// The frames from the end of the clean ones up to here are closed. If it hasn't begun, this is that end.
     pub upto: u64,
 }

@@ -38,7 +38,7 @@ impl<D: Disk + Drop> Engine<D> {
         tell(done, &mut self.failed)
     }
 
-    /// All of them are closed on the device: they are clean.
+    /// Syncs behind the last of them: they are closed on the device, and clean.
     pub(crate) fn sync_retired(&mut self) -> Result<(), Fault>
         requires done { self.old.progress.retirement.upto ≡ end_of self.old.progress.window }
         requires works { self.old.failed ≡ false }

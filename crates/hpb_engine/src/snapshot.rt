@@ -9,7 +9,8 @@ use hpb_auction::Auction;
 use hpb_codec::encode_state;
 use hpb_rules::Saved;
 
-/// Writes down the state of an auction that covers so many batches. An index is at most the count of commands.
+/// Writes the state of an auction into `body`, as one that covers `covers` batches. These are at most as many as the
+/// auction has commands.
 pub(crate) fn take_snapshot(auction: &Auction, covers: u64, body: &mut Vec<u8>)
     requires { length body.old.items ≡ STATE_SIZE }
     ensures size { length body.new.items ≡ STATE_SIZE }

@@ -17,7 +17,7 @@ use hpb_recover::{Opened, Plan};
 use hpb_rules::{Answers, Commands};
 use std::alloc::Global;
 
-/// A progress with nothing on its way.
+/// The progress over an opened device: nothing is in flight, and no checkpoint is begun.
 fn fresh(plan: Plan, working: Auction, body: Vec<u8>) -> Progress
     requires copy { working ≡ plan.auction }
     requires room { length body.items ≡ STATE_SIZE }
@@ -59,11 +59,11 @@ fn fresh(plan: Plan, working: Auction, body: Vec<u8>) -> Progress
 }
 
 impl<D: Disk + Drop> Engine<D> {
-    /// An engine over an opened device. It makes the room for all that is to come: no step takes memory.
+    /// Starts an engine over an opened device. It allocates all memory that the engine will use: no step takes more.
     ///
-    /// 90 where memory is refused: the opened device is handed back as it was.
+    /// 90 if memory is refused: the opened device is handed back as it was.
     pub fn start(alloc: Global, opened: Opened<D>) -> Result<Engine<D>, Opened<D>>
-        // Over a device that stands for a history it keeps that history, with nothing in flight.
+        // If the device stands for a history, the engine keeps that history, with nothing in flight.
         ensures keeps { (history : List Command) → Stands history (D.seen opened.disk)
             → IfOk result (λ engine. Keeps D.seen D.may_leave engine.disk engine.progress engine.failed (at_rest history)) }
         ensures started { IfOk result (λ engine. IsStarted engine.progress opened.plan) }

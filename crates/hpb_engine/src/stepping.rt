@@ -14,7 +14,7 @@ use hpb_disk::Disk;
 use hpb_rules::MOST_COMMANDS;
 
 impl<D: Disk + Drop> Engine<D> {
-    /// A step while no checkpoint is written: frames are retired, a checkpoint is begun, or all is done.
+    /// Makes a step while no checkpoint is being written: retires a frame, begins a checkpoint, or finds nothing to do.
     fn rest_step(&mut self) -> Result<Rest, Fault>
         requires steps { self.old.progress.checkpoint.steps ≡ 0 }
         requires works { self.old.failed ≡ false }
@@ -45,7 +45,7 @@ impl<D: Disk + Drop> Engine<D> {
         Ok(Rest::Went(Part::Retired))
     }
 
-    /// A step while a checkpoint is written.
+    /// Makes a step while a checkpoint is being written.
     fn write_step(&mut self) -> Result<Rest, Fault>
         requires steps { 1 ≤ self.old.progress.checkpoint.steps }
         requires works { self.old.failed ≡ false }
@@ -82,7 +82,7 @@ impl<D: Disk + Drop> Engine<D> {
         }
     }
 
-    /// One step, by the parts of the device.
+    /// Makes the step that is next, and keeps what the specs say of the device's parts.
     fn step(&mut self) -> Result<Rest, Fault>
         ensures leads { CheckpointLeads self.old.failed result self.old.progress self.new.progress }
         ensures same { SameCore self.old.progress self.new.progress }
@@ -101,28 +101,28 @@ impl<D: Disk + Drop> Engine<D> {
         }
     }
 
-    /// One step of a checkpoint: nine that write the state of what is committed at the first of them, then one for each
-    /// frame that it makes free, and a sync. Steps of a commit may come between.
+    /// Makes one step of a checkpoint. Nine steps write the state that is committed at the first of them. Then come one
+    /// step for each frame that the checkpoint frees, and a sync. Turns of a commit may come between.
     ///
-    /// Nothing of the commands changes. It makes at most one call of the device, and takes no memory.
+    /// The commands don't change. A step makes at most one call of the device, and takes no memory.
     ///
     /// 91 `device`: the call failed. 93 `failed`: an earlier call failed; the device has to be opened again.
     pub fn checkpoint_step(&mut self) -> Result<Rest, Fault>
-        // What is kept before a step is kept after it.
+        // A machine that is kept before a step is kept after it.
         ensures keeps { (machine : Machine) → Keeps D.seen D.may_leave self.old.disk self.old.progress self.old.failed machine
             → Keeps D.seen D.may_leave self.new.disk self.new.progress self.new.failed machine }
-        // An image since the call began stands for what a stop of the machine may leave.
+        // An image that a crash may leave since the call began stands for what a stop of the machine may leave.
         ensures since { (machine : Machine) → Keeps D.seen D.may_leave self.old.disk self.old.progress self.old.failed machine
             → LeavesOnly (D.moment self.old.disk) (D.moment self.new.disk) (D.left_since self.old.disk) (D.left_since self.new.disk)
             (D.may_leave self.new.disk) (StandsFor machine) }
         ensures same { SameCore self.old.progress self.new.progress }
-        // It is idle at rest alone, and whole after the steps that were left, and not before.
+        // It is idle if and only if there is nothing to do, and whole exactly at the last of the steps that were left.
         ensures leads { CheckpointLeads self.old.failed result self.old.progress self.new.progress }
-        // No frame that is clean is given up.
+        // No clean frame is given up.
         ensures clean { self.old.progress.window.clean_end ≤ self.new.progress.window.clean_end }
-        // At most one call of the device, known beforehand, and how its failure is told.
+        // It makes at most one call of the device, known beforehand, and reports its failure.
         ensures device { OnDevice D.moment D.failures D.asked self.old.disk self.new.disk self.old.failed self.new.failed result (checkpoint_calls self.old.failed self.old.progress) (step_asks self.old.progress) }
-        // A step at rest has no call.
+        // A step with nothing to do makes no call.
         ensures idle { result ≡ Ok Rest.Idle → self.new.disk ≡ self.old.disk }
     {
         laws_below();

@@ -5,14 +5,14 @@ use Rattle.hpb_engine_rows.specs.declared.letters.Bidder.TheVariants as bidders
 use Rattle.hpb_engine_rows.specs.declared.letters.Node.{Node}
 use Rattle.hpb_engine_rows.specs.declared.letters.Node.TheVariants as nodes
 
--- Where a bidder stands among the bidders.
+-- The place of a bidder among the bidders.
 abbrev pub bidder_place : Bidder → ℕ
 bidder_place bidders.X = 0
 bidder_place bidders.Y = 1
 bidder_place bidders.Z = 2
 bidder_place bidders.W = 3
 
--- Where a node stands among the nodes.
+-- The place of a node among the nodes.
 abbrev pub node_place : Node → ℕ
 node_place nodes.All = 0
 node_place nodes.East = 1

@@ -1,15 +1,15 @@
-//! The calls of an engine, and what they answer.
+//! The calls of an engine, and their results.
 
 use hpb_disk::Disk;
 use hpb_engine::{Begun, Engine, Fault, Rest, Step, Weight};
 use hpb_rules::{Answers, Letters};
 
-/// What became of an offer.
+/// The results of an offer.
 #[derive(Drop)]
 pub struct Offered {
-    /// How the letters were weighed before it.
+    /// The weight of the letters before it.
     pub weighed: Weight,
-    /// What `begin` answered.
+    /// The result of `begin`.
     pub begun: Weight,
     /// The answers that left with it.
     pub answers: Answers,
@@ -23,7 +23,7 @@ pub fn offer<D: Disk + Drop>(engine: &mut Engine<D>, letters: Letters) -> Offere
     told(weighed, engine.begin(letters))
 }
 
-/// An offer by how it was weighed and what `begin` answered.
+/// An offer, by the weight of its letters and the result of `begin`.
 fn told(weighed: Weight, begun: Begun) -> Offered {
     let none = Answers::new();
     let (begun, answers, back) = match begun {
@@ -41,7 +41,7 @@ fn told(weighed: Weight, begun: Begun) -> Offered {
     }
 }
 
-/// What a turn of a commit answered.
+/// The result of a turn of a commit.
 #[derive(Clone, Copy, Debug, PartialEq, Eq)]
 pub enum Turn {
     Idle,
@@ -85,8 +85,8 @@ pub fn steps_retiring(frames: u32) -> usize {
     (frames as usize).saturating_add(10)
 }
 
-/// How many steps of a checkpoint are made until one answers `Whole`, this one with them. At most `most` are made; 0
-/// where none of them answers so.
+/// Makes steps of a checkpoint until one answers `Whole`. Gives how many it made, that one included, or 0 if none of
+/// `most` steps answers so.
 pub fn steps_to_whole<D: Disk + Drop>(engine: &mut Engine<D>, most: usize) -> usize {
     for step in 1..=most {
         if take_step(engine) == Ok(Rest::Whole) {

@@ -1,4 +1,4 @@
-//! Devices in memory of each layout, engines over them, and what is opened of what is left.
+//! Devices in memory of each layout, engines over them, and the results of opening them again.
 
 use anyhow::{Error, Result, bail};
 use hpb_codec::{JournalLayout, JournalShape, PAGE_BYTES};
@@ -10,7 +10,7 @@ use hpb_slots::Slot;
 use hpb_tree::{BidderDraft, Definition, Draft, NodeDraft, TermsDraft};
 use std::alloc::{AllocError, Global};
 
-/// A journal of pages, and one of cells, each with as few frames as it may have.
+/// A journal of pages, and one of cells, each with the fewest frames.
 pub const PAGES: JournalShape = JournalShape {
     layout: JournalLayout::Pages,
     frames: 4,
@@ -32,7 +32,7 @@ macro_rules! over_layouts {
     };
 }
 
-/// Where the journal begins: behind 13 pages of 4,096 bytes.
+/// The journal's first byte, behind 13 pages of 4,096 bytes.
 const JOURNAL_AT: usize = 53_248;
 
 /// The bytes of a frame: a page, or three cells of 512.
@@ -43,7 +43,7 @@ fn frame_bytes(layout: JournalLayout) -> usize {
     }
 }
 
-/// Where the frame of this place begins.
+/// The first byte of the frame at this place.
 pub fn frame_at(layout: JournalLayout, place: u32) -> usize {
     let before = frame_bytes(layout).saturating_mul(place as usize);
     JOURNAL_AT.saturating_add(before)
@@ -70,7 +70,7 @@ fn node(
     })
 }
 
-/// A draft of six nodes, four bidders, two stages and so many waivers.
+/// A draft of six nodes, four bidders, two stages and this many waivers.
 fn six_nodes_draft(alloc: Global, waivers: u64) -> Result<Draft, AllocError> {
     let mut draft = Draft {
         step: 10,
@@ -97,13 +97,13 @@ fn six_nodes_draft(alloc: Global, waivers: u64) -> Result<Draft, AllocError> {
     Ok(draft)
 }
 
-/// Six nodes, four bidders, two stages and so many waivers.
+/// A definition of six nodes, four bidders, two stages and this many waivers.
 fn six_nodes_with(alloc: Global, waivers: u64) -> Result<Definition> {
     let draft = six_nodes_draft(alloc, waivers)?;
     Ok(Definition::check(alloc, &draft)?)
 }
 
-/// Six nodes, four bidders and two stages.
+/// A definition of six nodes, four bidders, two stages and no waivers.
 pub fn six_nodes(alloc: Global) -> Result<Definition> {
     six_nodes_with(alloc, 0)
 }
@@ -117,7 +117,7 @@ fn formatted(alloc: Global, definition: &Definition, shape: JournalShape) -> Res
     }
 }
 
-/// A new device with such a journal and so many waivers, which had no call yet.
+/// A new device with such a journal and this many waivers, which had no call yet.
 pub fn new_device_with(alloc: Global, shape: JournalShape, waivers: u64) -> Result<MemoryDisk> {
     let definition = six_nodes_with(alloc, waivers)?;
     let bytes = bytes_of(alloc, formatted(alloc, &definition, shape)?)?;
@@ -137,7 +137,7 @@ pub fn bytes_of(alloc: Global, disk: MemoryDisk) -> Result<Vec<u8>> {
     Ok(bytes)
 }
 
-/// A value in a box. Whoever lets go of it does so by one call, however large it is.
+/// A value in a box. Its owner frees it by one call, however large it is.
 pub fn boxed<T: Drop>(alloc: Global, value: T) -> Result<Box<T>, AllocError> {
     Ok(Box::new(alloc, value)?)
 }
@@ -150,7 +150,7 @@ pub fn opened<D: Disk + Drop>(alloc: Global, disk: D) -> Result<Opened<D>, OpenF
     }
 }
 
-/// An engine over what was opened.
+/// An engine over an opened device.
 pub fn started<D: Disk + Drop>(alloc: Global, opened: Box<Opened<D>>) -> Result<Box<Engine<D>>> {
     match Engine::start(alloc, Box::into_inner(opened)) {
         Ok(engine) => Ok(boxed(alloc, engine)?),
@@ -161,7 +161,7 @@ pub fn started<D: Disk + Drop>(alloc: Global, opened: Box<Opened<D>>) -> Result<
     }
 }
 
-/// What is opened of a device, without the device where it isn't.
+/// The result of opening a device; without the device if it isn't opened.
 pub fn opened_or_cause<D: Disk + Drop>(alloc: Global, disk: D) -> Result<Box<Opened<D>>> {
     match opened(alloc, disk) {
         Ok(opened) => Ok(boxed(alloc, opened)?),
@@ -179,13 +179,13 @@ pub fn new_engine(alloc: Global, shape: JournalShape) -> Result<Box<Engine<Memor
     engine_over(alloc, new_device(alloc, shape)?)
 }
 
-/// How many calls opening a new device has, behind which an engine's own are counted.
+/// How many calls it takes to open a new device. An engine's own calls are counted behind these.
 pub fn calls_of_opening(alloc: Global, shape: JournalShape) -> Result<u64> {
     let engine = new_engine(alloc, shape)?;
     Ok(engine.disk.calls() as u64)
 }
 
-/// An engine over a new device of which one call fails: so many after it was opened, from 1.
+/// An engine over a new device with one call that fails: the one of this number after the opening, counted from 1.
 pub fn faulty_engine(
     alloc: Global,
     shape: JournalShape,
@@ -195,10 +195,10 @@ pub fn faulty_engine(
     engine_over(alloc, OnceDisk::new(new_device(alloc, shape)?, fault))
 }
 
-/// What is tried of all writes that no sync covers.
+/// The fates that are tried for all writes that no sync covers.
 pub const FATES: [Fate; 4] = [Fate::Kept, Fate::Lost, Fate::Filled(0), Fate::Filled(165)];
 
-/// What a stop leaves of the device of an engine, by the fates of the writes that no sync covers, opened.
+/// Opens the bytes that a stop leaves of an engine's device, by the fates of the writes that no sync covers.
 pub fn opened_after(
     alloc: Global,
     engine: &Engine<MemoryDisk>,
@@ -207,19 +207,19 @@ pub fn opened_after(
     opened_or_cause(alloc, engine.disk.after_stop(alloc, fates)?)
 }
 
-/// What is read of a device.
+/// The numbers of an opened device.
 #[derive(Clone, Copy, Debug, PartialEq, Eq)]
 pub struct Found {
     /// How many commands there are.
     pub count: u32,
     /// How many frames are clean.
     pub clean: u64,
-    /// How many batches the newest state covers, and where it is.
+    /// How many batches the newest state covers, and in which slot it is.
     pub covered: u64,
     pub slot: Slot,
 }
 
-/// What is found on a device that was opened.
+/// The numbers of an opened device.
 pub fn found_in<D: Disk + Drop>(opened: &Opened<D>) -> Found {
     Found {
         count: opened.auction().count(),
@@ -229,7 +229,7 @@ pub fn found_in<D: Disk + Drop>(opened: &Opened<D>) -> Found {
     }
 }
 
-/// How many commands are found on a device.
+/// How many commands a device has.
 pub fn count_on(alloc: Global, disk: MemoryDisk) -> Result<u32> {
     let opened = opened_or_cause(alloc, disk)?;
     Ok(opened.auction().count())

@@ -1,4 +1,4 @@
-//! Whether the calls of an engine answer as a row has it.
+//! Whether the calls of an engine give the results of a row.
 
 use crate::calls::{Turn, commit, offer, take_step, take_turn};
 use crate::letters::{list_of, one};

@@ -107,8 +107,8 @@ pub fn stage(ticket: u32) -> Letter
     }
 }
 
-/// Bids of x on the licence a, one in each of 32 rounds and twice the one before, with the close of each round: the one
-/// of this place.
+/// Bids of x on the licence a: one in each of 32 rounds, twice the one before, and then the close of the round. This is
+/// the one at this place.
 pub fn in_round(place: u32) -> Letter {
     let before = (place / 2).min(31);
     if place % 2 == 0 {
@@ -128,7 +128,7 @@ pub fn four() -> [Letter; 4] {
     ]
 }
 
-/// The command that comes after so many, of which these four are the first: bids of x and closes, round by round.
+/// The command after so many others: bids of x and closes, round by round. These four are the first.
 pub fn after_four(count: u32) -> Letter {
     in_round(count.saturating_sub(2))
 }

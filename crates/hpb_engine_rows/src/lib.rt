@@ -1,4 +1,4 @@
-//! Tests of the engine over devices, and what they are made of: letters, devices and the calls of an engine.
+//! Tests of the engine over devices, with their parts: letters, devices and the calls of an engine.
 #![tactic(auto)]
 
 pub mod calls;

@@ -1,4 +1,4 @@
-//! What is answered to a batch, and when.
+//! The answers to a batch, and when they leave.
 
 use crate::calls::{Turn, count, steps_retiring, steps_to_whole};
 use crate::devices::new_engine;
@@ -56,7 +56,7 @@ fn second() -> Letter {
     bid(Y, 1, B, 150)
 }
 
-/// The answer to the first bid once more, after so many commands.
+/// The answer to the first bid when it comes once more, after so many commands.
 fn repeated_at(at: u32) -> Answer {
     Answer {
         letter: first(),
@@ -65,7 +65,7 @@ fn repeated_at(at: u32) -> Answer {
     }
 }
 
-/// A repeat, and no letter at all, are answered at once and without a call of the device.
+/// A repeat, and an empty list of letters, are answered at once and without a call of the device.
 fn repeat(rt: &impl Abort, engine: &mut Engine<MemoryDisk>) {
     let wanted = [accepted(first(), 0), accepted(second(), 1)];
     assert!(rt; commits(engine, two(first(), second()), &wanted));

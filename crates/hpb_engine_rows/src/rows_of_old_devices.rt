@@ -17,14 +17,14 @@ use std::alloc::Global;
 use std::process::Abort;
 use std::test::Fail;
 
-/// In the head the format of states, and in the body of each slot its own.
+/// The byte of the format of states: in the head, and in the body of each slot.
 const IN_HEAD: usize = 25;
 
 const IN_FIRST: usize = 16_384;
 
 const IN_SECOND: usize = 36_864;
 
-/// Where the head with its nodes and bidders ends.
+/// The byte behind the nodes and bidders of the head.
 const HEAD_END: usize = 12_288;
 
 fn put(bytes: &mut [u8], at: usize, byte: u8) {
@@ -33,8 +33,8 @@ fn put(bytes: &mut [u8], at: usize, byte: u8) {
     }
 }
 
-/// The bytes of a device, as it was when states had their first format: without waivers a state of the empty auction is
-/// told apart by its number alone.
+/// The bytes of a device, as it was when states had their first format. A state of the empty auction without waivers
+/// differs in that format by its number alone.
 fn made_old(alloc: Global, disk: MemoryDisk) -> Result<Vec<u8>, Fail> {
     let mut bytes = bytes_of(alloc, disk)?;
     put(&mut bytes, IN_HEAD, 1);
@@ -60,7 +60,7 @@ fn old_device(alloc: Global, shape: JournalShape) -> Result<Vec<u8>, Fail> {
     made_old(alloc, Box::into_inner(engine).finish())
 }
 
-/// What is opened of a device with these bytes.
+/// The result of opening a device with these bytes.
 fn opened_bytes(alloc: Global, bytes: &[u8]) -> Result<Box<Opened<MemoryDisk>>, Fail> {
     let disk = MemoryDisk::of(alloc, bytes.to_vec(alloc)?)?;
     Ok(opened_or_cause(alloc, disk)?)
@@ -69,7 +69,7 @@ fn opened_bytes(alloc: Global, bytes: &[u8]) -> Result<Box<Opened<MemoryDisk>>, 
 /// The amount and the bidder of a node's high bid, its price, its minimum, and whether it wins.
 type Shown = (Option<(u64, usize)>, u64, u64, bool);
 
-/// What is shown of each node after the round.
+/// The view of each node after the round.
 const SHOWN: [Shown; 6] = [
     (Some((500, 2)), 500, 550, true),
     (None, 325, 360, false),
@@ -79,7 +79,7 @@ const SHOWN: [Shown; 6] = [
     (None, 0, 100, false),
 ];
 
-/// What is shown of the node of this place.
+/// The view of the node at this place.
 fn shown_at(auction: &Auction, place: usize) -> Option<Shown> {
     if place >= auction.definition().node_count() {
         return None;
@@ -89,7 +89,7 @@ fn shown_at(auction: &Auction, place: usize) -> Option<Shown> {
     Some((high, view.price, view.minimum, view.wins))
 }
 
-/// Whether an auction is that after the round.
+/// Whether an auction is the one after the round.
 fn is_after_round(auction: &Auction) -> bool {
     for (place, shown) in SHOWN.iter().enumerate() {
         if shown_at(auction, place) != Some(*shown) {
@@ -99,8 +99,8 @@ fn is_after_round(auction: &Auction) -> bool {
     auction.count() == 5
 }
 
-/// A checkpoint of a device with these bytes, of which all calls fail from this one on: whether it is whole, and the
-/// device.
+/// Makes a checkpoint on a device with these bytes, whose calls all fail from this one on. Gives whether it is whole,
+/// and the device.
 fn cut(alloc: Global, old: &[u8], call: u64) -> Result<(bool, MemoryDisk), Fail> {
     let disk = FuseDisk::new(MemoryDisk::of(alloc, old.to_vec(alloc)?)?, call);
     let mut engine = engine_over(alloc, disk)?;
@@ -108,7 +108,7 @@ fn cut(alloc: Global, old: &[u8], call: u64) -> Result<(bool, MemoryDisk), Fail>
     Ok((is_whole, Box::into_inner(engine).finish().into_inner()))
 }
 
-/// The format of the state that is opened, as it stands in these bytes.
+/// The format of the state with which a device opens, as these bytes say it.
 fn format_of(opened: &Opened<MemoryDisk>, bytes: &[u8]) -> Option<u8> {
     let at = match opened.plan.slot {
         Slot::First => IN_FIRST,
@@ -117,8 +117,8 @@ fn format_of(opened: &Opened<MemoryDisk>, bytes: &[u8]) -> Option<u8> {
     bytes.get(at).copied()
 }
 
-/// What a stop leaves of an old device: its head, byte for byte, and its auction. The state in the second slot is of
-/// the second format.
+/// The bytes that a stop leaves of an old device have its head, byte for byte, and its auction. The state in the second
+/// slot is of the second format.
 fn leave_old(
     rt: &impl Abort,
     alloc: Global,
@@ -139,8 +139,8 @@ fn leave_old(
     Ok(())
 }
 
-/// A checkpoint is cut at this call, behind so many by which the device is opened. It has ten: eight write the state,
-/// and two retire its frame.
+/// A checkpoint is cut at this call, counted behind those by which the device is opened. It has ten: eight write the
+/// state, and two retire its frame.
 fn cut_at(rt: &impl Abort, alloc: Global, old: &[u8], opening: u64, call: u64) -> Result<(), Fail> {
     let (is_whole, disk) = cut(alloc, old, opening.saturating_add(call))?;
     assert_eq!(rt; is_whole, call > 10, "{call}");
@@ -155,7 +155,7 @@ fn formats_in(bytes: &[u8]) -> (Option<u8>, Option<u8>) {
     (bytes.get(IN_FIRST).copied(), bytes.get(IN_SECOND).copied())
 }
 
-/// A checkpoint is cut at each of its calls, and then at none: then the second slot has the second format.
+/// A checkpoint is cut at each of its calls, and then at none. After the last the second slot has the second format.
 fn cut_each(rt: &impl Abort, alloc: Global, shape: JournalShape) -> Result<(), Fail> {
     let old = old_device(alloc, shape)?;
     let opened = opened_bytes(alloc, &old)?;

@@ -1,4 +1,4 @@
-//! What is opened after a stop.
+//! The results of opening devices after a stop.
 
 use crate::calls::{Turn, steps_retiring, steps_to_whole, take_step};
 use crate::devices::{Found, found_in, new_engine, opened_after, started};
@@ -26,7 +26,7 @@ fn three() -> [Letter; 3] {
     [bid(X, 1, A, 100), bid(Y, 1, B, 150), close(1)]
 }
 
-/// A device without a checkpoint: so many commands in so many batches, each of which takes a frame.
+/// A device without a checkpoint, with so many commands in so many batches, each in a frame of its own.
 fn uncovered(shape: JournalShape, count: u32, batches: u32) -> Found {
     Found {
         count,
@@ -115,8 +115,7 @@ fn stop_in_the_third_page(rt: HostRuntime) -> Result<(), Fail> {
     Ok(())
 }
 
-/// Whether four batches are committed and a checkpoint of them is written, of which two frames are retired, and no sync
-/// covers that.
+/// Whether four batches are committed and a checkpoint of them is written that has retired two frames, without a sync.
 fn retires_two<D: Disk + Drop>(engine: &mut Engine<D>) -> bool {
     for (letter, at) in four().iter().zip(0..) {
         if !commits_one(engine, accepted(*letter, at)) {
@@ -129,7 +128,7 @@ fn retires_two<D: Disk + Drop>(engine: &mut Engine<D>) -> bool {
     steps(engine, Ok(Rest::Went(Part::Retired))) && steps(engine, Ok(Rest::Went(Part::Retired)))
 }
 
-/// How many frames may be open after a stop while the four are retired, of which the first is closed.
+/// How many frames may be open after a stop while the four are retired and the first is closed.
 const OLD: u32 = 3;
 
 /// A device with a checkpoint of the four batches: these frames aren't clean.
@@ -142,8 +141,8 @@ fn covering_four(shape: JournalShape) -> Found {
     }
 }
 
-/// What is opened after a stop while frames are retired: the first frame is closed, and the second is open with its old
-/// batch.
+/// The results of opening after a stop while frames are retired. The first frame is closed, and the second is open with
+/// its old batch.
 fn stop_retiring(
     rt: &impl Abort,
     alloc: Global,
@@ -158,7 +157,7 @@ fn stop_retiring(
     Ok(opened)
 }
 
-/// A batch is taken for each frame that is clean, and the next one after a checkpoint, which retires them all.
+/// Each clean frame takes a batch. The next batch comes after a checkpoint, which retires all frames.
 fn fill_clean(rt: &impl Abort, engine: &mut Engine<MemoryDisk>, shape: JournalShape) {
     let full = shape.frames.saturating_add(4).saturating_sub(OLD);
     for at in 4..full {

@@ -22,7 +22,7 @@ pub fn state_after(alloc: Global, letters: &[Letter]) -> Result<Box<Auction>> {
     Ok(auction)
 }
 
-/// What is saved of an auction.
+/// The saved state of an auction.
 pub fn saved_of(auction: &Auction) -> Saved {
     let mut saved = Saved::empty();
     auction.save(&mut saved);
@@ -40,14 +40,14 @@ fn same_saved(left: &Saved, right: &Saved) -> bool {
         && left.bidders == right.bidders
 }
 
-/// Whether a node is shown the same.
+/// Whether two auctions show a node alike.
 fn same_node(left: &Auction, right: &Auction, place: usize) -> bool {
     place < left.definition().node_count()
         && place < right.definition().node_count()
         && left.node_view(NodeId::new(place)) == right.node_view(NodeId::new(place))
 }
 
-/// Whether a bidder is shown the same.
+/// Whether two auctions show a bidder alike.
 fn same_bidder(left: &Auction, right: &Auction, place: usize) -> bool {
     place < left.definition().bidder_count()
         && place < right.definition().bidder_count()

@@ -9,7 +9,7 @@ use hpb_tried::{
 };
 use std::alloc::{AllocError, Global};
 
-/// `Auction::new`.
+/// Tries `Auction::new`.
 pub(crate) fn new(rt: &HostRuntime, nodes: u64) -> Result<Tried> {
     let alloc = rt.alloc();
     let definition = definition(alloc, nodes)?;
@@ -44,7 +44,7 @@ fn commands(alloc: Global, definition: &Definition) -> Result<Vec<Command>, Allo
     Ok(commands)
 }
 
-/// An auction of so many nodes in its second round.
+/// An auction of this many nodes in its second round.
 fn played(alloc: Global, nodes: u64) -> Result<Auction> {
     let definition = definition(alloc, nodes)?;
     let commands = commands(alloc, &definition)?;
@@ -52,7 +52,7 @@ fn played(alloc: Global, nodes: u64) -> Result<Auction> {
     Ok(auction)
 }
 
-/// `Auction::copy`, of an auction in its second round.
+/// Tries `Auction::copy`, on an auction in its second round.
 pub(crate) fn copy(rt: &HostRuntime, nodes: u64) -> Result<Tried> {
     let auction = played(rt.alloc(), nodes)?;
     copy_of(rt, &auction)
@@ -82,7 +82,7 @@ fn ran(alloc: Global, made: Result<Run, AllocError>) -> Result<Came, AllocError>
     }
 }
 
-/// `run_commands`, of a bid of each bidder and the end of the round.
+/// Tries `run_commands`, with a bid of each bidder and the end of the round.
 pub(crate) fn run(rt: &HostRuntime, nodes: u64) -> Result<Tried> {
     let alloc = rt.alloc();
     let definition = definition(alloc, nodes)?;

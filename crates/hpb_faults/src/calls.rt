@@ -1,4 +1,4 @@
-//! Which call is made by a name.
+//! Calls by their names.
 
 use crate::files::Way;
 use crate::houses::Begun;
@@ -11,7 +11,7 @@ use anyhow::{Result, bail};
 use hpb_tried::{Tried, tell};
 use std::sync::Wait;
 
-/// Makes the call of this name, and writes what came of it.
+/// Makes the call of this name, and writes its result.
 pub(crate) fn tried<W: Wait>(
     rt: &HostRuntime,
     waits: &W,
@@ -29,7 +29,7 @@ pub(crate) fn tried<W: Wait>(
     Ok(())
 }
 
-/// Starts a house, and writes what came of it, and below that which part was refused.
+/// Starts a house, and writes the result, and in the next line which part was refused.
 fn house_told<W: Wait>(rt: &HostRuntime, waits: &W, nodes: u64, layout: u8) -> Result<()> {
     let Begun { tried, part } = houses::start(rt, waits, nodes, layout)?;
     tell(rt, &tried)?;
@@ -57,7 +57,7 @@ fn made(rt: &HostRuntime, call: &str, nodes: u64, layout: u8) -> Result<Tried> {
     }
 }
 
-/// Makes the call of this name, of what stands on a device.
+/// Makes the call of this name, if it is one on a device that keeps an auction.
 fn made_on_device(rt: &HostRuntime, call: &str, nodes: u64, layout: u8) -> Result<Tried> {
     match call {
         "format" => formats::tried(rt, nodes, None),
@@ -72,7 +72,7 @@ fn made_on_device(rt: &HostRuntime, call: &str, nodes: u64, layout: u8) -> Resul
     }
 }
 
-/// Makes the call of this name, of a device alone.
+/// Makes the call of this name, if it is one of a device alone.
 fn made_alone(rt: &HostRuntime, call: &str, layout: u8) -> Result<Tried> {
     match call {
         "MemoryDisk::zeros" => memories::zeros(rt, layout),

@@ -20,12 +20,12 @@ fn checked(alloc: Global, made: Result<Definition, DefinitionFault>) -> Result<C
     }
 }
 
-/// A draft as it is written for people.
+/// A draft as the text that people write.
 fn text_of(alloc: Global, draft: &Draft) -> Result<String, AllocError> {
     format!(in alloc; "{draft:?}")
 }
 
-/// `Definition::check`, by a draft of so many nodes.
+/// Tries `Definition::check`, with a draft of this many nodes.
 pub(crate) fn check(rt: &HostRuntime, nodes: u64) -> Result<Tried> {
     let alloc = rt.alloc();
     let draft = draft(alloc, nodes)?;
@@ -40,7 +40,7 @@ pub(crate) fn check(rt: &HostRuntime, nodes: u64) -> Result<Tried> {
     })
 }
 
-/// `Definition::copy`.
+/// Tries `Definition::copy`.
 pub(crate) fn copy(rt: &HostRuntime, nodes: u64) -> Result<Tried> {
     let alloc = rt.alloc();
     let definition = definition(alloc, nodes)?;
@@ -69,7 +69,7 @@ pub(crate) fn input(rt: &HostRuntime) -> Result<Vec<u8>> {
     Ok(text)
 }
 
-/// `read_definition`, of the input.
+/// Tries `read_definition`, with the input.
 pub(crate) fn read(rt: &HostRuntime) -> Result<Tried> {
     let alloc = rt.alloc();
     let text = input(rt)?;
@@ -95,7 +95,7 @@ fn decoded(
     }
 }
 
-/// `decode_head`, of the head of a device whose definition has so many nodes.
+/// Tries `decode_head`, with the head of a device whose definition has this many nodes.
 pub(crate) fn decode(rt: &HostRuntime, nodes: u64) -> Result<Tried> {
     let alloc = rt.alloc();
     let journal = JournalShape {

@@ -6,19 +6,19 @@ use hpb_engine::{Engine, Event, Run};
 use hpb_rules::Refusal;
 use hpb_tried::{Came, Tried, begin, came_of, end, engine, engine_sum, events, is_sum};
 
-/// What came of events: the sum of the engine, and how many answers left.
+/// The result of events: the sum of the engine, and how many answers left.
 fn ran(rt: &HostRuntime, engine: &Engine<FileDisk>, answers: usize) -> Came {
     came_of(engine_sum(rt, engine).map(|sum| sum.wrapping_add(answers as u64)))
 }
 
-/// `Engine::run`.
+/// Tries `Engine::run`.
 pub(crate) fn run(rt: &HostRuntime, nodes: u64, layout: u8) -> Result<Tried> {
     let events = events(rt.alloc(), nodes)?;
     let mut engine = engine(rt, nodes, layout)?;
     Ok(run_on(rt, &mut engine, &events))
 }
 
-/// What comes of events where an engine stands.
+/// The result of these events on an engine.
 fn run_once(rt: &HostRuntime, engine: &mut Engine<FileDisk>, events: &[Event]) -> Came {
     match engine.run(rt.alloc(), events) {
         Ok(Run { answers, .. }) => ran(rt, engine, answers.len()),

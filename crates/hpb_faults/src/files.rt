@@ -6,7 +6,7 @@ use hpb_rules::Refusal;
 use hpb_tried::{Came, FILE, Tried, begin, came_of, end, file_sum, is_sum, new_file, size_of};
 use std::fs;
 
-/// What came of a call that makes a device. Its file is let go.
+/// The result of a call that makes a device. Its file is closed.
 fn came(rt: &HostRuntime, made: Result<FileDisk, FileFault>) -> Came {
     match made {
         Ok(_) => came_of(file_sum(rt)),
@@ -15,7 +15,7 @@ fn came(rt: &HostRuntime, made: Result<FileDisk, FileFault>) -> Came {
     }
 }
 
-/// How a device is made of a file.
+/// The ways to make a device of a file.
 #[derive(Clone, Copy)]
 pub(crate) enum Way {
     Open,
@@ -44,7 +44,7 @@ fn make_marked(rt: &HostRuntime, way: Way, layout: u8) -> Came {
     came(rt, made)
 }
 
-/// A call that makes a device of a file that is there.
+/// Tries a call that makes a device of a file that is there.
 pub(crate) fn of_file(rt: &HostRuntime, way: Way, layout: u8) -> Result<Tried> {
     let _ = new_file(rt, layout)?;
     let given = file_sum(rt);
@@ -56,7 +56,7 @@ pub(crate) fn of_file(rt: &HostRuntime, way: Way, layout: u8) -> Result<Tried> {
     })
 }
 
-/// A call that makes a device of a file that isn't there. Where it is refused no file is left.
+/// Tries a call that makes a device of a file that isn't there. If it is refused, no file is left.
 pub(crate) fn of_none(rt: &HostRuntime, way: Way, layout: u8) -> Tried {
     let _ = fs::remove_file(rt, FILE);
     let first = make_marked(rt, way, layout);

@@ -8,7 +8,7 @@ use hpb_tried::{
     Came, Tried, begin, came_of, definition, end, file_sum, is_sum, new_file, shape_of,
 };
 
-/// The number of the layout that `format` has.
+/// The number of the layout that `format` uses.
 const FIRST: u8 = 1;
 
 /// Formats a device, by `format` or by `format_layout`.
@@ -28,7 +28,7 @@ fn make(
     }
 }
 
-/// A device that wasn't formatted is handed back, and formatted once more.
+/// Formats a device once more that was handed back unformatted.
 fn format_again(
     rt: &HostRuntime,
     fault: FormatFault<FileDisk>,
@@ -49,7 +49,7 @@ fn format_again(
     }
 }
 
-/// `format`, or `format_layout` where a layout is named, by a definition of so many nodes.
+/// Tries `format`, or `format_layout` if a layout is named, with a definition of this many nodes.
 pub(crate) fn tried(rt: &HostRuntime, nodes: u64, named: Option<u8>) -> Result<Tried> {
     let definition = definition(rt.alloc(), nodes)?;
     let disk = new_file(rt, named.unwrap_or(FIRST))?;

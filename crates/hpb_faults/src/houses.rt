@@ -13,20 +13,20 @@ use hpb_tried::{
 };
 use std::sync::Wait;
 
-/// A call that was made, and the part that it was refused the first time, if it was.
+/// A call that was made, and the part that was refused the first time, if one was.
 pub(crate) struct Begun {
     pub(crate) tried: Tried,
     pub(crate) part: Option<StartPart>,
 }
 
-/// As many sessions as there may be over a definition of one node, and two over any other.
+/// How many sessions there are: 32 over a definition of one node, and two over any other.
 fn sessions_of(nodes: u64) -> u8
     ensures { (1 ≤ result) × (result ≤ MOST_SEATS) }
 {
     if nodes == 1 { 32 } else { 2 }
 }
 
-/// What came of a call that starts a house: the sum of what it shows and keeps, and how many clients it has.
+/// The result of a call that starts a house: the sum of all that it shows and keeps, and how many clients it has.
 fn came<W: Wait + Drop>(
     rt: &HostRuntime,
     made: Result<Started<FileDisk, W>, StartFault<FileDisk>>,
@@ -39,7 +39,7 @@ fn came<W: Wait + Drop>(
     }
 }
 
-/// The sum of what a house shows and has committed, of the file, and how many clients there are.
+/// The sum of the auction that a house shows and has committed, of the file, and of the number of clients.
 fn started_sum<W: Wait + Drop>(rt: &HostRuntime, started: &Started<FileDisk, W>) -> Option<u64> {
     let shown = auction_and_file_sum(rt, started.eye.auction())?;
     let committed = auction_and_file_sum(rt, started.keeper.committed())?;
@@ -52,13 +52,14 @@ fn started_sum<W: Wait + Drop>(rt: &HostRuntime, started: &Started<FileDisk, W>)
     )
 }
 
-/// `House::start`, over a new device of an auction of so many nodes.
+/// Tries `House::start`, over a new device of an auction of this many nodes.
 pub(crate) fn start<W: Wait>(rt: &HostRuntime, waits: &W, nodes: u64, layout: u8) -> Result<Begun> {
     let opened = opened(rt, nodes, layout)?;
     Ok(start_marked(rt, waits, opened, sessions_of(nodes)))
 }
 
-/// Starts a house between the marks. What was opened is handed back where that is refused, and started once more.
+/// Starts a house between the marks. If that is refused, the opened device is handed back, and a house is started over
+/// it once more.
 fn start_marked<W: Wait>(
     rt: &HostRuntime,
     waits: &W,
@@ -80,7 +81,7 @@ fn start_marked<W: Wait>(
     }
 }
 
-/// Sees whether what was handed back is as it was, and starts a house over it.
+/// Checks that the opened device that was handed back is unchanged, and starts a house over it.
 fn start_again<W: Wait>(
     rt: &HostRuntime,
     waits: &W,

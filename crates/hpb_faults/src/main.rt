@@ -1,8 +1,8 @@
-//! Makes a call that takes memory, and again where memory was refused; or runs a script as `hpb` does, or with a word the
-//! lines of a small auction, and ends by a status for each fault.
+//! Makes a call that takes memory, and again if memory was refused. Without a word it runs a script as `hpb` does. With
+//! one word it answers the lines of a small auction, with a status for each fault.
 //!
-//! `examples/refuse-memory` and `examples/refuse-calls` refuse each request for memory in turn, and see by it that none is
-//! told for another.
+//! `examples/refuse-memory` and `examples/refuse-calls` refuse each request for memory in turn, and so see that none is
+//! reported as another fault.
 #![tactic(auto)]
 
 mod auctions;
@@ -34,7 +34,7 @@ const READER_FAILED: u8 = 2;
 
 const WRITER_FAILED: u8 = 3;
 
-/// What the call is to be given couldn't be made, or there is no such call.
+/// The call's argument couldn't be made, or there is no such call.
 const NOT_TRIED: u8 = 4;
 
 fn main(rt: HostRuntime) -> ExitCode {
@@ -44,7 +44,7 @@ fn main(rt: HostRuntime) -> ExitCode {
     })
 }
 
-/// The words that the program was started by.
+/// The words with which the program was started.
 fn words(rt: &HostRuntime) -> Result<Vec<String>, SessionFault> {
     match std::env::args(rt) {
         Ok(words) => match words.collect(rt.alloc()) {
@@ -55,8 +55,9 @@ fn words(rt: &HostRuntime) -> Result<Vec<String>, SessionFault> {
     }
 }
 
-/// Does what the words ask for, and gives the status: a script without a word, lines with one; with more the call of this
-/// name, under a definition of so many nodes, over a device of this layout (1 where none is named).
+/// Does the job of the words, and gives the status. Without a word it runs a script, and with one it answers lines.
+/// With more it makes the call of this name, with a definition of this many nodes, over a device of this layout (1 if
+/// none is named).
 fn asked<W: Wait>(rt: &HostRuntime, waits: &W, words: &[String]) -> u8 {
     match (words.get(1), words.get(2)) {
         (None, _) => status(script_answered(rt)),
@@ -68,7 +69,7 @@ fn asked<W: Wait>(rt: &HostRuntime, waits: &W, words: &[String]) -> u8 {
     }
 }
 
-/// The status of a call that was made, whatever came of it.
+/// The status of a call that was made, whatever its result is.
 fn made(tried: Result<()>) -> u8 {
     match tried {
         Ok(()) => WELL,
@@ -76,7 +77,7 @@ fn made(tried: Result<()>) -> u8 {
     }
 }
 
-/// The status that a fault is told by.
+/// The status that reports a fault.
 fn status(answered: Result<(), SessionFault>) -> u8 {
     match answered {
         Ok(()) => WELL,

@@ -6,10 +6,10 @@ use hpb_rules::Refusal;
 use hpb_tried::{Came, Tried, begin, end, size_of, sum_of};
 use std::alloc::{AllocError, Global};
 
-/// What a stop makes of the writes.
+/// The fate of each write at a stop.
 const FATES: [Fate; 3] = [Fate::Kept, Fate::Filled(165), Fate::Lost];
 
-/// So many bytes are written at a time.
+/// How many bytes are written at a time.
 const WRITTEN: usize = 4_096;
 
 /// The sum of all bytes of a device.
@@ -19,7 +19,7 @@ fn device_sum(alloc: Global, disk: &mut MemoryDisk) -> Result<u64> {
     Ok(sum_of(&bytes))
 }
 
-/// What came of a call that makes a device.
+/// The result of a call that makes a device.
 fn came(alloc: Global, made: Result<MemoryDisk, AllocError>) -> Result<Came> {
     match made {
         Ok(disk) => {
@@ -30,7 +30,7 @@ fn came(alloc: Global, made: Result<MemoryDisk, AllocError>) -> Result<Came> {
     }
 }
 
-/// `MemoryDisk::zeros`.
+/// Tries `MemoryDisk::zeros`.
 pub(crate) fn zeros(rt: &HostRuntime, layout: u8) -> Result<Tried> {
     let alloc = rt.alloc();
     let size = size_of(layout);
@@ -44,7 +44,7 @@ pub(crate) fn zeros(rt: &HostRuntime, layout: u8) -> Result<Tried> {
     })
 }
 
-/// `MemoryDisk::of`. It takes the bytes, and they go where it is refused.
+/// Tries `MemoryDisk::of`. It takes the bytes, and frees them if it is refused.
 pub(crate) fn of(rt: &HostRuntime, layout: u8) -> Result<Tried> {
     let alloc = rt.alloc();
     let bytes = vec![in alloc; 7; size_of(layout)]?;
@@ -70,7 +70,7 @@ fn written(alloc: Global, layout: u8) -> Result<MemoryDisk> {
     Ok(disk)
 }
 
-/// Writes bytes, where there is room for them.
+/// Writes bytes, if there is room for them.
 fn put(disk: &mut MemoryDisk, at: usize, bytes: &[u8]) -> Result<(), DiskFailed> {
     match at.checked_add(bytes.len()) {
         Some(end) if end <= disk.len() => disk.write_at(at, bytes),
@@ -78,7 +78,7 @@ fn put(disk: &mut MemoryDisk, at: usize, bytes: &[u8]) -> Result<(), DiskFailed>
     }
 }
 
-/// `MemoryDisk::after_stop`, of a device with three writes that no sync covers.
+/// Tries `MemoryDisk::after_stop`, on a device with three writes that no sync covers.
 pub(crate) fn after_stop(rt: &HostRuntime, layout: u8) -> Result<Tried> {
     let alloc = rt.alloc();
     let mut disk = written(alloc, layout)?;
@@ -97,7 +97,7 @@ pub(crate) fn after_stop(rt: &HostRuntime, layout: u8) -> Result<Tried> {
     })
 }
 
-/// A call whose record has to grow.
+/// The calls for which a device's record has to grow.
 #[derive(Clone, Copy)]
 pub(crate) enum Call {
     Read,
@@ -117,7 +117,7 @@ fn make(disk: &mut MemoryDisk, call: Call, bytes: &mut [u8]) -> Result<(), DiskF
     }
 }
 
-/// What came of a call of a device.
+/// The result of a call of a device.
 fn called(alloc: Global, disk: &mut MemoryDisk, made: Result<(), DiskFailed>) -> Result<Came> {
     match made {
         Ok(()) => Ok(Came::Well(device_sum(alloc, disk)?)),
@@ -125,7 +125,8 @@ fn called(alloc: Global, disk: &mut MemoryDisk, made: Result<(), DiskFailed>) ->
     }
 }
 
-/// A call of a `MemoryDisk` that has had none. One that is refused isn't in its record, and does nothing else.
+/// Tries a call of a `MemoryDisk` that has had none. If it is refused, it isn't in the device's record, and does
+/// nothing else.
 pub(crate) fn first_call(rt: &HostRuntime, layout: u8, call: Call) -> Result<Tried> {
     let alloc = rt.alloc();
     let mut disk = MemoryDisk::zeros(alloc, size_of(layout))?;

@@ -8,7 +8,7 @@ use hpb_disk::FileDisk;
 use hpb_recover::{OpenFault, Opened, open};
 use hpb_tried::{Came, Tried, begin, came_of, end, file_sum, formatted, is_sum, opened_sum};
 
-/// What came of a call that opens a device.
+/// The result of a call that opens a device.
 fn came(rt: &HostRuntime, made: Result<Opened<FileDisk>, OpenFault<FileDisk>>) -> Came
     ensures refused { IfErr made (λ fault. result ≡ Refused (refusal_of fault.cause)) }
 {
@@ -18,13 +18,13 @@ fn came(rt: &HostRuntime, made: Result<Opened<FileDisk>, OpenFault<FileDisk>>) -
     }
 }
 
-/// `open`, of a new device of an auction of so many nodes.
+/// Tries `open`, on a new device of an auction of this many nodes.
 pub(crate) fn open_device(rt: &HostRuntime, nodes: u64, layout: u8) -> Result<Tried> {
     let disk = formatted(rt, nodes, layout)?;
     Ok(open_marked(rt, disk))
 }
 
-/// Opens a device between the marks. One that isn't opened is handed back, and opened once more.
+/// Opens a device between the marks. If it isn't opened, it is handed back, and opened once more.
 fn open_marked(rt: &HostRuntime, disk: FileDisk) -> Tried {
     let given = file_sum(rt);
     let _ = begin(rt);

@@ -13,7 +13,7 @@ use std::alloc::Global;
 const DEFINITION: &[u8] =
     b"{\"step\":10,\"percent\":10,\"stages\":[80],\"nodes\":[{\"name\":\"a\",\"parent\":null,\"units\":1,\"opening\":100}],\"bidders\":[{\"name\":\"x\",\"units\":1}]}";
 
-/// More bytes than are answered.
+/// Room for more bytes than the answers have.
 const ROOM: usize = 65_536;
 
 /// Answers the script of the input on the output.
@@ -38,7 +38,7 @@ pub(crate) fn lines_answered(rt: &HostRuntime) -> Result<(), SessionFault> {
     serve_auction(alloc, &mut rt.stdin(), &mut rt.stdout(), &mut desk)
 }
 
-/// The script of a text, answered into a room, and what came of it.
+/// Answers the script of a text into a room, and gives the result.
 fn answered(alloc: Global, text: &[u8], output: &mut Vec<u8>, errors: &mut Vec<u8>) -> Came {
     output.clear();
     errors.clear();
@@ -50,7 +50,7 @@ fn answered(alloc: Global, text: &[u8], output: &mut Vec<u8>, errors: &mut Vec<u
     }
 }
 
-/// `run_script`, of the input.
+/// Tries `run_script`, with the input.
 pub(crate) fn run(rt: &HostRuntime) -> Result<Tried> {
     let alloc = rt.alloc();
     let text = input(rt)?;
@@ -67,7 +67,7 @@ pub(crate) fn run(rt: &HostRuntime) -> Result<Tried> {
     })
 }
 
-/// The lines of a text, answered into a room, and what came of it.
+/// Answers the lines of a text into a room, and gives the result.
 fn served(alloc: Global, text: &[u8], output: &mut Vec<u8>, desk: &mut ScriptDesk) -> Came {
     output.clear();
     let mut reader = text;
@@ -77,12 +77,12 @@ fn served(alloc: Global, text: &[u8], output: &mut Vec<u8>, desk: &mut ScriptDes
     }
 }
 
-/// A new auction of so many nodes.
+/// A new auction of this many nodes.
 fn new_auction(alloc: Global, nodes: u64) -> Result<Auction> {
     Ok(Auction::new(alloc, &definition(alloc, nodes)?)?)
 }
 
-/// The sum of a new auction of so many nodes.
+/// The sum of a new auction of this many nodes.
 fn new_sum(alloc: Global, nodes: u64) -> Result<u64> {
     Ok(sum_of_auction(alloc, &new_auction(alloc, nodes)?)?)
 }
@@ -106,7 +106,7 @@ fn serve_again(alloc: Global, text: &[u8], output: &mut Vec<u8>, auction: Auctio
     served(alloc, text, output, &mut desk)
 }
 
-/// Serves the text to an auction, whose sum is given, and once more where that was refused.
+/// Serves the text to an auction with the given sum, and once more if that was refused.
 fn serve_auction_of(
     rt: &HostRuntime,
     text: &[u8],
@@ -129,7 +129,7 @@ fn serve_auction_of(
     }
 }
 
-/// `serve`, of the input and an auction of so many nodes. Where it is refused no line was answered yet.
+/// Tries `serve`, with the input and an auction of this many nodes. If it is refused, no line was answered yet.
 pub(crate) fn serve(rt: &HostRuntime, nodes: u64) -> Result<Tried> {
     let alloc = rt.alloc();
     let text = input(rt)?;

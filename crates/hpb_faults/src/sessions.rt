@@ -11,12 +11,12 @@ use hpb_run::{Ran, run_device};
 use hpb_tried::{Came, Tried, begin, came_of, end, engine, engine_sum, is_sum, sum_of};
 use std::io::Read;
 
-/// More bytes than are answered.
+/// Room for more bytes than the answers have.
 const ROOM: usize = 65_536;
 
-/// Answers the lines of a text by an engine into a room, with no checkpoint but where the journal is full. As many
-/// commands as may be are committed together, which is all that are read: so memory is refused before the first of them
-/// is kept.
+/// Answers the lines of a text by an engine into a room, with a checkpoint only when the journal is full. It commits as
+/// many commands together as it may, which are all that are read. So memory is refused before the first of them is
+/// kept.
 fn answered(
     rt: &HostRuntime,
     text: &[u8],
@@ -28,7 +28,7 @@ fn answered(
     run_device(rt.alloc(), &mut reader, output, engine, MOST_LETTERS, 0)
 }
 
-/// What came of it: the sum of the engine and of the answers.
+/// The result: the sum of the engine and of the answers.
 fn came(rt: &HostRuntime, ran: &Ran<FileDisk>, output: &[u8]) -> Came
     ensures refused { IfErr ran.now.end (λ fault. result ≡ Refused (refusal_of fault)) }
 {
@@ -41,7 +41,7 @@ fn came(rt: &HostRuntime, ran: &Ran<FileDisk>, output: &[u8]) -> Came
     }
 }
 
-/// Answers the text between the marks, and once more where that was refused.
+/// Answers the text between the marks, and once more if that was refused.
 fn run_marked(
     rt: &HostRuntime,
     text: &[u8],
@@ -66,8 +66,8 @@ fn run_marked(
     }
 }
 
-/// `run_device`, of the input and an engine over a new device of an auction of so many nodes. Where it is refused
-/// nothing was answered, and the engine is handed back as it was.
+/// Tries `run_device`, with the input and an engine over a new device of an auction of this many nodes. If it is
+/// refused, nothing was answered, and the engine is handed back as it was.
 pub(crate) fn run(rt: &HostRuntime, nodes: u64, layout: u8) -> Result<Tried> {
     let mut text = Vec::new(rt.alloc());
     rt.stdin().read_to_end(&mut text)?;

@@ -12,7 +12,7 @@ use hpb_tried::{
     opened_sum,
 };
 
-/// What came of a call that starts an engine.
+/// The result of a call that starts an engine.
 fn came(rt: &HostRuntime, made: Result<Engine<FileDisk>, Opened<FileDisk>>) -> Came
     ensures refused { OnErr made (LacksMemory result) }
 {
@@ -22,13 +22,14 @@ fn came(rt: &HostRuntime, made: Result<Engine<FileDisk>, Opened<FileDisk>>) -> C
     }
 }
 
-/// `Engine::start`, over a new device of an auction of so many nodes.
+/// Tries `Engine::start`, over a new device of an auction of this many nodes.
 pub(crate) fn start(rt: &HostRuntime, nodes: u64, layout: u8) -> Result<Tried> {
     let opened = opened(rt, nodes, layout)?;
     Ok(start_marked(rt, opened))
 }
 
-/// Starts an engine between the marks. What was opened is handed back where that is refused, and started once more.
+/// Starts an engine between the marks. If that is refused, the opened device is handed back, and an engine is started
+/// over it once more.
 fn start_marked(rt: &HostRuntime, opened: Opened<FileDisk>) -> Tried {
     let given = opened_sum(rt, &opened);
     let _ = begin(rt);
@@ -44,13 +45,13 @@ fn start_marked(rt: &HostRuntime, opened: Opened<FileDisk>) -> Tried {
     }
 }
 
-/// What came of events: the sum of the engine, and how many answers left.
+/// The result of events: the sum of the engine, and how many answers left.
 fn drove(rt: &HostRuntime, driven: &Driven<FileDisk>) -> Came {
     let sum = engine_sum(rt, &driven.engine);
     came_of(sum.map(|sum| sum.wrapping_add(driven.answers.len() as u64)))
 }
 
-/// What came of a call that takes events.
+/// The result of a call that takes events.
 fn driven<B: Drop>(rt: &HostRuntime, made: Result<Driven<FileDisk>, B>) -> Came
     ensures refused { OnErr made (LacksMemory result) }
 {
@@ -60,14 +61,14 @@ fn driven<B: Drop>(rt: &HostRuntime, made: Result<Driven<FileDisk>, B>) -> Came
     }
 }
 
-/// `drive`, of an engine over a new device of an auction of so many nodes.
+/// Tries `drive`, with an engine over a new device of an auction of this many nodes.
 pub(crate) fn drive_events(rt: &HostRuntime, nodes: u64, layout: u8) -> Result<Tried> {
     let events = events(rt.alloc(), nodes)?;
     let engine = engine(rt, nodes, layout)?;
     Ok(drive_marked(rt, engine, &events))
 }
 
-/// Takes events between the marks. The engine is handed back where that is refused, and takes them then.
+/// Takes events between the marks. If that is refused, the engine is handed back, and takes them then.
 fn drive_marked(rt: &HostRuntime, engine: Engine<FileDisk>, events: &[Event]) -> Tried {
     let given = engine_sum(rt, &engine);
     let _ = begin(rt);
@@ -83,14 +84,14 @@ fn drive_marked(rt: &HostRuntime, engine: Engine<FileDisk>, events: &[Event]) ->
     }
 }
 
-/// `drive_opened`, of a new device of an auction of so many nodes.
+/// Tries `drive_opened`, on a new device of an auction of this many nodes.
 pub(crate) fn drive_device(rt: &HostRuntime, nodes: u64, layout: u8) -> Result<Tried> {
     let events = events(rt.alloc(), nodes)?;
     let opened = opened(rt, nodes, layout)?;
     Ok(drive_device_marked(rt, opened, &events))
 }
 
-/// Takes events on what was opened, between the marks. Where that is refused the device is handed back, opened anew,
+/// Takes events on an opened device, between the marks. If that is refused, the device is handed back and opened anew,
 /// and takes them then.
 fn drive_device_marked(rt: &HostRuntime, opened: Opened<FileDisk>, events: &[Event]) -> Tried {
     let given = opened_sum(rt, &opened);
@@ -103,7 +104,7 @@ fn drive_device_marked(rt: &HostRuntime, opened: Opened<FileDisk>, events: &[Eve
     }
 }
 
-/// Opens a device that was handed back, sees whether it is as it was, and takes the events.
+/// Opens a device that was handed back, checks that it is unchanged, and takes the events.
 fn drive_again(rt: &HostRuntime, disk: FileDisk, given: Option<u64>, events: &[Event]) -> Tried {
     let first = Came::Refused(Refusal::Memory);
     match open(rt.alloc(), disk) {

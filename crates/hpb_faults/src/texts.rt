@@ -7,7 +7,7 @@ use hpb_tried::{Came, Tried, begin, definition, end, sum_of};
 use hpb_wire::{ResponseText, show};
 use std::alloc::AllocError;
 
-/// So many bytes a session keeps of answers.
+/// How many bytes of answers a session keeps.
 const BYTES: usize = 65_536;
 
 fn came(made: Result<ResponseText, AllocError>) -> Came {
@@ -17,7 +17,7 @@ fn came(made: Result<ResponseText, AllocError>) -> Came {
     }
 }
 
-/// `ResponseText::new`.
+/// Tries `ResponseText::new`.
 pub(crate) fn new(rt: &HostRuntime) -> Result<Tried> {
     let alloc = rt.alloc();
     begin(rt)?;
@@ -30,7 +30,7 @@ pub(crate) fn new(rt: &HostRuntime) -> Result<Tried> {
     })
 }
 
-/// A text with a response more, or as it was.
+/// A text with one more response, or unchanged.
 fn rendered(text: &mut ResponseText, auction: &Auction) -> Came {
     match text.render(&show(auction)) {
         Ok(()) => Came::Well(sum_of(text.as_bytes())),
@@ -38,7 +38,7 @@ fn rendered(text: &mut ResponseText, auction: &Auction) -> Came {
     }
 }
 
-/// `ResponseText::render`, of a text that has to grow.
+/// Tries `ResponseText::render`, on a text that has to grow.
 pub(crate) fn render(rt: &HostRuntime, nodes: u64) -> Result<Tried> {
     let alloc = rt.alloc();
     let auction = Auction::new(alloc, &definition(alloc, nodes)?)?;

@@ -44,11 +44,11 @@ one_history v w all o p q same =
     let s = ap (λ (value : AuctionValue). value.count) same in
     prefix_same (history_of v) (history_of w) (new_commands (judged_in v.opened (joined all))) hv (hw.0, hw.1 ∙ whole) (omega (arith, lv, lw, c, s))
 
--- how many commands a list leads on
+-- how many more commands a list leads to
 pub list_counted : (opened committed : AuctionValue) (list : List (List Letter)) → committed ≡ value_by opened (joined list) → committed.count ≡ opened.count + length (history_in opened list)
 list_counted opened committed list leads = ap (λ (value : AuctionValue). value.count) leads ∙ count_by opened (joined list)
 
--- what was opened shows a history, and what a viewer shows goes on from there
+-- the opened auction shows a history, and the auction that a viewer shows goes on from there
 pub history_shown : RestIsShown → (v : Viewing) (opened shown : AuctionValue) (front : List Command) → v.opened ≡ opened → auction_of v ≡ shown → Shows opened front → Shows shown (front ++ history_of v)
 history_shown rest_is_shown v opened shown front o s shows =
     let whole = rest_is_shown v.opened front (history_of v) (subst (λ (value : AuctionValue). Shows value front) (sym o) shows) (new_accepted v.opened (joined v.list)) in

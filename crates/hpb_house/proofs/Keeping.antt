@@ -1,4 +1,4 @@
--- What is so of a keeper stays so at each step.
+-- The facts about a keeper hold after each step.
 use Rattle.std.proofs.Common.{◌≡◌, ℕ, suc, ◌+◌, ◌<◌, ◌==◌, Bool, true, false, None, Option, Some, List, [], ◌∷◌, ◌++◌, Ok, Err, Result, refl, sym, ap, ◌∙◌, subst, arith}
 use Rattle.std.specs.Prelude.{if◌then◌else◌}
 use Rattle.std.proofs.lemmas.List.{append-nil}
@@ -69,7 +69,7 @@ failed_acknowledged m = by m.flight
 early_acknowledged : (history : List Command) (flight : Flight) → (flight.turns == landed) ≡ false → (turn_of true history flight).machine.acknowledged ≡ history
 early_acknowledged history flight is = rw is refl
 
--- the last one acknowledges what is in flight
+-- the last one acknowledges the batch in flight
 last_acknowledged : (history : List Command) (flight : Flight) → (flight.turns == landed) ≡ true → (turn_of true history flight).machine.acknowledged ≡ history ++ new_commands flight.answers
 last_acknowledged history flight is = rw is refl
 
@@ -97,7 +97,7 @@ went_acknowledged s history busy early =
     ap (λ (m : Machine). (turn true m).machine.acknowledged) (same_machine (machine_of s history) history (Some flight) refl (busy_flight s.commit busy))
     ∙ early_acknowledged history flight not_last
 
--- what is committed is the same, and so is what is in flight but for its turns
+-- the committed auction is the same, and so is the batch in flight except for its turns
 abbrev pub AreAlike : (s t : Progress) → Type 0
 AreAlike s t = (t.committed ≡ s.committed) × (t.commit.busy ≡ s.commit.busy) × (t.commit.answers ≡ s.commit.answers) × (t.commit.working ≡ s.commit.working)
 
@@ -109,7 +109,7 @@ device_alike : (s t : Progress) → (s.commit.turns ≡ 2 → t ≡ turned s 3) 
 device_alike s t third other true is = alike (turned s 3) (third (grind (arith, nat_tests, is)))
 device_alike s t third other false is = alike s (other (λ two. absurd (grind (arith, nat_tests, is, two))))
 
--- nothing is told of a batch in flight where there is none
+-- a batch that isn't in flight has no facts
 idle : {A : Type 0} {busy : Bool} → busy ≡ false → busy ≡ true → A
 idle free now = absurd (cc (free, now))
 
@@ -120,7 +120,7 @@ IsDone (Ok steps.Went) = ⊥
 IsDone (Ok (steps.Done answers)) = Unit {0}
 IsDone (Err fault) = ⊥
 
--- any other
+-- any other step
 abbrev pub IsNotDone : Result Step Fault → Type 0
 IsNotDone (Ok steps.Idle) = Unit {0}
 IsNotDone (Ok steps.Went) = Unit {0}
@@ -132,11 +132,11 @@ module _ {D : Type 0} (seen : D → List ℕ) (may_leave : D → List ℕ → Ty
       → Keeps seen may_leave k.disk k.progress k.failed (machine_of k.progress history)
   kept_as k m history keeps is = subst (Keeps seen may_leave k.disk k.progress k.failed) (same_machine m history (flight_of k.progress.commit) is keeps.flight) keeps
 
-  -- the acknowledged commands of what is kept
+  -- the acknowledged commands of the machine that is kept
   abbrev acknowledged_by : Keeping D → List Command → List Command
   acknowledged_by k history = history_by k.board.opened.rules history (joined k.board.list)
 
-  -- the definition of what is committed is that of what was opened
+  -- the committed auction has the definition of the opened one
   ruled : (k : Keeping D) → published k.board ≡ k.progress.committed → k.progress.committed.rules ≡ k.board.opened.rules
   ruled k shown = ap (λ (value : AuctionValue). value.rules) (sym shown) ∙ rules_by k.board.opened (joined k.board.list)
 
@@ -145,7 +145,7 @@ module _ {D : Type 0} (seen : D → List ℕ) (may_leave : D → List ℕ → Ty
       → judged_in k.progress.committed letters ≡ judged k.board.opened.rules history letters
   answered_so law k shown history shows letters = law k.progress.committed history letters shows ∙ ap (λ (rules : Rules). judged rules history letters) (ruled k shown)
 
-  -- what is published and what is in flight stay, and the machine acknowledges nothing
+  -- the published and the prepared batches stay, and the machine acknowledges nothing
   pub quiet_kept : {k k' : Keeping D} → IsKept seen may_leave k → k'.image ≡ k.image → k'.board ≡ k.board → AreAlike k.progress k'.progress
       → ((history : List Command) → Keeps seen may_leave k.disk k.progress k.failed (machine_by k history)
       → (m : Machine) × (m.acknowledged ≡ (machine_by k history).acknowledged) × Keeps seen may_leave k'.disk k'.progress k'.failed m)
@@ -212,7 +212,7 @@ module _ {D : Type 0} (seen : D → List ℕ) (may_leave : D → List ℕ → Ty
             kept_as k' (take_letters k.progress.committed.rules m letters).machine (acknowledged_by k' history) (keeps m old) e;
       }
 
-  -- one batch more is published, and nothing is in flight
+  -- one more batch is published, and nothing is in flight
   grown_kept : JudgedJoin → {k k' : Keeping D} (letters : List Letter) → IsKept seen may_leave k → k'.image ≡ k.image
       → k'.board.opened ≡ k.board.opened → k'.board.list ≡ k.board.list ++ letters ∷ [] → k'.board.pending ≡ [] → k'.progress.commit.busy ≡ false
       → value_by k.progress.committed letters ≡ k'.progress.committed
@@ -235,7 +235,7 @@ module _ {D : Type 0} (seen : D → List ℕ) (may_leave : D → List ℕ → Ty
         kept_as k' moved.0 (acknowledged_by k' history) moved.2 (moved.1 ∙ sym e);
   }
 
-  -- letters of which none is new are answered at once
+  -- if no letter is new, they are answered at once
   pub answered_kept : JudgedIsShown → JudgedJoin → {k k' : Keeping D} (letters : List Letter) → IsKept seen may_leave k → k'.image ≡ k.image
       → k'.board.opened ≡ k.board.opened → k'.board.list ≡ k.board.list ++ letters ∷ [] → k'.board.pending ≡ []
       → k'.progress ≡ k.progress → k'.progress.commit.busy ≡ false → AreOld k.progress letters
@@ -277,7 +277,7 @@ module _ {D : Type 0} (seen : D → List ℕ) (may_leave : D → List ℕ → Ty
       is.judged busy ∙ answered_so shown_law k is.shown (acknowledged_by k history) before.shows letters in
       ((turn true m).machine, gives ∙ ap (λ (answers : List Answer). acknowledged_by k history ++ new_commands answers) so, keeps m before))
 
-  -- the last turn, by which what was prepared is published
+  -- the last turn, which publishes the prepared batch
   pub done_kept : JudgedIsShown → JudgedJoin → {k k' : Keeping D} (result : Result Step Fault) → IsDone result → IsKept seen may_leave k → k'.image ≡ k.image
       → k'.board.opened ≡ k.board.opened → k'.board.list ≡ k.board.list ++ k.board.pending → k'.board.pending ≡ []
       → TurnLeads k.failed result k.progress k'.progress

@@ -1,4 +1,4 @@
--- What a keeper leaves where it is closed.
+-- The values that a keeper leaves when it is closed.
 use Rattle.std.proofs.Common.{◌≡◌, inl, inr, ⊎_elim, ℕ, All, Bool, List, [], ◌∷◌, ◌++◌, Some, None, true, false, ap, refl, sym, subst}
 use Rattle.std.specs.Prelude.{if◌then◌else◌}
 use mathlib.Core.List.{IsPrefix}
@@ -20,7 +20,7 @@ use Rattle.hpb_house.specs.Histories.{history_in}
 use Rattle.hpb_house.specs.Closings.{GivesBack, StandsWith, batch_of, commands_of}
 use Rattle.hpb_house.specs.Keepers.{Begins, IsTold, Keeping, history_by, in_flight_of, machine_by, pending_of}
 
--- what may stand after a stop is a history, or that and then what is in flight
+-- after a stop there may stand a history, or that and then the commands in flight
 stands_with : (commit : Commit) (history : List Command) (image : List ℕ) → StandsFor (record { acknowledged = history; flight = flight_of commit }) image
     → StandsWith history (commands_of (in_flight_of commit)) image
 stands_with commit history image = by commit.busy
@@ -30,7 +30,7 @@ stands_with commit history image = by commit.busy
     by true it = ⊎_elim (λ e. inl (subst (λ (l : List Command). Stands l image) e it.2)) (λ e. inr (subst (λ (l : List Command). Stands l image) e.1 it.2)) it.1
     by false it = inl (subst (λ (l : List Command). Stands l image) it.1 it.2)
 
--- the batch in flight is what is prepared
+-- the batch in flight is the prepared one
 same_batch : (commit : Commit) → batch_of (in_flight_of commit) ≡ pending_of commit
 same_batch commit = by commit.busy
   where
@@ -38,7 +38,7 @@ same_batch commit = by commit.busy
     by true = refl
     by false = refl
 
--- where no batch is in flight it is not busy
+-- if no batch is in flight, the commit isn't busy
 pub not_busy : (commit : Commit) → in_flight_of commit ≡ None → commit.busy ≡ false
 not_busy commit = by commit.busy
   where
@@ -56,7 +56,8 @@ judged_flight commit value answers judged = by commit.busy judged
     by true is it = subst (λ (l : List Answer). l ≡ judged_in value (letters_of l)) (cc it) (is refl)
     by false is it = absurd (cc it)
 
--- the history that a keeper's machine acknowledges is what its device stood for, and then what its list newly accepted
+-- the history that a keeper's machine acknowledges is that of its opened device, and then the commands that its list
+-- newly accepts
 module _ {D : Type 0} (seen : D → List ℕ) (may_leave : D → List ℕ → Type 0) (fails : D → ℕ) (stays : (disk : D) → may_leave disk (seen disk)) (law : JudgedIsShown) (k : Keeping D)
     (begins : Begins k.board.opened k.image)
     (keeps : (history : List Command) → Stands history k.image → Keeps seen may_leave k.disk k.progress k.failed (machine_by k history)) where
@@ -73,7 +74,8 @@ module _ {D : Type 0} (seen : D → List ℕ) (may_leave : D → List ℕ → Ty
       → (history : List Command) → Stands history k.image → StandsWith (history ++ commands) (commands_of (in_flight_of k.progress.commit)) image
   left image stand history stands = stands_with k.progress.commit (history ++ commands) image (stand history stands)
 
-  -- what the keeper hands back, with a list that goes on to all that is prepared and all that each report has entered
+  -- the values that the keeper hands back, with a list that goes on to all prepared batches and all that each report
+  -- has entered
   pub gives_back : {A P : Type 0} (list whole : Seen (List Letter) A P) (reports : List Report) → list.log ≡ k.board.list
       → published k.board ≡ k.progress.committed → k.board.pending ≡ pending_of k.progress.commit
       → (k.progress.commit.busy ≡ true → k.progress.commit.answers ≡ judged_in k.progress.committed (letters_of k.progress.commit.answers))

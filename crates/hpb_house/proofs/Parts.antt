@@ -1,4 +1,4 @@
--- Items parted by their keys among owners of keys.
+-- Items divided by their keys among owners of keys.
 use Rattle.std.proofs.Common.{◌≡◌, ℕ, zero, suc, ◌<◌, ◌≤◌, ◌==◌, Bool, true, false, not, cond, List, [], ◌∷◌, ◌++◌, map, length, refl, sym, ap, subst, ◌∙◌, arith, slice_index_or}
 use Rattle.std.specs.Prelude.{filter, flat_map, AllPairs, IsPermutation}
 use Rattle.std.proofs.lemmas.Bool.Decides.{nat_tests}
@@ -11,7 +11,7 @@ use Rattle.hpb_rules.proofs.Prefixes.{prefix_whole}
 differs : (x j k : ℕ) → (x == k) ≡ true → (j ≡ k → ⊥) → (x == j) ≡ false
 differs x j k e apart = grind (arith, nat_tests)
 
--- those of another key are among those that are not of a key
+-- items of another key are among those that are not of a key
 kept : {A : Type 0} (key : A → ℕ) (k j : ℕ) → (j ≡ k → ⊥) → (items : List A) → filter (λ a. key a == j) (filter (λ a. not (key a == k)) items) ≡ filter (λ a. key a == j) items
 kept key k j apart [] = refl
 kept {A} key k j apart (a ∷ items) = by (key a == k) refl (kept key k j apart items)
@@ -21,7 +21,7 @@ kept {A} key k j apart (a ∷ items) = by (key a == k) refl (kept key k j apart 
     by true e rest = rest ∙ sym (ap (λ (t : Bool). cond t (a ∷ filter (λ a. key a == j) items) (filter (λ a. key a == j) items)) (differs (key a) j k e apart))
     by false e rest = ap (λ (l : List A). cond (key a == j) (a ∷ l) l) rest
 
--- all that owners have, one after another
+-- all items of the owners, one owner after another
 abbrev pub parts : {A B : Type 0} → (A → ℕ) → (B → ℕ) → List A → List B → List A
 parts key of items owners = flat_map (λ b. filter (λ a. key a == of b) items) owners
 
@@ -39,7 +39,7 @@ others of b owners apart j d lt = apart 0 (suc j) d (omega arith) (omega (arith,
 rest : {B : Type 0} (of : B → ℕ) (b : B) (owners : List B) → AllPairs (λ b c. of b ≡ of c → ⊥) (b ∷ owners) → AllPairs (λ b c. of b ≡ of c → ⊥) owners
 rest of b owners apart i j d lt le = apart (suc i) (suc j) d (omega (arith, lt)) (omega (arith, le))
 
--- apart owners have no more than there is
+-- owners with different keys have no more items than there are
 pub parts_few : {A B : Type 0} (key : A → ℕ) (of : B → ℕ) (items : List A) (owners : List B) → AllPairs (λ b c. of b ≡ of c → ⊥) owners → length (parts key of items owners) ≤ length items
 parts_few key of items [] apart = omega arith
 parts_few {A} key of items (b ∷ owners) apart =
@@ -50,7 +50,7 @@ parts_few {A} key of items (b ∷ owners) apart =
     let joined = length-append (filter (λ a. key a == of b) items) (parts key of items owners) in
     omega (arith, few, same, both, joined)
 
--- and where they have as many, they have all
+-- and if they have as many, they have all
 pub parts_all : {A B : Type 0} (key : A → ℕ) (of : B → ℕ) (items : List A) (owners : List B) → AllPairs (λ b c. of b ≡ of c → ⊥) owners → length (parts key of items owners) ≡ length items
     → IsPermutation (parts key of items owners) items
 parts_all key of [] [] apart many = IsPermutation-refl []
@@ -68,7 +68,7 @@ parts_all {A} key of items (b ∷ owners) apart many =
     (IsPermutation-append_right mine (parts key of items owners) without more')
     (IsPermutation-sym items (mine ++ without) (IsPermutation-filter_both (λ a. key a == of b) (λ a. not (key a == of b)) (λ a. refl) items))
 
--- ---- beginnings of what each owner has
+-- ---- beginnings of each owner's items
 module _ {B C : Type 0} (some whole : B → List C) where
   begins_few : (owners : List B) → ((j : ℕ) (d : B) → j < length owners → IsPrefix (some (slice_index_or owners j d)) (whole (slice_index_or owners j d))) → length (flat_map some owners) ≤ length (flat_map whole owners)
   begins_few [] begin = omega arith
@@ -78,7 +78,7 @@ module _ {B C : Type 0} (some whole : B → List C) where
       let one = ap length p.1 in
       omega (arith, few, one, length-append (some b) p.0, length-append (some b) (flat_map some owners), length-append (whole b) (flat_map whole owners))
 
-  -- where all together are as long, each is the whole
+  -- if all together are as long, each is the whole
   pub begins_each : (owners : List B) → ((j : ℕ) (d : B) → j < length owners → IsPrefix (some (slice_index_or owners j d)) (whole (slice_index_or owners j d)))
       → length (flat_map whole owners) ≤ length (flat_map some owners) → (j : ℕ) (d : B) → j < length owners → some (slice_index_or owners j d) ≡ whole (slice_index_or owners j d)
   begins_each [] begin many = λ j d lt. absurd (omega arith)

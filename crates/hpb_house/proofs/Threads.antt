@@ -4,7 +4,7 @@ use Rattle.std.specs.declared.vec.IntoIter.{IntoIter}
 use Rattle.std.specs.Vec.Iter.{into_iter_items, into_iter_steps}
 use Rattle.std.proofs.lemmas.List.{append-nil, append_assoc, map-append}
 
--- what was made tells of the elements so far: so it does with one more of the next
+-- the values made so far belong to the elements so far: with one more of the next, they still do
 pub next_made : {A B Z : Type 0} (f : A → B) (whole : List B) (made : List A) (more : A) (s t : IntoIter B Z) (x : B)
     → map f made ++ into_iter_items s ≡ whole → into_iter_steps s (Some x) t → f more ≡ x → map f (made ++ more ∷ []) ++ into_iter_items t ≡ whole
 next_made f whole made more s t x is steps same =

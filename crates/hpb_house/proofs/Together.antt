@@ -28,7 +28,7 @@ abbrev seat_of : Answer → ℕ
 seat_of a = a.letter.seat
 
 -- ---- the commands of one seat
--- where none is newly accepted, none of a seat is
+-- if none is newly accepted, none of a seat is
 none_of_seat : (seat : ℕ) (answers : List Answer) → length (new_commands answers) ≡ 0 → new_commands (filter (λ a. seat_of a == seat) answers) ≡ []
 none_of_seat seat answers none =
     let long = length-map (filter is_answer_new answers) command_of in
@@ -38,7 +38,7 @@ none_of_seat seat answers none =
     empty [] e = refl
     empty (x ∷ xs) e = absurd (omega (arith, e))
 
--- where a longer list accepts no more, its answers to a seat accept no more
+-- if a longer list accepts no more, its answers to a seat accept no more
 seat_later : (seat : ℕ) (v w : Viewing) → w.opened ≡ v.opened → IsPrefix v.list w.list → history_of v ≡ history_of w → new_commands (answers_of seat w) ≡ new_commands (answers_of seat v)
 seat_later seat v w o p same =
     let q = judged_prefix v.opened v.list w.list p in

@@ -1,4 +1,4 @@
--- What reports say together.
+-- The facts that reports show together.
 use Rattle.std.proofs.Common.{◌≡◌, ℕ, All, zero, suc, ◌+◌, ◌<◌, List, [], ◌∷◌, length, take, slice_index_or, ap, ◌∙◌, arith}
 use Rattle.rtrb.specs.Ring.{sent}
 use Rattle.hpb_rings.specs.declared.report.Report.{Report}

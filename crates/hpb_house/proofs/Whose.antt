@@ -1,4 +1,4 @@
--- Reports that are those of clients: of each its own, and no others.
+-- Reports that are those of clients, one of each.
 use Rattle.std.proofs.Common.{◌≡◌, ◌∙◌, ℕ, zero, suc, ◌+◌, ◌<◌, List, [], ◌∷◌, length, map, get_or, slice_index_or, arith, refl, sym, ap}
 use Rattle.std.specs.List.{All, range_with_len}
 use Rattle.std.proofs.lemmas.List.{get_or-map, length-map}
@@ -12,7 +12,7 @@ use Rattle.hpb_house.specs.declared.keeper.Halt.{Halt}
 use Rattle.hpb_rings.specs.declared.client.Client.{Client}
 use Rattle.hpb_rings.specs.declared.report.Report.{Report}
 
--- what is so of each, by the one at its place
+-- facts about each, by the one at its place
 pub each_of : {A B : Type 0} (has : A → B → Type 0) (P : A → Type 0) (Q : B → Type 0) → ((x : A) (y : B) → P x → has x y → Q y) → (xs : List A) (ys : List B)
     → All P xs → AreOneByOne has xs ys → All Q ys
 each_of has P Q f [] [] all each k d lt = absurd (omega arith)
@@ -21,7 +21,7 @@ each_of has P Q f (x ∷ xs) [] all each k d lt = absurd each
 each_of has P Q f (x ∷ xs) (y ∷ ys) all each zero d lt = f x y (all zero x (omega arith)) each.0
 each_of has P Q f (x ∷ xs) (y ∷ ys) all each (suc k) d lt = each_of has P Q f xs ys (λ j e l. all (suc j) e (omega (arith, l))) each.1 k d (omega (arith, lt))
 
--- what is told alike of both at each place
+-- a value that is the same for both at each place
 pub told_of_each : {A B C : Type 0} (has : A → B → Type 0) (f : A → C) (g : B → C) → ((x : A) (y : B) → has x y → g y ≡ f x) → (xs : List A) (ys : List B)
     → AreOneByOne has xs ys → map g ys ≡ map f xs
 told_of_each has f g same [] [] each = refl
@@ -37,7 +37,7 @@ apart_by reports count is i j d below within same =
     λ k lt. sym (get_or-map (λ (report : Report). report.seat) reports k d 0 lt) ∙ ap (λ seats. get_or seats k 0) is ∙ get_or-range_with_len 0 count k 0 (omega (arith, long)) in
     absurd (omega (arith, at i (omega arith), at j within, same))
 
--- what is so of the reports of clients that began with a house
+-- facts about the reports of clients that began with a house
 module _ (eye : Viewing) (clients : List (Client Halt)) (count : ℕ) (begun : AreBegun eye clients count) (reports : List Report) (own : AreReportsOf clients reports) where
   pub on_board : All (λ report. SameBoard eye report.viewer) reports
   on_board = each_of IsReportOf (λ (client : Client Halt). SameBoard eye client.viewer) (λ (report : Report). SameBoard eye report.viewer)

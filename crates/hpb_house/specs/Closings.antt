@@ -1,4 +1,4 @@
--- What a closed house leaves.
+-- The remains of a closed house.
 -- Source: this project's own.
 use Rattle.std.specs.Prelude.{◌≡◌, ◌≢◌, ◌⊎◌, ℕ, Bool, false, List, [], ◌∷◌, ◌++◌, All, Option, Some, None}
 use mathlib.Core.List.{IsPrefix}
@@ -19,26 +19,30 @@ use Rattle.hpb_house.specs.Reports.{Agree, AreCounts, TakenOnce}
 use Rattle.hpb_house.specs.declared.closing.CloseFault.{CloseFault}
 use Rattle.hpb_house.specs.declared.closing.Closing.{Closing}
 
--- **What a closed house leaves.** A device that was opened with some bytes keeps, for each history that these stood for, that history and then some
--- commands, which the committed auction shows. What is read of it now, and whatever a crash may leave of it, stands for these, or for these and then
--- what was in flight.
+-- **What a closed house leaves.** Take any history for which the device stood when it was opened. The closed device
+-- keeps that history and then some commands, which the committed auction shows. The bytes that a read gives now, and
+-- those that a crash may leave, stand for these, perhaps with those in flight after them.
 --
--- The commands are those of the list that was published, which is handed back, and what was in flight is handed back too. A second list begins with
--- the published one and then the batch in flight, and with all that each report has entered; so no other commands can stand for these. Where a house
--- closes without a fault the commands are the history of each report too, and as many as newly accepted answers that were taken; and nothing was in
--- flight, where no call of the device has failed.
+-- The commands are those of the published list, which is handed back, and so is the batch in flight. A second list
+-- begins with the published one and then that batch, and has all batches that each report has entered. So no other
+-- commands can take their place.
+--
+-- If a house closes without a fault, the commands are the history of each report too. They are as many as the answers
+-- taken that newly accepted a command. Nothing was in flight if no call of the device has failed.
 --
 -- The image stands for this history, or for it and then these commands.
 abbrev pub StandsWith : (history more : List Command) → List ℕ → Type 0
 StandsWith history more image = Stands history image ⊎ Stands (history ++ more) image
 
--- A device that was opened with these bytes keeps each history that they stood for, and then these commands (`since`): the auction shows both, one after the other. What is read of the device now, and each image that a crash may leave, stands for the same, or for it and then more: the commands that were in flight.
+-- A device that was opened with these bytes keeps each history for which they stood, and then these commands (`since`).
+-- The auction shows both, one after the other. The bytes that a read gives now, and those that a crash may leave, stand
+-- for the same, perhaps with the commands in flight after them.
 pub record Leaves {D : Type 0} (seen : D → List ℕ) (may_leave : D → List ℕ → Type 0) (image : List ℕ) (disk : D) (auction : AuctionValue) (since more : List Command) : Type 0 where
   pub shows : (history : List Command) → Stands history image → Shows auction (history ++ since)
   pub reads : (history : List Command) → Stands history image → StandsWith (history ++ since) more (seen disk)
   pub images : (history : List Command) → Stands history image → (left : List ℕ) → may_leave disk left → StandsWith (history ++ since) more left
 
--- A batch in flight is one batch more on the list; it has the letters of these answers.
+-- A batch in flight is one more batch on the list; it has the letters of these answers.
 abbrev pub batch_of : Option (List Answer) → List (List Letter)
 batch_of None = []
 batch_of (Some answers) = letters_of answers ∷ []
@@ -48,7 +52,9 @@ abbrev pub commands_of : Option (List Answer) → List Command
 commands_of None = []
 commands_of (Some answers) = new_commands answers
 
--- What the house hands back of its list, beside an auction. The published list leads to that auction. The batch in flight was judged by the auction, and is the next on the list: one list begins with the published one and then that batch, and with all that each report has entered.
+-- The lists that a house hands back, beside an auction. The published list leads to that auction. The batch in flight
+-- was judged by the auction, and is the next on the list. One list begins with the published one and then that batch,
+-- and has all batches that each report has entered.
 pub record IsListed {A P : Type 0} (opened auction : AuctionValue) (in_flight : Option (List Answer)) (shown whole : Seen (List Letter) A P) (reports : List Report) : Type 0 where
   pub leads : auction ≡ value_by opened (joined shown.log)
   pub judged : (answers : List Answer) → in_flight ≡ Some answers → answers ≡ judged_in auction (letters_of answers)
@@ -57,16 +63,17 @@ pub record IsListed {A P : Type 0} (opened auction : AuctionValue) (in_flight : 
   pub followed : All (λ r. r.viewer.book ≡ whole.book) reports
   pub entered : All (λ r. IsPrefix r.viewer.list whole.log) reports
 
--- What a house hands back, however it is closed.
+-- The values that a house hands back, however it is closed.
 pub record GivesBack {D A P : Type 0} (seen : D → List ℕ) (may_leave : D → List ℕ → Type 0) (fails : D → ℕ) (image : List ℕ) (failures : ℕ) (opened : AuctionValue) (disk : D) (auction : AuctionValue) (has_failed : Bool) (in_flight : Option (List Answer)) (published whole : Seen (List Letter) A P) (reports : List Report) : Type 0 where
-  -- The device keeps each history that it stood for when it was opened, and then the commands of the published list. It may keep those of the batch in flight besides, and nothing else.
+  -- The device keeps each history for which it stood when it was opened, and then the commands of the published list.
+  -- It may keep those of the batch in flight besides, and nothing else.
   pub leaves : Leaves seen may_leave image disk auction (history_in opened published.log) (commands_of in_flight)
-  -- That list, the batch in flight, and all that each report has entered are on one list.
+  -- That list, the batch in flight, and all batches that each report has entered are on one list.
   pub listed : IsListed opened auction in_flight published whole reports
-  -- Whether a call of the device has failed since it was opened is told, exactly.
+  -- `has_failed` says whether a call of the device has failed since the device was opened.
   pub told : IsTold has_failed failures (fails disk)
 
--- What is so where a house closes without a fault. With no report the device keeps what it stood for.
+-- The facts if a house closes without a fault. With no report, the device keeps the history of its opening.
 pub record Closed {D : Type 0} (seen : D → List ℕ) (may_leave : D → List ℕ → Type 0) (fails : D → ℕ) (image : List ℕ) (failures : ℕ) (opened : AuctionValue) (closing : Closing D) (reports : List Report) : Type 0 where
   -- All reports show the committed auction, and have one history, that of the published list.
   pub agree : Agree opened closing.auction closing.published.log reports
@@ -74,14 +81,14 @@ pub record Closed {D : Type 0} (seen : D → List ℕ) (may_leave : D → List �
   pub once : TakenOnce reports
   -- Nothing is in flight, unless a call of the device has failed.
   pub rest : closing.has_failed ≡ false → closing.in_flight ≡ None
-  -- The device keeps what the reports show, and what may be in flight.
+  -- The device keeps the history that the reports show, and perhaps the batch in flight.
   pub back : GivesBack seen may_leave fails image failures opened closing.disk closing.auction closing.has_failed closing.in_flight closing.published closing.whole reports
 
--- What is so where a house is refused with 96.
+-- The facts if a close is refused with 96.
 pub record Unsettled {D : Type 0} (seen : D → List ℕ) (may_leave : D → List ℕ → Type 0) (fails : D → ℕ) (image : List ℕ) (failures : ℕ) (opened : AuctionValue) (fault : CloseFault D) (reports : List Report) : Type 0 where
-  -- The two numbers that are told are those of the reports and of the published list.
+  -- The two numbers in the error are those of the reports and of the published list.
   pub counts : AreCounts opened fault.left.auction fault.left.published.log reports fault.counts
   -- With nothing in flight, and each report of the committed auction, they differ.
   pub only : (fault.left.has_failed ≡ false → fault.left.in_flight ≡ None) → All (λ r. auction_of r.viewer ≡ fault.left.auction) reports → fault.counts.accepted ≢ fault.counts.committed
-  -- The device keeps what was committed, and what may be in flight.
+  -- The device keeps the committed commands, and perhaps the batch in flight.
   pub back : GivesBack seen may_leave fails image failures opened fault.left.disk fault.left.auction fault.left.has_failed fault.left.in_flight fault.left.published fault.left.whole reports

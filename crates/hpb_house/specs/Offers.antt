@@ -1,4 +1,4 @@
--- What becomes of letters that are offered to a keeper.
+-- The result of an offer of letters to a keeper.
 -- Source: this project's own.
 use Rattle.std.specs.Prelude.{◌≡◌, List, [], ◌∷◌, ◌++◌, Result, Ok, Err}
 use Rattle.hpb_rules.specs.declared.letter.Letter.{Letter}
@@ -17,8 +17,9 @@ use Rattle.hpb_house.specs.declared.offered.Reason.{Reason}
 use Rattle.hpb_house.specs.declared.offered.Reason.TheVariants as reasons
 use Rattle.hpb_house.specs.Keepers.{Keeping}
 
--- **What becomes of letters.** Where nothing bars them from the engine (`CanTake`), the board must have room for their answers. Letters that
--- aren't taken are handed back as they were, with the first reason that applies. The last one is want of memory (90), and no test is named for it.
+-- **What becomes of letters.** If nothing bars them from the engine (`CanTake`), the board must have room for their
+-- answers. Letters that aren't taken are handed back unchanged, with the first reason that applies. The last reason is
+-- want of memory (90), for which there is no test.
 --
 -- The board has room for the answers to the letters.
 abbrev pub CanShow : {D : Type 0} → Keeping D → List Letter → Type 0
@@ -32,15 +33,15 @@ IsWhy k letters reasons.Failed = Weighs k.failed k.progress letters weights.Fail
 IsWhy k letters reasons.Spent = CanTake k.failed k.progress letters × (CanShow k letters → ⊥)
 IsWhy k letters reasons.Memory = CanTake k.failed k.progress letters × CanShow k letters
 
--- What becomes of letters: those that aren't taken are handed back, as they were.
+-- The result for letters: those that aren't taken are handed back unchanged.
 abbrev pub Becomes : {D : Type 0} → Keeping D → List Letter → Offered → Type 0
 Becomes k letters outcomes.InFlight = Weighs k.failed k.progress letters weights.New × CanShow k letters
 Becomes k letters (outcomes.Answered answers) =
     Weighs k.failed k.progress letters weights.Old × CanShow k letters × (answers ≡ judged_in k.progress.committed letters)
 Becomes k letters (outcomes.Back back why) = (back ≡ letters) × IsWhy k letters why
 
--- **What an offer does.** Letters of which none is new are answered and published at once; others are prepared, as one batch. To the machine without
--- a disk an offer is one event, or none where the letters are handed back.
+-- **What an offer does.** If no letter is new, all are answered and published at once; otherwise they are prepared, as
+-- one batch. To the machine without a disk an offer is one event, or none if the letters are handed back.
 --
 -- The batches that are published after an offer: letters that are answered at once are published at once.
 abbrev pub list_after : Offered → List Letter → List (List Letter) → List (List Letter)
@@ -54,15 +55,15 @@ pending_after outcomes.InFlight letters pending = letters ∷ []
 pending_after (outcomes.Answered answers) letters pending = []
 pending_after (outcomes.Back back why) letters pending = pending
 
--- What an offer does to the machine without a disk: it takes the letters, or, where they are handed back, there is none.
+-- The effect of an offer on the machine without a disk: it takes the letters, or nothing if they are handed back.
 abbrev pub machine_after : Offered → Rules → Machine → List Letter → Machine
 machine_after outcomes.InFlight rules machine letters = (take_letters rules machine letters).machine
 machine_after (outcomes.Answered answers) rules machine letters = (take_letters rules machine letters).machine
 machine_after (outcomes.Back back why) rules machine letters = machine
 
--- **What a step of a commit publishes.** The last one publishes what is prepared; no other publishes anything.
+-- **What a step of a commit publishes.** The last one publishes the prepared batch; no other publishes anything.
 --
--- The batches that are published after a step of a commit: the last one publishes what is prepared.
+-- The batches that are published after a step of a commit: the last one publishes the prepared batch.
 abbrev pub list_stepped : Result Step Fault → List (List Letter) → List (List Letter) → List (List Letter)
 list_stepped (Ok steps.Idle) list pending = list
 list_stepped (Ok steps.Went) list pending = list

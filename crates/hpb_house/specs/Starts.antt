@@ -8,11 +8,11 @@ use Rattle.hpb_rings.specs.declared.client.Client.{Client}
 use Rattle.hpb_rings.specs.declared.ring.Ring.{Ring}
 use Rattle.rtrb.specs.Ring.{IsPair}
 
--- **How clients begin.** There is one for each seat from 0 on. Each has entered what the house's own viewer has, has nothing outstanding or taken,
--- knows of no more commands than were opened, and was told of no halt. It posts into the ring that the committer empties for its seat, and gets that
--- ring's halt.
+-- **How clients begin.** There is one for each seat from 0 on. Each has entered all that the house's own viewer has. It
+-- has nothing outstanding or taken, knows of no more commands than the opened ones, and has got no halt. It posts into
+-- the ring that the committer empties for its seat, and gets that ring's halt.
 --
--- A viewer has entered what is published.
+-- A viewer has entered all published batches.
 abbrev pub IsViewOf : Publishing → Viewing → Type 0
 IsViewOf board v = (v.book ≡ board.book) × (v.opened ≡ board.opened) × (v.seats ≡ board.seats) × (v.list ≡ board.list)
 
@@ -20,7 +20,8 @@ IsViewOf board v = (v.book ≡ board.book) × (v.opened ≡ board.opened) × (v.
 abbrev pub BeganAs : Viewing → Viewing → Type 0
 BeganAs eye v = (v.book ≡ eye.book) × (v.opened ≡ eye.opened) × (v.seats ≡ eye.seats) × (v.list ≡ eye.list)
 
--- A client before its first letter: its viewer began as this one, nothing is outstanding or taken, it has seen what was opened alone, and no halt came.
+-- A client before its first letter. Its viewer began as this one, nothing is outstanding or taken, it has seen the
+-- opened auction alone, and no halt came.
 pub record IsBegun (eye : Viewing) (client : Client Halt) : Type 0 where
   pub viewer : BeganAs eye client.viewer
   pub waiting : client.waiting.items ≡ []
@@ -37,7 +38,7 @@ pub record AreBegun (eye : Viewing) (clients : List (Client Halt)) (count : ℕ)
 abbrev pub HasRing : Client Halt → Ring Halt → Type 0
 HasRing client ring = IsPair client.letters ring.letters × IsPair ring.halts client.halts
 
--- Each of these has the one at the same place, and there are as many.
+-- Each of these has its counterpart at the same place, and there are as many.
 abbrev pub AreOneByOne : {A B : Type 0} (has : A → B → Type 0) → List A → List B → Type 0
 AreOneByOne has [] [] = Unit {0}
 AreOneByOne has [] (y ∷ ys) = ⊥

@@ -1,4 +1,4 @@
--- How a house that wasn't started is told of.
+-- The refusal by which a failed start of a house is reported.
 -- Source: this project's own.
 use Rattle.hpb_rules.specs.declared.refusal.Refusal.{Refusal}
 use Rattle.hpb_rules.specs.declared.refusal.Refusal.TheVariants as refusals
@@ -7,12 +7,13 @@ use Rattle.hpb_house.specs.declared.starting.StartCause.TheVariants.{Memory, Pla
 use Rattle.hpb_house.specs.declared.starting.StartPart.{StartPart}
 use Rattle.hpb_house.specs.declared.starting.StartPart.TheVariants.{Board, Eye, Bell, Viewer, Rings, Seat, Engine}
 
--- **The refusal that it is told by.**
+-- **The refusal of a failed start.**
 abbrev pub refusal_of : StartCause → Refusal
 refusal_of Memory = refusals.Memory
 refusal_of Place = refusals.Place
 
--- Why a house isn't started that was refused this part: a place, which is a viewer's on the board or a seat's rings, or else memory.
+-- Why a house isn't started if this part is refused: a place, if it is a viewer's on the board or a seat's rings, and
+-- otherwise memory.
 abbrev pub cause_of : StartPart → StartCause
 cause_of Board = Memory
 cause_of Eye = Place

@@ -19,7 +19,7 @@ use hpb_rings::Report;
 use hpb_rules::{Answers, Refusal, judged_is_shown};
 use std::sync::Wait;
 
-/// What a house leaves.
+/// The remains of a closed house.
 #[derive(Drop)]
 pub struct Closing<D: Disk + Drop> {
     /// The device, as the engine leaves it.
@@ -28,28 +28,28 @@ pub struct Closing<D: Disk + Drop> {
     pub auction: Auction,
     /// Whether a call of the device has failed (91).
     pub has_failed: bool,
-    /// The answers of the batch in flight, if one was, as it may be after such a call, and where a close is refused (96):
-    /// none of them has left. The device may keep its new commands.
+    /// The answers of the batch in flight, if there is one; none of them has left. There may be one after a failed
+    /// call, and when a close is refused (96). The device may keep its new commands.
     pub in_flight: Option<Answers>,
-    /// The list of batches that was published: what it leads to is committed.
+    /// The list of the published batches, which lead to the committed auction.
     pub published: Trail,
-    /// The same list, on to the batch in flight, and to all that a report has entered.
+    /// The list that begins with the published batches, goes on with the batch in flight, and has all batches that a
+    /// report has entered.
     pub whole: Trail,
 }
 
-/// 96 `counts`: what the clients took isn't what was committed, or a batch is in flight though no call of the device has
-/// failed.
+/// 96 `counts`: the answers that the clients took don't match the committed commands, or a batch is in flight without a
+/// failed call of the device.
 #[derive(Drop)]
 pub struct CloseFault<D: Disk + Drop> {
-    /// What the house leaves all the same.
+    /// The remains of the house, which is closed all the same.
     pub left: Closing<D>,
-    /// How many answers that were taken newly accepted a command, and how many commands were committed since the
-    /// opening.
+    /// How many of the answers taken newly accepted a command, and how many commands were committed since the opening.
     pub counts: Counts,
 }
 
 impl<D: Disk + Drop> CloseFault<D> {
-    /// The refusal that an `ERR` line tells it by.
+    /// The refusal that an `ERR` line reports.
     pub fn refusal(&self) -> Refusal
         ensures { result ≡ refusals.Counts }
     {
@@ -58,21 +58,26 @@ impl<D: Disk + Drop> CloseFault<D> {
 }
 
 impl<D: Disk + Drop, W: Wait + Drop, J: Naming> House<D, W, J> {
-    /// Closes the house: each report is viewed once more, and compared with the committed auction. The reports are
-    /// those of the clients that the house was started with: of each its own, and no others.
+    /// Closes the house: views each report once more, and compares it with the committed auction. The reports are those
+    /// of the clients with which the house was started, one of each.
     ///
-    /// 96 `counts` exactly where the number of newly accepted answers that were taken isn't that of the commands committed
-    /// since the opening, or a report shows another auction than the committed one, or a batch is in flight though no
-    /// call of the device has failed. A report that can't be viewed any more shows what it showed.
+    /// 96 `counts` if and only if one of these holds:
+    /// - the number of answers taken that newly accepted a command differs from the number of commands committed since
+    ///   the opening;
+    /// - a report shows another auction than the committed one;
+    /// - a batch is in flight though no call of the device has failed.
+    ///
+    /// A report that can't be viewed any more keeps showing the same auction.
     pub fn close(self, reports: &mut [Report]) -> Result<Closing<D>, CloseFault<D>>
         requires clients { AreReportsOf J.clients reports.old }
-        // What was sent and taken stays as it was told, and each list that was seen begins the one that is seen now.
+        // A last view changes nothing that a report says was sent and taken, and only appends to the lists that were
+        // seen.
         ensures viewed { Viewed reports.old reports.new }
-        // All reports show the committed auction, and have one history, whose commands are those of their newly accepted
-        // answers, each once. The device keeps what it stood for and then that history; where a call of it failed it may
+        // All reports show the committed auction and have one history. Its commands are those of the newly accepted
+        // answers, each once. The device keeps its opened history and then this one. If a call of it failed, it may
         // keep the batch in flight, too, and nothing else.
         ensures closed { IfOk result (λ closing. Closed D.seen D.may_leave D.failures J.image J.failures self.opened closing reports.new) }
-        // At 96 too it keeps what it stood for, and then the commands committed since.
+        // If it is refused with 96, too, the device keeps its opened history, and then the commands committed since.
         ensures unsettled { IfErr result (λ fault. Unsettled D.seen D.may_leave D.failures J.image J.failures self.opened fault reports.new) }
         // The list that is handed back is the house's.
         ensures list { MatchResult result (λ closing. closing.whole.book ≡ self.book) (λ fault. fault.left.whole.book ≡ self.book) }
@@ -88,7 +93,7 @@ impl<D: Disk + Drop, W: Wait + Drop, J: Naming> House<D, W, J> {
     }
 }
 
-/// What a keeper leaves at its end, with a list that goes on to all that these reports have entered.
+/// Takes a keeper apart at its end. The list goes on to all batches that these reports have entered.
 fn leave<D: Disk + Drop, W: Wait + Drop>(keeper: Keeper<D, W>, reports: &[Report]) -> Closing<D>
     requires { All (λ r. r.viewer.book ≡ keeper.board.book) reports.now }
     ensures back { GivesBack D.seen D.may_leave D.failures keeper.image keeper.before keeper.board.opened result.disk result.auction result.has_failed result.in_flight result.published result.whole reports.now }
@@ -115,7 +120,7 @@ fn leave<D: Disk + Drop, W: Wait + Drop>(keeper: Keeper<D, W>, reports: &[Report
     }
 }
 
-/// Views reports once more, and compares them with what a keeper has committed, which has to be at rest.
+/// Views reports once more, and compares them with the auction that a keeper has committed. The keeper must be at rest.
 fn settle<D: Disk + Drop, W: Wait + Drop>(
     reports: &mut [Report],
     keeper: &Keeper<D, W>,

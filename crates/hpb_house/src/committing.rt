@@ -26,22 +26,23 @@ use std::thread;
 use std::thread::Parker;
 use std::time::Duration;
 
-/// How long the committer waits before it offers letters again for which memory or room was refused, in milliseconds.
+/// How long the committer waits before it offers letters again that were handed back for want of memory or of room on
+/// the board, in milliseconds.
 const AGAIN_AFTER: u64 = 1;
 
-/// How often the committer looks for letters that are expected, in all. Other threads run between two looks.
+/// How often the committer looks for expected letters, at most. Other threads run between two looks.
 const LOOKS: u32 = 100;
 
-/// How many of these looks, one after another, may find no other letter where some wait already: these are not to wait
-/// long beside much other work.
+/// How many looks in a row may find no other letter if some wait already: those are not to wait long beside much other
+/// work.
 const FEW_LOOKS: u32 = 20;
 
-/// What came of a turn of the committer.
+/// The result of a turn of the committer.
 #[derive(Drop)]
 enum AfterTurn {
-    /// It holds no letters, and expects so many: those that wait, and one more of each that was answered.
+    /// It holds no letters, and expects this many: those that wait, and one more for each letter that was answered.
     Free { expected: usize },
-    /// It holds letters that it offers again.
+    /// It holds letters that it will offer again.
     Held(Letters),
     /// The engine has failed.
     Halted(Halt),
@@ -49,17 +50,19 @@ enum AfterTurn {
     Ended,
 }
 
-/// Commits letters: it gathers those that wait, offers them as one batch and makes the steps of its commit, taking the
-/// lock for one step at a time. With nothing to do it waits for its bell. Where more letters are expected, since their
-/// senders were just answered, it looks for them before that: 100 times at most, and where letters wait already, until
-/// 20 looks one after another find no other.
+/// Commits letters: gathers those that wait, offers them as one batch, and makes the steps of its commit. It takes the
+/// lock for one step at a time. It may wait.
+///
+/// With nothing to do it waits for its bell. If more letters are expected, since their senders were just answered, it
+/// looks for them first: 100 times at most. If letters wait already, it stops after 20 looks in a row that find no
+/// other.
 ///
 /// Letters that are handed back for want of a clean frame, of memory or of room on the board are offered again. Once
-/// the engine has failed it sends a `Halt` to each seat, and from then on only empties the rings. It ends when every
-/// seat has sent its end mark, and then the checkpointer ends too. It may wait.
+/// the engine has failed, it sends a `Halt` to each seat, and from then on only empties the rings. It ends when every
+/// seat has sent its end mark, and then the checkpointer ends too.
 ///
-/// All letters that came are on the list then, in the order of their seat, each once; but for those that were still
-/// held when a halt was told to each seat, and those that came after it.
+/// At its end all letters that came are on the list, in the order of their seat, each once. After a halt some may be
+/// missing: those still held when it was sent to each seat, and those that came later.
 pub fn committer<D: Disk + Drop, W: Wait + Drop, J: Naming, G: Gate, R: Wait>(
     rt: &R,
     house: &House<D, W, J>,
@@ -100,7 +103,7 @@ pub fn committer<D: Disk + Drop, W: Wait + Drop, J: Naming, G: Gate, R: Wait>(
     unreachable!()
 }
 
-/// Looks for letters until as many wait as are expected, or looking was in vain.
+/// Looks for letters until as many wait as are expected, or until it has looked in vain often enough.
 fn await_letters(intake: &mut Intake<Halt>, expected: usize)
     ensures same { (gathered intake.new.rings.items ≡ gathered intake.old.rings.items) × (halts intake.new.rings.items ≡ halts intake.old.rings.items) × (vec_len intake.new.rings ≡ vec_len intake.old.rings) }
 {
@@ -120,7 +123,7 @@ fn await_letters(intake: &mut Intake<Halt>, expected: usize)
     }
 }
 
-/// One turn: the letters that are held, or else those that wait, are offered, and committed.
+/// One turn: offers and commits the letters that are held, or else those that wait.
 fn turn<D: Disk + Drop, W: Wait + Drop, J: Naming, G: Gate, R: Wait>(
     rt: &R,
     house: &House<D, W, J>,
@@ -169,7 +172,7 @@ fn held_or_waiting<G: Gate, R: Wait>(
     letters
 }
 
-/// There is nothing to offer: it ends, or waits for its bell.
+/// With nothing to offer: ends if every seat has, and otherwise waits for its bell.
 fn idle<D: Disk + Drop, W: Wait + Drop, J: Naming, R: Wait>(
     rt: &R,
     house: &House<D, W, J>,
@@ -215,7 +218,7 @@ fn commit<D: Disk + Drop, W: Wait + Drop, J: Naming, G: Gate, R: Wait>(
     unreachable!()
 }
 
-/// It is free, and expects a letter more for each of these answers.
+/// It is free, and expects one more letter for each of these answers.
 fn expecting(intake: &mut Intake<Halt>, answers: &Answers) -> AfterTurn
     ensures expects { (expected : ℕ) → result ≡ Free expected → length answers.now ≤ expected }
     ensures rings { vec_len intake.new.rings ≡ vec_len intake.old.rings }
@@ -241,12 +244,12 @@ fn hold<D: Disk + Drop, W: Wait + Drop, J: Naming, R: Wait>(
 {
     match reason {
         Reason::Failed => return halted(rt, house, AfterTurn::Held(letters)),
-        // A whole checkpoint rings the bell.
+        // A checkpoint that becomes whole rings the bell.
         Reason::Full => {
             house.checkpointing.unpark();
             house.committing.park(rt);
         }
-        // Nobody rings this bell: the wait lasts its time.
+        // Nobody rings this bell: the wait lasts its full time.
         Reason::Busy | Reason::Spent | Reason::Memory => {
             Parker::new().park_timeout(rt, Duration::from_millis(AGAIN_AFTER));
         }
@@ -254,7 +257,7 @@ fn hold<D: Disk + Drop, W: Wait + Drop, J: Naming, R: Wait>(
     AfterTurn::Held(letters)
 }
 
-/// The engine has failed: what it says of itself, and else what would come otherwise.
+/// The halt if the engine has failed, and otherwise the given result.
 fn halted<D: Disk + Drop, W: Wait + Drop, J: Naming, R: Wait>(
     rt: &R,
     house: &House<D, W, J>,
@@ -264,7 +267,7 @@ fn halted<D: Disk + Drop, W: Wait + Drop, J: Naming, R: Wait>(
     ensures comes { (came : List (List Command)) (list : List (List Letter)) → Comes other came list → Comes result came list }
     ensures goes_on { result ≡ End → ⊥ }
 {
-    // The checkpointer ends with the halt at once, and not only when it is rung the next time.
+    // The checkpointer is to end with the halt at once, and not only at its next bell.
     house.checkpointing.unpark();
     match house.halt(rt) {
         Some(halt) => AfterTurn::Halted(halt),
@@ -272,8 +275,8 @@ fn halted<D: Disk + Drop, W: Wait + Drop, J: Naming, R: Wait>(
     }
 }
 
-/// Empties the rings until every seat has sent its end mark. A seat whose letters were taken is told, since there is
-/// room for its end mark now.
+/// Empties the rings until every seat has sent its end mark. It wakes each seat whose letters were taken, since its
+/// ring now has room for its end mark.
 fn drain<D: Disk + Drop, W: Wait + Drop, J: Naming, G: Gate, R: Wait>(
     rt: &R,
     house: &House<D, W, J>,
@@ -302,7 +305,7 @@ fn drain<D: Disk + Drop, W: Wait + Drop, J: Naming, G: Gate, R: Wait>(
     unreachable!()
 }
 
-/// Rings the bell of each seat that was answered, once where its answers stand together.
+/// Rings the bell of each seat that was answered, once for answers of a seat that stand side by side.
 fn wake_answered(intake: &Intake<Halt>, answers: &Answers) {
     let mut woken = None;
     for answer in answers.as_slice() {

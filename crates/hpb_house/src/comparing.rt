@@ -13,25 +13,26 @@ use hpb_board::{Trail, Viewer};
 use hpb_rings::Report;
 use hpb_rules::rest_is_shown;
 
-/// Two numbers that are the same where all went well.
+/// Two numbers that are equal unless something went wrong.
 #[derive(Clone, Copy, Debug)]
 pub struct Counts {
-    /// How many answers that clients took newly accepted a command. Beyond 2^64 - 1 it stays there.
+    /// How many of the answers that clients took newly accepted a command, at most 2^64 - 1.
     pub accepted: u64,
     /// How many commands were committed since the opening, at most 1,000,000.
     pub committed: u64,
 }
 
 /// Views each report once more, and compares it with the committed auction and the other reports, as `agree` does. A
-/// report whose publisher has ended shows what it showed before.
+/// report whose publisher has ended keeps showing the same auction.
 ///
-/// The reports are those of one publisher's clients, as `eye` is a viewer of it, and `opened` is how many commands the
-/// auction had accepted that was opened. Refused exactly where a report shows another auction, or the two numbers
-/// differ (96 `counts`): `Err` tells the numbers.
+/// The reports are those of clients of one publisher, of which `eye` is a viewer. `opened` is how many commands the
+/// auction had accepted when it was opened.
 ///
-/// Else all have one history, which goes on from that of the opened auction to that of the committed one. Where no two
-/// reports are of one seat, each newly accepted answer was taken, and their commands are those of the history, each
-/// once.
+/// 96 `counts` if and only if a report shows another auction, or the two numbers differ; `Err` has the numbers.
+///
+/// Otherwise all reports have one history, which goes on from that of the opened auction to that of the committed one.
+/// If no two reports are of one seat, each newly accepted answer was taken. The answers' commands then are those of the
+/// history, each once.
 pub fn compare(
     reports: &mut [Report],
     committed: &Auction,
@@ -41,7 +42,7 @@ pub fn compare(
 ) -> Result<(), Counts>
     requires board { All (λ r. SameBoard eye.now r.viewer) reports.old }
     requires count { opened ≡ eye.now.opened.count }
-    // What is committed is what this list of the same publisher leads to.
+    // This list of the same publisher leads to the committed auction.
     requires trail { shown.now.book ≡ eye.now.book }
     requires leads { committed.now ≡ value_by eye.now.opened (joined shown.now.log) }
     ensures viewed { Viewed reports.old reports.new }
@@ -53,9 +54,8 @@ pub fn compare(
     agree(reports, committed, shown, eye, opened)
 }
 
-/// Compares reports as they are, without a view: each must show the committed auction, and the answers newly accepted
-/// must be as many as the commands committed since the opening. Refused exactly where one of these doesn't hold (96
-/// `counts`).
+/// Compares reports as they are, without a view. Each must show the committed auction, and the answers newly accepted
+/// must be as many as the commands committed since the opening. 96 `counts` if and only if one of these doesn't hold.
 pub fn agree(
     reports: &[Report],
     committed: &Auction,
@@ -65,7 +65,7 @@ pub fn agree(
 ) -> Result<(), Counts>
     requires board { All (λ r. SameBoard eye.now r.viewer) reports.now }
     requires count { opened ≡ eye.now.opened.count }
-    // What is committed is what this list of the same publisher leads to.
+    // This list of the same publisher leads to the committed auction.
     requires trail { shown.now.book ≡ eye.now.book }
     requires leads { committed.now ≡ value_by eye.now.opened (joined shown.now.log) }
     ensures agree { OnOk result (Agree eye.now.opened committed.now shown.now.log reports.now) }
@@ -81,7 +81,7 @@ pub fn agree(
     Ok(())
 }
 
-/// Views each report once more. One whose publisher has ended keeps what it showed.
+/// Views each report once more. One whose publisher has ended keeps showing the same auction.
 pub fn view_each(reports: &mut [Report])
     ensures { Viewed reports.old reports.new }
 {
@@ -111,7 +111,7 @@ fn shows(report: &Report, committed: &Auction) -> bool
     same_auction(report.viewer.auction(), committed)
 }
 
-/// One list: it begins with what each report has entered, and with what this trail has.
+/// One list that begins with all batches that each report has entered, and with those of this trail.
 pub fn whole_trail(reports: &[Report], shown: &Trail) -> Trail
     requires { All (λ r. r.viewer.book ≡ shown.now.book) reports.now }
     ensures book { result.book ≡ shown.now.book }
@@ -125,7 +125,7 @@ pub fn whole_trail(reports: &[Report], shown: &Trail) -> Trail
     all
 }
 
-/// The two numbers of reports and a committed auction.
+/// Counts the answers that newly accepted a command, by the reports, and the commands committed since the opening.
 pub fn count(reports: &[Report], committed: &Auction, opened: u32) -> Counts
     ensures accepted { result.accepted ≡ min (total reports.now) (2 ^ 64 - 1) }
     ensures committed { result.committed ≡ committed.now.count - opened }
@@ -137,7 +137,7 @@ pub fn count(reports: &[Report], committed: &Auction, opened: u32) -> Counts
     }
 }
 
-/// How many answers newly accepted a command.
+/// How many of the answers taken newly accepted a command, at most 2^64 - 1.
 fn sum(reports: &[Report]) -> u64
     ensures { result ≡ min (total reports.now) (2 ^ 64 - 1) }
 {

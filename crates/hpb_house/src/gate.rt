@@ -1,17 +1,17 @@
-//! Where the workers stand, told to whoever holds the gate.
+//! The points that a worker passes, and the gate to which it reports them.
 
 use std::sync::Wait;
 
-/// Where a worker stands, outside the lock.
+/// A point that a worker passes, outside the lock.
 #[derive(Clone, Copy, Debug, PartialEq, Eq)]
 pub enum Point {
     /// The committer has gathered letters, or found none.
     Gathered,
-    /// It has made a turn of a commit that has more of them.
+    /// It has made a turn of a commit, and more turns are to come.
     BetweenTurns,
     /// It has finished a commit: the answers are published.
     Committed,
-    /// The checkpointer has written the page of this place, from 0 to 3.
+    /// The checkpointer has written the page of this number, from 0 to 3.
     Page(u8),
     /// It has retired a frame.
     Retired,
@@ -19,9 +19,9 @@ pub enum Point {
     Failed,
 }
 
-/// Is told where the workers stand. It is called outside the lock, and may wait.
+/// Takes the workers' reports of the points that they pass. It is called outside the lock, and may wait.
 pub trait Gate {
-    /// A worker stands at this point.
+    /// A worker has come to this point, and goes on when this call returns.
     fn at<R: Wait>(&self, rt: &R, point: Point);
 }
 

@@ -1,4 +1,4 @@
-//! What the committer takes to its work, and what it hands back.
+//! The values that the committer takes to its work, and those that it hands back.
 ghost use Rattle.std.specs.Prelude.{◌≡◌, [], vec_len};
 ghost use Rattle.hpb_rings.specs.Gathering.{gathered};
 ghost use Rattle.hpb_house.specs.Owing.{IsOwed};
@@ -10,8 +10,8 @@ use hpb_rings::Intake;
 use std::marker::PhantomData;
 use std::thread::Promise;
 
-/// What the committer of the house of this name takes to its work: the rings of all seats, and a front of the house's
-/// list. All letters that came through these rings are on that list, each once.
+/// The committer's share of the house of this name: the rings of all seats, and a front of the house's list. All
+/// letters that came through these rings are on that list, each once.
 #[derive(Drop)]
 pub struct Incoming<J: Naming> {
     /// The committer's side of the rings.
@@ -25,7 +25,7 @@ pub struct Incoming<J: Naming> {
 }
 
 impl<J: Naming> Incoming<J> {
-    /// The rings and the front of the house.
+    /// The rings and the front of the house, as one value.
     pub(crate) fn new(intake: Intake<Halt>, front: Front) -> Incoming<J>
         requires seats { vec_len intake.rings ≡ J.eye.seats }
         requires book { front.trail.book ≡ J.eye.book }
@@ -40,7 +40,7 @@ impl<J: Naming> Incoming<J> {
     }
 }
 
-/// What the committer hands back at its end.
+/// The values that the committer hands back at its end.
 #[derive(Drop)]
 pub struct Settled {
     /// The committer's side of the rings.
@@ -49,8 +49,8 @@ pub struct Settled {
     pub front: Front,
 }
 
-/// The committer of the house of this name ends as it should: its thread is started with this, and whoever joins it
-/// knows what is so of what it hands back.
+/// The promise that the committer of this house ends as `IsSettled` says. Its thread is started with this promise, so
+/// the thread that joins it may rely on it.
 #[derive(Drop)]
 pub struct Settles<J: Naming> {
     of: PhantomData<J>,

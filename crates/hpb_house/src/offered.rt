@@ -1,4 +1,4 @@
-//! What comes of an offer.
+//! The result of an offer to a keeper.
 
 use hpb_rules::{Answers, Letters};
 
@@ -7,22 +7,22 @@ use hpb_rules::{Answers, Letters};
 pub enum Offered {
     /// They are prepared on the board, and their new commands are in flight.
     InFlight,
-    /// None of them is new: these are all answers, and they are published.
+    /// No letter is new. These are the answers to all of them, and they are published.
     Answered(Answers),
-    /// They are handed back as they were, and nothing changes.
+    /// They are handed back unchanged, and nothing has changed.
     Back(Letters, Reason),
 }
 
-/// Why letters are handed back.
+/// Why letters are handed back. Of several reasons that apply, it is the first by `Keeper::offer`.
 #[derive(Clone, Copy, Debug, PartialEq, Eq)]
 pub enum Reason {
     /// A batch is in flight.
     Busy,
-    /// No clean frame is left for the new commands among them.
+    /// Some letters are new, and no clean frame is left.
     Full,
     /// 93: a call of the device has failed.
     Failed,
-    /// A seat's number of answers would pass its greatest value.
+    /// The answers to a seat would number more than the board can count.
     Spent,
     /// 90: memory was refused.
     Memory,

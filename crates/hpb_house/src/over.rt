@@ -1,4 +1,4 @@
-//! What tells that a house is over.
+//! The proof that a house gets no more letters.
 ghost use Rattle.std.specs.Prelude.{◌≡◌, All, true, vec_len};
 ghost use Rattle.rtrb.specs.Ring.{received};
 ghost use Rattle.hpb_rings.specs.Slips.{ends};
@@ -9,9 +9,11 @@ use hpb_rings::Intake;
 use std::marker::PhantomData;
 use std::snapshot::Snapshot;
 
-/// Tells that an end mark came out of each of as many rings as the house of this name has seats: no letter comes
-/// through these any more. Outside this crate nothing can make it. In it the committer alone does, in its last lines,
-/// of the rings that it was given.
+/// The proof that an end mark came out of as many rings as the house of this name has seats: no letter comes through
+/// these any more.
+///
+/// No other crate can make one. In this crate only the committer does, in its last lines, from the rings that it was
+/// given.
 #[derive(Drop)]
 pub struct Over<J: Naming> {
     intake: Snapshot<Intake<Halt>>,
@@ -21,7 +23,7 @@ pub struct Over<J: Naming> {
 }
 
 impl<J: Naming> Over<J> {
-    /// Tells it by the committer's side of the rings.
+    /// Makes the proof from the committer's side of the rings.
     pub(crate) fn of(intake: &Intake<Halt>) -> Over<J>
         requires seats { vec_len intake.now.rings ≡ J.eye.seats }
         requires ended { All (λ r. ends (received r.letters) ≡ true) intake.now.rings.items }

@@ -2,15 +2,15 @@
 ghost use Rattle.std.specs.Prelude.{◌≡◌, ◌↔◌, ◌≤◌, ◌+◌, ◌*◌, IfSome, IsSome};
 ghost use Rattle.hpb_house.specs.Pieces.{IsPiece};
 
-/// Where a piece of a device begins, and how many bytes it has.
+/// The first byte of a piece of a device, and how many bytes it has.
 #[derive(Clone, Copy)]
 pub(crate) struct Piece {
     pub(crate) at: usize,
     pub(crate) len: usize,
 }
 
-/// The piece of a device that is so long, by its number: the first is 0. Each has so many bytes, the last one fewer where
-/// not so many are left. `None` where there is no such piece.
+/// The piece with this number of a device of `device` bytes, or `None` if there is none. Pieces are numbered from 0,
+/// and each has `most` bytes; the last one may have fewer.
 pub(crate) fn find_piece(device: usize, most: usize, number: usize) -> Option<Piece>
     ensures found { IsSome result ↔ IsPiece device most number }
     ensures at { IfSome result (λ piece. piece.at ≡ number * most) }

@@ -4,8 +4,8 @@ ghost use Rattle.std.specs.Prelude.{◌≡◌, ◌↔◌, IsTrue};
 use hpb_auction::Auction;
 use hpb_rules::{Accepted, Saved, SavedBidder, SavedNode};
 
-/// Whether two auctions of one definition are the same: the bids, where the bidders and the auctioneer stand, the
-/// round, the stage, whether it is over, and how many commands were accepted. Takes no memory.
+/// Whether two auctions of one definition are the same. It compares the bids, the states of the bidders and the
+/// auctioneer, the round, the stage, whether it is over, and how many commands were accepted. It takes no memory.
 pub fn same_auction(ours: &Auction, theirs: &Auction) -> bool
     requires { ours.now.rules ≡ theirs.now.rules }
     ensures { IsTrue result ↔ (ours.now ≡ theirs.now) }
@@ -17,7 +17,7 @@ pub fn same_auction(ours: &Auction, theirs: &Auction) -> bool
     same_saved(&our, &their)
 }
 
-/// Whether the same was saved of two auctions.
+/// Whether two saved states are the same.
 fn same_saved(our: &Saved, their: &Saved) -> bool
     ensures { IsTrue result ↔ (our.now ≡ their.now) }
 {

@@ -1,4 +1,4 @@
-//! A house that was started: before it has a name, and under one.
+//! A house after its start: before it has a name, and under one.
 ghost use Rattle.std.specs.Prelude.{◌≡◌, [], vec_len};
 ghost use Rattle.hpb_rings.specs.Gathering.{gathered};
 ghost use Rattle.hpb_house.specs.Owing.{IsOwed};
@@ -15,16 +15,17 @@ use std::alloc::Global;
 use std::sync::{Arc, Mutex, Wait};
 use std::thread::Parker;
 
-/// A house that has no name yet, with what its threads need. Nothing has come through its rings that isn't on its list.
+/// A house that has no name yet, with the parts that its threads need. Every letter that came through its rings is on
+/// its list.
 ///
-/// Its parts are public, so that a keeper can be driven without threads. The front is of the board of `eye` (`book`),
-/// and it gets a name only where keeper and clients are so too (`own` and `begun` of `named`). That the intake has the
-/// rings of these clients is not asked there: `House::start` tells it (`joined`).
+/// Its parts are public, so that a keeper can be driven without threads. The front is of the board of `eye` (`book`). A
+/// name requires the same of keeper and clients (`own` and `begun` of `named`). It doesn't require that the intake has
+/// the rings of these clients; `House::start` ensures that (`joined`).
 #[derive(Drop)]
 pub struct Started<D: Disk + Drop, W: Wait + Drop> {
-    /// What is to lie under the lock.
+    /// The keeper, not yet under its lock.
     pub keeper: Keeper<D, W>,
-    /// A viewer that never views: it shows what was opened.
+    /// A viewer that never views: it shows the opened auction.
     pub eye: Viewer,
     pub(crate) bell: Arc<Parker, Global>,
     /// The committer's front of the list.
@@ -38,11 +39,11 @@ pub struct Started<D: Disk + Drop, W: Wait + Drop> {
     pub ghost none: { IsOwed (gathered intake.rings.items) front.trail.log [] },
 }
 
-/// A house with what its threads need.
+/// A house with the parts that its threads need.
 #[derive(Drop)]
 pub struct Ready<D: Disk + Drop, W: Wait + Drop, J: Naming> {
     pub house: House<D, W, J>,
-    /// What its committer takes.
+    /// The committer's share.
     pub incoming: Incoming<J>,
     /// A client for each seat, from 0 on.
     pub clients: Vec<Client<Halt>>,
@@ -52,7 +53,7 @@ impl<D: Disk + Drop, W: Wait + Drop> Started<D, W> {
     ghost use Rattle.hpb_house.specs.Namings.{IsOf};
     ghost use Rattle.hpb_house.specs.Starts.{AreBegun};
 
-    /// The house under a name, which is its own.
+    /// Gives the house its name, which no other house has.
     pub fn named<J: Naming>(self) -> Ready<D, W, J>
         requires eye { (self.eye ≡ J.eye) × (self.eye.list ≡ []) }
         requires own { IsOf J.eye J.image J.failures self.keeper }

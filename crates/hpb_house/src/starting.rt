@@ -38,7 +38,7 @@ pub enum StartCause {
 }
 
 impl StartCause {
-    /// The refusal that an `ERR` line tells it by.
+    /// The refusal that an `ERR` line reports.
     pub fn refusal(self) -> Refusal
         ensures { result ≡ refusal_of self }
     {
@@ -49,13 +49,13 @@ impl StartCause {
     }
 }
 
-/// What a house asks for at its start, in this order: the rings, the viewer and the bell are asked for once for each
-/// seat.
+/// A part that a house needs at its start. Parts are made in this order, those from the viewer to the seat once for
+/// each seat.
 #[derive(Clone, Copy, Debug, PartialEq, Eq)]
 pub enum StartPart {
     /// The board.
     Board,
-    /// A place on the board for the viewer that shows what was opened.
+    /// A place on the board for the viewer that shows the opened auction.
     Eye,
     /// The committer's bell.
     Bell,
@@ -63,15 +63,15 @@ pub enum StartPart {
     Viewer,
     /// A seat's rings.
     Rings,
-    /// A client's hold of the committer's bell, or room for one client more.
+    /// A client's hold of the committer's bell, or room for one more client.
     Seat,
     /// The engine.
     Engine,
 }
 
 impl StartPart {
-    /// Why a house isn't started that was refused this: 94 `place` for a ring or the place of a viewer, 90 `memory` for
-    /// all else.
+    /// Why a house isn't started if this part is refused: 94 `place` for a ring or a viewer's place, and otherwise 90
+    /// `memory`.
     pub fn cause(self) -> StartCause
         ensures { result ≡ cause_of self }
     {
@@ -84,16 +84,16 @@ impl StartPart {
     }
 }
 
-/// A house that wasn't started hands the opened device back, and tells which part it was refused.
+/// The error of a house that wasn't started: the opened device, and the part that was refused.
 #[derive(Drop)]
 pub struct StartFault<D: Disk + Drop> {
-    /// As it was handed over.
+    /// The opened device, as it was handed over.
     pub opened: Opened<D>,
     pub part: StartPart,
 }
 
 impl<D: Disk + Drop> StartFault<D> {
-    /// The refusal that it is told by.
+    /// The refusal's number and word, by the part that was refused.
     pub fn cause(&self) -> StartCause
         ensures { result ≡ cause_of self.now.part }
     {
@@ -101,7 +101,7 @@ impl<D: Disk + Drop> StartFault<D> {
     }
 }
 
-/// What stands before the engine: the board with its viewers, the rings and the committer's bell.
+/// The parts that are made before the engine: the board with its viewers, the rings and the committer's bell.
 #[derive(Drop)]
 struct Setting<W: Wait + Drop> {
     publisher: Publisher<W>,
@@ -175,7 +175,7 @@ fn seat_clients<W: Wait + Drop>(
     Ok(Seats { rings, clients })
 }
 
-/// Makes all that stands before the engine.
+/// Makes all parts that are made before the engine.
 fn make_setting<W: Wait + Drop>(
     rt: W,
     alloc: Global,
@@ -210,11 +210,11 @@ fn make_setting<W: Wait + Drop>(
 }
 
 impl<D: Disk + Drop, W: Wait + Drop> House<D, W, Brand> {
-    /// Starts a house over an opened device for so many sessions, from 1 to 32: the house, the committer's side of the
-    /// rings, and a client for each seat.
+    /// Starts a house over an opened device for 1 to 32 sessions: the house, the committer's side of the rings, and a
+    /// client for each seat.
     ///
-    /// 90 `memory` where memory is refused, 94 `place` where a ring or a viewer's place is: the part that was refused
-    /// tells which (`StartPart::cause`). Both hand the opened device back as it was.
+    /// 90 `memory`: memory was refused. 94 `place`: a ring or a viewer's place was refused. The error names the part
+    /// that was refused (`StartPart::cause`), and hands the opened device back as it was.
     pub fn start(
         rt: W,
         alloc: Global,
@@ -222,13 +222,13 @@ impl<D: Disk + Drop, W: Wait + Drop> House<D, W, Brand> {
         sessions: u8,
     ) -> Result<Started<D, W>, StartFault<D>>
         requires { (1 ≤ sessions) × (sessions ≤ MOST_SEATS) }
-        // Every client begins with what was opened, and there is one for each seat, with the ring of that seat.
+        // Every client begins with the opened auction. There is one for each seat, with the ring of that seat.
         ensures opened { IfOk result (λ made. (made.eye.opened ≡ opened.plan.auction) × (made.eye.list ≡ [])) }
         ensures seats { IfOk result (λ made. made.eye.seats ≡ sessions) }
         ensures clients { IfOk result (λ made. AreBegun made.eye made.clients.items sessions) }
         ensures rings { IfOk result (λ made. vec_len made.intake.rings ≡ sessions) }
         ensures joined { IfOk result (λ made. HaveRings made.clients.items made.intake.rings.items) }
-        // What is to lie under the lock publishes to these clients' viewers, and its device was opened as this one is.
+        // The keeper publishes to these clients' viewers, and its device was opened as this one is.
         ensures board { IfOk result (λ made. IsViewOf made.keeper.board made.eye) }
         // Nothing has come or is on the list yet.
         ensures fresh { IfOk result (λ made. All (λ ring. received ring.letters ≡ []) made.intake.rings.items) }

@@ -22,10 +22,9 @@ pub struct Workers<J: Naming> {
 }
 
 impl<J: Naming> Workers<J> {
-    /// Starts the workers, each with a gate that is told where it stands.
+    /// Starts the workers, each with a gate to which it reports the points that it passes.
     ///
-    /// 90 where a thread is refused: the committer ends by itself then, if it was started, once every client is
-    /// finished.
+    /// 90 if a thread is refused. If the committer was started before, it ends by itself once every client is finished.
     pub fn start<
         's,
         E,
@@ -55,7 +54,7 @@ impl<J: Naming> Workers<J> {
         })
     }
 
-    /// Waits for their ends: what the committer hands back, and why the checkpointer has ended.
+    /// Waits until both have ended: returns the committer's remains, and why the checkpointer ended.
     pub fn join<R: Threads>(self, rt: &R) -> (Settled, Result<Over<J>, Halt>)
         ensures { IsSettled J.eye result.0 }
     {

@@ -2,7 +2,7 @@
 use Rattle.std.proofs.Common.{[], ◌≡◌, ℕ, zero, suc, ◌<◌, List, ◌∷◌, length, map, slice_index_or, arith, subst}
 use Rattle.hpb_house.specs.Starts.{AreOneByOne}
 
--- what is so at each place is so one by one
+-- facts at each place are facts one by one
 pub all_kept : {A B C : Type 0} (has : A → B → Type 0) (f : C → A) (threads : List C) (results : List B)
     → ((i : ℕ) (d : B) → i < length threads → (thread : C) × (thread ≡ slice_index_or threads i thread) × has (f thread) (slice_index_or results i d))
     → length results ≡ length threads → AreOneByOne has (map f threads) results

@@ -1,4 +1,4 @@
-//! What is opened for a house.
+//! Opened devices for houses.
 
 use anyhow::Error;
 use hpb_codec::{JournalLayout, JournalShape};
@@ -21,7 +21,7 @@ pub(crate) fn six_nodes_opened(
     }
 }
 
-/// The same, of which one call fails: so many after it was opened, from 1.
+/// The same with one call that fails: the one of this number after the opening, counted from 1.
 pub(crate) fn faulty_opened(
     alloc: Global,
     shape: JournalShape,
@@ -41,7 +41,7 @@ pub(crate) const WIDE: u8 = 32;
 /// The frames of the wide device.
 const FRAMES: u32 = 64;
 
-/// Licences, and bidders that may bid on all of them.
+/// A draft of these licences, and of bidders that may bid on all of them.
 fn wide_draft(alloc: Global) -> Result<Draft, AllocError> {
     let mut draft = Draft {
         step: 10,
@@ -66,13 +66,13 @@ fn wide_draft(alloc: Global) -> Result<Draft, AllocError> {
     Ok(draft)
 }
 
-/// Of them, checked.
+/// The definition by that draft.
 fn wide_definition(alloc: Global) -> Result<Box<Definition>, Fail> {
     let draft = wide_draft(alloc)?;
     Ok(Box::new(alloc, Definition::check(alloc, &draft)?)?)
 }
 
-/// A new device of them with 64 frames of this layout.
+/// A new device for it with 64 frames of this layout.
 fn wide_device(alloc: Global, layout: JournalLayout) -> Result<MemoryDisk, Fail> {
     let definition = wide_definition(alloc)?;
     let shape = JournalShape {

@@ -20,7 +20,7 @@ use std::test::Fail;
 use std::thread;
 use std::thread::{Promise, PromisedHandle, Scope, Threads};
 
-/// What the clients of a house do while it is open. Each is called in a thread of its own.
+/// The work of a house's clients while it is open. Each call runs in a thread of its own.
 pub(crate) trait Session {
     ghost use Rattle.hpb_house.specs.Clients.{SameClient};
 
@@ -28,10 +28,10 @@ pub(crate) trait Session {
         ensures same { SameClient client result };
 }
 
-/// What came of a house that was closed.
+/// The result of a house that was closed.
 #[derive(Clone, Copy, Debug, PartialEq, Eq)]
 pub(crate) struct Outcome {
-    /// Whether the counts were the same.
+    /// Whether the counts were equal.
     pub(crate) is_closed: bool,
     /// How many commands were committed since the opening.
     pub(crate) committed: u64,
@@ -48,7 +48,7 @@ pub(crate) struct Run<D: Disk + Drop> {
     pub(crate) disk: D,
 }
 
-/// The report is this client's.
+/// The proof that a report is this client's.
 #[derive(Drop)]
 struct OfClient {
     client: Snapshot<Client<Halt>>,
@@ -89,7 +89,7 @@ pub(crate) fn finish<R: Wait>(rt: &R, client: Client<Halt>) -> Report
             Ok(report) => return report,
             Err(back) => client = back,
         }
-        // Its bell rings where its letters were taken out of the ring.
+        // Its bell rings when its letters are taken out of the ring.
         client.wait(rt);
     }
     unreachable!()
@@ -102,7 +102,7 @@ fn serve<S: Session, R: Wait>(rt: &R, session: &S, client: Client<Halt>) -> Repo
     finish(rt, session.run(rt, client))
 }
 
-/// Starts a thread for each client. They are put into a list that is empty, and whose room was made before.
+/// Starts a thread for each client. They go into a list that is empty, and whose room was made before.
 fn start_clients<'s, E, S: Session + Sync, R: Threads + Wait + Sync>(
     scope: &Scope<'s, E>,
     rt: &'s R,
@@ -123,7 +123,7 @@ fn start_clients<'s, E, S: Session + Sync, R: Threads + Wait + Sync>(
     Ok(threads)
 }
 
-/// Runs the threads of a house to their ends. The gate is told where the checkpointer stands.
+/// Runs the threads of a house to their ends. The checkpointer reports its points to the gate.
 fn run_threads<
     D: Disk + Drop + Send,
     W: Wait + Drop + Send,
@@ -170,7 +170,7 @@ fn sums(reports: &[Report]) -> (u64, u64) {
     (taken, accepted)
 }
 
-/// What came of a house, by its closing and what its clients took.
+/// The result of a house, by its closing and by the answers that its clients took.
 fn ended<D: Disk + Drop>(
     closed: Result<Closing<D>, CloseFault<D>>,
     opened: u32,
@@ -199,7 +199,7 @@ fn ended<D: Disk + Drop>(
     }
 }
 
-/// Runs all threads of a house that was started, by the name that is its own, and closes it. So many commands were
+/// Runs all threads of a house that was started, gives the house its name, and closes it. `before` commands were
 /// accepted when it was opened.
 fn run_started<
     J: Naming + Send + Sync,
@@ -232,7 +232,8 @@ fn run_started<
     Ok(ended(closed, before, sums))
 }
 
-/// Starts a house over what was opened, with a client for each of so many sessions, runs all its threads and closes it.
+/// Starts a house over an opened device, with a client for each of so many sessions, runs all its threads and closes
+/// it.
 fn run_house<D: Disk + Drop + Send, G: Gate + Sync, S: Session + Sync, R: Threads + Wait + Sync>(
     rt: &R,
     alloc: Global,
@@ -264,7 +265,7 @@ pub(crate) fn run_in_memory<G: Gate + Sync, S: Session + Sync, R: Threads + Wait
     run_house(rt, alloc, opened, sessions, gate, session)
 }
 
-/// `run_house` over a device in memory of which one call fails.
+/// `run_house` over a device in memory with one call that fails.
 pub(crate) fn run_with_fault<G: Gate + Sync, S: Session + Sync, R: Threads + Wait + Sync>(
     rt: &R,
     alloc: Global,

@@ -5,7 +5,7 @@ use std::sync::Wait;
 use std::sync::atomic::{AtomicBool, AtomicU32, Ordering};
 use std::thread::Parker;
 
-/// Holds the checkpointer at a point until it is opened.
+/// A gate that holds the checkpointer at a point until it is opened.
 #[derive(Drop)]
 pub(crate) struct Hold {
     point: Point,
@@ -15,7 +15,7 @@ pub(crate) struct Hold {
 }
 
 impl Hold {
-    /// A gate that holds at a point, which the checkpointer alone tells.
+    /// A gate that holds at this point, which only the checkpointer reports.
     pub(crate) fn at_point(point: Point) -> Hold {
         Hold {
             point,
@@ -25,7 +25,7 @@ impl Hold {
         }
     }
 
-    /// Whether the point was told.
+    /// Whether the point was reported.
     pub(crate) fn was_entered(&self) -> bool {
         self.was_entered.load(Ordering::SeqCst)
     }
@@ -52,7 +52,7 @@ impl Gate for Hold {
     }
 }
 
-/// Holds the checkpointer at each page of its first checkpoint, until it is let on.
+/// A gate that holds the checkpointer at each page of its first checkpoint, until it lets it pass.
 #[derive(Drop)]
 pub(crate) struct Pages {
     told: AtomicU32,
@@ -61,7 +61,7 @@ pub(crate) struct Pages {
 }
 
 impl Pages {
-    /// A gate by which no page is passed yet.
+    /// A gate that lets no page pass yet.
     pub(crate) fn new() -> Pages {
         Pages {
             told: AtomicU32::new(0),
@@ -70,7 +70,7 @@ impl Pages {
         }
     }
 
-    /// How many pages were told, in their order from 0 on.
+    /// How many pages were reported, in order from 0 on.
     pub(crate) fn told(&self) -> u32 {
         self.told.load(Ordering::SeqCst)
     }
@@ -100,8 +100,8 @@ impl Gate for Pages {
     }
 }
 
-/// Holds a checkpoint behind its first page until a commit stands between two of its turns, and that commit until the
-/// next page is written. The commit is the second one: there is nothing to write before the first.
+/// A gate that holds a checkpoint behind its first page until a commit is between two of its turns. Then it holds that
+/// commit until the next page is written. The commit is the second one: before the first there is nothing to write.
 #[derive(Drop)]
 pub(crate) struct Crossing {
     commits: AtomicU32,
@@ -114,7 +114,7 @@ pub(crate) struct Crossing {
 }
 
 impl Crossing {
-    /// A gate that nobody has come to.
+    /// A gate to which no worker has come.
     pub(crate) fn new() -> Crossing {
         Crossing {
             commits: AtomicU32::new(0),
@@ -127,7 +127,7 @@ impl Crossing {
         }
     }
 
-    /// Whether a page was written while the commit stood between two turns.
+    /// Whether a page was written while the commit was between two turns.
     pub(crate) fn has_crossed(&self) -> bool {
         self.has_crossed.load(Ordering::SeqCst)
     }

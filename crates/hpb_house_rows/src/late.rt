@@ -1,4 +1,4 @@
-//! A house whose checkpointer gets no turn before all else has ended.
+//! A house whose checkpointer gets no turn before all other threads have ended.
 ghost use Rattle.std.specs.Prelude.{◌≡◌, []};
 ghost use Rattle.std.specs.Thread.{IsSend, IsSync};
 ghost use Rattle.hpb_house.specs.Namings.{IsOf};
@@ -46,7 +46,7 @@ fn run_committer<
     )
 }
 
-/// Runs a house with the first of its clients. Its checkpointer starts once the committer has ended. Gives whether the
+/// Runs a house with the first of its clients. Its checkpointer starts once the committer has ended. Says whether the
 /// checkpointer ends with a halt.
 fn run_ready<
     D: Disk + Drop + Send,
@@ -71,7 +71,7 @@ fn run_ready<
     Ok(checkpointer(rt, house, gate).is_err())
 }
 
-/// Runs a house that was started for one session, by the name that is its own, as `run_ready` does.
+/// Gives its name to a house that was started for one session, and runs it as `run_ready` does.
 fn run_started<
     J: Naming + Send + Sync,
     D: Disk + Drop + Send,
@@ -95,8 +95,8 @@ fn run_started<
     is_halted
 }
 
-/// Starts a house over what was opened, for one session. Its checkpointer starts once the committer has ended, and the
-/// gate is told where it stands. Gives whether the checkpointer ends with a halt.
+/// Starts a house over an opened device, for one session. Its checkpointer starts once the committer has ended, and
+/// reports its points to the gate. Says whether the checkpointer ends with a halt.
 pub(crate) fn run_late<G: Gate, S: Session, R: Threads + Wait + Sync>(
     rt: &R,
     alloc: Global,

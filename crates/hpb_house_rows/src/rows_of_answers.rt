@@ -1,4 +1,4 @@
-//! What a client is answered, and what it sees.
+//! The answers that a client gets, and its views.
 ghost use Rattle.hpb_house.specs.Clients.{SameClient};
 
 use crate::devices::six_nodes_opened;
@@ -48,7 +48,7 @@ fn wanted_at(place: u32) -> Row {
     }
 }
 
-/// Whether a command is answered as its row has it.
+/// Whether a command's answer is that of its row.
 fn is_answered<R: Wait>(rt: &R, client: &mut Client<Halt>, row: &Row) -> bool
     ensures same { SameClient client.old client.new }
 {
@@ -60,7 +60,7 @@ fn is_answered<R: Wait>(rt: &R, client: &mut Client<Halt>, row: &Row) -> bool
     }
 }
 
-/// Asks the rows in turn, and counts those that are answered as they have it.
+/// Asks the rows in turn, and counts those whose answer is right.
 #[derive(Drop)]
 struct Tickets {
     right: AtomicU32,
@@ -142,7 +142,7 @@ fn own_bid_in_next_view(rt: HostRuntime) -> Result<(), Fail> {
     Ok(())
 }
 
-/// Posts without a poll, at most twenty times, until a letter is handed back. Tells how many went.
+/// Posts without a poll, at most twenty times, until a letter is handed back. Gives how many were taken.
 fn posts_without_poll(client: &mut Client<Halt>) -> u32
     ensures same { SameClient client.old client.new }
 {
@@ -212,7 +212,7 @@ fn full_ring(rt: HostRuntime) -> Result<(), Fail> {
 /// For how many short waits a client lingers behind a post: longer than the committer looks before it sleeps.
 const LINGER: u32 = 1_000;
 
-/// Within how many turns an answer comes that a bell has to bring.
+/// Within how many turns an answer must come for which a bell has to ring.
 const FEW_TURNS: u32 = 100_000;
 
 /// Waits until the committer sleeps.
@@ -222,7 +222,7 @@ fn linger<R: Wait>(rt: &R) {
     }
 }
 
-/// Waits until the other client is done, at most so many turns.
+/// Waits until the other client is done, for the most turns.
 fn await_other<R: Wait>(rt: &R, is_done: &AtomicBool) {
     for _ in 0..TURNS {
         if is_done.load(Ordering::SeqCst) {
@@ -232,9 +232,9 @@ fn await_other<R: Wait>(rt: &R, is_done: &AtomicBool) {
     }
 }
 
-/// The client of the first seat posts two commands, each once the committer sleeps, and takes their answers only then: the
-/// second is posted while the first one's answer isn't taken. Then the other client asks, which wakes a committer that
-/// still sleeps: so a house in which a post wakes nobody ends all the same.
+/// The client of the first seat posts two commands, each once the committer sleeps, and takes their answers only then.
+/// The second is posted while the first one's answer isn't taken. Then the other client asks, which wakes a committer
+/// that still sleeps. So a house in which a post wakes nobody ends all the same.
 #[derive(Drop)]
 struct TwoPosts {
     taken: AtomicU32,
@@ -242,7 +242,7 @@ struct TwoPosts {
 }
 
 impl TwoPosts {
-    /// Counts the client's next answer, where it comes.
+    /// Counts the client's next answer, if it comes.
     fn count_next<R: Wait>(&self, rt: &R, client: &mut Client<Halt>)
         ensures same { SameClient client.old client.new }
     {

@@ -15,7 +15,7 @@ use std::sync::Wait;
 use std::sync::atomic::{AtomicBool, AtomicU32, AtomicU64, Ordering};
 use std::test::*;
 
-/// How many short waits a letter is looked at that isn't to be answered.
+/// For how many short waits the client looks for an answer that must not come.
 const LOOKS: u32 = 10_000;
 
 /// Whether a letter that was posted is accepted with this number within so many turns.
@@ -28,7 +28,7 @@ fn is_accepted<R: Wait>(rt: &R, client: &mut Client<Halt>, number: u32, turns: u
     }
 }
 
-/// Fills the journal while the checkpointer is held, and posts one command more.
+/// Fills the journal while the checkpointer is held, and posts one more command.
 #[derive(Drop)]
 struct FullJournal {
     frames: u32,
@@ -80,7 +80,7 @@ fn full_journal_waits(rt: HostRuntime) -> Result<(), Fail> {
     Ok(())
 }
 
-/// Waits until the gate's point was told: `false` where it wasn't within the most turns.
+/// Waits until the gate's point is reported. `false` if it isn't within the most turns.
 fn is_entered<R: Wait>(rt: &R, hold: &Hold) -> bool {
     for _ in 0..TURNS {
         if hold.was_entered() {
@@ -142,7 +142,7 @@ fn commits_beside_a_checkpoint(rt: HostRuntime) -> Result<(), Fail> {
     Ok(())
 }
 
-/// Waits until so many pages were told: `false` where they weren't within the most turns, or where more were.
+/// Waits until so many pages are reported. `false` if they aren't within the most turns, or if more are.
 fn are_told<R: Wait>(rt: &R, pages: &Pages, count: u32) -> bool {
     for _ in 0..TURNS {
         if pages.told() >= count {
@@ -153,8 +153,8 @@ fn are_told<R: Wait>(rt: &R, pages: &Pages, count: u32) -> bool {
     false
 }
 
-/// Lets the checkpointer on from page to page, and commits in between: none before the second page, and one before the
-/// third, and before the fourth.
+/// Lets the checkpointer go on from page to page, and commits in between: none before the second page, one before the
+/// third, and one before the fourth.
 #[derive(Drop)]
 struct InTurns {
     pages: Pages,
@@ -163,7 +163,7 @@ struct InTurns {
 }
 
 impl InTurns {
-    /// Lets it on to the next page: so many are told then in all.
+    /// Lets it go on to the next page, with which so many are reported in all.
     fn goes_on<R: Wait>(&self, rt: &R, count: u32) {
         self.pages.let_on(count.saturating_sub(1));
         if are_told(rt, &self.pages, count) {

@@ -1,4 +1,4 @@
-//! Many clients: what they took is what was committed.
+//! Many clients: the answers that they took match the committed commands.
 ghost use Rattle.hpb_house.specs.Clients.{SameClient};
 
 use crate::devices::{WIDE, six_nodes_opened, wide_opened};
@@ -20,7 +20,7 @@ use std::sync::atomic::{AtomicU64, Ordering};
 use std::test::*;
 use std::thread::Threads;
 
-/// Two clients, of which each bids on licences of its own.
+/// Two clients, each of which bids on licences of its own.
 #[derive(Drop)]
 struct TwoClients;
 
@@ -70,7 +70,7 @@ fn wide_bid(seat: u8, place: u32) -> Command {
     }
 }
 
-/// Takes all answers that have come: `None` where one is refused.
+/// Takes all answers that have come. `None` if one is refused.
 fn take_all(client: &mut Client<Halt>) -> Option<u32>
     ensures same { SameClient client.old client.new }
 {
@@ -86,7 +86,7 @@ fn take_all(client: &mut Client<Halt>) -> Option<u32>
     Some(taken)
 }
 
-/// Posts letters from one on, until one is handed back. Tells which is the next.
+/// Posts letters from this one on, until one is handed back. Gives the number of the next.
 fn post_from(client: &mut Client<Halt>, from: u32) -> u32
     ensures same { SameClient client.old client.new }
 {
@@ -99,7 +99,7 @@ fn post_from(client: &mut Client<Halt>, from: u32) -> u32
     LETTERS.max(from)
 }
 
-/// Sends all letters, with as many outstanding as go, and takes their answers. Tells how many were taken.
+/// Sends all letters, with as many outstanding as the ring takes, and takes their answers. Gives how many were taken.
 fn send_all<R: Wait>(rt: &R, client: &mut Client<Halt>) -> u64
     ensures same { SameClient client.old client.new }
 {
@@ -117,10 +117,10 @@ fn send_all<R: Wait>(rt: &R, client: &mut Client<Halt>) -> u64
     unreachable!()
 }
 
-/// Many clients, of which each sends many letters.
+/// Many clients, each of which sends many letters.
 #[derive(Drop)]
 struct ManyClients {
-    /// How many took an answer to each letter.
+    /// How many clients took an answer to each letter.
     whole: AtomicU64,
 }
 

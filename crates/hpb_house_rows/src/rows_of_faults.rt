@@ -38,7 +38,7 @@ fn fill(client: &mut Client<Halt>)
 }
 
 /// The client of the first seat bids, and any other only waits. Each is halted, and gets no answer. Then it posts as
-/// much as its ring takes, so that it can't finish before that is emptied.
+/// much as its ring takes, so that it can't finish before its ring is emptied.
 #[derive(Drop)]
 struct Halted {
     right: AtomicU32,
@@ -88,7 +88,7 @@ fn halted_client(rt: HostRuntime) -> Result<(), Fail> {
         let session = Halted {
             right: AtomicU32::new(0),
         };
-        // Each of the four calls of the first commit.
+        // Each of the four calls of the first commit fails in turn.
         for call in 1..5 {
             let opened = faulty_opened(alloc, shape, call)?;
             let run = run_with_fault(&rt, alloc, opened, 2, &OpenGate, &session)?;
@@ -112,7 +112,7 @@ fn fault_in_a_checkpoint(rt: HostRuntime) -> Result<(), Fail> {
         let session = Staying {
             right: AtomicU32::new(0),
         };
-        // Calls behind the four of the first commit.
+        // Calls behind the four of the first commit fail in turn.
         for call in 5..8 {
             let opened = faulty_opened(alloc, shape, call)?;
             let run = run_with_fault(&rt, alloc, opened, 1, &OpenGate, &session)?;

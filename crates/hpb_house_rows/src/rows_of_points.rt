@@ -1,4 +1,4 @@
-//! The points that the workers of a house tell.
+//! The points that the workers of a house report.
 
 use crate::devices::{faulty_opened, six_nodes_opened};
 use crate::harness::{Session, run_in_memory, run_with_fault};
@@ -16,7 +16,7 @@ use std::sync::atomic::{AtomicU32, Ordering};
 use std::test::*;
 use std::thread::Threads;
 
-/// How often each point was told, but for `Gathered`.
+/// How often each point was reported, without `Gathered`.
 #[derive(Clone, Copy, Debug, PartialEq, Eq)]
 struct Told {
     between_turns: u32,
@@ -26,7 +26,7 @@ struct Told {
     failed: u32,
 }
 
-/// Counts how often each point is told. Of pages it counts those that come in their order.
+/// Counts how often each point is reported. Pages count only if they come in order.
 #[derive(Drop)]
 struct Tally {
     gathered: AtomicU32,
@@ -38,7 +38,7 @@ struct Tally {
 }
 
 impl Tally {
-    /// A gate to which nothing was told.
+    /// A gate to which nothing was reported.
     fn new() -> Tally {
         Tally {
             gathered: AtomicU32::new(0),
@@ -50,7 +50,7 @@ impl Tally {
         }
     }
 
-    /// How often each was told.
+    /// How often each point was reported.
     fn told(&self) -> Told {
         Told {
             between_turns: self.between_turns.load(Ordering::SeqCst),
@@ -168,7 +168,8 @@ impl Session for Bidding {
     }
 }
 
-/// What is told of the only commit, whose call of this number fails, and whether the checkpointer ends with a halt.
+/// The points that are reported of the only commit, if its call of this number fails. Also whether the checkpointer
+/// ends with a halt.
 fn told_late<R: Threads + Wait + Sync>(
     rt: &R,
     alloc: Global,
@@ -185,7 +186,7 @@ fn told_late<R: Threads + Wait + Sync>(
 fn fault_of_a_commit_is_told_once_all_has_ended(rt: HostRuntime) -> Result<(), Fail> {
     let alloc = rt.alloc();
     over_layouts!(shape => {
-        // Each of its four calls, and none of them.
+        // Each of its four calls fails in turn, and then none.
         for call in 1..6 {
             let fails = call < 5;
             let (told, is_halted) = told_late(&rt, alloc, shape, call)?;

@@ -11,8 +11,8 @@ use hpb_rings::Client;
 use hpb_rules::{Command, Reply};
 use std::sync::Wait;
 
-/// The command of this place behind three rounds, from 0: in each further round z bids on the greatest package, and it
-/// is closed.
+/// The command of this place behind three rounds, from 0: in each further round z bids on the greatest package, and the
+/// round is closed.
 fn in_later_round(place: u32) -> Command {
     let rounds = place / 2;
     if place % 2 == 0 {
@@ -50,7 +50,7 @@ fn is_accepted<R: Wait>(rt: &R, client: &mut Client<Halt>, place: u32) -> bool
     }
 }
 
-/// Asks the commands of these places, each once the one before is answered. Tells how many were newly accepted.
+/// Asks the commands of these places, each once the one before is answered. Gives how many were newly accepted.
 pub(crate) fn ask_places<R: Wait>(rt: &R, client: &mut Client<Halt>, from: u32, to: u32) -> u64
     ensures same { SameClient client.old client.new }
 {

@@ -1,4 +1,4 @@
-//! Turns of a client: it polls and takes, and else waits for a short time.
+//! Turns of a client: it polls and takes, or else waits for a short time.
 ghost use Rattle.hpb_house.specs.Clients.{SameClient};
 
 use hpb_house::Halt;
@@ -8,7 +8,7 @@ use std::sync::Wait;
 use std::thread::Parker;
 use std::time::Duration;
 
-/// How many turns there are at most until something has to have come.
+/// How many turns there are, at most, until something must have come.
 pub(crate) const TURNS: u32 = 1_000_000;
 
 /// How long a turn waits, in microseconds.
@@ -16,11 +16,11 @@ const PAUSE: u64 = 10;
 
 /// Waits for a short time.
 pub(crate) fn pause<R: Wait>(rt: &R) {
-    // Nobody rings it: a wait for it lasts its time.
+    // Nobody rings this bell: a wait for it lasts its full time.
     Parker::new().park_timeout(rt, Duration::from_micros(PAUSE));
 }
 
-/// Posts a command from the client's seat: `false` where it is handed back.
+/// Posts a command from the client's seat. `false` if it is handed back.
 pub(crate) fn post(client: &mut Client<Halt>, command: Command) -> bool
     ensures same { SameClient client.old client.new }
 {
@@ -28,7 +28,7 @@ pub(crate) fn post(client: &mut Client<Halt>, command: Command) -> bool
     client.post(Letter { seat, command }).is_ok()
 }
 
-/// Takes the next answer. `None` where there is none after so many turns, or it is refused.
+/// Takes the next answer. `None` if there is none after so many turns, or if it is refused.
 pub(crate) fn take_within<R: Wait>(rt: &R, client: &mut Client<Halt>, turns: u32) -> Option<Answer>
     ensures same { SameClient client.old client.new }
 {
@@ -43,7 +43,7 @@ pub(crate) fn take_within<R: Wait>(rt: &R, client: &mut Client<Halt>, turns: u32
     None
 }
 
-/// Posts a command and takes its answer. `None` where there is none within the most turns.
+/// Posts a command and takes its answer. `None` if there is none within the most turns.
 pub(crate) fn ask<R: Wait>(rt: &R, client: &mut Client<Halt>, command: Command) -> Option<Answer>
     ensures same { SameClient client.old client.new }
 {

@@ -1,4 +1,4 @@
--- Faults of jobs that are none of the output.
+-- Faults of jobs that don't come from the output.
 use Rattle.std.proofs.Common.{◌≡◌, ℕ, Bool, List, Option, Err, sym, subst, ⊎_elim}
 use Rattle.hpb_define.specs.declared.fault.DefineCause.{DefineCause}
 use Rattle.hpb_define.specs.declared.fault.DefineCause.TheVariants as defining
@@ -40,7 +40,7 @@ module _ (cut : Bool) where
   pub of_opened_file : (fault : FileFault) (made : JobFault) → made ≡ made_of_file fault → IsCutBy cut (Err made)
   of_opened_file = of_each_file IsElse tt (λ fault. tt)
 
-  -- of what it holds
+  -- of its contents
   pub of_opening : (cause : Cause) (made : JobFault) → made ≡ made_of_opening cause → IsCutBy cut (Err made)
   of_opening cause made is = subst IsElse (sym is) (go cause)
     where

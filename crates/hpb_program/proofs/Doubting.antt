@@ -1,4 +1,4 @@
--- What people are told where a file opens and has what no honest file has.
+-- The warning if a file opens but has doubts: facts that no honest file has.
 use Rattle.std.proofs.Common.{◌≡◌, ◌⊎◌, ◌∙◌, ℕ, Bool, List, [], Option, Result, Ok, Err, sym, ap, subst, refl, inl, inr, ⊎_elim}
 use Rattle.std.specs.Bool.{⊤}
 use Rattle.std.proofs.KnownBytes.{Keeps-refl}
@@ -33,7 +33,7 @@ pub durable_still : {D : Type 0} (seen : D → List ℕ) (may_leave : D → List
     → Only (seen old) (may_leave old) → IsQuiet seen may_leave moment left_since calls old new → Only (seen new) (may_leave new)
 durable_still seen may_leave moment left_since calls old new only quiet = λ other left. only other (quiet.crash other left) ∙ sym quiet.same
 
--- what such a device has is told of what was opened
+-- the doubts of such a device are reported for the opened one
 pub tells : (first plan : Plan) (here image : List ℕ) (old new : Option (List ℕ)) (slot : Option ℕ) (later : Option Later) (count : ℕ) (text : List ℕ) → plan ≡ first → here ≡ image
     → IsSlotTold first here slot → IsFrameTold first here later → count ≡ plan.auction.count → text ≡ doubts_text count slot later → Says old new text → TellsDoubts plan image old new
 tells first plan here image old new slot later count text same at slot_told frame_told counted is says = (
@@ -44,7 +44,7 @@ tells first plan here image old new slot later count text same at slot_told fram
   subst (Says old new) (is ∙ ap (λ (n : ℕ). doubts_text n slot later) counted) says,
 )
 
--- what ended the look at it is a fault of the machine
+-- the fault that ended the look at it is one of the machine
 pub of_machine : (failures later : ℕ) (cause : Cause) (made : JobFault) → made ≡ made_of_opening cause → HasCause failures later cause → IsOfMachine made
 of_machine failures later cause made is has = subst IsOfMachine (sym is) (go cause has)
   where
@@ -53,7 +53,7 @@ of_machine failures later cause made is has = subst IsOfMachine (sym is) (go cau
     go opening.Memory has = inl refl
     go opening.Device has = inr refl
 
--- and one of a device that is not opened
+-- and so is the fault of a device that is not opened
 pub not_looked : (image : List ℕ) (fault : JobFault) → IsOfMachine fault → IsNotOpened image fault
 not_looked image fault of = ⊎_elim
     (λ (e : fault ≡ faults.Memory). subst (IsNotOpened image) (sym e) (inl refl))
@@ -87,7 +87,7 @@ module _ (image : List ℕ) (P : JobFault → Type 0) (of_memory : P faults.Memo
       (λ (has : (flaw : Flaw) × (fault ≡ faults.Open (opening.Flawed flaw)) × HasFlaw flaw image). subst P (sym has.1) (of_flaw has.0 has.2))
       by
 
--- where it is not opened nothing of it is shown,
+-- if it is not opened, nothing of it is shown,
 pub shown_not : (image : List ℕ) (contents : Option (List ℕ)) (fault : JobFault) → IsNotOpened image fault → ShowsKept image contents contents (Err fault)
 shown_not image contents fault not =
     let keeps = Keeps-refl contents in
@@ -97,11 +97,11 @@ shown_not image contents fault not =
 pub cut_not : (image : List ℕ) (cut : Bool) (fault : JobFault) → IsNotOpened image fault → IsCutBy cut (Err fault)
 cut_not image cut fault not = by_kind image (λ fault. IsCutBy cut (Err fault)) tt tt (λ flaw has. tt) fault (not_opened_by image fault not)
 
--- and people were told nothing
+-- and nothing was reported
 pub told_not : (image : List ℕ) (old new : Option (List ℕ)) (fault : JobFault) → IsNotOpened image fault → Keeps old new → TellsStopped image old new fault
 told_not image old new fault not keeps = by_kind image (TellsStopped image old new) (inl keeps) keeps (λ flaw has. keeps) fault (not_opened_by image fault not)
 
--- what was told stays told where an auction is not served to its end
+-- a report stays if an auction is not served to its end
 pub told_serving : (D : Type 0) (image : List ℕ) (old new : Option (List ℕ)) (fault : ServeFault D) (made : JobFault) → made ≡ made_of_serving fault → TellsImage image old new → TellsStopped image old new made
 told_serving D image old new fault made is told = subst (TellsStopped image old new) (sym is) (go fault)
   where
@@ -113,11 +113,11 @@ told_serving D image old new fault made is told = subst (TellsStopped image old 
     go (serving.Order client) = told
     go (serving.Counts differing) = told
 
--- of a file that is not opened nothing is told
+-- if a file is not opened, nothing is reported
 pub told_unopened_file : (contents : Option (List ℕ)) (fault : FileFault) (made : JobFault) → made ≡ made_of_file fault → TellsStopped [] contents contents made
 told_unopened_file contents = of_each_file (TellsStopped [] contents contents) (inl (Keeps-refl contents)) (λ fault. Keeps-refl contents)
 
--- nor where too few files and connections may be had at a time
+-- nor if the process may have too few files and connections at a time
 pub told_unheld : (contents : Option (List ℕ)) (fault : JobFault) → IsOfDescriptors fault → TellsStopped [] contents contents fault
 told_unheld contents faults.Memory is = inl (Keeps-refl contents)
 told_unheld contents (faults.Descriptors held wanted error) is = Keeps-refl contents
@@ -133,7 +133,7 @@ told_unheld contents faults.Place is = absurd is
 told_unheld contents faults.Order is = absurd is
 told_unheld contents faults.Counts is = absurd is
 
--- what is shown of a file that is opened is of the bytes of which people were told
+-- the auction shown of an opened file is that of the bytes whose doubts were reported
 pub checked : (image : List ℕ) (old new errors_old errors_new : Option (List ℕ)) (result : Result ⊤ JobFault)
     → ShowsKept image old new result → TellsKept image errors_old errors_new result → Checks old new errors_old errors_new result
 checked image old new errors_old errors_new (Ok done) shows told = (image, shows, told)
@@ -153,7 +153,7 @@ checked image old new errors_old errors_new (Err faults.Place) shows told = (sho
 checked image old new errors_old errors_new (Err faults.Order) shows told = (shows.0, (image, told))
 checked image old new errors_old errors_new (Err faults.Counts) shows told = (shows.0, (image, told))
 
--- and nothing is shown, or told, of one that is not
+-- and nothing is shown or reported of a file that is not opened
 pub checked_unopened : (contents errors : Option (List ℕ)) (fault : FileFault) (made : JobFault) → made ≡ made_of_file fault → Checks contents contents errors errors (Err made)
 checked_unopened contents errors = of_each_file (λ made. Checks contents contents errors errors (Err made)) (Keeps-refl contents, ([], inl (Keeps-refl errors)))
     (λ fault. (Keeps-refl contents, ([], Keeps-refl errors)))

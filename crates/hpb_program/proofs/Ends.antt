@@ -31,7 +31,7 @@ use Rattle.hpb_words.specs.Telling.{IsCutBy}
 use Rattle.hpb_server.proofs.Fronts.{put_front}
 use Rattle.hpb_program.proofs.Files.{of_each_file, of_each_made}
 
--- one node's line more
+-- one more node's line
 pub added_line : (value : AuctionValue) (text new line : List ℕ) (place at following : ℕ) → text ≡ line_of (shown_in value) ++ nodes_text value place → new ≡ text ++ line_of line
     → line ≡ node_shown_in value at → at ≡ place → following ≡ suc place → new ≡ line_of (shown_in value) ++ nodes_text value following
 added_line value text new line place at following h added is same more =
@@ -40,7 +40,7 @@ added_line value text new line place at following h added is same more =
     ∙ ap (λ (l : List ℕ). line_of (shown_in value) ++ (nodes_text value place ++ line_of l)) (is ∙ ap (node_shown_in value) same) in
     subst (λ (n : ℕ). new ≡ line_of (shown_in value) ++ nodes_text value n) (sym more) step
 
--- what a device holds is shown
+-- the auction of a device is shown
 pub shown_well : (image : List ℕ) (value : AuctionValue) (a b : Option (List ℕ)) (text : List ℕ) → IsKept image value → text ≡ check_text value → Appends a b text → ShowsKept image a b (Ok tt)
 shown_well image value a b text kept is written = (value, kept, subst (Appends a b) is written)
 
@@ -51,7 +51,7 @@ shown_short image value a b text e kept is put =
     let front = put_front a b text (Err e) put in
     (value, kept, (front.0, front.1, subst (IsFront front.0) is front.2))
 
--- the fault of a job is told, and an output that failed is told nothing more
+-- the fault of a job is reported, and an output that failed gets nothing more
 module _ (before cut : Bool) (old new errors_old errors_new : Option (List ℕ)) (status : ℕ) (kept : before ≡ true → (cut ≡ true) × Keeps old new) where
   pub told_end : (fault : JobFault) → IsCutBy before (Err fault) → TellsFault cut old new errors_old errors_new fault status → TellsEnd cut old new errors_old errors_new (Err fault) status
   told_end faults.Writer by told = let keeps = kept by in (keeps.0, told.0, told.1, told.2)

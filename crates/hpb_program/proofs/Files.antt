@@ -1,4 +1,4 @@
--- What becomes of the fault of a file: memory's, or the file's own.
+-- The fault of a job that comes from the fault of a file: memory's, or the file's own.
 use Rattle.std.proofs.Common.{◌≡◌, sym, subst}
 use Rattle.hpb_disk.specs.declared.fault.FileFault.{FileFault}
 use Rattle.hpb_disk.specs.declared.fault.FileFault.TheVariants as files
@@ -8,7 +8,7 @@ use Rattle.hpb_words.specs.declared.job_fault.JobFault.TheVariants as faults
 use Rattle.hpb_program.specs.Jobs.{IsOfFile}
 use Rattle.hpb_words.specs.Faults.{made_of_file}
 
--- what is so of both is so of the fault that a file's fault becomes
+-- a fact about both holds of the fault that comes from a file's fault
 pub of_each_file : (Is : JobFault → Type 0) → Is faults.Memory → ((fault : FileFault) → Is (faults.File fault)) → (fault : FileFault) (made : JobFault) → made ≡ made_of_file fault → Is made
 of_each_file Is memory file fault made is = subst Is (sym is) (go fault)
   where
@@ -26,7 +26,7 @@ of_each_file Is memory file fault made is = subst Is (sym is) (go fault)
     go (files.Limit len limit) = file (files.Limit len limit)
     go (files.System e) = file (files.System e)
 
--- what is so of memory's faults, a file's and those of formatting is so of each fault of a file that is made
+-- a fact about memory's faults, a file's and those of formatting holds of each fault of a file that is made
 pub of_each_made : (Is : JobFault → Type 0) → Is faults.Memory → ((fault : FileFault) → Is (faults.File fault)) → ((cause : FormatCause) → Is (faults.Format cause))
     → (fault : JobFault) → IsOfFile fault → Is fault
 of_each_made Is memory file format faults.Memory of = memory

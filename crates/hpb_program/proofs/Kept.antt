@@ -26,7 +26,7 @@ use Rattle.hpb_program.proofs.Files.{of_each_file}
 pub are_kept : (a b : Option (List ℕ)) → AreKept (streams a b) (streams a b)
 are_kept a b = (Keeps-refl a, Keeps-refl b)
 
--- an engine was run that has the auction which is read on a device, and keeps each history that the device stood for
+-- an engine was run with the auction that is read on a device, and it keeps each history for which the device stood
 pub is_run : {D : Type 0} (seen : D → List ℕ) (may_leave : D → List ℕ → Type 0) (failures : D → ℕ) (opened : D) (before after : Streams)
     (first : D) (start : Progress) (broken : Bool) (disk : D) (progress : Progress) (failed : Bool) (end : Result ⊤ SessionFault)
     → ((found : Found) × Reads found (seen opened) × (start.committed ≡ last_value found))
@@ -70,6 +70,6 @@ of_not_opened image faults.Place not = ⊎_elim (λ e. absurd (cc)) (λ e. absur
 of_not_opened image faults.Order not = ⊎_elim (λ e. absurd (cc)) (λ e. absurd (cc)) not
 of_not_opened image faults.Counts not = ⊎_elim (λ e. absurd (cc)) (λ e. absurd (cc)) not
 
--- and so is one of a file that is not opened
+-- and so is the fault of a file that is not opened
 pub of_opening : (fault : FileFault) (made : JobFault) → made ≡ made_of_file fault → IsOfOpening made
 of_opening = of_each_file IsOfOpening tt (λ fault. tt)

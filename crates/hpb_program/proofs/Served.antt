@@ -1,4 +1,4 @@
--- What is written where an auction is served.
+-- The bytes written while an auction is served.
 use Rattle.std.proofs.Common.{◌≡◌, ℕ, List, Option, Err, sym, subst, refl, inl, ⊎_elim}
 use Rattle.std.proofs.KnownBytes.{Keeps-refl}
 use Rattle.hpb_disk.specs.declared.fault.FileFault.{FileFault}
@@ -34,7 +34,7 @@ unopened image port contents faults.Place not = ⊎_elim (λ e. absurd (cc)) (λ
 unopened image port contents faults.Order not = ⊎_elim (λ e. absurd (cc)) (λ e. absurd (cc)) not
 unopened image port contents faults.Counts not = ⊎_elim (λ e. absurd (cc)) (λ e. absurd (cc)) not
 
--- one that is opened is not served to its end
+-- a device that is opened is not served to its end
 pub unserved : (D : Type 0) (image : List ℕ) (port : ℕ) (old new : Option (List ℕ)) (fault : ServeFault D) (made : JobFault) → IsReadable image → made ≡ made_of_serving fault
     → Announces {A = Served D} (listening_line port) old new (Err fault) → IsUnserved image port old new made
 unserved D image port old new fault made read is written = subst (λ (m : JobFault). IsUnserved image port old new m) (sym is) (go fault written)
@@ -51,7 +51,7 @@ unserved D image port old new fault made read is written = subst (λ (m : JobFau
 pub unopened_file : (sessions port : ℕ) (contents : Option (List ℕ)) (fault : FileFault) (made : JobFault) → made ≡ made_of_file fault → ServesFile sessions port contents contents (Err made)
 unopened_file sessions port contents = of_each_file (λ made. ServesFile sessions port contents contents (Err made)) (inl (Keeps-refl contents)) (λ fault. Keeps-refl contents)
 
--- where too few files and connections may be had at a time, nothing is served
+-- if the process may have too few files and connections at a time, nothing is served
 pub unheld : (sessions port : ℕ) (contents : Option (List ℕ)) (fault : JobFault) → IsOfDescriptors fault → ServesFile sessions port contents contents (Err fault)
 unheld sessions port contents faults.Memory is = inl (Keeps-refl contents)
 unheld sessions port contents (faults.Descriptors held wanted error) is = Keeps-refl contents
@@ -67,7 +67,7 @@ unheld sessions port contents faults.Place is = absurd is
 unheld sessions port contents faults.Order is = absurd is
 unheld sessions port contents faults.Counts is = absurd is
 
--- a device in a file that is not served is a file that is not
+-- if the device in a file is not served, the file is not
 pub of_device : (image : List ℕ) (sessions port : ℕ) (old new : Option (List ℕ)) (fault : JobFault) → IsUnserved image port old new fault → ServesFile sessions port old new (Err fault)
 of_device image sessions port old new faults.Memory kept = kept
 of_device image sessions port old new (faults.File fault) kept = absurd kept

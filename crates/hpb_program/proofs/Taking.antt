@@ -1,4 +1,4 @@
--- What is read of a definition, part by part.
+-- The bytes read of a definition, part by part.
 use Rattle.std.proofs.Common.{◌≡◌, ◌∙◌, ℕ, ◌<◌, ◌≤◌, true, false, List, [], ◌++◌, length, Option, sym, subst, inl, inr, arith, length-append}
 use Rattle.std.specs.Io.KnownBytes.{Consumes}
 use Rattle.std.proofs.KnownBytes.{Consumes-nil, Consumes-trans}
@@ -7,7 +7,7 @@ use Rattle.hpb_program.specs.declared.formatting.TheConstants.{KEPT_BYTES}
 use Rattle.hpb_words.specs.declared.job_fault.JobFault.{JobFault}
 use Rattle.hpb_program.specs.Jobs.{GivesText, ReadsPart, StopsPart, StopsReading}
 
--- This was read so far.
+-- These bytes were read so far.
 abbrev pub Taken : (old now : Option (List ℕ)) → List ℕ → Type 0
 Taken old now text = Consumes old now text × (length text ≤ KEPT_BYTES)
 

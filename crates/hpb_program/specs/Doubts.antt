@@ -1,4 +1,4 @@
--- What people are told where a file opens and has what no honest file has.
+-- The warning if a file opens but has doubts: facts that no honest file has.
 use Rattle.std.specs.Prelude.{◌≡◌, ◌⊎◌, ℕ, List, [], ◌++◌, Option, None, Some, Result, Ok, Err, codes, decimal}
 use Rattle.std.specs.Io.KnownBytes.{Keeps}
 use Rattle.hpb_disk.specs.FileDisks.{file_seen}
@@ -14,19 +14,19 @@ use Rattle.hpb_words.specs.declared.job_fault.JobFault.TheVariants as faults
 use Rattle.hpb_program.specs.declared.serving.FileEnd.{FileEnd}
 use Rattle.hpb_server.specs.Telling.{Says}
 
--- What is said of a batch that only a newer checkpoint makes room for: the number of its first command, where it is whole.
+-- The text for a batch that needs a newer checkpoint: the number of its first command, if the batch is whole.
 abbrev pub frame_text : Frame → List ℕ
 frame_text (frames.Batch batch) = codes ", and a later batch begins with command " ++ decimal batch.first
 frame_text frames.Closed = codes ", and a later batch is damaged"
 frame_text frames.Other = codes ", and a later batch is damaged"
 frame_text frames.Damaged = codes ", and a later batch is damaged"
 
--- The same, where there may be none.
+-- The same, if there is one.
 abbrev pub later_text : Option Later → List ℕ
 later_text None = []
 later_text (Some later) = frame_text later.frame
 
--- What is said of a damaged slot, by the count in its bytes,
+-- The text for a damaged slot, by the count in its bytes,
 abbrev pub damaged_text : ℕ → List ℕ
 damaged_text damaged = codes ", and " ++ decimal damaged ++ codes " by the damaged one"
 
@@ -34,28 +34,29 @@ damaged_text damaged = codes ", and " ++ decimal damaged ++ codes " by the damag
 abbrev pub slot_text : ℕ → List ℕ → List ℕ
 slot_text damaged later = damaged_text damaged ++ later
 
--- The line that has what was found beside the count of what was opened.
+-- The line with the texts of the doubts, behind the count of the opened auction.
 abbrev pub doubts_line : ℕ → List ℕ → List ℕ
 doubts_line count found =
     codes "hpb: a checkpoint is damaged, which no power cut does, and it may be the newest: COUNT is " ++ decimal count ++ codes " by what was opened" ++ found
     ++ codes ". Copy the file before anything else, and hold COUNT against the number of the last OK: if that is greater, go back to your newest backup, and send again, in their order, the commands since then\n"
 
--- What is told where an auction of so many commands was opened: nothing, where the device has nothing that no honest device has.
+-- The warning after an auction of so many commands was opened: nothing if there are no doubts.
 abbrev pub doubts_text : ℕ → Option ℕ → Option Later → List ℕ
 doubts_text count None None = []
 doubts_text count None (Some later) = doubts_line count (frame_text later.frame)
 doubts_text count (Some damaged) later = doubts_line count (slot_text damaged (later_text later))
 
--- People are told just what a device has that no honest device has.
+-- Standard error gets exactly the doubts of a device.
 abbrev pub TellsDoubts : Plan → List ℕ → (errors_old errors_new : Option (List ℕ)) → Type 0
 TellsDoubts plan image errors_old errors_new =
     (slot : Option ℕ) × (later : Option Later) × IsSlotTold plan image slot × IsFrameTold plan image later × Says errors_old errors_new (doubts_text plan.auction.count slot later)
 
--- The same, by what is to be read on the device.
+-- The same, by the bytes of the device.
 abbrev pub TellsImage : List ℕ → (errors_old errors_new : Option (List ℕ)) → Type 0
 TellsImage image errors_old errors_new = (plan : Plan) × IsPlan plan image × TellsDoubts plan image errors_old errors_new
 
--- A job on what a device holds was not done, or not to its end. Where the device was opened people were told that; where it was not opened they were told nothing; and where memory was refused, that or nothing.
+-- A job on a device was not done, or not to its end. If the device was opened, its doubts were reported; if it wasn't
+-- opened, nothing was. If memory was refused, either may be.
 abbrev pub TellsStopped : List ℕ → (errors_old errors_new : Option (List ℕ)) → JobFault → Type 0
 TellsStopped image errors_old errors_new faults.Memory = Keeps errors_old errors_new ⊎ TellsImage image errors_old errors_new
 TellsStopped image errors_old errors_new (faults.File fault) = Keeps errors_old errors_new
@@ -63,16 +64,16 @@ TellsStopped image errors_old errors_new (faults.Descriptors sessions wanted err
 TellsStopped image errors_old errors_new (faults.Open cause) = Keeps errors_old errors_new
 TellsStopped image errors_old errors_new fault = TellsImage image errors_old errors_new
 
--- It was done, or begun, and people were told that before; or it was not.
+-- The job was done or begun, and the doubts were reported before; or it was not.
 abbrev pub TellsKept : {T : Type 0} → List ℕ → (errors_old errors_new : Option (List ℕ)) → Result T JobFault → Type 0
 TellsKept image errors_old errors_new (Ok done) = TellsImage image errors_old errors_new
 TellsKept image errors_old errors_new (Err fault) = TellsStopped image errors_old errors_new fault
 
--- The same of a job on a file that was not done, or not to its end: of whose bytes nothing is known.
+-- The same for a job on a file that was not done, or not to its end. The file's bytes aren't known.
 abbrev pub TellsIll : (errors_old errors_new : Option (List ℕ)) → JobFault → Type 0
 TellsIll errors_old errors_new fault = (image : List ℕ) × TellsStopped image errors_old errors_new fault
 
--- Where a file was served people were told what its disk had when it was opened.
+-- If a file was served, the doubts about its disk were reported when it was opened.
 abbrev pub TellsServing : (errors_old errors_new : Option (List ℕ)) → Result FileEnd JobFault → Type 0
 TellsServing errors_old errors_new (Ok end) = TellsImage (file_seen end.opened.value) errors_old errors_new
 TellsServing errors_old errors_new (Err fault) = TellsIll errors_old errors_new fault

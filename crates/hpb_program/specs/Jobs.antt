@@ -1,4 +1,4 @@
--- What jobs on files read and write.
+-- The streams that jobs on files read and write.
 use Rattle.std.specs.Prelude.{◌≡◌, ◌⊎◌, ℕ, Bool, true, false, zero, suc, ◌+◌, ◌<◌, ◌≤◌, List, [], ◌++◌, length, codes, decimal, Option, Result, Ok, Err, ⊤}
 use Rattle.std.specs.Io.KnownBytes.{Appends, Consumes, IsAtEnd, Keeps}
 use Rattle.hpb_rules.specs.declared.command.Command.{Command}
@@ -51,7 +51,7 @@ abbrev pub nodes_text : AuctionValue → ℕ → List ℕ
 nodes_text value zero = []
 nodes_text value (suc place) = nodes_text value place ++ line_of (node_shown_in value place)
 
--- The lines of an auction: how it stands, and how each node does.
+-- The lines of an auction: its state, and that of each node.
 abbrev pub check_text : AuctionValue → List ℕ
 check_text value = line_of (shown_in value) ++ nodes_text value (length value.rules.nodes)
 
@@ -63,24 +63,25 @@ formatted_line pages = codes "FORMATTED " ++ decimal pages ++ codes "\n"
 abbrev pub StopsWriting : (old new : Option (List ℕ)) → List ℕ → Type 0
 StopsWriting old new text = (sent : List ℕ) × Appends old new sent × IsFront sent text
 
--- An auction shows what an image stands for, where it stands for a history.
+-- The auction shows the history for which an image stands, if the image stands for one.
 abbrev pub IsKept : List ℕ → AuctionValue → Type 0
 IsKept image value = (history : List Command) → Stands history image → Shows value history
 
--- What a device holds was shown; or its flaw is there, or the machine failed, and nothing was written; or the writer failed.
+-- The auction of a device was shown. Or the device has the reported flaw, or the machine failed, and nothing was
+-- written. Or the writer failed.
 abbrev pub ShowsKept : List ℕ → (old new : Option (List ℕ)) → Result ⊤ JobFault → Type 0
 ShowsKept image old new (Ok done) = (value : AuctionValue) × IsKept image value × Appends old new (check_text value)
 ShowsKept image old new (Err faults.Writer) = (value : AuctionValue) × IsKept image value × StopsWriting old new (check_text value)
 ShowsKept image old new (Err (faults.Open (opening.Flawed flaw))) = Keeps old new × HasFlaw flaw image
 ShowsKept image old new (Err fault) = Keeps old new × ((fault ≡ faults.Memory) ⊎ (fault ≡ faults.Open opening.Device))
 
--- The same of a file, of whose bytes nothing is known but that they are those of which people were told; or nothing of it was shown.
+-- The same for a file. Its bytes are known only as those whose doubts were reported. Or nothing of it was shown.
 abbrev pub Checks : (old new errors_old errors_new : Option (List ℕ)) → Result ⊤ JobFault → Type 0
 Checks old new errors_old errors_new (Ok done) = (image : List ℕ) × ShowsKept image old new (Ok done) × TellsImage image errors_old errors_new
 Checks old new errors_old errors_new (Err faults.Writer) = (image : List ℕ) × ShowsKept image old new (Err faults.Writer) × TellsImage image errors_old errors_new
 Checks old new errors_old errors_new (Err fault) = Keeps old new × TellsIll errors_old errors_new fault
 
--- Some bytes were read, one more at most than a definition may have.
+-- Some bytes were read, at most one more than a definition may have.
 abbrev pub ReadsSome : (old new : Option (List ℕ)) → Type 0
 ReadsSome old new = (bytes : List ℕ) × Consumes old new bytes × (length bytes ≤ KEPT_BYTES)
 
@@ -93,7 +94,7 @@ abbrev pub ReadsPart : (old new : Option (List ℕ)) → List ℕ → List ℕ �
 ReadsPart old new text longer true = (bytes : List ℕ) × Consumes old new bytes × (longer ≡ text ++ bytes) × (0 < length bytes) × (length longer ≤ KEPT_BYTES)
 ReadsPart old new text longer false = Consumes old new [] × (longer ≡ text) × IsAtEnd new
 
--- Some bytes were read that the text isn't too long for.
+-- Some bytes were read, with which the text isn't too long.
 abbrev pub StopsPart : (old new : Option (List ℕ)) → List ℕ → JobFault → Type 0
 StopsPart old new text fault = ((bytes : List ℕ) × Consumes old new bytes × (length text + length bytes ≤ KEPT_BYTES)) × ((fault ≡ faults.Memory) ⊎ (fault ≡ faults.Reader))
 
@@ -123,17 +124,19 @@ abbrev pub line_of_journal : JournalShape → List ℕ
 line_of_journal journal = formatted_line (pages_of journal)
 
 module _ (journal : JournalShape) (before after : Streams) where
-  -- A file is opened, made or formatted only by a definition, and with a journal that may be.
+  -- A file is opened, made or formatted only with a definition, and with an allowed journal.
   abbrev pub MayFormat : Type 0
   MayFormat = IsDefined before.remaining after.remaining × IsShape journal
 
-  -- A file was formatted: whatever a crash may leave of its device stands for the definition, with such a journal and no command yet.
+  -- A file was formatted: all bytes that a crash may leave of its device stand for the definition, with such a journal
+  -- and no command yet.
   pub record IsFormatted : Type 0 where
     pub may : MayFormat
     pub disk : FileDisk
     pub new : Within (file_left disk) (IsNew may.0.rules journal)
 
-  -- A file was formatted and its line was written; or the writer failed; or nothing was written, and of the faults the first was found.
+  -- A file was formatted and its line was written. Or the writer failed. Or nothing was written, and the fault is the
+  -- first that was found.
   abbrev pub Formats : Result ⊤ JobFault → Type 0
   Formats (Ok done) = IsFormatted × Appends before.contents after.contents (line_of_journal journal)
   Formats (Err faults.Writer) = IsFormatted × StopsWriting before.contents after.contents (line_of_journal journal)

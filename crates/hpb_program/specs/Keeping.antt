@@ -1,4 +1,4 @@
--- What a run of the auction that a file keeps reads and writes.
+-- The streams that a run of the auction in a file reads and writes.
 use Rattle.std.specs.Prelude.{◌≡◌, ◌⊎◌, ℕ, Bool, false, List, Option, Result, Ok, Err, ⊤}
 use Rattle.hpb_rules.specs.declared.command.Command.{Command}
 use Rattle.hpb_disk.specs.declared.file.FileDisk.{FileDisk}
@@ -18,14 +18,14 @@ use Rattle.hpb_words.specs.declared.run_end.RunEnd.{RunEnd}
 use Rattle.hpb_program.specs.Doubts.{TellsIll, TellsImage, TellsStopped}
 use Rattle.hpb_program.specs.Jobs.{IsKept}
 
--- The auction that is read on a device was run: by each history that the device stood for the lines were answered.
+-- The auction that is read on a device was run: the lines were answered by each history for which the device stood.
 pub record IsRun {D : Type 0} (seen : D → List ℕ) (may_leave : D → List ℕ → Type 0) (failures : D → ℕ) (opened : D) (before after : Streams) (disk : D) (progress : Progress) (failed : Bool) (end : Result ⊤ SessionFault) : Type 0 where
   pub found : Found
   pub reads : Reads found (seen opened)
   pub shows : IsKept (seen opened) (last_value found)
   pub serves : (history : List Command) → Stands history (seen opened) → ServesFrom seen may_leave failures before after (last_value found).rules history (failures opened) false disk progress failed end
 
--- A device was not opened: its flaw is there, or the machine failed.
+-- A device was not opened: it has the reported flaw, or the machine failed.
 abbrev pub IsNotOpened : List ℕ → JobFault → Type 0
 IsNotOpened image (faults.Open (opening.Flawed flaw)) = HasFlaw flaw image
 IsNotOpened image fault = (fault ≡ faults.Memory) ⊎ (fault ≡ faults.Open opening.Device)
@@ -37,12 +37,14 @@ IsOfOpening (faults.File fault) = Unit {0}
 IsOfOpening (faults.Open cause) = Unit {0}
 IsOfOpening fault = ⊥
 
--- Of a run people are told first what a device has that no honest device has, and at a terminal then what is of the form of sentences; of one that did not begin as of any job.
+-- The messages of a run. If it began, the doubts of the device are reported first, and at a terminal then come lines of
+-- the form of sentences. If it did not begin, the messages are those of any such job.
 abbrev pub TellsRunning : {T : Type 0} → (is_terminal : Bool) → List ℕ → (errors_old errors_new : Option (List ℕ)) → Result T JobFault → Type 0
 TellsRunning is_terminal image errors_old errors_new (Ok done) = (errors_told : Option (List ℕ)) × TellsImage image errors_old errors_told × ExplainsAt is_terminal errors_told errors_new
 TellsRunning is_terminal image errors_old errors_new (Err fault) = TellsStopped image errors_old errors_new fault
 
--- An auction was run by what a file held, of which nothing else is known but that people were told of it before; or the file was not opened, and nothing was read or written.
+-- An auction was run by the contents of a file, of which only its doubts are known, since they were reported before. Or
+-- the file was not opened, and nothing was read or written.
 abbrev pub RunsFile : (is_terminal : Bool) (before after : Streams) (errors_old errors_new : Option (List ℕ)) → Result RunEnd JobFault → Type 0
 RunsFile is_terminal before after errors_old errors_new (Ok end) =
     (opened : FileDisk) × (disk : FileDisk) × (progress : Progress) × IsRun file_seen file_left file_failures opened before after disk progress end.failed end.end

@@ -1,4 +1,4 @@
--- What the program does with its streams, and its status.
+-- The program's use of its streams, and its status.
 use Rattle.std.specs.Prelude.{◌≡◌, ℕ, Bool, true, false, List, [], Option, Result, Ok, Err, ⊤, ◌⊎◌, string_bytes}
 use Rattle.std.specs.Io.KnownBytes.{Keeps}
 use Rattle.hpb_server.specs.declared.fault.SessionFault.{SessionFault}
@@ -33,59 +33,65 @@ status_of_script (Ok ends.Answered) = WELL
 status_of_script (Ok (ends.Refused refusal)) = ILL
 status_of_script (Err fault) = ILL
 
--- The status where words ask for no job.
+-- The status if words ask for no job.
 abbrev pub status_of_fault : WordsFault → ℕ
 status_of_fault Memory = ILL
 status_of_fault (Refused text status) = status
 
--- What is said of words that ask for no job.
+-- The message about words that ask for no job.
 abbrev pub SaysFault : (errors_old errors_new : Option (List ℕ)) → WordsFault → Type 0
 SaysFault errors_old errors_new Memory = TellsOf errors_old errors_new refusals.Memory
 SaysFault errors_old errors_new (Refused text status) = Says errors_old errors_new (string_bytes text)
 
--- What is written of words that ask for no job: the line of 90 where memory was refused, unless the output leads to a file that the words may name, and else nothing.
+-- The bytes written to the output about words that ask for no job. If memory was refused, they are the line of 90,
+-- unless the output leads to a file which the words may name. Otherwise there are none.
 abbrev pub AnswersFault : (leads cut : Bool) (old new : Option (List ℕ)) → WordsFault → Type 0
 AnswersFault leads cut old new Memory = TellsUnled leads cut old new refusals.Memory
 AnswersFault leads cut old new (Refused text status) = Keeps old new
 
--- What both outputs are told of a job on a file that was not done, and its status: the line of its refusal, and why.
+-- The report of a job on a file that was not done, on both outputs, and its status: the line of its refusal, and why.
 abbrev pub TellsFault : (cut : Bool) (old new errors_old errors_new : Option (List ℕ)) → JobFault → ℕ → Type 0
 TellsFault cut old new errors_old errors_new fault status = AnswersJob cut old new fault × TellsOf errors_old errors_new (refusal_of fault) × (status ≡ ILL)
 
--- What both outputs are told of how a job on a file ended, and its status. Where the output failed it was cut, and is told nothing more.
+-- The report of how a job on a file ended, on both outputs, and its status. If the output failed, it was cut, and gets
+-- nothing more.
 abbrev pub TellsEnd : (cut : Bool) (old new errors_old errors_new : Option (List ℕ)) → Result ⊤ JobFault → ℕ → Type 0
 TellsEnd cut old new errors_old errors_new (Ok done) status = Keeps old new × Keeps errors_old errors_new × (status ≡ WELL)
 TellsEnd cut old new errors_old errors_new (Err faults.Writer) status = (cut ≡ true) × Keeps old new × TellsOf errors_old errors_new refusals.Stream × (status ≡ ILL)
 TellsEnd cut old new errors_old errors_new (Err fault) status = TellsFault cut old new errors_old errors_new fault status
 
--- What people are told at the end of a script: of the fault that ended it.
+-- The report at the end of a script: the fault that ended it.
 abbrev pub TellsScript : (errors_old errors_new : Option (List ℕ)) → Result ScriptEnd SessionFault → Type 0
 TellsScript errors_old errors_new (Ok end) = Keeps errors_old errors_new
 TellsScript errors_old errors_new (Err fault) = TellsOf errors_old errors_new (sessions.refusal_of fault)
 
--- What the errors are told of a run or of serving that had begun, and its status: by what ended it, and whether a call of the disk had failed.
+-- The report on standard error of a run or serving that had begun, and its status: what ended it, and whether a call of
+-- the disk had failed.
 abbrev pub TellsEnded : (errors_old errors_new : Option (List ℕ)) → Result ⊤ SessionFault → Bool → ℕ → Type 0
 TellsEnded errors_old errors_new (Ok done) false status = Keeps errors_old errors_new × (status ≡ WELL)
 TellsEnded errors_old errors_new (Ok done) true status = TellsOf errors_old errors_new refusals.Device × (status ≡ ILL)
 TellsEnded errors_old errors_new (Err fault) failed status = TellsOf errors_old errors_new (sessions.refusal_of fault) × (status ≡ ILL)
 
--- What both outputs are told of how a run of a file ended, and its status. Once it has begun the output is told nothing more.
+-- The report of how a run of a file ended, on both outputs, and its status. Once it has begun, the output gets nothing
+-- more.
 abbrev pub TellsRun : (cut : Bool) (old new errors_old errors_new : Option (List ℕ)) → Result RunEnd JobFault → ℕ → Type 0
 TellsRun cut old new errors_old errors_new (Ok end) status = Keeps old new × TellsEnded errors_old errors_new end.end end.failed status
 TellsRun cut old new errors_old errors_new (Err fault) status = TellsFault cut old new errors_old errors_new fault status
 
--- The same where somebody else may have cut, lengthened or written the file meanwhile: where that was seen, they are told of it behind that, and it ended ill whatever else is so.
+-- The same if somebody else may have cut, lengthened or written the file meanwhile. If that was seen, it is reported
+-- behind the rest, and the status is 1 in any case.
 abbrev pub TellsBeside : (errors_old errors_new : Option (List ℕ)) → (is_spoiled : Bool) → Result ⊤ SessionFault → (has_failed : Bool) → ℕ → Type 0
 TellsBeside errors_old errors_new false end failed status = TellsEnded errors_old errors_new end failed status
 TellsBeside errors_old errors_new true end failed status =
     (errors_told : Option (List ℕ)) × (ended : ℕ) × TellsEnded errors_old errors_told end failed ended × TellsOf errors_told errors_new refusals.Device × (status ≡ ILL)
 
--- The same where a file was served: its last line is told not to have been taken only where the output was cut.
+-- The same if a file was served. Its last line counts as not written if and only if the output was cut.
 abbrev pub TellsServed : (cut : Bool) (old new errors_old errors_new : Option (List ℕ)) → Result FileEnd JobFault → ℕ → Type 0
 TellsServed cut old new errors_old errors_new (Ok end) status = Keeps old new × IsTaken cut end.said × TellsBeside errors_old errors_new end.is_spoiled end.said end.has_failed status
 TellsServed cut old new errors_old errors_new (Err fault) status = TellsFault cut old new errors_old errors_new fault status
 
--- What a job does with the streams and the errors, and the status that it gives. Of what a file holds that no honest file does the errors are told first. The output is cut at the end, or it isn't.
+-- The effect of a job on the streams and standard error, and its status. Doubts about the file, which no honest file
+-- has, are reported first. The output may be cut at the end or not.
 abbrev pub RunsJob : (is_terminal : Bool) → Job → (before after : Streams) (cut : Bool) (errors_old errors_new : Option (List ℕ)) → ℕ → Type 0
 RunsJob is_terminal Script before after cut errors_old errors_new status =
     (end : Result ScriptEnd SessionFault) × RunsScript before after end × (status ≡ status_of_script end)
@@ -103,18 +109,20 @@ RunsJob is_terminal (Serve file port sessions) before after cut errors_old error
     (served errors_told : Option (List ℕ)) × (end : Result FileEnd JobFault) × ServesFile sessions port before.contents served end × TellsServing errors_old errors_told end
     × Keeps before.remaining after.remaining × TellsServed cut served after.contents errors_told errors_new end status
 
--- A standard stream leads to the file of a job, which has one: nothing is read, and 91 is told on the errors, and on the output by its whole line or not at all: whether that leads there no clause can tell.
+-- A standard stream leads to the file of a job that has one. Nothing is read, and standard error gets 91. The output
+-- gets the whole line of 91 or nothing: no clause can say whether it leads there.
 abbrev pub RefusesStreams : Job → (before after : Streams) (cut : Bool) (errors_old errors_new : Option (List ℕ)) → ℕ → Type 0
 RefusesStreams job before after cut errors_old errors_new status =
     HasFile job × Keeps before.remaining after.remaining × (leads : Bool) × TellsUnled leads cut before.contents after.contents refusals.Device × TellsOf errors_old errors_new refusals.Device × (status ≡ ILL)
 
--- What is done by what words ask for: a terminal is told what to type, and their job is done, unless a standard stream leads to its file; or nothing is read, and the errors are told why.
+-- The effect of the job that words ask for. A terminal gets a hint, and the job is done, unless a standard stream leads
+-- to its file. Or nothing is read, and standard error says why.
 abbrev pub RunsAsked : (is_terminal : Bool) → Result Job WordsFault → (before after : Streams) (cut : Bool) (errors_old errors_new : Option (List ℕ)) → ℕ → Type 0
 RunsAsked is_terminal (Ok job) before after cut errors_old errors_new status =
     RefusesStreams job before after cut errors_old errors_new status
     ⊎ ((errors_hinted : Option (List ℕ)) × Says errors_old errors_hinted (hint_text is_terminal job) × RunsJob is_terminal job before after cut errors_hinted errors_new status)
 RunsAsked is_terminal (Err fault) before after cut errors_old errors_new status = Keeps before.remaining after.remaining × (leads : Bool) × AnswersFault leads cut before.contents after.contents fault × SaysFault errors_old errors_new fault × HasStatus fault × (status ≡ status_of_fault fault)
 
--- What the words ask for is done.
+-- The job that the words ask for is done.
 abbrev pub RunsProgram : (is_terminal : Bool) (words : List (List ℕ)) (before after : Streams) (cut : Bool) (errors_old errors_new : Option (List ℕ)) → ℕ → Type 0
 RunsProgram is_terminal words before after cut errors_old errors_new status = (asked : Result Job WordsFault) × AsksFor words asked × RunsAsked is_terminal asked before after cut errors_old errors_new status

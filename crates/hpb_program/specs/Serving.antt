@@ -1,4 +1,4 @@
--- What serving the auction that a file keeps writes.
+-- The bytes written while the auction in a file is served.
 use Rattle.std.specs.Prelude.{◌≡◌, ◌⊎◌, ℕ, Bool, List, [], ◌++◌, Option, Result, Ok, Err, codes, decimal, string_bytes}
 use Rattle.hpb_disk.specs.declared.file.FileDisk.{FileDisk}
 use Rattle.hpb_disk.specs.FileDisks.{file_failures, file_left, file_seen}
@@ -19,24 +19,26 @@ use Rattle.hpb_program.specs.declared.serving.ServeEnd.{ServeEnd}
 use Rattle.hpb_program.specs.declared.serving.Unsaid.{Unsaid}
 use Rattle.hpb_program.specs.Jobs.{StopsWriting}
 
--- The line that tells that all sessions have ended, and how many commands are accepted in all.
+-- The line after all sessions have ended, with the number of all accepted commands.
 abbrev pub closed_line : ℕ → List ℕ
 closed_line count = codes "CLOSED " ++ decimal count ++ codes "\n"
 
--- So many sessions have ended, which were served with the auction that is read on a device, and the listening line alone was written.
+-- So many sessions have ended, which were served with the auction that is read on a device. The listening line alone
+-- was written.
 pub record Ends {D : Type 0} (seen : D → List ℕ) (may_leave : D → List ℕ → Type 0) (failures : D → ℕ) (disk : D) (sessions port : ℕ) (old new : Option (List ℕ)) (served : Served D) : Type 0 where
   pub found : Found
   pub reads : Reads found (seen disk)
   pub ended : EndsAll seen may_leave failures (seen disk) (failures disk) (last_value found) sessions served
   pub listens : Appends old new (listening_line port)
 
--- The same, and then the closing line was written, or a front of it: with the number of commands that are accepted in the auction that the device then keeps.
+-- The same, and then the closing line was written, or a front of it. It has the number of commands accepted in the
+-- auction that the device then keeps.
 pub record Closes {D : Type 0} (seen : D → List ℕ) (may_leave : D → List ℕ → Type 0) (failures : D → ℕ) (disk : D) (sessions port : ℕ) (old new : Option (List ℕ)) (end : ServeEnd D) : Type 0 where
   pub listening : Option (List ℕ)
   pub ends : Ends seen may_leave failures disk sessions port old listening end.served
   pub closes : Sends listening new (closed_line end.served.closing.auction.count) end.said
 
--- There is an auction to be read in an image.
+-- An auction can be read in an image.
 abbrev pub IsReadable : List ℕ → Type 0
 IsReadable image = (found : Found) × Reads found image
 
@@ -44,7 +46,8 @@ IsReadable image = (found : Found) × Reads found image
 abbrev pub StopsAnywhere : (port : ℕ) (old new : Option (List ℕ)) → Type 0
 StopsAnywhere port old new = Keeps old new ⊎ Appends old new (listening_line port)
 
--- Of the faults of serving what a device holds the first was found: of the device, of its port, and of its sessions. The listening line is written only where there is an auction and a port.
+-- The fault is the first that was found in serving a device: of the device, of its port, or of its sessions. The
+-- listening line is written only if there is an auction and a port.
 abbrev pub IsUnserved : (image : List ℕ) (port : ℕ) (old new : Option (List ℕ)) → JobFault → Type 0
 IsUnserved image port old new faults.Memory = StopsAnywhere port old new
 IsUnserved image port old new (faults.Open (opening.Flawed flaw)) = Keeps old new × HasFlaw flaw image
@@ -56,31 +59,33 @@ IsUnserved image port old new faults.Order = IsReadable image × Appends old new
 IsUnserved image port old new faults.Counts = IsReadable image × Appends old new (listening_line port)
 IsUnserved image port old new fault = ⊥
 
--- What a device holds was served to so many sessions at a port; or it was not, or not to the end.
+-- The auction of a device was served to so many sessions at a port; or it was not, or not to the end.
 abbrev pub ServesKept : {D : Type 0} (seen : D → List ℕ) (may_leave : D → List ℕ → Type 0) (failures : D → ℕ) (disk : D) (sessions port : ℕ) (old new : Option (List ℕ)) → Result (ServeEnd D) JobFault → Type 0
 ServesKept seen may_leave failures disk sessions port old new (Ok end) = Closes seen may_leave failures disk sessions port old new end
 ServesKept seen may_leave failures disk sessions port old new (Err fault) = IsUnserved (seen disk) port old new fault
 
--- What a device holds was served up to the closing line, for which there is room; or it was not, or not to the end.
+-- The auction of a device was served up to the closing line, for which there is room; or it was not, or not to the end.
 abbrev pub ServesUnsaid : {D : Type 0} (seen : D → List ℕ) (may_leave : D → List ℕ → Type 0) (failures : D → ℕ) (disk : D) (sessions port : ℕ) (old new : Option (List ℕ)) → Result (Unsaid D) JobFault → Type 0
 ServesUnsaid seen may_leave failures disk sessions port old new (Ok unsaid) = Ends seen may_leave failures disk sessions port old new unsaid.served × (string_bytes unsaid.room ≡ [])
 ServesUnsaid seen may_leave failures disk sessions port old new (Err fault) = IsUnserved (seen disk) port old new fault
 
--- A fault of looking for the files and connections that there may be at a time.
+-- A fault of the check for files and connections.
 abbrev pub IsOfDescriptors : JobFault → Type 0
 IsOfDescriptors faults.Memory = Unit {0}
 IsOfDescriptors (faults.Descriptors sessions wanted error) = Unit {0}
 IsOfDescriptors fault = ⊥
 
--- What a house left, with the auction and the fault that are told.
+-- The remains of a house, with the auction and the fault that are reported.
 abbrev pub with_told : Closing FileDisk → AuctionValue → Bool → Closing FileDisk
 with_told left auction failed = record { disk = left.disk; auction = auction; has_failed = failed; in_flight = left.in_flight; published = left.published; whole = left.whole }
 
--- What was served of a file, with its disk as the house left it.
+-- The end of serving a file, with its disk as the house left it.
 abbrev pub end_of : FileEnd → ServeEnd FileDisk
 end_of end = record { served = record { closing = with_told end.left.value end.auction end.has_failed; reports = end.reports }; said = end.said }
 
--- The same of a file: what its disk held when it was opened was served, and the disk that was closed keeps what the sessions were told; or the file was not opened, or too few files and connections may be had at a time, and nothing was written.
+-- The same for a file. The auction on its disk at the opening was served, and the disk that was closed keeps the
+-- commands that the sessions reported. Or the file was not opened, or the process may have too few files and
+-- connections at a time, and nothing was written.
 abbrev pub ServesFile : (sessions port : ℕ) (old new : Option (List ℕ)) → Result FileEnd JobFault → Type 0
 ServesFile sessions port old new (Ok end) = Closes file_seen file_left file_failures end.opened.value sessions port old new (end_of end)
 ServesFile sessions port old new (Err (faults.File fault)) = Keeps old new

@@ -14,8 +14,7 @@ use std::alloc::{AllocError, Global};
 use std::fs::{File, Files};
 use std::io::Write;
 
-/// Writes the lines of the auction that the file of a path keeps, as `check_device` says. Nothing of the file is
-/// written.
+/// Shows the auction that the file of a path keeps, as `check_device` does. It writes nothing into the file.
 #[tactic(auto, using(crate::proofs::Cutting::of_opened_file))]
 pub(crate) fn run_check<H: Files<File = File>, W: Write, E: Write>(
     rt: &H,
@@ -31,9 +30,9 @@ pub(crate) fn run_check<H: Files<File = File>, W: Write, E: Write>(
     check_device(alloc, disk, output, errors)
 }
 
-/// Writes the lines of the auction that a device keeps: what `SHOW` is answered, and for each node, in the order of the
-/// definition, what `NODE` is answered. It syncs the device first, and writes nothing on it. Before, people are told
-/// where it has what no honest device has.
+/// Writes the lines of the auction that a device keeps: the answer to `SHOW`, and for each node, in the order of the
+/// definition, the answer to `NODE`. It syncs the device first, and writes nothing on it. If the device has doubts,
+/// which no honest device has, it reports them first, on standard error.
 #[tactic(auto, using(crate::proofs::Doubting::shown_not, crate::proofs::Doubting::cut_not, crate::proofs::Doubting::told_not))]
 pub fn check_device<D: Disk + Drop, W: Write, E: Write>(
     alloc: Global,

@@ -1,4 +1,4 @@
-//! How many files and connections there may be at a time.
+//! How many files and connections the process may have open at a time.
 ghost use Rattle.std.specs.Prelude.{IfErr};
 ghost use Rattle.hpb_program.specs.Serving.{IsOfDescriptors};
 
@@ -8,18 +8,18 @@ use std::alloc::Global;
 use std::fs::{File, Files};
 use std::io;
 
-/// What is opened to see whether it can be: each process may read it.
+/// The folder that is opened to see whether one more can be: each process may read it.
 const TOP: &str = "/";
 
-/// How many are open beside the connections of sessions: the port, the file once more, and those of the relay.
+/// How many are open beside the connections of sessions: the port, the file once more, and the relay's pipes.
 const BESIDE_SESSIONS: u32 = 2 + RELAY_DESCRIPTORS;
 
-/// Whether this process can have no more files open at a time.
+/// Whether the error says that this process can have no more files open.
 fn is_too_many(error: &io::Error) -> bool {
     error.raw_os_error() == Some(libc::EMFILE)
 }
 
-/// How many files and connections this process may have open at a time.
+/// How many files and connections this process may have open at a time, by its limit.
 fn most_open() -> u64 {
     let mut limit = libc::types::rlimit {
         rlim_cur: 0,
@@ -29,8 +29,8 @@ fn most_open() -> u64 {
     limit.rlim_cur
 }
 
-/// Looks whether as many more files and connections may be open at a time as so many sessions take, by having as many
-/// open for a moment. Refused by 92, or by 90 where memory is refused.
+/// Checks that the process may have as many more files and connections open as this many sessions take, by opening as
+/// many for a moment. Refused with 92 if it may not, and with 90 if memory is refused.
 pub(crate) fn look_for_descriptors<R: Files<File = File>>(
     rt: &R,
     alloc: Global,

@@ -22,14 +22,14 @@ use std::fs::{File, Files};
 use std::io;
 use std::io::{Read, Write};
 
-/// One byte more than a definition may have, which shows that it is too long.
+/// One byte more than a definition may have, which shows that a definition is too long.
 const KEPT_BYTES: usize = MOST_DEFINITION_BYTES + 1;
 
-/// How many bytes are asked of an input at a time.
+/// How many bytes are read from an input at a time.
 const PART_BYTES: usize = 4_096;
 
 /// Makes the file of a path keep an auction, by the definition that is the whole of the input, and writes how many
-/// pages it has. A file that isn't there is made.
+/// pages the file has. If there is no such file, it makes one.
 #[tactic(auto, using(crate::proofs::Cutting::of_reading, crate::proofs::Cutting::of_definition, crate::proofs::Cutting::of_file))]
 pub(crate) fn run_format<H: Files<File = File>, R: Read, W: Write>(
     rt: &H,
@@ -62,7 +62,7 @@ pub(crate) fn run_format<H: Files<File = File>, R: Read, W: Write>(
         Ok(disk) => disk,
         Err(fault) => return Err(fault),
     };
-    // Whoever reads the line may open the file.
+    // Anyone who reads the line may open the file, so it is closed first.
     drop(disk);
     match output.send(line.as_bytes()) {
         Ok(()) => Ok(()),
@@ -70,8 +70,8 @@ pub(crate) fn run_format<H: Files<File = File>, R: Read, W: Write>(
     }
 }
 
-/// Reads the whole of an input, as far as it may be a definition: of a longer one only as many bytes are taken as show
-/// that it is one.
+/// Reads the whole of an input, as far as it may be a definition. It reads one byte more than a definition may have, at
+/// most, which shows that the input is too long.
 #[tactic(auto, using(crate::proofs::Taking::taken_none, crate::proofs::Taking::taken_more, crate::proofs::Taking::taken_to_end, crate::proofs::Taking::taken_in_vain, crate::proofs::Taking::taken_too_much))]
 fn read_text<R: Read>(alloc: Global, input: &mut R) -> Result<Vec<u8>, JobFault>
     ensures ok { IfOk result (λ text. GivesText (R.remaining input.old) (R.remaining input.new) text.items) }
@@ -88,7 +88,7 @@ fn read_text<R: Read>(alloc: Global, input: &mut R) -> Result<Vec<u8>, JobFault>
     Ok(text)
 }
 
-/// Reads some more of an input, and adds it to what may be a definition. `false` says that the input has ended.
+/// Reads some more of an input, and appends it to the text. `false` if the input has ended.
 fn read_part<R: Read>(input: &mut R, text: &mut Vec<u8>) -> Result<bool, JobFault>
     requires { length text.old.items < KEPT_BYTES }
     ensures ok { IfOk result (ReadsPart (R.remaining input.old) (R.remaining input.new) text.old.items text.new.items) }
@@ -112,7 +112,7 @@ fn line_of_pages(alloc: Global, pages: usize) -> Result<String, AllocError>
     format!(in alloc; "FORMATTED {pages}\n")
 }
 
-/// Formats the file of a path. One that isn't there is made.
+/// Formats the file of a path. If there is no such file, it makes one.
 #[tactic(auto, using(crate::proofs::Ends::of_file))]
 fn format_file<H: Files<File = File>>(
     rt: &H,
@@ -137,7 +137,7 @@ fn format_file<H: Files<File = File>>(
     }
 }
 
-/// Why a file was not formatted: in the system's own words where a call of its disk failed with a code.
+/// Why a file was not formatted. If a call of its disk failed with a code, the fault has the system's own words.
 #[tactic(auto, using(crate::proofs::Ends::of_formatting))]
 fn fault_of_format(cause: FormatCause, code: Option<i32>) -> JobFault
     ensures { IsOfFile result }

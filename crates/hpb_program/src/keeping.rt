@@ -18,7 +18,7 @@ use std::alloc::Global;
 use std::fs::{File, Files};
 use std::io::{Read, Write};
 
-/// Answers the lines of the input by the auction that the file of a path keeps, as `run_kept` says.
+/// Answers the lines of the input by the auction that the file of a path keeps, as `run_kept` does.
 pub(crate) fn run_file<H: Files<File = File>, R: Read, W: Write, E: Write>(
     rt: &H,
     alloc: Global,
@@ -51,11 +51,14 @@ pub(crate) fn run_file<H: Files<File = File>, R: Read, W: Write, E: Write>(
     })
 }
 
-/// Answers the lines of the input by the auction that a device keeps, and keeps it there: as many commands as have
-/// come, `batch` at most, are made durable together and then answered, and after `every` batches there is a checkpoint.
-/// Nothing is read or written where the device isn't opened. Where it has what no honest device has, people are told so
-/// before. At a terminal commands are answered one at a time, and people are told which number would do in place of one
-/// that is refused.
+/// Answers the lines of the input by the auction that a device keeps, and keeps it there. Up to `batch` commands that
+/// have come are committed together and then answered. After every `every` commits it makes a checkpoint.
+///
+/// If the device isn't opened, it reads and writes nothing. If the device has doubts, which no honest device has, it
+/// reports them first, on standard error.
+///
+/// At a terminal commands are answered one at a time. Behind each one that is refused, standard error says which number
+/// would do.
 pub fn run_kept<D: Disk + Drop, R: Read, W: Write, E: Write>(
     alloc: Global,
     disk: D,
@@ -85,7 +88,7 @@ pub fn run_kept<D: Disk + Drop, R: Read, W: Write, E: Write>(
     ))
 }
 
-/// An engine over the auction that a device keeps.
+/// Starts an engine over the auction that a device keeps.
 #[tactic(auto, using(crate::proofs::Doubting::told_not))]
 fn start_engine<D: Disk + Drop, E: Write>(
     alloc: Global,

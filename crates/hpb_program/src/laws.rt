@@ -1,6 +1,6 @@
 ghost use Rattle.hpb_program.specs.Limits.{LimitsAre};
 
-/// Each limit of the code is the one that the documents name.
+/// Each limit of the code is the one in the documents.
 pub fn limits_are()
     ensures { LimitsAre }
 {}

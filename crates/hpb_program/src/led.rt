@@ -6,16 +6,16 @@ use std::env::{Env, FillError};
 use std::fs::{self, Files, Metadata};
 use std::os::unix::fs::MetadataExt;
 
-/// What is added to a file's name while `format` makes the file.
+/// The end of the name that a file has while `format` makes it: `.new`, behind its own name.
 const BESIDE: &[u8] = b".new";
 
-/// What stands between the name of an option and its value, where these are one word.
+/// The character between the name of an option and its value, if these are one word.
 const VALUE: u8 = b'=';
 
-/// As many bytes as a word may have that names a file: some for the name of an option, and those of a path.
+/// How many bytes a word that names a file may have: some for the name of an option, and those of a path.
 const WORD_BYTES: usize = 64 + libc::PATH_MAX;
 
-/// A standard stream, and the name by which the system tells what it leads to.
+/// A standard stream, and the name under which the system shows its file.
 #[derive(Clone, Copy)]
 struct Named {
     stream: i32,
@@ -38,8 +38,9 @@ const ERRORS: Named = Named {
 };
 
 impl Named {
-    /// Whether it leads to a file, and that is a regular one: others may stand behind a stream and a path at once.
-    /// Where the system doesn't tell what it leads to, it is taken to lead there, unless it is a pipe.
+    /// Whether the stream leads to this file, and the file is a regular one; other files may stand behind a stream and
+    /// a path at once. If the system doesn't show the stream's file, it counts as this one, unless the stream is a
+    /// pipe.
     fn leads_to<H: Files>(self, rt: &H, file: &Metadata) -> bool {
         match fs::metadata(rt, self.path) {
             Ok(found) => file.is_file() && found.dev() == file.dev() && found.ino() == file.ino(),
@@ -47,8 +48,8 @@ impl Named {
         }
     }
 
-    /// The same of a file that is known by its whole path alone. A stream's file with several names is taken for it, since
-    /// the system tells one of them.
+    /// The same for a file of which only the whole path is known. If the stream's file has several names, it counts as
+    /// this file, since the system shows only one of them.
     fn leads_to_path<H: Files>(self, rt: &H, path: &[u8]) -> bool {
         let Ok(found) = fs::metadata(rt, self.path) else {
             return !is_pipe(self.stream);
@@ -59,7 +60,7 @@ impl Named {
     }
 }
 
-/// Whether an open stream is a pipe. Advice on how it will be read changes none.
+/// Whether an open stream is a pipe. The call only advises how the stream will be read, which changes nothing.
 fn is_pipe(stream: i32) -> bool {
     libc::posix_fadvise(stream, 0, 0, libc::POSIX_FADV_NORMAL) == libc::ESPIPE
 }
@@ -70,12 +71,12 @@ pub struct Led {
     pub(crate) input: bool,
     pub(crate) output: bool,
     pub(crate) errors: bool,
-    /// Whether they lead to no file of its path, but to the one that has this name while `format` makes it.
+    /// Whether they lead to the file that `format` is making, under its name with `.new`, and not to the finished one.
     pub(crate) is_new: bool,
 }
 
 impl Led {
-    /// Those that lead to the file of a job, or to that which `format` makes first.
+    /// The streams that lead to the file of a job, or to the one that `format` is making.
     pub(crate) fn to<H: Files>(rt: &H, job: Job<'_>, file: &str) -> Led {
         match job {
             Job::Format { .. } => Led::to_either(rt, file.as_bytes()),
@@ -83,8 +84,8 @@ impl Led {
         }
     }
 
-    /// Those that lead to a file which a word names, as a whole or behind a `=`, or to that which `format` would make
-    /// first: of words that ask for nothing nobody knows which one is the file's.
+    /// The streams that lead to any file that a word names, as a whole or behind a `=`, or to the one that `format`
+    /// would make. If words ask for nothing, it isn't known which one names the file.
     pub fn by_words<H: Env + Files>(rt: &H) -> Led {
         let mut led = Led::default();
         let mut word = [0; WORD_BYTES];
@@ -107,7 +108,7 @@ impl Led {
         }
     }
 
-    /// Those that lead to the file of a path, or to the one that has this name while `format` makes it.
+    /// The streams that lead to the file of a path, or to the one under its name with `.new`.
     fn to_either<H: Files>(rt: &H, path: &[u8]) -> Led {
         let led = Led::to_file(rt, path);
         let mut beside = [0; WORD_BYTES];
@@ -123,7 +124,7 @@ impl Led {
         }
     }
 
-    /// Those that lead to the file of a path. None leads to a file that isn't there.
+    /// The streams that lead to the file of a path. If there is no such file, none does.
     fn to_file<H: Files>(rt: &H, path: &[u8]) -> Led {
         match str::from_utf8(path) {
             Ok(path) => Led::to_text(rt, path),
@@ -143,7 +144,7 @@ impl Led {
         }
     }
 
-    /// The same of a path that is no text.
+    /// The same for a path that isn't text.
     fn to_bytes<H: Files>(rt: &H, path: &[u8]) -> Led {
         let mut whole = [0; libc::PATH_MAX];
         if os::realpath(path, &mut whole) != 0 {
@@ -158,7 +159,7 @@ impl Led {
         }
     }
 
-    /// Those that are in one of both.
+    /// The streams of both.
     fn or(self, other: Led) -> Led {
         Led {
             input: self.input || other.input,
@@ -168,12 +169,12 @@ impl Led {
         }
     }
 
-    /// Whether any does.
+    /// Whether any stream leads there.
     pub(crate) fn is_any(self) -> bool {
         self.input || self.output || self.errors
     }
 
-    /// The one that people are told of, by the errors, which don't lead there.
+    /// The stream that the message names. Standard error gets the message, so it doesn't lead there itself.
     pub(crate) fn stream(self) -> &'static str
         requires { self.errors ≡ false }
         ensures output { self.output ≡ true → result.now ≡ codes "standard output" }

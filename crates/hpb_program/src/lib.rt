@@ -1,4 +1,4 @@
-//! The program: does the jobs that its words ask for, with what they print, and gives its status.
+//! The program: does the job that its words ask for, writes its results, and gives its status.
 #![tactic(auto)]
 
 mod checking;

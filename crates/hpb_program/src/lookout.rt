@@ -1,4 +1,4 @@
-//! What happens beside sessions that are served, told to people.
+//! The watch over a served file, which reports events beside its sessions to people.
 
 use crate::relay::Relay;
 use hpb_disk::{FileDisk, FileFault};
@@ -11,13 +11,13 @@ use std::os::fd::AsRawFd;
 use std::os::unix::fs::MetadataExt;
 use std::sync::atomic::{AtomicBool, Ordering};
 
-/// Where the system tells the names of the files that this process has open, by their descriptors.
+/// The folder in which the system shows the names of the files that this process has open, by their descriptors.
 const NAMES: &str = "/proc/self/fd";
 
-/// What it puts behind a name by which the file was opened, and which is gone or another file's.
+/// The system puts this behind the name of an open file if that name is gone or another file's.
 const GONE: &[u8] = b" (deleted)";
 
-/// The name, how many names there are, the length and the inode's number of an open file.
+/// The name of an open file, how many names it has, its length, and its inode's number.
 #[derive(Drop)]
 struct Seen {
     name: Vec<u8>,
@@ -28,8 +28,8 @@ struct Seen {
 }
 
 impl Seen {
-    /// Those that it has now. The name is another one once the file was moved, removed or replaced; where the system
-    /// tells none it is empty.
+    /// These facts as they are now. The name changes if the file is moved, removed or replaced. It is empty if the
+    /// system shows none.
     fn of(alloc: Global, file: &File) -> Result<Seen, FileFault> {
         let found = file.metadata()?;
         Ok(Seen {
@@ -40,7 +40,7 @@ impl Seen {
         })
     }
 
-    /// Whether it has lost the name that it had before.
+    /// Whether the file has lost the name that it had before.
     fn has_lost(&self, before: &Seen) -> bool {
         self.name.as_slice().strip_suffix(GONE) == Some(before.name.as_slice())
     }
@@ -53,7 +53,7 @@ fn name_of(alloc: Global, file: &File) -> Result<Vec<u8>, AllocError> {
     name[..count.min(libc::PATH_MAX)].to_vec(alloc)
 }
 
-/// A watch of the file that is served. It tells people by a relay, and waits for nobody.
+/// A watch over the file that is served. It sends notices through a relay, and waits for nobody.
 #[derive(Drop)]
 pub(crate) struct Lookout<'a> {
     alloc: Global,
@@ -61,14 +61,14 @@ pub(crate) struct Lookout<'a> {
     /// The file, opened once more.
     file: File,
     seen: Seen,
-    /// Whether somebody else has cut it, made it longer or written it. Then people were told.
+    /// Whether somebody else has cut the file, made it longer or written it. If so, a notice was sent.
     is_spoiled: AtomicBool,
     relay: &'a Relay,
 }
 
 impl<'a> Lookout<'a> {
-    /// A watch of the file of a path, from which a device was opened. Refused by 91 where the path leads to another
-    /// file by now, and by 90 where memory is refused.
+    /// A watch over the file of a path, from which a device was opened. Refused with 91 if the path leads to another
+    /// file by now, and with 90 if memory is refused.
     pub(crate) fn new<H: Files<File = File>>(
         rt: &H,
         alloc: Global,
@@ -94,12 +94,12 @@ impl<'a> Lookout<'a> {
 }
 
 impl Lookout<'_> {
-    /// Whether somebody else has cut the file, made it longer or written it since it was opened, as far as was seen.
+    /// Whether somebody else was seen to have cut the file, made it longer or written it since it was opened.
     pub(crate) fn is_spoiled(&self) -> bool {
         self.is_spoiled.load(Ordering::SeqCst)
     }
 
-    /// Tells people, once, that somebody else has cut the file, made it longer or written it.
+    /// Sends a notice, once, that somebody else has cut the file, made it longer or written it.
     fn tell_spoiled(&self, is_end: bool) {
         if !self.is_spoiled.swap(true, Ordering::SeqCst) {
             self.tell(Change::Spoiled, is_end);
@@ -115,7 +115,7 @@ impl Lookout<'_> {
         });
     }
 
-    /// What became of the name of the file, which was seen so.
+    /// The change of the file's name between its opening and `seen`, if there is one.
     fn change_of_name(&self, seen: &Seen) -> Option<Change> {
         if seen.names == 0 {
             return Some(Change::Nameless {
@@ -132,7 +132,7 @@ impl Lookout<'_> {
         None
     }
 
-    /// Tells people what became of the length and the name of the file. `false` says that nothing did.
+    /// Sends notices of changes of the file's length and name. `false` if there is none.
     fn tell_change(&self, is_end: bool) -> bool {
         let Ok(seen) = Seen::of(self.alloc, &self.file) else {
             return false;

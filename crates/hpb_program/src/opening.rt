@@ -1,4 +1,4 @@
-//! Opening the auction that a file keeps, and telling people what shows that its newest checkpoint was damaged.
+//! Opening the auction that a file keeps, with a warning if its newest checkpoint may be damaged.
 ghost use Rattle.std.specs.Prelude.{◌≡◌, List, None, IfErr, IfOk, OnErr, string_bytes};
 ghost use Rattle.std.specs.Io.KnownBytes.{Keeps};
 ghost use Rattle.hpb_rules.specs.declared.command.Command.{Command};
@@ -20,11 +20,12 @@ use std::alloc::{AllocError, Global};
 use std::fmt;
 use std::io::Write;
 
-/// Opens a device, as `open` does. Where it has what no honest device has, which shows that its newest checkpoint may
-/// be damaged, people are told so before anything else, with the counts that could stand; and where it has nothing of
-/// that kind they are told nothing.
+/// Opens a device, as `open` does, and looks for doubts. These are facts that no honest device has, and that show that
+/// its newest checkpoint may be damaged. If there are any, standard error gets a warning before anything else, with the
+/// counts that are possible. If there is none, it gets nothing.
 ///
-/// 90 and 91 as of `open`, also where memory or a read is refused while that is looked for: then nothing was told.
+/// 90 and 91 as of `open`, also if memory or a read is refused while it looks for doubts. Nothing is written to
+/// standard error then.
 #[tactic(auto, using(crate::proofs::Kept::not_opened))]
 pub(crate) fn open_kept<D: Disk + Drop, E: Write>(
     alloc: Global,
@@ -51,14 +52,14 @@ pub(crate) fn open_kept<D: Disk + Drop, E: Write>(
     Ok(opened)
 }
 
-/// An opened device, with what it has that no honest device has.
+/// An opened device, with its doubts.
 #[derive(Drop)]
 struct Looked<D: Disk + Drop> {
     opened: Opened<D>,
     doubts: Doubts,
 }
 
-/// Looks whether an opened device has what no honest device has.
+/// Looks for doubts about an opened device.
 #[tactic(auto, using(crate::proofs::Doubting::of_machine))]
 fn look<D: Disk + Drop>(alloc: Global, opened: Opened<D>) -> Result<Looked<D>, JobFault>
     ensures plan { IfOk result (λ looked. looked.opened.plan ≡ opened.plan) }
@@ -78,7 +79,7 @@ fn look<D: Disk + Drop>(alloc: Global, opened: Opened<D>) -> Result<Looked<D>, J
     }
 }
 
-/// An opened device that was only read since.
+/// The opened device again, after reads alone.
 fn opened_still<D: Disk + Drop>(disk: D, plan: Plan) -> Opened<D>
     requires durable { Only (D.seen disk) (D.may_leave disk) }
     requires read { IsPlan plan (D.seen disk) }
@@ -88,8 +89,7 @@ fn opened_still<D: Disk + Drop>(disk: D, plan: Plan) -> Opened<D>
     Opened { disk, plan }
 }
 
-/// The line by which people are told of what an auction of so many commands has that none has on an honest device:
-/// empty where that is nothing.
+/// The warning about the doubts of an auction of `count` commands. It is empty if there are none.
 pub(crate) fn line_of_doubts(
     alloc: Global,
     count: u32,
@@ -107,7 +107,7 @@ pub(crate) fn line_of_doubts(
     }
 }
 
-/// The same where no slot is damaged.
+/// The same if no slot is damaged.
 fn line_of_later(alloc: Global, count: u32, later: &Option<Later>) -> Result<String, AllocError>
     ensures { IfOk result (λ line. string_bytes line ≡ doubts_text count None later.now) }
 {
@@ -120,7 +120,7 @@ fn line_of_later(alloc: Global, count: u32, later: &Option<Later>) -> Result<Str
     }
 }
 
-/// The line that has what was found beside a count.
+/// The line of the warning, with the texts of the doubts behind the count.
 #[derive(Clone, Copy)]
 struct DoubtsLine<'a> {
     count: u32,
@@ -147,14 +147,14 @@ fn line_of(alloc: Global, count: u32, found: &str) -> Result<String, AllocError>
     DoubtsLine { count, found }.to_string(alloc)
 }
 
-/// What is said of a damaged slot.
+/// The text for a damaged slot.
 fn said_of_damaged(alloc: Global, damaged: u32) -> Result<String, AllocError>
     ensures { IfOk result (λ text. string_bytes text ≡ damaged_text damaged) }
 {
     format!(in alloc; ", and {damaged} by the damaged one")
 }
 
-/// The same, and then what is said of a later batch.
+/// The text for a damaged slot, and then that for a later batch.
 fn said_of_slot(alloc: Global, damaged: u32, later: &str) -> Result<String, AllocError>
     ensures { IfOk result (λ text. string_bytes text ≡ slot_text damaged later.now) }
 {
@@ -163,7 +163,7 @@ fn said_of_slot(alloc: Global, damaged: u32, later: &str) -> Result<String, Allo
     Ok(text)
 }
 
-/// What is said of the last of the batches that only a newer checkpoint makes room for, if there is one.
+/// The text for the last of the batches that need a newer checkpoint, if there is one.
 fn said_of_later(alloc: Global, later: &Option<Later>) -> Result<String, AllocError>
     ensures { IfOk result (λ text. string_bytes text ≡ later_text later.now) }
 {
@@ -173,7 +173,7 @@ fn said_of_later(alloc: Global, later: &Option<Later>) -> Result<String, AllocEr
     }
 }
 
-/// What is said of such a batch: the number of its first command, where it is whole.
+/// The text for such a batch: the number of its first command, if the batch is whole.
 fn said_of_frame(alloc: Global, frame: &Frame) -> Result<String, AllocError>
     ensures { IfOk result (λ text. string_bytes text ≡ frame_text frame.now) }
 {

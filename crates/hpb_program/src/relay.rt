@@ -1,5 +1,5 @@
-//! What people are told while an auction is served, by the descriptor of standard errors: the errors that the program was
-//! handed are written by the thread that has them alone.
+//! Notices while an auction is served. A thread writes them by standard error's descriptor, since the program's own
+//! `errors` belong to another thread alone.
 
 use crate::waiting::{Waiting, wait_for};
 use hpb_server::{read_some, say};
@@ -15,24 +15,25 @@ use std::{fmt, io};
 /// How many descriptors a relay has: both ends of two pipes.
 pub(crate) const RELAY_DESCRIPTORS: u32 = 4;
 
-/// The room of its thread's stack, in bytes.
+/// How many bytes the stack of the relay's thread has.
 const STACK_BYTES: usize = 128 * 1_024;
 
-/// How many bytes its thread takes at a time. What others write into the same pipe never comes between as many.
+/// How many bytes its thread writes at a time. Other writers into the same pipe can't come between so few.
 const PART_BYTES: usize = 4_096;
 
-/// How long its end waits for people who don't read, in milliseconds.
+/// How long the relay's end waits for a reader who doesn't read, in milliseconds.
 const LAST_WAIT: i32 = 1_000;
 
-/// How long a notice waits where no thread takes it, in milliseconds.
+/// How long a notice waits if no thread takes it, in milliseconds.
 const NO_WAIT: i32 = 0;
 
-/// Takes notices, and has a thread of its own write them to standard errors, in the order in which they came. So whoever
-/// has something to tell never waits for those who are told. What finds no room is left out and counted, and the next
-/// notice says how many were. Where a relay is dropped it waits until all is written, but not for long.
+/// Takes notices, and has a thread of its own write them to standard error, in order. So a caller with a notice never
+/// waits for its reader. A notice that finds no room is left out and counted, and the next notice says how many were.
+/// When the relay is dropped, it waits until all is written, for a second at most.
 pub(crate) struct Relay {
     alloc: Global,
-    /// None where the system gave no pipe or no thread: then a notice is written where standard errors take it at once.
+    /// `None` if the system gave no pipe or no thread. Then a notice is written only if standard error takes it at
+    /// once.
     ends: Option<Ends>,
     /// How many notices were left out since the last one that was taken.
     missed: AtomicU64,
@@ -48,7 +49,7 @@ pub(crate) struct Ends {
 }
 
 impl Relay {
-    /// A relay that has taken nothing yet.
+    /// Starts a relay, which has taken nothing yet.
     pub(crate) fn start<R: Files + Threads>(rt: &R, alloc: Global) -> Relay {
         Relay::over(alloc, start_thread(rt).ok())
     }
@@ -62,7 +63,7 @@ impl Relay {
         }
     }
 
-    /// Takes a notice, as far as there is room and memory.
+    /// Takes a notice, if there is room and memory for it.
     pub(crate) fn notify<N: fmt::Display + Copy>(&self, notice: N) {
         let missed = self.missed.swap(0, Ordering::SeqCst);
         let is_taken = match lines_of(self.alloc, missed, notice) {
@@ -75,7 +76,7 @@ impl Relay {
         }
     }
 
-    /// Takes lines. `false` says that there is no room for all of them: then none is taken.
+    /// Takes lines. `false` if there is no room for all of them; then none is taken.
     fn take(&self, lines: &[u8]) -> bool {
         match &self.ends {
             Some(ends) => ends.take(lines),
@@ -103,7 +104,7 @@ impl Ends {
         matches!(pipe.write(lines), Ok(count) if count == lines.len())
     }
 
-    /// Has the thread end once it has written all, and waits for that, unless nobody reads.
+    /// Lets the thread end once it has written all, and waits for that, unless nobody reads.
     fn finish(self, alloc: Global, missed: u64) {
         let is_read = missed == 0 || self.tell_missed(alloc, missed);
         let Ends { lines, over } = self;
@@ -113,7 +114,7 @@ impl Ends {
         }
     }
 
-    /// Tells how many notices were left out behind the last one. `false` says that nobody reads.
+    /// Sends a notice of how many were left out behind the last one. `false` if nobody reads.
     fn tell_missed(&self, alloc: Global, missed: u64) -> bool {
         if !wait_for(self.lines.as_raw_fd(), libc::net::POLLOUT, LAST_WAIT) {
             return false;
@@ -126,7 +127,7 @@ impl Ends {
     }
 }
 
-/// The lines of a notice: before its own that of those that were left out, if any were.
+/// The lines of a notice. If some were left out before it, a line says how many.
 fn lines_of<N: fmt::Display + Copy>(
     alloc: Global,
     missed: u64,
@@ -139,7 +140,7 @@ fn lines_of<N: fmt::Display + Copy>(
     format!(in alloc; "hpb: {left_out}\nhpb: {notice}\n")
 }
 
-/// Starts the thread of a relay, which nobody joins: one that people don't read is left behind.
+/// Starts the thread of a relay. Nobody joins it: if nobody reads standard error, it is left behind.
 fn start_thread<R: Files + Threads>(rt: &R) -> io::Result<Ends> {
     let (taken, lines) = pipe(rt)?;
     let (over, open) = pipe(rt)?;
@@ -154,7 +155,7 @@ fn start_thread<R: Files + Threads>(rt: &R) -> io::Result<Ends> {
     Ok(Ends { lines, over })
 }
 
-/// Writes all that comes out of a pipe to standard errors, and waits for them.
+/// Writes all that comes out of a pipe to standard error, and waits until that takes it.
 fn copy_to_errors(pipe: PipeReader) {
     let (mut pipe, mut errors) = (pipe, Waiting::new(Errors));
     let mut part = [0; PART_BYTES];
@@ -166,7 +167,7 @@ fn copy_to_errors(pipe: PipeReader) {
     }
 }
 
-/// Writes lines to standard errors where these take them at once.
+/// Writes lines to standard error if it takes them at once.
 fn write_at_once(lines: &[u8]) -> bool {
     if !wait_for(libc::STDERR_FILENO, libc::net::POLLOUT, NO_WAIT) {
         return false;
@@ -174,7 +175,7 @@ fn write_at_once(lines: &[u8]) -> bool {
     matches!(Errors.write(lines), Ok(count) if count == lines.len())
 }
 
-/// Standard errors, by their descriptor.
+/// Standard error, by its descriptor.
 #[derive(Clone, Copy)]
 struct Errors;
 

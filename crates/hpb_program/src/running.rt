@@ -30,16 +30,24 @@ use std::net::{Net, TcpListener, TcpStream};
 use std::sync::Wait;
 use std::thread::Threads;
 
-/// What is said where the words can't be read.
+/// The message for words that can't be read.
 const NO_TEXT: &str = "hpb: an argument is not UTF-8\n";
 
-/// The whole of the program, with its status: 0; 1 where a definition or a file is refused, memory is refused or a
-/// stream fails; 2 where the words are wrong. The first word is the program's name. Lines go to the output; that of a
-/// refusal, and the last one of a file that was formatted or served, is there whole unless the output says that it was
-/// cut. The errors are told what is said of the words, help too, and why a definition or a file is refused or a stream
-/// failed; and where the input is a terminal what to type, and which number would do in place of a command that is
-/// refused. Only jobs on files use the runtime, and of these only serving may wait. Where the words ask for no job nothing
-/// is written to a stream that leads to a file which they may name.
+/// Runs the whole program, and gives its status. The first word is the program's name.
+///
+/// The status is 0 if all went well. It is 1 if a definition or a file is refused, memory is refused or a stream fails,
+/// and 2 if the words are wrong.
+///
+/// Result lines go to `output`. The line of a refusal, and the last line of a file that was formatted or served, are
+/// whole there unless `output` says that it was cut.
+///
+/// Messages go to `errors`:
+/// - about the words, and also help;
+/// - why a definition or a file is refused, or a stream failed;
+/// - if the input is a terminal: what to type, and which number would do in place of a refused command.
+///
+/// Only jobs on files use the runtime, and of these only serving may wait. If the words ask for no job, it writes
+/// nothing to a stream that leads to a file which they may name.
 pub fn program<
     H: Files<File = File> + Net<Listener = TcpListener, Stream = TcpStream> + Threads + Wait + Sync,
     S: AsStr,
@@ -64,8 +72,9 @@ pub fn program<
     run_asked(rt, alloc, asked, led, input, output, errors, is_terminal)
 }
 
-/// The status of the program where its words can't be read: 1 where memory was refused, else 2. The errors are told
-/// which, and the output has the line of 90, unless they lead to a file that the words may name.
+/// The program's status if its words can't be read: 1 if memory was refused, and otherwise 2. `errors` gets the reason,
+/// and `output` the line of 90 if memory was refused. A stream that leads to a file which the words may name gets
+/// nothing.
 pub fn refuse_words<W: Write, E: Write>(
     error: &io::Error,
     led: Led,
@@ -88,8 +97,8 @@ pub fn refuse_words<W: Write, E: Write>(
     WRONG_WORDS
 }
 
-/// The status of the program where its standard streams can't be held: 1. The errors are told why, as far as there are
-/// any, unless they lead to a file that the words may name.
+/// The program's status if its standard streams can't be held: 1. `errors` gets the reason, if the stream is there and
+/// doesn't lead to a file which the words may name.
 pub fn refuse_streams<E: Write>(alloc: Global, error: &io::Error, led: Led, errors: &mut E) -> u8
     ensures status { result ≡ ILL }
     ensures told { TellsOf (E.contents errors.old) (E.contents errors.new) refusals.Stream }
@@ -98,7 +107,7 @@ pub fn refuse_streams<E: Write>(alloc: Global, error: &io::Error, led: Led, erro
     ILL
 }
 
-/// Does what words ask for, and gives the program's status.
+/// Does the job that the words ask for, and gives the program's status.
 fn run_asked<
     H: Files<File = File> + Net<Listener = TcpListener, Stream = TcpStream> + Threads + Wait + Sync,
     R: Read,
@@ -197,7 +206,7 @@ fn run_job<
     }
 }
 
-/// Tells people which fault ended a script, and gives the program's status.
+/// Reports the fault that ended a script, and gives the program's status.
 fn tell_script<E: Write>(
     alloc: Global,
     end: Result<ScriptEnd, SessionFault>,
@@ -223,7 +232,7 @@ fn tell_script<E: Write>(
     }
 }
 
-/// Tells how a job on a file ended, and gives the program's status.
+/// Reports how a job on a file ended, and gives the program's status.
 fn tell_end<W: Write, E: Write>(
     alloc: Global,
     known: Known<'_>,
@@ -241,7 +250,7 @@ fn tell_end<W: Write, E: Write>(
     }
 }
 
-/// Tells why a job on a file was not done, and gives the program's status.
+/// Reports why a job on a file was not done, and gives the program's status.
 fn tell_fault<W: Write, E: Write>(
     alloc: Global,
     known: Known<'_>,
@@ -262,7 +271,7 @@ fn tell_fault<W: Write, E: Write>(
     ILL
 }
 
-/// Tells how a run of a file ended, and gives the program's status.
+/// Reports how a run of a file ended, and gives the program's status.
 fn tell_run<W: Write, E: Write>(
     alloc: Global,
     known: Known<'_>,
@@ -279,7 +288,7 @@ fn tell_run<W: Write, E: Write>(
     }
 }
 
-/// Tells how serving a file ended, and gives the program's status.
+/// Reports how serving a file ended, and gives the program's status.
 fn tell_served<W: Write, E: Write>(
     alloc: Global,
     known: Known<'_>,
@@ -297,8 +306,8 @@ fn tell_served<W: Write, E: Write>(
     }
 }
 
-/// Tells the errors how serving ended that had begun, and then of a file that somebody else has written meanwhile, and
-/// gives the program's status.
+/// Reports on `errors` how serving that had begun ended, and then whether somebody else has written the file meanwhile.
+/// Gives the program's status.
 fn tell_closed<E: Write>(alloc: Global, known: Known<'_>, end: &FileEnd, errors: &mut E) -> u8
     ensures status { result ≤ WRONG_WORDS }
     ensures told { TellsBeside (E.contents errors.old) (E.contents errors.new) end.now.is_spoiled end.now.said end.now.has_failed result }
@@ -316,7 +325,7 @@ fn tell_closed<E: Write>(alloc: Global, known: Known<'_>, end: &FileEnd, errors:
     ILL
 }
 
-/// Tells the errors how a run or serving ended that had begun, where it ended ill, and gives the program's status.
+/// Reports on `errors` how a run or serving that had begun ended, if it ended ill. Gives the program's status.
 fn tell_ended<E: Write>(alloc: Global, end: RunEnd, known: Known<'_>, errors: &mut E) -> u8
     ensures status { result ≤ WRONG_WORDS }
     ensures told { TellsEnded (E.contents errors.old) (E.contents errors.new) end.end end.failed result }
@@ -330,8 +339,8 @@ fn tell_ended<E: Write>(alloc: Global, end: RunEnd, known: Known<'_>, errors: &m
     ILL
 }
 
-/// Says what is wrong with words, or what help they ask for, and gives the program's status. The output has the line of
-/// 90 where memory was refused. Nothing is written to a stream that leads to a file which the words may name.
+/// Writes the message about wrong words, or the help that they ask for, and gives the program's status. `output` gets
+/// the line of 90 if memory was refused. A stream that leads to a file which the words may name gets nothing.
 fn say_fault<W: Write, E: Write>(
     fault: WordsFault,
     led: Led,

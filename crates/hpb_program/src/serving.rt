@@ -27,30 +27,30 @@ use std::snapshot::Snapshot;
 use std::sync::Wait;
 use std::thread::Threads;
 
-/// As many bytes as the line of the end may have: the number of commands has 32 bits, so ten digits at most.
+/// How many bytes the last line may have: the number of commands has 32 bits, so ten digits at most.
 const CLOSED_BYTES: usize = 18;
 
-/// How serving a device ended that had begun.
+/// The end of serving a device that had begun.
 #[derive(Drop)]
 pub struct ServeEnd<D: Disk + Drop> {
-    /// What was served, and what the house leaves.
+    /// The sessions' reports, and the remains of the house.
     pub served: Served<D>,
     /// Whether the last line was written.
     pub said: Result<(), SessionFault>,
 }
 
-/// How serving a file ended that had begun. The file is closed.
+/// The end of serving a file that had begun. The file is closed.
 #[derive(Drop)]
 pub struct FileEnd {
-    /// The disk in the file when it was opened, which only clauses read.
+    /// The disk in the file when it was opened. Only clauses read it.
     pub opened: Snapshot<FileDisk>,
-    /// What the house left, with the disk before it was closed, which only clauses read.
+    /// The remains of the house, with the disk before it was closed. Only clauses read them.
     pub left: Snapshot<Closing<FileDisk>>,
     /// The committed auction.
     pub auction: Auction,
     /// Whether a call of the disk has failed (91).
     pub has_failed: bool,
-    /// The system's number of the write or the sync that failed, where it told one.
+    /// The system's number of the write or the sync that failed, if the system gave one.
     pub code: Option<i32>,
     /// Whether somebody else was seen to have cut the file, made it longer or written it while it was served.
     pub is_spoiled: bool,
@@ -60,16 +60,16 @@ pub struct FileEnd {
     pub said: Result<(), SessionFault>,
 }
 
-/// What was served, before that is told.
+/// The end of serving, before the last line is written.
 #[derive(Drop)]
 struct Unsaid<D: Disk + Drop> {
     served: Served<D>,
-    /// The room of the last line.
+    /// Room for the last line.
     room: String,
 }
 
-/// Serves so many sessions with the auction that the file of a path keeps, as `serve_kept` says, once there may be as
-/// many connections at a time as that takes. The file is closed before the last line is written.
+/// Serves sessions with the auction that the file of a path keeps, as `serve_kept` does. Before that it checks that the
+/// process may have as many connections at a time as that takes. The file is closed before the last line is written.
 #[tactic(auto, using(crate::proofs::Served::of_device, crate::proofs::Served::unheld, crate::proofs::Served::unopened_file))]
 pub(crate) fn serve_file<
     H: Files<File = File> + Net<Listener = TcpListener, Stream = TcpStream> + Threads + Wait + Sync,
@@ -118,7 +118,7 @@ pub(crate) fn serve_file<
     } = closing;
     let code = disk.code();
     let is_spoiled = lookout.is_spoiled();
-    // Whoever reads the last line may open the file.
+    // Anyone who reads the last line may open the file, so it is closed first.
     drop(disk);
     match say_closed(room, auction.count(), output) {
         Ok(said) => Ok(FileEnd {
@@ -135,15 +135,19 @@ pub(crate) fn serve_file<
     }
 }
 
-/// Serves so many sessions, from 1 to 32, with the auction that a device keeps, over connections to a port of
-/// 127.0.0.1. `LISTENING` with the port is written once it can be connected to, and `CLOSED` with the number of
-/// commands that are accepted in all once all sessions have ended.
+/// Serves 1 to 32 sessions with the auction that a device keeps, over connections to a port of 127.0.0.1. `LISTENING`
+/// with the port is written once clients can connect to it. `CLOSED` with the number of all accepted commands is
+/// written once all sessions have ended.
 ///
-/// Before anything else people are told where the device has what no honest device has. The port is asked for only
-/// where it was opened, and nothing is written where either was refused: 40, 42, 44, 45 and 91 of the device, 92 of the
-/// port. A house that wasn't started is 90 or 94, a session that took no answer 95, and what was answered and isn't
-/// what was kept 96. What was served is handed up: the device, which keeps the history that it stood for when it was
-/// opened and then the commands that the sessions were told of as newly accepted.
+/// If the device has doubts, which no honest device has, it reports them before anything else, on standard error. It
+/// asks for the port only once the device is opened. If either is refused, it writes nothing: 40, 42, 44, 45 and 91 for
+/// the device, 92 for the port.
+///
+/// 90 or 94: the house wasn't started. 95: a session took no answer. 96: the sessions' answers differ from the commands
+/// that were kept.
+///
+/// The result has the device. It keeps the history for which it stood when it was opened, and then the commands that
+/// the sessions reported as newly accepted.
 pub fn serve_kept<
     H: Net<Listener = TcpListener, Stream = TcpStream> + Threads + Wait + Sync,
     D: Disk + Drop + Send,
@@ -175,7 +179,7 @@ pub fn serve_kept<
     }
 }
 
-/// Serves so many sessions as `serve_kept` does, up to the last line, while a watch is told what happens beside them.
+/// Serves sessions as `serve_kept` does, up to the last line, and reports events beside them to a watch.
 #[tactic(auto, using(crate::proofs::Served::unopened, crate::proofs::Doubting::told_not))]
 fn serve_device<
     H: Net<Listener = TcpListener, Stream = TcpStream> + Threads + Wait + Sync,
@@ -198,7 +202,7 @@ fn serve_device<
     ensures serves { ServesUnsaid D.seen D.may_leave D.failures disk sessions port (W.contents output.old) (W.contents output.new) result }
 {
     let opened = open_kept(alloc, disk, errors)?;
-    // The room of the last line is taken first: a disk that failed is told of even where memory is then refused.
+    // The room of the last line is taken first, so that a failed disk is reported even if memory is refused later.
     let room = String::with_capacity(alloc, CLOSED_BYTES)?;
     let listener = match listen(rt, port) {
         Ok(listener) => listener,
@@ -224,7 +228,7 @@ fn fault_of_serving<D: Disk + Drop>(fault: ServeFault<D>) -> JobFault
     }
 }
 
-/// A port of 127.0.0.1 that can be connected to.
+/// Listens at a port of 127.0.0.1.
 fn listen<H: Net<Listener = TcpListener, Stream = TcpStream>>(
     rt: &H,
     port: u16,
@@ -232,7 +236,7 @@ fn listen<H: Net<Listener = TcpListener, Stream = TcpStream>>(
     TcpListener::bind(rt, (Ipv4Addr::LOCALHOST, port))
 }
 
-/// The line that tells how many commands are accepted in all, written into a text that is empty.
+/// The line with the number of all accepted commands, written into an empty text.
 fn closing_line(room: String, count: u32) -> Result<String, AllocError>
     requires { string_bytes room ≡ [] }
     ensures { IfOk result (λ line. string_bytes line ≡ closed_line count) }
@@ -242,7 +246,7 @@ fn closing_line(room: String, count: u32) -> Result<String, AllocError>
     Ok(line)
 }
 
-/// Tells how many commands are accepted in all, in a room that is empty, and whether that could be written.
+/// Writes the line with the number of all accepted commands, by an empty room. Says whether it was written.
 fn say_closed<W: Write>(
     room: String,
     count: u32,
@@ -256,7 +260,7 @@ fn say_closed<W: Write>(
     Ok(send_line(line.as_str(), output))
 }
 
-/// Writes a line, and has it handed on.
+/// Writes a line, and flushes it.
 fn send_line<W: Write>(line: &str, output: &mut Noted<W>) -> Result<(), SessionFault>
     ensures sent { Sends (W.contents output.old.stream) (W.contents output.new.stream) line.now result }
     ensures taken { IsTaken (is_cut output.new) result }

@@ -1,4 +1,4 @@
-//! The standard streams: opened where they are closed, and written to where they don't lead to the file of a job.
+//! The standard streams. Closed ones are opened, and one that leads to the file of a job gets nothing.
 ghost use Rattle.std.specs.Prelude.{◌≡◌};
 ghost use Rattle.hpb_words.specs.declared.status.TheConstants.{ILL};
 ghost use Rattle.hpb_rules.specs.declared.refusal.Refusal.TheVariants as refusals;
@@ -15,21 +15,21 @@ use std::io::Write;
 use std::os::fd::IntoRawFd;
 use std::{fmt, io};
 
-/// What stands in for a stream that is closed: it reads as empty, and takes what is written.
+/// The file that stands in for a closed stream: it reads as empty, and takes all bytes.
 const NOTHING: &str = "/dev/null";
 
-/// Opens what is closed of the standard streams on /dev/null. To be called before anything else is opened: a file that
-/// were opened then would be given the number of a closed stream, and what is meant for that stream would be written
-/// into the file, or the file read as input.
+/// Opens each closed standard stream on /dev/null. Call this before anything else is opened. Otherwise a file could get
+/// the number of a closed stream: output for that stream would be written into the file, or the file be read as input.
 ///
-/// An error says that a stream stays closed. Then nothing else is to be opened.
+/// If it fails, a stream stays closed. Then nothing else may be opened.
 pub fn hold_streams<R: Files<File = File>>(rt: &R) -> io::Result<()> {
     hold_stream(rt, libc::STDIN_FILENO)?;
     hold_stream(rt, libc::STDOUT_FILENO)?;
     hold_stream(rt, libc::STDERR_FILENO)
 }
 
-/// The system gives the least number that is free: the streams before this one are held.
+/// Opens one stream if it is closed. The system gives the least free number, so the streams before this one must be
+/// held already.
 fn hold_stream<R: Files<File = File>>(rt: &R, stream: i32) -> io::Result<()> {
     if !is_closed(stream) {
         return Ok(());
@@ -42,12 +42,12 @@ fn hold_stream<R: Files<File = File>>(rt: &R, stream: i32) -> io::Result<()> {
     }
 }
 
-/// Whether a number is no open file's. Advice on how it will be read changes none.
+/// Whether a number belongs to no open file. The call only advises how a file will be read, which changes nothing.
 fn is_closed(stream: i32) -> bool {
     libc::posix_fadvise(stream, 0, 0, libc::POSIX_FADV_NORMAL) == libc::EBADF
 }
 
-/// Writes the line of a refusal, unless the output leads to the job's file: it would stand in the auction.
+/// Writes the line of a refusal, unless the output leads to the job's file: the line would be written into the auction.
 pub(crate) fn tell_unled<W: Write>(refusal: Refusal, led: Led, output: &mut Noted<W>)
     ensures { TellsUnled led.output (is_cut output.new) (W.contents output.old.stream) (W.contents output.new.stream) refusal }
 {
@@ -57,7 +57,7 @@ pub(crate) fn tell_unled<W: Write>(refusal: Refusal, led: Led, output: &mut Note
     tell(refusal, output);
 }
 
-/// Says a text to people, unless the errors lead to the job's file.
+/// Writes a text to standard error, unless that leads to the job's file.
 pub(crate) fn say_unled<E: Write>(text: &str, led: Led, errors: &mut E)
     ensures { Says (E.contents errors.old) (E.contents errors.new) text.now }
 {
@@ -66,7 +66,7 @@ pub(crate) fn say_unled<E: Write>(text: &str, led: Led, errors: &mut E)
     }
 }
 
-/// Tells people of a refusal, and what to do, unless the errors lead to the job's file.
+/// Writes a refusal and what to do to standard error, unless that leads to the job's file.
 pub(crate) fn advise_unled<A: fmt::Display + Copy, E: Write>(
     alloc: Global,
     refusal: Refusal,
@@ -81,7 +81,7 @@ pub(crate) fn advise_unled<A: fmt::Display + Copy, E: Write>(
     }
 }
 
-/// Tells people of 90, unless the errors lead to the job's file. It takes no memory.
+/// Writes the message of 90 to standard error, unless that leads to the job's file. It takes no memory.
 pub(crate) fn tell_memory_unled<E: Write>(led: Led, errors: &mut E)
     ensures { TellsOf (E.contents errors.old) (E.contents errors.new) refusals.Memory }
 {
@@ -90,8 +90,8 @@ pub(crate) fn tell_memory_unled<E: Write>(led: Led, errors: &mut E)
     }
 }
 
-/// The status of a job whose file standard streams lead to: 1. It is told by 91, but not on a stream that leads there:
-/// it would stand in the auction.
+/// Refuses a job to whose file a standard stream leads: reports 91, and gives the status 1. A stream that leads there
+/// gets nothing, since it would be written into the auction.
 pub(crate) fn refuse_led<W: Write, E: Write>(
     alloc: Global,
     file: &str,

@@ -1,14 +1,14 @@
-//! Streams that are waited for, also where they are set not to be.
+//! Streams whose calls wait, even if they are set not to.
 
 use std::io;
 use std::io::{ErrorKind, Read, Write};
 use std::os::fd::AsRawFd;
 
-/// For how many milliseconds a call is waited for that has no limit.
+/// The limit in milliseconds of a wait without a limit.
 const NO_LIMIT: i32 = -1;
 
-/// Waits until a descriptor is ready for what is asked, or so many milliseconds have passed. A descriptor that has failed, or
-/// whose other end is closed, is ready. `false` says that none of this came.
+/// Waits until a descriptor is ready for these events, or until so many milliseconds have passed. A descriptor that has
+/// failed, or whose other end is closed, is ready. `false` if time ran out.
 pub(crate) fn wait_for(descriptor: i32, events: i16, milliseconds: i32) -> bool {
     let mut asked = [libc::types::pollfd {
         fd: descriptor,
@@ -18,13 +18,13 @@ pub(crate) fn wait_for(descriptor: i32, events: i16, milliseconds: i32) -> bool 
     libc::net::poll(&mut asked, milliseconds) > 0
 }
 
-/// Whether a call can't be made yet, and was to wait for nobody.
+/// Whether a call failed because it can't be made yet, on a stream that is set not to wait.
 fn is_early(error: &io::Error) -> bool {
     error.kind() == ErrorKind::WouldBlock
 }
 
-/// A stream whose calls wait until they can be made. Whoever shares an open file may set it not to wait (`O_NONBLOCK`), and so
-/// does it for all others.
+/// A stream whose calls wait until they can be made. Any process that shares an open file may set it not to wait
+/// (`O_NONBLOCK`), and so does it for all others.
 #[derive(Drop)]
 pub struct Waiting<S> {
     /// The stream itself.

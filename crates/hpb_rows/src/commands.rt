@@ -52,7 +52,7 @@ pub(crate) fn first_round() -> [Command; 6] {
     ]
 }
 
-/// 129 rounds of 8 commands, in which all bidders bid on what they have units for.
+/// 129 rounds of 8 commands, in which all bidders bid on all licences for which they have units.
 pub(crate) fn many_rounds(alloc: Global) -> Result<Vec<Command>, AllocError> {
     let mut commands = Vec::new(alloc);
     let mut amount = 100_u64;
@@ -76,7 +76,7 @@ pub(crate) fn many_rounds(alloc: Global) -> Result<Vec<Command>, AllocError> {
     Ok(commands)
 }
 
-/// The first commands of a list, so many.
+/// The first `count` commands of a list.
 pub(crate) fn front(commands: &[Command], count: u16) -> &[Command] {
     &commands[..commands.len().min(usize::from(count))]
 }

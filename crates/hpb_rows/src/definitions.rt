@@ -1,5 +1,5 @@
-//! The definition of most rows: `all` 0 has `east` 1 and the licence `c` 4, `east` has the licences `a` 2 and `b` 3, and the
-//! licence `d` 5 stands alone; four bidders and two stages.
+//! The definition of most rows. `all` 0 has `east` 1 and the licence `c` 4, and `east` has the licences `a` 2 and `b`
+//! 3. The licence `d` 5 stands alone. There are four bidders and two stages.
 
 use hpb_auction::Auction;
 use hpb_define::read_definition;
@@ -7,16 +7,16 @@ use hpb_tree::Definition;
 use std::alloc::{AllocError, Global};
 use std::test::Fail;
 
-/// What stands behind the number of waivers.
+/// The text behind the number of waivers.
 const SIX_NODES: &str =
     ",\"step\":10,\"percent\":10,\"stages\":[80,95],\"nodes\":[{\"name\":\"all\",\"parent\":null},{\"name\":\"east\",\"parent\":\"all\"},{\"name\":\"a\",\"parent\":\"east\",\"units\":10,\"opening\":100},{\"name\":\"b\",\"parent\":\"east\",\"units\":10,\"opening\":100},{\"name\":\"c\",\"parent\":\"all\",\"units\":20,\"opening\":100},{\"name\":\"d\",\"parent\":null,\"units\":5,\"opening\":100}],\"bidders\":[{\"name\":\"x\",\"units\":10},{\"name\":\"y\",\"units\":10},{\"name\":\"z\",\"units\":40},{\"name\":\"w\",\"units\":25}]}\n";
 
-/// The line that spells it with so many waivers.
+/// The line of the definition with this many waivers.
 pub(crate) fn definition_line(alloc: Global, waivers: u8) -> Result<String, AllocError> {
     format!(in alloc; "{{\"waivers\":{waivers}{SIX_NODES}")
 }
 
-/// The definition with so many waivers.
+/// The definition with this many waivers.
 pub(crate) fn six_nodes_with(alloc: Global, waivers: u8) -> Result<Box<Definition>, Fail> {
     let line = definition_line(alloc, waivers)?;
     Ok(Box::new(alloc, read_definition(alloc, line.as_bytes())?)?)

@@ -1,4 +1,4 @@
-//! Devices to try, and what comes of opening them.
+//! Devices to try, and the results of opening them.
 
 use crate::definitions::six_nodes_with;
 use hpb_codec::{JournalLayout, JournalShape, PAGE_BYTES};
@@ -10,7 +10,7 @@ use std::alloc::Global;
 use std::process::Abort;
 use std::test::Fail;
 
-/// Journals of pages, with as few frames as there may be, with twice as many, and with the most.
+/// Journals of pages: with the fewest frames, with twice as many, and with the most.
 pub(crate) const FOUR_PAGES: JournalShape = JournalShape {
     layout: JournalLayout::Pages,
     frames: 4,
@@ -26,7 +26,7 @@ pub(crate) const MOST_PAGES: JournalShape = JournalShape {
     frames: 1_024,
 };
 
-/// Journals of cells, with as few frames as there may be, and with the most.
+/// Journals of cells: with the fewest frames, and with the most.
 pub(crate) const SIXTEEN_CELLS: JournalShape = JournalShape {
     layout: JournalLayout::Cells,
     frames: 16,
@@ -51,13 +51,13 @@ macro_rules! over_layouts {
     };
 }
 
-/// Where the journal begins.
+/// The journal's first byte.
 pub(crate) const JOURNAL: usize = 53_248;
 
 /// The byte of an open gate.
 pub(crate) const OPEN: u8 = 0xa5;
 
-/// Where a frame begins, from 0: each is a page, or three cells of 512 bytes.
+/// The first byte of a frame, counted from 0: each is a page, or three cells of 512 bytes.
 pub(crate) fn frame_at(layout: JournalLayout, frame: u32) -> usize {
     let bytes = match layout {
         JournalLayout::Pages => PAGE_BYTES,
@@ -71,7 +71,7 @@ pub(crate) fn device_bytes(shape: JournalShape) -> usize {
     frame_at(shape.layout, shape.frames)
 }
 
-/// What is opened: how many commands and clean frames, or why not.
+/// The result of opening: how many commands and clean frames, or why it isn't opened.
 pub(crate) type Found = Result<(u32, u64), Cause>;
 
 pub(crate) const UNFORMATTED: Found = Err(Cause::Flawed(Flaw::Unformatted));
@@ -82,7 +82,7 @@ pub(crate) const CHECKPOINT: Found = Err(Cause::Flawed(Flaw::Checkpoint));
 
 pub(crate) const FRAME: Found = Err(Cause::Flawed(Flaw::Frame));
 
-/// Formats a device with such a journal: the device, with the cause of a fault.
+/// Formats a device with such a journal. Gives the device, with the cause of a fault.
 pub(crate) fn formatted<D: Disk + Drop>(
     alloc: Global,
     disk: D,
@@ -102,7 +102,7 @@ pub(crate) fn all_of<D: Disk>(alloc: Global, disk: &mut D) -> Result<Vec<u8>, Fa
     Ok(bytes)
 }
 
-/// The bytes of a new device with such a journal, of the definition with so many waivers.
+/// The bytes of a new device with such a journal, for the definition with this many waivers.
 pub(crate) fn new_device_with(
     alloc: Global,
     shape: JournalShape,
@@ -136,7 +136,7 @@ pub(crate) fn opened_bytes(alloc: Global, bytes: Vec<u8>) -> Result<Found, Fail>
     Ok(found)
 }
 
-/// A byte of a device that is changed, by its offset.
+/// A changed byte of a device, by its offset.
 pub(crate) type Change = (usize, u8);
 
 /// Opens a device with these bytes, some of them changed.
@@ -150,7 +150,7 @@ pub(crate) fn opened_with(alloc: Global, bytes: &[u8], changes: &[Change]) -> Re
     opened_bytes(alloc, changed)
 }
 
-/// Each of these changes by itself makes a device open so.
+/// Whether a device opens with this result under each of these changes alone.
 pub(crate) fn open_changed(
     rt: &impl Abort,
     alloc: Global,
@@ -164,7 +164,7 @@ pub(crate) fn open_changed(
     Ok(())
 }
 
-/// Opens a device with so many of these bytes.
+/// Opens a device with the first `count` of these bytes.
 pub(crate) fn opened_front(alloc: Global, bytes: &[u8], count: usize) -> Result<Found, Fail> {
     let mut front = bytes.to_vec(alloc)?;
     front.truncate(count);

@@ -1,4 +1,4 @@
-//! What stands in frames and slots, byte by byte.
+//! The contents of frames and slots, byte by byte.
 
 use crate::commands::{A, X, bid};
 use crate::definitions::new_auction;
@@ -14,10 +14,10 @@ use hpb_rules::{Command, Commands, Reply, Saved};
 use std::alloc::{AllocError, Global};
 use std::test::Fail;
 
-/// Where in a frame its body begins.
+/// The first byte of a frame's body, in the frame.
 const BODY: usize = 16;
 
-/// Where each slot begins. Its body begins a page later.
+/// The first byte of each slot. Its body begins a page later.
 const SLOTS: [usize; 2] = [12_288, 32_768];
 
 /// A batch of these commands.
@@ -33,14 +33,14 @@ pub(crate) fn batch(index: u64, first: u64, commands: &[Command]) -> Batch {
     }
 }
 
-/// Puts bytes at an offset. What doesn't fit is left out.
+/// Puts bytes at an offset. Bytes that don't fit are left out.
 pub(crate) fn put(bytes: &mut [u8], at: usize, part: &[u8]) {
     if at <= bytes.len() && part.len() <= bytes.len() - at {
         bytes[at..at + part.len()].copy_from_slice(part);
     }
 }
 
-/// What is written into a frame's body of a batch: all of it in pages, and in cells those that the batch takes.
+/// The bytes of a frame's body with a batch: a whole page, or the cells that the batch takes.
 fn body_of(alloc: Global, layout: JournalLayout, batch: &Batch) -> Result<Vec<u8>, AllocError> {
     match layout {
         JournalLayout::Pages => {
@@ -57,7 +57,7 @@ fn body_of(alloc: Global, layout: JournalLayout, batch: &Batch) -> Result<Vec<u8
     }
 }
 
-/// Puts a batch into a frame, from 0, whose gate is open then.
+/// Puts a batch into a frame, counted from 0, and opens its gate.
 pub(crate) fn put_batch(
     alloc: Global,
     bytes: &mut [u8],
@@ -95,7 +95,7 @@ fn is_refused(auction: &mut Auction, command: &Command) -> bool {
     matches!(auction.apply(command), Reply::Refused(_))
 }
 
-/// The state after these commands, none of them refused, that covers so many batches.
+/// The state after these commands, none of them refused, as one that covers `index` batches.
 fn state_after(alloc: Global, commands: &[Command], index: u64) -> Result<Vec<u8>, Fail> {
     let mut auction = new_auction(alloc)?;
     for command in commands {
@@ -106,7 +106,7 @@ fn state_after(alloc: Global, commands: &[Command], index: u64) -> Result<Vec<u8
     Ok(state_of(alloc, &auction, index)?)
 }
 
-/// Puts a state into a slot, from 0, whose gate is open then.
+/// Puts a state into a slot, counted from 0, and opens its gate.
 pub(crate) fn put_state(
     alloc: Global,
     bytes: &mut [u8],
@@ -125,7 +125,7 @@ pub(crate) fn put_state(
     Ok(())
 }
 
-/// Whether a device with these bytes is opened with the auction after these commands, and so many clean frames.
+/// Whether a device with these bytes opens with the auction after these commands, and with so many clean frames.
 pub(crate) fn opens_as(
     alloc: Global,
     bytes: &[u8],

@@ -1,5 +1,5 @@
-//! Tests that cross the crates of the auction and of the device: worked rows, calls that may want memory, and devices that
-//! are made, changed and opened.
+//! Tests that cross the crates of the auction and of the device: worked rows, calls that may need memory, and devices
+//! that are made, changed and opened.
 #![tactic(auto)]
 
 #[cfg(test)]

@@ -1,4 +1,4 @@
-//! Calls that may want memory, with enough of it.
+//! Calls that may need memory, with enough of it.
 
 use crate::commands::{A, Y, first_round};
 use crate::definitions::{definition_line, six_nodes};
@@ -70,20 +70,20 @@ fn commands_are_run(rt: HostRuntime) -> Result<(), Fail> {
     Ok(())
 }
 
-/// Waivers of a definition, lines under it, and what they are answered.
+/// Waivers of a definition, lines under it, and their answers.
 const SCRIPTS: [(u8, &str, &str); 3] = [
     (0, "BID x 1 a 100\nCLOSE 1\n", "OK 1\nOK 2\n"),
-    // A package of which a bidder holds a licence counts the others alone.
+    // For a package of which a bidder holds one licence, only the others count.
     (
         0,
         "BID z 1 a 100\nWHO z\nBID z 2 all 300\nWHO z\n",
         "OK 1\nWHO z ELIGIBILITY 40 ACTIVITY 10 TICKET 1\nOK 2\nWHO z ELIGIBILITY 40 ACTIVITY 40 TICKET 2\n",
     ),
-    // That no waiver is left comes before that the bidder waived.
+    // Having no waiver left is reported before having waived already.
     (1, "WAIVE x 1\nWAIVE x 2\n", "OK 1\nERR 28 waiver\n"),
 ];
 
-/// What a script writes, where it ends well.
+/// The output of a script, if it ends well.
 fn written(alloc: Global, waivers: u8, lines: &str) -> Result<Option<String>, Fail> {
     let mut script = definition_line(alloc, waivers)?;
     script.push_str(lines)?;

@@ -1,4 +1,4 @@
-//! What is wrong with a device, in the words of `ERR` lines.
+//! The flaws of a device, in the words of `ERR` lines.
 
 use hpb_disk::DiskFailed;
 use hpb_format::FormatCause;
@@ -8,7 +8,7 @@ use std::alloc::{AllocError, Global};
 use std::fmt::Display;
 use std::test::Fail;
 
-/// Whether a cause is told in the word of this refusal.
+/// Whether a cause has the word of this refusal.
 fn is_told(alloc: Global, cause: &impl Display, refusal: Refusal) -> Result<bool, AllocError> {
     Ok(cause.to_string(alloc)?.as_str() == refusal.word())
 }

@@ -1,4 +1,4 @@
-//! What is told of devices that open, and that no honest device is like.
+//! The doubts of devices that open, but that no honest device is like.
 
 use crate::commands::{A, B, X, Y, bid};
 use crate::devices::new_device;
@@ -12,16 +12,16 @@ use std::alloc::Global;
 use std::process::Abort;
 use std::test::Fail;
 
-/// Of the second slot its gate, and the last byte of its body.
+/// The gate of the second slot, and the last byte of its body.
 const GATE: usize = 32_768;
 
 const LAST: usize = 53_247;
 
-/// What is told of a device: the count in the bytes of its other slot, and the index of its last later batch with the
+/// The doubts of a device: the count in the bytes of its other slot; and the index of its last later batch, with the
 /// number of that batch's first command.
 type Told = (Option<u32>, Option<(u64, u64)>);
 
-/// What is told by doubts.
+/// The numbers of these doubts.
 fn told_by(doubts: &Doubts) -> Told {
     let later = match &doubts.frame {
         None => None,
@@ -33,7 +33,7 @@ fn told_by(doubts: &Doubts) -> Told {
     (doubts.slot, later)
 }
 
-/// What is told of what was opened, and how many commands it has.
+/// The doubts of an opened device, and how many commands it has.
 fn told_of_opened(alloc: Global, opened: Opened<MemoryDisk>) -> Option<(u32, Told)> {
     let Opened { mut disk, plan, .. } = opened;
     let doubts = find_doubts(alloc, &mut disk, &plan);
@@ -46,7 +46,7 @@ fn told_of_opened(alloc: Global, opened: Opened<MemoryDisk>) -> Option<(u32, Tol
     }
 }
 
-/// What is told of a device that was opened, and how many commands it has. `None` where it isn't opened.
+/// The doubts of a device with these bytes, and how many commands it has. `None` if it isn't opened.
 fn told_of(alloc: Global, bytes: &[u8]) -> Result<Option<(u32, Told)>, Fail> {
     let disk = MemoryDisk::of(alloc, bytes.to_vec(alloc)?)?;
     match open(alloc, disk) {
@@ -55,8 +55,8 @@ fn told_of(alloc: Global, bytes: &[u8]) -> Result<Option<(u32, Told)>, Fail> {
     }
 }
 
-/// A checkpoint of one command stands in the second slot; then a byte of it is another one. The device opens by the
-/// older checkpoint, and it is told that a newer one said 1. Where its gate is closed nothing is told.
+/// A checkpoint of one command stands in the second slot, and then a byte of it is changed. The device opens by the
+/// older checkpoint, with the doubt that a newer one had 1 command. If the slot's gate is closed, there is no doubt.
 fn spoil_newest(rt: &impl Abort, alloc: Global, shape: JournalShape) -> Result<(), Fail> {
     let mut bytes = new_device(alloc, shape)?;
     put_state(alloc, &mut bytes, 1, &[bid(X, 1, A, 100)], 1)?;
@@ -74,7 +74,7 @@ fn newest_checkpoint_damaged_is_told(rt: HostRuntime) -> Result<(), Fail> {
     Ok(())
 }
 
-/// The first frame holds the batch of one round later, for which only a newer checkpoint can have made room.
+/// The first frame holds the batch of one round later. Only a newer checkpoint can have made room for it.
 fn put_later(rt: &impl Abort, alloc: Global, shape: JournalShape) -> Result<(), Fail> {
     let mut bytes = with_one_bid(alloc, shape)?;
     assert_eq!(rt; told_of(alloc, &bytes)?, Some((1, (None, None))));

@@ -1,4 +1,4 @@
-//! What is opened of a new device, and of what isn't one.
+//! The results of opening new devices, and devices that aren't new.
 
 use crate::definitions::six_nodes;
 use crate::devices::{
@@ -20,7 +20,7 @@ const SIZES: [(JournalShape, usize); 4] = [
     (MOST_CELLS, 1_626_112),
 ];
 
-/// Of a device of so many bytes: what comes of formatting it, of opening it then, and of formatting it again.
+/// The results on a device of so many bytes: of formatting it, of opening it then, and of formatting it again.
 fn formatted_twice(
     alloc: Global,
     definition: &Definition,

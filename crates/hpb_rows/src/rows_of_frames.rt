@@ -1,4 +1,4 @@
-//! What is told of frames that no writer made.
+//! The results of opening devices with frames that no writer made.
 
 use crate::commands::{A, B, C, X, Y, Z, bid};
 use crate::devices::{
@@ -11,15 +11,15 @@ use std::alloc::Global;
 use std::process::Abort;
 use std::test::Fail;
 
-/// In a frame: the lowest byte of the index.
+/// The lowest byte of the index, in a frame.
 const INDEX: usize = 23;
 
-/// So many commands, and so many frames that aren't clean.
+/// A device with so many commands, and so many frames that aren't clean.
 fn found(shape: JournalShape, count: u32, unclean: u32) -> Found {
     Ok((count, u64::from(shape.frames.saturating_sub(unclean))))
 }
 
-/// Change of the first frame, which has a batch of one bid. Each makes it one that can't be the first of all.
+/// Changes of the first frame, which has a batch of one bid. With each of them it can't be the first of all batches.
 const DAMAGES: [&[Change]; 14] = [
     // No record, one more than there is, and more than there can be; first number 2.
     &[(JOURNAL + 33, 0)],
@@ -29,7 +29,7 @@ const DAMAGES: [&[Change]; 14] = [
     // The bytes that are zero before the records and behind them.
     &[(JOURNAL + 34, 1)],
     &[(JOURNAL + 56, 1)],
-    // A kind, a bidder and a node that there aren't, and the zero byte.
+    // A kind, a bidder and a node that don't exist, and the zero byte.
     &[(JOURNAL + 40, 5)],
     &[(JOURNAL + 41, 4)],
     &[(JOURNAL + 42, 6)],
@@ -48,7 +48,7 @@ const DAMAGES: [&[Change]; 14] = [
     ],
 ];
 
-/// Under another index the frame is of another batch, and only not clean, whatever stands in it.
+/// Under another index the frame belongs to another batch. Then it only isn't clean, whatever its body has.
 fn damage(rt: &impl Abort, alloc: Global, shape: JournalShape) -> Result<(), Fail> {
     let mut bytes = with_one_bid(alloc, shape)?;
     assert_eq!(rt; opened_with(alloc, &bytes, &[])?, found(shape, 1, 1));
@@ -63,8 +63,9 @@ fn damaged_frames(rt: HostRuntime) -> Result<(), Fail> {
     Ok(())
 }
 
-/// The first three frames, each with the next batch: whether it is open (`o`), or not (`-`), or open with the index of
-/// the batch that it serves next (`n`). Then how many commands are opened, and how many frames aren't clean, if they are.
+/// The first three frames, each with the next batch: open (`o`), closed (`-`), or open with the index of the batch that
+/// the frame serves next (`n`). Then how many commands the device opens with, and how many frames aren't clean. `None`
+/// if it doesn't open.
 const ORDERS: [(&[u8; 3], Option<(u32, u32)>); 8] = [
     (b"ooo", Some((3, 3))),
     (b"oo-", Some((2, 2))),
@@ -76,7 +77,7 @@ const ORDERS: [(&[u8; 3], Option<(u32, u32)>); 8] = [
     (b"n--", Some((0, u32::MAX))),
 ];
 
-/// A new device with its first frames so.
+/// A new device with such first frames.
 fn with_frames(alloc: Global, shape: JournalShape, frames: &[u8; 3]) -> Result<Vec<u8>, Fail> {
     let bids = [bid(X, 1, A, 100), bid(Y, 1, B, 150), bid(Z, 1, C, 100)];
     let mut bytes = new_device(alloc, shape)?;

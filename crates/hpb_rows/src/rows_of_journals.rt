@@ -1,4 +1,4 @@
-//! What is opened of journals, whose frames serve one batch after another.
+//! The results of opening journals whose frames serve one batch after another.
 
 use crate::commands::{front, many_rounds};
 use crate::devices::{FOUR_PAGES, MOST_CELLS, MOST_PAGES, SIXTEEN_CELLS, new_device};
@@ -8,12 +8,12 @@ use hpb_rules::Command;
 use std::alloc::Global;
 use std::test::Fail;
 
-/// A journal, each batch of which has one command: how many batches the newest state covers, the oldest batch that a
-/// frame holds, and the next one.
+/// A journal, each batch of which has one command. The numbers: how many batches the newest state covers, the oldest
+/// batch that a frame holds, and the next one.
 type Journal = (JournalShape, u16, u16, u16);
 
 const JOURNALS: [Journal; 7] = [
-    // Nothing behind the state; some frames retired, and none; and full.
+    // No batch behind the state; some frames retired, and none; and full.
     (FOUR_PAGES, 5, 2, 5),
     (FOUR_PAGES, 5, 5, 7),
     (FOUR_PAGES, 5, 3, 7),
@@ -50,8 +50,8 @@ fn put_journal(
     Ok(())
 }
 
-/// Whether a device with such a journal is opened with all commands before the next batch, and the frames are clean
-/// from that of the next batch up to that of the oldest one.
+/// Whether a device with such a journal opens with all commands before the next batch. The frames must be clean from
+/// that of the next batch up to that of the oldest one.
 fn is_opened(alloc: Global, commands: &[Command], journal: Journal) -> Result<bool, Fail> {
     let (shape, _, oldest, next) = journal;
     let mut bytes = new_device(alloc, shape)?;

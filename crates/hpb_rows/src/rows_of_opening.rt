@@ -1,4 +1,4 @@
-//! What is told of devices that were changed.
+//! The results of opening devices that were changed.
 
 use crate::devices::{
     CHECKPOINT, Change, EIGHT_PAGES, Found, LAYOUT, SIXTEEN_CELLS, UNFORMATTED, all_of, new_device,
@@ -13,7 +13,7 @@ use std::alloc::Global;
 use std::process::Abort;
 use std::test::Fail;
 
-/// What is opened of a new device with another byte at this offset of its first page.
+/// The result of opening a new device with one byte changed, at this offset of its first page.
 fn flipped_at(at: usize, shape: JournalShape) -> Found {
     if at == 0 || (16 <= at && at < 24) {
         UNFORMATTED
@@ -24,7 +24,7 @@ fn flipped_at(at: usize, shape: JournalShape) -> Found {
     }
 }
 
-/// So many bytes of the first page, each by itself, all of its bits flipped.
+/// Flips all bits of so many bytes of the first page, one byte at a time.
 fn flip_head(
     rt: &impl Abort,
     alloc: Global,
@@ -45,7 +45,7 @@ fn head_byte_flipped(rt: HostRuntime) -> Result<(), Fail> {
     flip_head(&rt, rt.alloc(), SIXTEEN_CELLS, 64)
 }
 
-/// Change of the first slot's body, each of which makes no state of it: the eligibility of the first bidder is 11, the
+/// Changes of the first slot's body, with each of which it is no state: the eligibility of the first bidder is 11, the
 /// batch index 1, the last byte 1.
 const IN_THE_SLOT: [&[Change]; 3] = [&[(19_483, 11)], &[(16_407, 1)], &[(32_767, 1)]];
 
@@ -59,7 +59,7 @@ fn damaged_slot(rt: HostRuntime) -> Result<(), Fail> {
     Ok(())
 }
 
-/// Formats of states and numbers of waivers in the head, of which none is one.
+/// Formats of states and numbers of waivers in the head that don't exist.
 const NO_HEADS: [&[Change]; 3] = [&[(25, 1)], &[(25, 3)], &[(34, 21)]];
 
 /// The first slot's body in the first format, which has no waivers left.
@@ -100,7 +100,7 @@ fn calls_of_opening(alloc: Global, bytes: &[u8]) -> Result<u64, Fail> {
     Ok(disk.calls() as u64)
 }
 
-/// Opens a device twice, of which one call fails, and says whether it then has the bytes that it had.
+/// Opens a device twice, with one call that fails. Says whether it then has the same bytes as before.
 fn opened_twice(alloc: Global, bytes: &[u8], call: u64) -> Result<(Found, Found, bool), Fail> {
     let disk = OnceDisk::new(MemoryDisk::of(alloc, bytes.to_vec(alloc)?)?, call);
     let (disk, found) = opened(alloc, disk);
@@ -109,9 +109,9 @@ fn opened_twice(alloc: Global, bytes: &[u8], call: u64) -> Result<(Found, Found,
     Ok((found, again, is_same))
 }
 
-/// Each call of opening fails by itself, and the device is opened again. With one open slot there are a sync, two reads
-/// of the head, a read of each slot's gate and of the state, and one of each frame. The call behind them is the sync of
-/// the second opening.
+/// Each call of opening fails by itself, and the device is opened again. With one open slot the calls are a sync, two
+/// reads of the head, and a read of each slot's gate, of the state, and of each frame. The call behind them is the sync
+/// of the second opening.
 fn fail_each_call(rt: &impl Abort, alloc: Global, shape: JournalShape) -> Result<(), Fail> {
     let whole = with_one_bid(alloc, shape)?;
     let frames = u64::from(shape.frames);

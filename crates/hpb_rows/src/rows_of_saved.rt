@@ -1,4 +1,4 @@
-//! Auctions that are saved, restored and copied. None of these calls is handed an allocator.
+//! Auctions that are saved, restored and copied. None of these calls gets an allocator.
 ghost use Rattle.std.specs.Prelude.{◌≡◌};
 
 use crate::commands::{close, first_round};
@@ -22,14 +22,14 @@ fn play_first_round(auction: &mut Auction)
     auction.apply(&commands[5]);
 }
 
-/// What the first round shows, and how it goes on after the bid in the second.
+/// Questions about the first round, and how it goes on after the bid in the second.
 const LINES: &str =
     "SHOW\nNODE a\nNODE b\nNODE c\nNODE east\nNODE all\nNODE d\nBID w 2 c 250\nCLOSE 2\nSHOW\nNODE a\nWHO x\nWHO w\n";
 
 const SHOWN: &str =
     "ROUND 2 STAGE 1 OPEN REVENUE 500 COUNT 6\nNODE a HIGH 100 x PRICE 138 MIN 160 WIN no\nNODE b HIGH 150 y PRICE 187 MIN 210 WIN no\nNODE c HIGH 100 w PRICE 175 MIN 200 WIN no\nNODE east HIGH 0 - PRICE 325 MIN 360 WIN no\nNODE all HIGH 500 z PRICE 500 MIN 550 WIN yes\nNODE d HIGH 0 - PRICE 0 MIN 100 WIN no\nOK 6\nOK 7\nROUND 3 STAGE 1 OPEN REVENUE 500 COUNT 7\nNODE a HIGH 100 x PRICE 100 MIN 110 WIN yes\nWHO x ELIGIBILITY 0 ACTIVITY 10 TICKET 1\nWHO w ELIGIBILITY 25 ACTIVITY 20 TICKET 2\n";
 
-/// What an auction answers to the lines.
+/// The answers of an auction to the lines.
 fn shown(alloc: Global, auction: Auction) -> Result<String, Fail> {
     let mut desk = Box::new(alloc, ScriptDesk::new(auction))?;
     let mut input = LINES.as_bytes();

@@ -1,4 +1,4 @@
-//! Numbers by hand: shares, certificates, and how many values a close forms.
+//! Numbers by hand: shares, certificates, and how many values a close computes.
 
 use crate::commands::{close, first_round};
 use crate::definitions::{new_auction, six_nodes};
@@ -43,7 +43,7 @@ fn certificates(rt: HostRuntime) -> Result<(), Fail> {
 #[test]
 fn values_formed(rt: HostRuntime) -> Result<(), Fail> {
     let mut auction = new_auction(rt.alloc())?;
-    // The bids none; the close a, b, east, c and all.
+    // The values of the bids: none. Those of the close: a, b, east, c and all.
     for (command, formed) in first_round().iter().zip([0, 0, 0, 0, 5, 0]) {
         assert_eq!(rt; auction.apply_counted(command).formed, formed);
     }

@@ -1,4 +1,4 @@
--- What commands that are asked together are replied.
+-- The replies to commands that are committed together.
 use Rattle.std.proofs.Common.{◌≡◌, inl, inr, ℕ, suc, ◌<◌, ◌≤◌, List, [], ◌∷◌, ◌++◌, length, map, reverse, refl, sym, ◌∙◌, ap, arith}
 use Rattle.std.proofs.lemmas.List.{reverse-reverse}
 use Rattle.hpb_rules.specs.declared.command.Command.{Command}
@@ -44,7 +44,7 @@ module _ (law : JudgedIsAnswered) (rules : Rules) (history : List Command) (comm
       sym (reverse-reverse (history ++ new_commands (judged rules history letters)))
       ∙ ap reverse ((law rules history letters).1 ∙ ap (past_from rules (reverse history)) asked)
 
--- The state after commands that all were answered by the rules.
+-- The state after commands that were all answered by the rules.
 abbrev pub answered_state : State → (past : List Command) → List Command → State
 answered_state state past commands = record state { history = reverse (past_from state.rules past commands) }
 

@@ -1,4 +1,4 @@
--- What steps of a checkpoint come to.
+-- The results of steps of a checkpoint.
 use Rattle.std.proofs.Common.{◌≡◌, ◌⊎◌, ⊎_elim, subst, ℕ, ◌+◌, ◌<◌, ◌≤◌, Bool, false, None, Ok, arith}
 use Rattle.std.proofs.lemmas.Bool.Decides.{nat_tests}
 use Rattle.std.proofs.lemmas.Grind.{common_steps}
@@ -10,7 +10,7 @@ use Rattle.hpb_engine.specs.declared.step.Rest.TheVariants as rests
 use Rattle.hpb_engine.specs.Checkpoints.{CheckpointLeads, IsSettled, SameCore, StepLeads, aim, checkpoint_calls, step_calls, steps_left}
 use Rattle.hpb_run.specs.Takes.{IsBetween, MakesCheckpoint}
 
--- **The numbers of a progress.** A step has a call at most.
+-- **The numbers of a progress.** A step makes at most one call.
 few_calls : (s : Progress) → step_calls s ≤ 1
 few_calls s = grind (arith, nat_tests)
 
@@ -19,11 +19,11 @@ aims_at_all : (s : Progress) → IsBetween s → aim s ≡ s.window.next
 aims_at_all s between = grind (arith, nat_tests, between.begun, between.retiring)
 
 module _ (s : Progress) (safe : IsSafe s) where
-  -- What a checkpoint is to cover leaves a clean frame.
+  -- The batches that a checkpoint is to cover leave a clean frame.
   room_behind : s.window.next < aim s + count_of s.window
   room_behind = grind (arith, nat_tests, safe.window.least, safe.window.end, safe.window.clean, safe.checkpoint.new, safe.retirement.some)
 
-  -- No step is left where all is covered and clean. A call is one of a step that is left.
+  -- No step is left if all batches are covered and all other frames clean. A call belongs to a step that is left.
   none_left : IsSettled s → steps_left s ≡ 0
   none_left at = grind (arith, nat_tests, at.begun, at.retiring, at.covered, at.clean, safe.retirement.idle at.retiring)
 
@@ -49,7 +49,7 @@ module _ (s t u : Progress) (before now after : ℕ) (goes : Goes s t before now
   made_now : (had failed : Bool) → failed ≡ false → StepLeads (Ok rests.Whole) t u → MakesCheckpoint s u before after had failed None
   made_now had failed works leads = grind (arith, common_steps, calls_left t safe, none_left t safe, room_behind t safe, aims_at_all s)
 
--- The step that the engine was asked for leaves none behind it: a checkpoint is made.
+-- The step that was last leaves none behind it: a checkpoint is made.
 pub ended : {s t u : Progress} {before now after : ℕ} {had broken failed : Bool} {rest : Rest} → (rest ≡ rests.Idle) ⊎ (rest ≡ rests.Whole) → broken ≡ false
     → Goes s t before now → IsSafe t → SameCore t u → after ≡ now + checkpoint_calls broken t → failed ≡ false → CheckpointLeads broken (Ok rest) t u
     → MakesCheckpoint s u before after had failed None

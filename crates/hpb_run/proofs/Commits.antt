@@ -1,4 +1,4 @@
--- What letters and turns come to.
+-- The results of letters and turns.
 use Rattle.std.proofs.Common.{◌≡◌, ℕ, ◌+◌, ◌<◌, ◌==◌, Bool, true, false, None, Some, Result, Ok, Err, List, [], ◌∷◌, ◌++◌, refl, sym, ap, arith}
 use Rattle.std.specs.Prelude.{if◌then◌else◌}
 use Rattle.std.proofs.lemmas.Bool.Decides.{nat_tests}
@@ -15,7 +15,7 @@ use Rattle.hpb_engine.specs.Steps.{TurnLeads, turn_by}
 use Rattle.hpb_run.specs.Batches.{KeepsAnswered, fault_of}
 
 module _ (history : List Command) (given : List Answer) where
-  -- Letters leave at once where none is new, and else they are in flight.
+  -- The answers leave at once if no letter is new; otherwise the letters are in flight.
   pub at_once : (commands : List Command) (commit : Commit) → (offered history given commands).machine.flight ≡ flight_of commit → commit.busy ≡ false
       → offered history given commands ≡ record { leaving = given; machine = at_rest (history ++ commands) }
   at_once [] commit is free = ap (λ (past : List Command). record { leaving = given; machine = at_rest past }) (sym (append-nil history))

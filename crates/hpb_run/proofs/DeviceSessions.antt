@@ -1,4 +1,4 @@
--- A session on a device: what it writes is what its input is answered.
+-- A session on a device: it writes the answers to its input.
 use Rattle.std.proofs.Common.{◌≡◌, false, true, ⊎_elim, inl, inr}
 use Rattle.std.specs.Prelude.{Ok, Err}
 use Rattle.hpb_run.specs.DeviceLaws.{DeviceSessionIsText}

@@ -40,7 +40,7 @@ line_is_whole line rest whole = ⊎_elim
     (λ some. inr (line ++ line_feed ∷ some.0, ap (λ xs. line ++ line_feed ∷ xs) some.1 ∙ sym (append_assoc line (line_feed ∷ some.0) (line_feed ∷ []))))
     whole
 
--- ---- the text of a line and of what is behind it
+-- ---- the text of a line and of the lines behind it
 module _ (rules : Rules) where
   text_of_first : (past : List Command) (line : List ℕ) (lines : List (List ℕ)) → IsFilled lines → lines_after rules past (line ∷ lines) ≡ answer_line rules past line ++ lines_after rules (next_past rules past line) lines
   text_of_first past line lines (filled first others) = refl

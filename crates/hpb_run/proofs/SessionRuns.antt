@@ -1,4 +1,4 @@
--- What a session on a device came to, by how it was served.
+-- The result of a session on a device, by how it was served.
 use Rattle.std.proofs.Common.{◌≡◌, ◌≢◌, ◌⊎◌, inl, inr, ℕ, ◌<◌, Bool, true, false, List, [], refl, ◌∙◌, subst, arith}
 use Rattle.std.specs.Prelude.{Result, Ok, Err, OnOk, ⊤}
 use Rattle.std.specs.Io.KnownBytes.{Appends}
@@ -21,7 +21,7 @@ works_or_not works = inl refl
 works_or_not (failing left) = inr (λ is. absurd (cc))
 works_or_not failed = inr (λ is. absurd (cc))
 
--- The parts of what is so at once.
+-- The parts of a pair of facts.
 first : {A B : Type 0} → A × B → A
 first both = both.0
 

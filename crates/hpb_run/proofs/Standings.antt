@@ -1,4 +1,4 @@
--- Where an engine stands after what a desk has it do.
+-- The state of an engine after each piece of work for a desk.
 use Rattle.std.proofs.Common.{◌≡◌, ◌≢◌, ◌⊎◌, inl, inr, ℕ, ◌<◌, ◌≤◌, Bool, true, false, Option, Some, None, List, [], ◌++◌, length, map, reverse, refl, sym, ◌∙◌, ap, subst, arith}
 use Rattle.std.proofs.KnownBytes.{Appends-nil, Keeps-refl}
 use Rattle.std.proofs.lemmas.Bool.Decides.{nat_tests}
@@ -28,7 +28,7 @@ use Rattle.hpb_run.specs.Takes.{CheckpointTakes}
 use Rattle.hpb_run.specs.Standing.{AreAlike, HasAsked, IsCovered, StandsAt, commits_after, letter_of, refused, reply_of}
 use Rattle.hpb_run.proofs.Asked.{all_by_rules, answered_state, judged_counted, judged_history, judged_replies, some_failed, some_failing}
 
--- An engine that has not failed stands where all was answered by the rules.
+-- An engine that hasn't failed is at a state in which all was answered by the rules.
 works_by : (phase : Phase) (off : Bool) → (phase ≢ works → off ≡ true) → off ≡ false → phase ≡ works
 works_by works off stopped on = refl
 works_by (failing left) off stopped on = absurd (let yes = stopped (λ is. absurd (cc)) in cc)
@@ -45,7 +45,7 @@ pub covered_by : (s t : Progress) (before after : ℕ) (off : Bool) (fault : Opt
 covered_by s t before after off None whole told_off = inr (whole refl)
 covered_by s t before after off (Some fault) whole told_off = inl (told_off fault refl)
 
--- One commit is counted at most where counting began anew.
+-- At most one commit is counted if counting began anew.
 pub counted_anew : (commits now before after : ℕ) → commits ≡ 0 → now ≡ commits_after commits before after → now ≤ 1
 counted_anew commits now before after zero is = grind (arith, nat_tests)
 
@@ -53,7 +53,7 @@ module _ {D : Type 0} (seen : D → List ℕ) (may_leave : D → List ℕ → Ty
   abbrev Stands : D → Progress → Bool → State → Type 0
   Stands = StandsAt seen may_leave failures
 
-  -- An engine with nothing in flight stands where all was answered by the rules.
+  -- An engine with nothing in flight is at a state in which all was answered by the rules.
   rest_stands : (disk : D) (s : Progress) (off : Bool) (state : State) → state.phase ≡ works → Keeps seen may_leave disk s off (at_rest state.history) → s.committed.rules ≡ state.rules
       → (off ≡ true → (state.had_failed ≡ true) ⊎ (state.failures < failures disk)) → state.failures ≤ failures disk → Stands disk s off state
   rest_stands disk s off state at_work keeps rules cause counted = (
@@ -70,7 +70,7 @@ module _ {D : Type 0} (seen : D → List ℕ) (may_leave : D → List ℕ → Ty
     counted,
   )
 
-  -- One that has failed stands where commands were refused.
+  -- An engine that has failed is at a state in which commands were refused.
   failed_stands : (disk : D) (s : Progress) (off : Bool) (state : State) → state.phase ≢ works → left_of state.phase ≡ 0 → off ≡ true → (machine : Machine) → Keeps seen may_leave disk s off machine
       → s.committed.rules ≡ state.rules → machine.acknowledged ≡ state.history → (state.had_failed ≡ true) ⊎ (state.failures < failures disk) → state.failures ≤ failures disk → Stands disk s off state
   failed_stands disk s off state stops none is machine keeps rules acknowledged cause counted = (
@@ -106,7 +106,7 @@ module _ {D : Type 0} (seen : D → List ℕ) (may_leave : D → List ℕ → Ty
     shows_committed =
         (s.committed, refl, stands.0.rules, subst (λ (history : List Command). Shows s.committed history) stands.0.acknowledged stands.0.keeps.shows, refl, stands.0.answered)
 
-    -- One that has failed keeps the acknowledged commands alone, where all was answered by the rules.
+    -- An engine that has failed keeps the acknowledged commands alone, if all was answered by the rules.
     pub alike_failed : (count : ℕ) (told : List Reply) → told ≡ refused count refusals.Failed → AreAlike seen may_leave old s off state count told
     alike_failed count told are = inr (are, λ at_work. subst (λ (machine : Machine). Keeps seen may_leave old s off machine) (stands.0.rests at_work) stands.0.keeps)
 
@@ -118,7 +118,7 @@ module _ {D : Type 0} (seen : D → List ℕ) (may_leave : D → List ℕ → Ty
         (failed_stands old s off (record state { phase = failed }) (λ at_work. absurd (cc)) refl is stands.0.machine stands.0.keeps stands.0.rules stands.0.acknowledged (stands.0.cause is) stands.1)
 
     module _ (on : off ≡ false) (new : D) (t : Progress) (after : Bool) where
-      -- After a checkpoint it stands where it stood.
+      -- After a checkpoint it is at the same state.
       pub rested : (fault : Option Fault) → Keeps seen may_leave new t after (at_rest state.history) → t.committed ≡ s.committed → (fault ≡ None → off ≡ false → after ≡ false)
           → HasFailed fault (failures old) (failures new) → Stands new t after state
       rested fault keeps committed work has =
@@ -129,7 +129,7 @@ module _ {D : Type 0} (seen : D → List ℕ) (may_leave : D → List ℕ → Ty
           risen None working counts is = absurd (let no = working refl on in cc)
           risen (Some fault) working counts is = omega (arith, counts.1, stands.1)
 
-      -- So it does where memory was refused.
+      -- If memory was refused, too, it is at the same state.
       pub refused_stands : Keeps seen may_leave new t after (at_rest state.history) → StaysRefused (failures old) (failures new) s t off after → Stands new t after state
       refused_stands keeps stays =
           rest_stands new t after state (phase_is on) keeps (ap (λ (value : AuctionValue). value.rules) stays.0 ∙ stands.0.rules) (λ is. absurd (let no = stays.2 is in cc)) (omega (arith, stands.1, stays.1))
@@ -172,7 +172,8 @@ module _ {D : Type 0} (seen : D → List ℕ) (may_leave : D → List ℕ → Ty
               refl,
             )
 
-        -- Commands that were committed together, or were not, have their replies; where the device has failed they have one refusal.
+        -- Commands that were to be committed together have their replies. If the device has failed, they have one
+        -- refusal.
         pub batch_told : (fault : Option Fault) → Ended s.committed.rules fault → TellsFailures fault (failures old) (failures new)
             → (fault ≡ Some faults.Failed → (off ≡ true) ⊎ (failures old < failures new)) → (fault ≡ None → length answers ≤ MOST_LETTERS → told ≡ map reply_of answers)
             → ((why : Fault) → fault ≡ Some why → told ≡ refused (length commands) (refusal_of why))
@@ -188,7 +189,7 @@ module _ {D : Type 0} (seen : D → List ℕ) (may_leave : D → List ℕ → Ty
           )
         ]
 
-  -- An engine with nothing in flight stands at the start.
+  -- An engine with nothing in flight is at the state at the start.
   pub starts : (disk : D) (s : Progress) (off : Bool) (history : List Command) → Keeps seen may_leave disk s off (at_rest history)
       → Stands disk s off (at_start s.committed.rules history (failures disk) off)
   starts disk s off history keeps = rest_stands disk s off (at_start s.committed.rules history (failures disk) off) refl keeps refl (λ is. inl is) (omega arith)
@@ -197,7 +198,7 @@ module _ {D : Type 0} (seen : D → List ℕ) (may_leave : D → List ℕ → Ty
 pub looks_stay : LooksStay ShowsAt
 looks_stay old new shown it = it.4
 
--- nothing was told, at a terminal or elsewhere
+-- no line was written to standard error, at a terminal or elsewhere
 pub untold : (is_terminal : Bool) (contents : Option (List ℕ)) → ExplainsAt is_terminal contents contents
 untold true contents = ([], All-nil IsOfSentence, Appends-nil contents)
 untold false contents = Keeps-refl contents

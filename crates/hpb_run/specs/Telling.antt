@@ -1,4 +1,4 @@
--- The desk of a device tells of the acknowledged commands.
+-- The desk of a device reports the acknowledged commands.
 use Rattle.std.specs.Prelude.{◌≡◌, ◌<◌, ◌≤◌, List, Option}
 use Rattle.std.proofs.Common.{sym, ap, subst, ◌∙◌, inl, inr, arith}
 use Rattle.hpb_rules.specs.declared.command.Command.{Command}

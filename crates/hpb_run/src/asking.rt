@@ -1,4 +1,4 @@
-//! What a desk has its engine do.
+//! The work that a desk gives its engine: commits and checkpoints.
 ghost use Rattle.std.specs.Prelude.{◌≡◌, ◌<◌, ◌≤◌, true, length, IfOk, OnErr};
 ghost use Rattle.hpb_rules.specs.declared.limits.TheConstants.{MOST_LETTERS};
 ghost use Rattle.hpb_run.specs.Takes.{IsBetween};
@@ -12,7 +12,7 @@ use hpb_engine::Engine;
 use hpb_rules::{Commands, Refusal, Replies, judged_is_answered};
 use std::alloc::{AllocError, Global};
 
-/// Commits commands as one batch. Where the device has failed before, each is refused (93).
+/// Commits commands as one batch. If the device failed before, each is refused (93).
 pub(crate) fn ask_engine<D: Disk + Drop>(
     alloc: Global,
     engine: &mut Engine<D>,
@@ -22,8 +22,8 @@ pub(crate) fn ask_engine<D: Disk + Drop>(
     requires most { length commands.now ≤ MOST_LETTERS }
     ensures asked { (state : State) → StandsAt D.seen D.may_leave D.failures engine.old.disk engine.old.progress engine.old.failed state
         → IfOk result (λ replies. HasAsked D.seen D.may_leave D.failures engine.new.disk engine.new.progress engine.new.failed state commands.now replies) }
-    // Where the device fails, or had failed, they have one refusal; and 93 where it had worked says that none of them
-    // is kept.
+    // If the device fails, or had failed, all commands get one refusal. If it had worked, 93 says that none of them is
+    // kept.
     ensures alike { (state : State) → StandsAt D.seen D.may_leave D.failures engine.old.disk engine.old.progress engine.old.failed state
         → engine.new.failed ≡ true → IfOk result (AreAlike D.seen D.may_leave engine.new.disk engine.new.progress engine.new.failed state (length commands.now)) }
     ensures kept { (state : State) → StandsAt D.seen D.may_leave D.failures engine.old.disk engine.old.progress engine.old.failed state

@@ -10,7 +10,8 @@ ghost use Rattle.hpb_run.specs.Takes.{MakesCheckpoint};
 use hpb_disk::Disk;
 use hpb_engine::{Engine, Fault, Rest};
 
-/// Makes steps of a checkpoint up to its last one, unless the device fails (91). It takes no memory.
+/// Makes steps of a checkpoint up to its last one. If a call of the device fails, it stops, and returns 91. It takes no
+/// memory.
 pub(crate) fn checkpoint<D: Disk + Drop>(engine: &mut Engine<D>) -> Option<Fault>
     requires works { engine.old.failed ≡ false }
     ensures keeps { (machine : Machine) → Keeps D.seen D.may_leave engine.old.disk engine.old.progress engine.old.failed machine
@@ -29,18 +30,19 @@ pub(crate) fn checkpoint<D: Disk + Drop>(engine: &mut Engine<D>) -> Option<Fault
     }
 }
 
-/// Makes the checkpoint that is on its way, or else one of all that is committed, up to its last step. What is acknowledged
-/// stays, and a clean frame is left, unless the device fails. One that has failed before is asked for nothing.
+/// Finishes the checkpoint that is on its way, or else makes one of all committed batches. The acknowledged commands
+/// stay, and a clean frame is left, unless the device fails. If the device failed before, it makes no call.
 ///
-/// The fault is 91 where a call of the device failed. It takes no memory.
+/// 91 if a call of the device failed. It takes no memory.
 pub fn make_checkpoint<D: Disk + Drop>(engine: &mut Engine<D>) -> Option<Fault>
-    // With nothing in flight the engine keeps the same acknowledged commands. There is room for a batch, unless the device has
-    // failed. Where no checkpoint is on its way, one of all that is committed is made, whole, unless the device fails in it; where
-    // all was covered and clean, no call is made and nothing changes.
+    // If nothing is in flight, the engine keeps the same acknowledged commands. There is room for a batch, unless the
+    // device has failed. If no checkpoint is on its way, it makes one of all committed batches, and finishes it unless
+    // the device fails. If all batches are covered and all other frames are clean, it makes no call, and nothing
+    // changes.
     ensures made { (history : List Command) → Keeps D.seen D.may_leave engine.old.disk engine.old.progress engine.old.failed (at_rest history)
         → Keeps D.seen D.may_leave engine.new.disk engine.new.progress engine.new.failed (at_rest history)
         × MakesCheckpoint engine.old.progress engine.new.progress (D.moment engine.old.disk) (D.moment engine.new.disk) engine.old.failed engine.new.failed result }
-    // 91 comes only where the device failed in this call, and only where it didn't is there none.
+    // The fault is 91 if and only if a call of the device failed in this call.
     ensures cause { HasFailed result (D.failures engine.old.disk) (D.failures engine.new.disk) }
 {
     if engine.failed {

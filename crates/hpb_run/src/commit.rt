@@ -15,18 +15,18 @@ use hpb_engine::{Bar, Engine, Fault, Turned};
 use hpb_rules::{Answer, Answers, Letters, MOST_LETTERS};
 use std::alloc::{AllocError, Global};
 
-/// What became of letters.
+/// The result of a commit of letters.
 #[derive(Drop)]
 pub struct Ended {
-    /// The answers to all of them, in their order, where there is no fault.
+    /// If there is no fault: the answers to all of them, in order.
     pub answers: Vec<Answer>,
-    /// 91, where a call of the device failed in their commit: whether they stand is open, and none is acknowledged. 93,
-    /// where one had failed before, or in the checkpoint before their commit, or a batch was in flight: none was taken.
+    /// 91: a call of the device failed in their commit. None is acknowledged, and a crash may keep them or not. 93: a
+    /// call had failed before, or in the checkpoint before their commit, or a batch was in flight. None was taken.
     pub fault: Option<Fault>,
 }
 
-/// Makes the turns that are left of the batch in flight, and puts its answers, which leave with the fourth, in place of those
-/// that are there; where a call of the device fails (91), it stays in flight.
+/// Makes the turns that are left of the batch in flight. Its answers, which leave with the fourth, replace those in
+/// `answers`. If a call of the device fails (91), the batch stays in flight.
 fn land<D: Disk + Drop>(engine: &mut Engine<D>, answers: &mut Answers) -> Result<(), Fault>
     requires busy { engine.old.progress.commit.busy ≡ true }
     requires works { engine.old.failed ≡ false }
@@ -44,7 +44,7 @@ fn land<D: Disk + Drop>(engine: &mut Engine<D>, answers: &mut Answers) -> Result
     }
 }
 
-/// Commits letters that nothing bars: they are answered at once where none is new, and else once their turns are made.
+/// Commits letters that nothing bars. If none is new, they are answered at once; otherwise once their turns are made.
 fn commit_clear<D: Disk + Drop>(
     engine: &mut Engine<D>,
     letters: &Letters,
@@ -67,7 +67,7 @@ fn commit_clear<D: Disk + Drop>(
     }
 }
 
-/// Commits letters, after a whole checkpoint where no clean frame is left for them. It takes no memory.
+/// Commits letters. If no clean frame is left for them, it makes a whole checkpoint first. It takes no memory.
 fn commit_all<D: Disk + Drop>(
     engine: &mut Engine<D>,
     letters: &Letters,
@@ -90,26 +90,29 @@ fn commit_all<D: Disk + Drop>(
     }
 }
 
-/// Commits letters as one batch: all are answered, and what they accept is acknowledged, or none is. Where no clean frame
-/// is left for them, a whole checkpoint is made first, which leaves one.
+/// Commits letters as one batch: either all are answered and the accepted commands acknowledged, or none. If no clean
+/// frame is left for them, it first makes a whole checkpoint, which leaves one.
 ///
-/// The fault tells why there are no answers: 91 where a call of the device failed in the commit, 93 where one failed
-/// before, and where a batch is in flight. Where memory is refused (90), none is taken, and what is acknowledged stays.
+/// The fault says why there are no answers. 91: a call of the device failed in the commit. 93: one failed before, or a
+/// batch is in flight.
+///
+/// 90 if memory is refused: no letter is taken, and the acknowledged commands stay.
 pub fn commit_letters<D: Disk + Drop>(
     alloc: Global,
     engine: &mut Engine<D>,
     letters: Letters,
 ) -> Result<Ended, AllocError>
-    // After a history with nothing in flight the answers are those of the rules, and the engine keeps the history with what
-    // they accept; or, with a fault, it keeps the history itself. A checkpoint is made where the journal is full, and nowhere else.
+    // Suppose the engine keeps a history, with nothing in flight. Without a fault, the answers are those of the rules,
+    // and it then keeps the history with the accepted commands. With a fault it keeps the history. A checkpoint is made
+    // if and only if the journal is full.
     ensures commits { (history : List Command) → Keeps D.seen D.may_leave engine.old.disk engine.old.progress engine.old.failed (at_rest history)
         → IfOk result (λ ended. KeepsEnded D.seen D.may_leave engine.new.disk engine.new.progress engine.new.failed
         engine.old.progress.committed.rules history letters ended.answers.items ended.fault
         × LettersTake letters engine.old.progress engine.new.progress (D.moment engine.old.disk) (D.moment engine.new.disk)
         engine.old.failed (D.failures engine.old.disk) (D.failures engine.new.disk) ended.fault) }
-    // Without a fault no call of the device failed, and 91 comes only where one did.
+    // Without a fault no call of the device failed, and 91 comes only if one did.
     ensures cause { IfOk result (λ ended. TellsFailures ended.fault (D.failures engine.old.disk) (D.failures engine.new.disk)) }
-    // Where memory is refused the history stays. No call has failed then, and what is committed is the same.
+    // If memory is refused, the history stays. No call has failed then, and the committed auction is the same.
     ensures back { (history : List Command) → Keeps D.seen D.may_leave engine.old.disk engine.old.progress engine.old.failed (at_rest history)
         → OnErr result (Keeps D.seen D.may_leave engine.new.disk engine.new.progress engine.new.failed (at_rest history)
         × StaysRefused (D.failures engine.old.disk) (D.failures engine.new.disk) engine.old.progress engine.new.progress engine.old.failed engine.new.failed) }

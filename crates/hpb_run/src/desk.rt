@@ -25,9 +25,9 @@ pub struct DeviceDesk<D: Disk + Drop> {
     pub engine: Engine<D>,
     /// A copy of the auction's definition, by which lines are read.
     pub definition: Definition,
-    /// How many commands are asked together, from 1 to 64, where so many have come.
+    /// How many commands are committed together, from 1 to 64, if so many have come.
     pub batch: usize,
-    /// After how many commits a checkpoint is due; with 0 after none.
+    /// After how many commits a checkpoint is due; 0 for never.
     pub every: u32,
     /// How many commits there have been since the last checkpoint that was due.
     pub commits: u32,
@@ -36,10 +36,10 @@ pub struct DeviceDesk<D: Disk + Drop> {
 }
 
 impl<D: Disk + Drop> DeviceDesk<D> {
-    /// A desk that asks for so many commands together, from 1 to 64 (any other number is taken as the nearest of
-    /// these), and has a checkpoint made after so many commits.
+    /// A desk that commits `batch` commands together, from 1 to 64, and makes a checkpoint after each `every` commits.
+    /// A number out of the range counts as the nearest in it.
     ///
-    /// 90 where memory is refused: the engine is handed back.
+    /// 90 if memory is refused: the engine is handed back.
     pub fn new(
         alloc: Global,
         engine: Engine<D>,
@@ -66,7 +66,7 @@ impl<D: Disk + Drop> DeviceDesk<D> {
         }
     }
 
-    /// The engine, as it stands.
+    /// The engine, in its present state.
     pub fn into_engine(self) -> Engine<D>
         ensures { result ≡ self.engine }
     {
@@ -74,17 +74,17 @@ impl<D: Disk + Drop> DeviceDesk<D> {
         engine
     }
 
-    /// Makes a whole checkpoint where one is due: once there have been `every` commits since the last one that was due.
-    /// Where none is due nothing changes, and the device has no call. It takes no memory.
+    /// Makes a whole checkpoint if one is due: once there have been `every` commits since the last one that was due. If
+    /// none is due, nothing changes, and it makes no call of the device. It takes no memory.
     pub fn make_due_checkpoint(&mut self)
         ensures kept { (state : State) → DeskStands D.seen D.may_leave D.failures self.old.engine.disk self.old.engine.progress self.old.engine.failed self.old.definition state
             → DeskStands D.seen D.may_leave D.failures self.new.engine.disk self.new.engine.progress self.new.engine.failed self.new.definition state }
-        // One that is due is made, and counting begins anew.
+        // If one is due, it is made, and counting begins anew.
         ensures due { is_due self.old.every self.old.commits ≡ true → self.new.commits ≡ 0 }
         ensures whole { (state : State) → DeskStands D.seen D.may_leave D.failures self.old.engine.disk self.old.engine.progress self.old.engine.failed self.old.definition state
             → IsBetween self.old.engine.progress → is_due self.old.every self.old.commits ≡ true
             → IsCovered self.old.engine.progress self.new.engine.progress (D.moment self.old.engine.disk) (D.moment self.new.engine.disk) self.new.engine.failed }
-        // Where none is due, none is made.
+        // If none is due, none is made.
         ensures none { is_due self.old.every self.old.commits ≡ false → (self.new.engine ≡ self.old.engine) × (self.new.commits ≡ self.old.commits) }
         ensures pace { (self.new.batch ≡ self.old.batch) × (self.new.every ≡ self.old.every) }
         ensures definition { self.new.definition ≡ self.old.definition }
@@ -95,10 +95,9 @@ impl<D: Disk + Drop> DeviceDesk<D> {
         }
     }
 
-    /// Asks for commands together, after the checkpoint that is due, and counts their commit, if it is one: where more
-    /// commands are accepted than before.
+    /// Commits commands together, behind a checkpoint that is due, and counts the commit if it accepts any.
     ///
-    /// 90 where memory is refused: none is asked.
+    /// 90 if memory is refused: no command is taken.
     pub fn ask_together(
         &mut self,
         alloc: Global,
@@ -106,8 +105,7 @@ impl<D: Disk + Drop> DeviceDesk<D> {
     ) -> Result<Replies, AllocError>
         requires some { 0 < length commands.now }
         requires most { length commands.now ≤ MOST_LETTERS }
-        // A commit counts where more commands are accepted than before; where a checkpoint was due, counting has begun
-        // anew.
+        // A commit counts if it accepts a command. If a checkpoint was due, counting has begun anew.
         ensures counted { is_due self.old.every self.old.commits ≡ false
             → OnOk result (self.new.commits ≡ commits_after self.old.commits self.old.engine.progress.committed.count self.new.engine.progress.committed.count) }
         ensures anew { is_due self.old.every self.old.commits ≡ true → OnOk result (self.new.commits ≤ 1) }
@@ -115,8 +113,8 @@ impl<D: Disk + Drop> DeviceDesk<D> {
         ensures asked { (state : State) → DeskStands D.seen D.may_leave D.failures self.old.engine.disk self.old.engine.progress self.old.engine.failed self.old.definition state
             → IfOk result (λ replies. (next : State) × AsksAll RepliesAt never_over state commands.now replies next
             × DeskStands D.seen D.may_leave D.failures self.new.engine.disk self.new.engine.progress self.new.engine.failed self.new.definition next) }
-        // Where the device fails, or had failed, they have one refusal; and 93 where it had worked says that none of
-        // them is kept.
+        // If the device fails, or had failed, all commands get one refusal. If it had worked, 93 says that none of them
+        // is kept.
         ensures alike { (state : State) → DeskStands D.seen D.may_leave D.failures self.old.engine.disk self.old.engine.progress self.old.engine.failed self.old.definition state
             → self.new.engine.failed ≡ true → IfOk result (AreAlike D.seen D.may_leave self.new.engine.disk self.new.engine.progress self.new.engine.failed state (length commands.now)) }
         ensures kept { (state : State) → DeskStands D.seen D.may_leave D.failures self.old.engine.disk self.old.engine.progress self.old.engine.failed self.old.definition state
@@ -131,7 +129,7 @@ impl<D: Disk + Drop> DeviceDesk<D> {
         Ok(replies)
     }
 
-    /// The auction after the acknowledged commands, where it has the places that lines are read by.
+    /// The auction after the acknowledged commands. `None` if it hasn't the places by which lines are read.
     fn shown(&self) -> Option<&Auction>
         ensures places { IfSome result (λ auction. HasPlaces self.now.definition auction.now.rules) }
         ensures shows { (state : State) → DeskStands D.seen D.may_leave D.failures self.now.engine.disk self.now.engine.progress self.now.engine.failed self.now.definition state

@@ -1,10 +1,11 @@
-//! Sessions whose auction is kept on a device, and the commits and checkpoints that they make.
+//! Sessions whose auction is kept on a device, with their commits and checkpoints.
 //!
-//! `commit` and `checkpoint` take an engine from rest to rest, turn by turn and step by step: `commit_letters` commits a
-//! batch of letters, and `make_checkpoint` makes a whole checkpoint, as it is made first for a batch that finds the journal
-//! full. The session stands on these: `replies` has commands as letters and answers as replies, `asking` has the engine
-//! commit what a desk asks for, `counting` tells when a checkpoint is due, and `DeviceDesk` is the desk that `run_device`
-//! serves.
+//! `commit` and `checkpoint` take an engine from rest to rest, turn by turn and step by step. `commit_letters` commits
+//! a batch of letters. `make_checkpoint` makes a whole checkpoint, also for a batch that finds the journal full.
+//!
+//! Four modules make the session. `replies` turns commands into letters and answers into replies. `asking` has the
+//! engine commit the commands of a desk, and `counting` says when a checkpoint is due. `DeviceDesk` is the desk that
+//! `run_device` serves.
 #![tactic(auto)]
 
 mod asking;

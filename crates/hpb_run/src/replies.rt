@@ -11,7 +11,7 @@ use hpb_rules::{Answer, Blank, Commands, Few, Letter, Letters, Refusal, Replies,
 /// The seat of all letters of a session.
 const SEAT: u8 = 0;
 
-/// Puts an item at the end.
+/// Appends an item.
 fn put<T: Blank>(items: &mut Few<T>, item: T)
     requires { length items.old < MOST_LETTERS }
     ensures { items.new ≡ items.old ++ item ∷ [] }
@@ -19,7 +19,7 @@ fn put<T: Blank>(items: &mut Few<T>, item: T)
     let _ = items.push(item);
 }
 
-/// The letters of commands.
+/// The commands as letters of the session's seat.
 pub(crate) fn letters_of(commands: &Commands) -> Letters
     ensures { result ≡ map letter_of commands.now }
 {
@@ -34,7 +34,7 @@ pub(crate) fn letters_of(commands: &Commands) -> Letters
     letters
 }
 
-/// The replies of answers.
+/// The replies in these answers.
 fn replies_of(answers: &[Answer]) -> Replies
     ensures { length answers.now ≤ MOST_LETTERS → result ≡ map reply_of answers.now }
 {
@@ -45,7 +45,7 @@ fn replies_of(answers: &[Answer]) -> Replies
     replies
 }
 
-/// A refusal for each of so many commands.
+/// The same refusal for each of `count` commands.
 pub(crate) fn all_refused(count: usize, refusal: Refusal) -> Replies
     requires { count ≤ MOST_LETTERS }
     ensures { result ≡ refused count refusal }
@@ -57,7 +57,8 @@ pub(crate) fn all_refused(count: usize, refusal: Refusal) -> Replies
     replies
 }
 
-/// The replies to so many commands that were committed together, or were not.
+/// The replies to `count` commands that were to be committed together: those of the answers, or the fault's refusal for
+/// each.
 pub(crate) fn replies_to(fault: Option<Fault>, answers: &[Answer], count: usize) -> Replies
     requires { count ≤ MOST_LETTERS }
     ensures answered { fault ≡ None → length answers.now ≤ MOST_LETTERS → result ≡ map reply_of answers.now }

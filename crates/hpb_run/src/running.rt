@@ -18,34 +18,38 @@ use hpb_server::{SessionFault, serve, serve_at_terminal};
 use std::alloc::Global;
 use std::io::{Read, Write, sink};
 
-/// How many commands are asked together at a terminal.
+/// How many commands are committed together at a terminal.
 const ONE_AT_A_TIME: usize = 1;
 
-/// What a session on a device came to.
+/// The result of a session on a device.
 #[derive(Drop)]
 pub struct Ran<D: Disk + Drop> {
-    /// The engine, as it stands.
+    /// The engine, in its present state.
     pub engine: Engine<D>,
     pub end: Result<(), SessionFault>,
 }
 
 /// Answers each line of the reader by one line on the writer, as `serve` does, from the auction that an engine keeps on
-/// its device. The engine is given back, whatever comes.
+/// its device. The engine is handed back in any case.
 ///
-/// Commands that were read wait until they are `batch`, from 1 to 64 (any other number is taken as the nearest of
-/// these), until another line is to be answered, or until more is to be read. They are then committed together. A
+/// Commands that were read wait until they are `batch`, until another line is to be answered, or until more is to be
+/// read. They are then committed together. `batch` is from 1 to 64; any other number counts as the nearest of these. A
 /// command is answered `OK` once it is acknowledged, so that no crash loses it.
 ///
-/// A checkpoint is made after each `every` commits: once their answers have left, or before the next commit. Where
-/// `every` is 0, it is only made where the journal is full.
+/// A checkpoint is made after each `every` commits: once their answers have left, or before the next commit. If `every`
+/// is 0, it is made only when the journal is full.
 ///
-/// The answer 91 says that a call of the device failed in the commit of this command's batch, of which none is
-/// acknowledged, and 93 that one had failed before. Questions are still answered by what is acknowledged. The session
-/// ends by 90 where memory is refused, and by 92 where the reader or the writer fails or more than 1,000,000,000 bytes
-/// are read.
+/// Answers to commands:
+/// - 91: a call of the device failed in the commit of this command's batch, of which no command is acknowledged;
+/// - 93: a call had failed before.
 ///
-/// All that is answered is written and flushed before the next commit, before a checkpoint that is due, and before more
-/// is read.
+/// Questions are still answered by the acknowledged commands then.
+///
+/// The session ends with 90 if memory is refused. It ends with 92 if the reader or the writer fails, or if more than
+/// 1,000,000,000 bytes are read.
+///
+/// All answers are written and flushed before the next commit, before a checkpoint that is due, and before more is
+/// read.
 pub fn run_device<R: Read, W: Write, D: Disk + Drop>(
     alloc: Global,
     reader: &mut R,
@@ -54,17 +58,18 @@ pub fn run_device<R: Read, W: Write, D: Disk + Drop>(
     batch: usize,
     every: u32,
 ) -> Ran<D>
-    // From an engine with nothing in flight: each line has the answer of a device that works, up to the first call that
-    // fails, and the engine stands where these answers lead.
+    // The engine has nothing in flight at first. Each line has the answer of a device that works, up to the first call
+    // that fails. The engine is then at the state to which these answers lead.
     ensures ran { RunsFrom D.seen D.may_leave D.failures (streams (R.remaining reader.old) (W.contents writer.old)) (streams (R.remaining reader.new) (W.contents writer.new))
         engine.disk engine.progress engine.failed result.engine.disk result.engine.progress result.engine.failed result.end }
-    // So lines up to some line are answered by the rules, and none from there on, and the engine keeps what was
-    // acknowledged.
+    // So lines up to some line are answered by the rules, and none from there on, and the engine keeps the acknowledged
+    // commands.
     ensures text { (history : List Command) → Keeps D.seen D.may_leave engine.disk engine.progress engine.failed (at_rest history)
         → RanDevice D.seen D.may_leave D.failures MOST_READ_BYTES
         (streams (R.remaining reader.old) (W.contents writer.old)) (streams (R.remaining reader.new) (W.contents writer.new))
         engine.progress.committed.rules history (D.failures engine.disk) engine.failed result.engine.disk result.engine.progress result.engine.failed result.end }
-    // Where no call of the device failed, all was read, its text is written, and the engine shows what it leads to.
+    // If no call of the device failed, all was read, its text is written, and the engine shows the commands to which it
+    // leads.
     ensures well { (history : List Command) → Keeps D.seen D.may_leave engine.disk engine.progress engine.failed (at_rest history)
         → engine.failed ≡ false → D.failures result.engine.disk ≡ D.failures engine.disk
         → OnOk result.end (WritesText engine.progress.committed.rules history MOST_READ_BYTES
@@ -74,8 +79,8 @@ pub fn run_device<R: Read, W: Write, D: Disk + Drop>(
     run_engine(alloc, engine, reader, writer, errors, false, batch, every)
 }
 
-/// The same at a terminal: commands are asked one at a time, and behind the answer of one that is refused the errors
-/// are told which number would do, as `serve_at_terminal` says.
+/// The same at a terminal. Commands are committed one at a time. Behind the answer of a refused one, a line on `errors`
+/// says which number would do, as `serve_at_terminal` says.
 pub fn run_device_at_terminal<R: Read, W: Write, E: Write, D: Disk + Drop>(
     alloc: Global,
     reader: &mut R,
@@ -92,8 +97,8 @@ pub fn run_device_at_terminal<R: Read, W: Write, E: Write, D: Disk + Drop>(
     run_engine(alloc, engine, reader, writer, errors, true, batch, every)
 }
 
-/// Answers each line as `run_device` does, or at a terminal as `run_device_at_terminal` does, where `batch` counts for
-/// nothing. Elsewhere the errors are told nothing.
+/// Answers each line as `run_device` does; or as `run_device_at_terminal` does at a terminal, which ignores `batch`.
+/// Nothing is written to `errors` without a terminal.
 pub fn run_engine<R: Read, W: Write, E: Write, D: Disk + Drop>(
     alloc: Global,
     engine: Engine<D>,

@@ -1,5 +1,5 @@
-//! Tests of runs over devices: which call of the device each step of an engine makes, and what comes of it where one
-//! fails; batches, whole checkpoints and sessions.
+//! Tests of runs over devices: which call of the device each step of an engine makes, and the result if one fails. Also
+//! tests of batches, whole checkpoints and sessions.
 #![tactic(auto)]
 
 #[cfg(test)]

@@ -1,4 +1,5 @@
-//! A run of eight batches with checkpoint steps between the commit steps, and what may stand where a call of it fails.
+//! A run of eight batches with checkpoint steps between the commit steps, and the commands that may stand if a call of
+//! it fails.
 
 use hpb_disk::{Disk, MemoryDisk};
 use hpb_engine::{Engine, Event};
@@ -33,8 +34,8 @@ fn batch(place: usize) -> Letters {
     }
 }
 
-/// The eight batches. Each has its four turns, and before each turn up to four steps of a checkpoint: few enough that a
-/// checkpoint lasts past its batch, and so many that no offer finds the journal full.
+/// The eight batches. Each has its four turns, and before each turn up to four steps of a checkpoint. These are so few
+/// that a checkpoint lasts past its batch, and so many that no offer finds the journal full.
 pub(crate) fn events(alloc: Global) -> Result<Vec<Event>, AllocError> {
     let mut events = Vec::new(alloc);
     for place in 0..BATCHES {
@@ -49,7 +50,7 @@ pub(crate) fn events(alloc: Global) -> Result<Vec<Event>, AllocError> {
     Ok(events)
 }
 
-/// How far a run is: so many batches are acknowledged, and one more may have landed.
+/// How far a run has come: so many batches are acknowledged, and one more may have landed.
 #[derive(Clone, Copy, Debug, PartialEq, Eq)]
 pub(crate) struct Moment {
     acknowledged: usize,
@@ -73,7 +74,7 @@ impl Moment {
         ANSWERS.get(self.acknowledged).copied().unwrap_or(0)
     }
 
-    /// How many commands stand where the batch in flight has landed. None where it can't have.
+    /// How many commands stand if the batch in flight has landed. `None` if it can't have.
     pub(crate) fn landed(&self) -> Option<u32> {
         if !self.may_land {
             return None;
@@ -95,7 +96,7 @@ struct Place {
 }
 
 impl Place {
-    /// After an event.
+    /// The place after an event.
     fn after(self, event: &Event) -> Place {
         match event {
             Event::Offer(_) => Place {
@@ -110,8 +111,8 @@ impl Place {
         }
     }
 
-    /// Where the call of an event comes. The third turn writes the gate, and the fourth acknowledges nothing where its
-    /// call fails.
+    /// The moment of an event's call. The third turn writes the gate, and the fourth acknowledges nothing if its call
+    /// fails.
     fn moment(&self) -> Moment {
         Moment {
             acknowledged: self.offered.saturating_sub(1),
@@ -120,7 +121,7 @@ impl Place {
     }
 }
 
-/// Hands an event to an engine.
+/// Gives an event to an engine.
 fn happen<D: Disk + Drop>(engine: &mut Engine<D>, event: &Event) {
     match event {
         Event::Offer(letters) => {
@@ -135,7 +136,7 @@ fn happen<D: Disk + Drop>(engine: &mut Engine<D>, event: &Event) {
     }
 }
 
-/// Where each call of the events comes, behind the calls of opening.
+/// The moment of each call of the events, behind those of the calls of opening.
 fn moments_of(
     alloc: Global,
     engine: &mut Engine<MemoryDisk>,
@@ -157,7 +158,7 @@ fn moments_of(
     Ok(moments)
 }
 
-/// Where each call of a device comes in a run without a fault: those of opening it, and those of the events.
+/// The moment of each call of a device in a run without a fault: those of opening it, and those of the events.
 pub(crate) fn moments(
     alloc: Global,
     engine: &mut Engine<MemoryDisk>,

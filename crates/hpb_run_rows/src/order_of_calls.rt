@@ -12,12 +12,12 @@ use std::alloc::Global;
 use std::process::Abort;
 use std::test::Fail;
 
-/// The bytes of a gate that is written open or closed.
+/// The bytes of a gate that is open or closed.
 const OPEN: u8 = 0xa5;
 
 const CLOSED: u8 = 0;
 
-/// Where the slots begin, each with its gate.
+/// The first bytes of the slots, which are their gates.
 const FIRST_SLOT: usize = 12_288;
 
 const SECOND_SLOT: usize = 32_768;
@@ -46,10 +46,10 @@ fn body(shape: JournalShape, place: u32) -> Call {
     }
 }
 
-/// The format of states, which is the first byte of each.
+/// The format of states, the first byte of each state.
 const FORMAT: u8 = 2;
 
-/// The write of a page of a state, the one of this place in a slot.
+/// The write of a page of a state: the one of this place in a slot.
 fn chunk(slot: usize, place: usize, first: u8) -> Call {
     let before = place.saturating_add(1).saturating_mul(PAGE_BYTES);
     Call::Write {
@@ -59,7 +59,7 @@ fn chunk(slot: usize, place: usize, first: u8) -> Call {
     }
 }
 
-/// Whether a turn of a commit answers this, with this call.
+/// Whether a turn of a commit has this result, with this call.
 fn turns_by(
     watch: &mut Watch,
     alloc: Global,
@@ -70,7 +70,7 @@ fn turns_by(
     Ok(turn == Ok(wanted) && watch.look(alloc, &engine.disk)? == call)
 }
 
-/// Whether a step of a checkpoint answers this, with this call.
+/// Whether a step of a checkpoint has this result, with this call.
 fn steps_by(
     watch: &mut Watch,
     alloc: Global,
@@ -91,7 +91,7 @@ fn four_turns(shape: JournalShape, place: u32) -> [(Turn, Call); 4] {
     ]
 }
 
-/// The command of this place is committed into its frame, by four turns.
+/// Commits the command of this place into its frame, by four turns.
 fn commit_by(
     rt: &impl Abort,
     alloc: Global,
@@ -109,7 +109,7 @@ fn commit_by(
     Ok(())
 }
 
-/// The first nine steps of a checkpoint into a slot, and the first call of it.
+/// The first nine steps of a checkpoint into a slot, and the first call among them.
 fn nine_steps(slot: usize, first: Call) -> [(Rest, Call); 9] {
     [
         (Rest::Went(Part::Other), first),
@@ -124,7 +124,7 @@ fn nine_steps(slot: usize, first: Call) -> [(Rest, Call); 9] {
     ]
 }
 
-/// The steps by which two frames are retired, from this place on, and the idle one after them.
+/// The steps that retire two frames, from this place on, and the idle step after them.
 fn last_steps(shape: JournalShape, place: u32) -> [(Rest, Call); 4] {
     let next = place.saturating_add(1);
     [
@@ -135,7 +135,7 @@ fn last_steps(shape: JournalShape, place: u32) -> [(Rest, Call); 4] {
     ]
 }
 
-/// These steps are made, one after another.
+/// Makes these steps, one after another.
 fn make_steps(
     rt: &impl Abort,
     alloc: Global,
@@ -149,8 +149,8 @@ fn make_steps(
     Ok(())
 }
 
-/// Two batches and their checkpoint, twice. The second slot is closed from the first on; then the first one is open, and is
-/// closed.
+/// Two batches and their checkpoint, twice. The second slot is closed from the first on. Then the first one is open,
+/// and a checkpoint closes it.
 fn write_two_checkpoints(
     rt: &impl Abort,
     alloc: Global,

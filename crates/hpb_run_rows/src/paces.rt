@@ -13,7 +13,8 @@ use std::test::Fail;
 /// How many commands a round has.
 const IN_ROUND: u32 = 8;
 
-/// What is bid in the round of this place: at least an eighth more than in the one before, which is above the minimum.
+/// The bids' amount in the round of this place. It is at least an eighth more than in the round before, which is above
+/// the minimum.
 fn amount(round: u32) -> u64 {
     let mut amount: u64 = 100;
     for _ in 0..round {
@@ -23,7 +24,8 @@ fn amount(round: u32) -> u64 {
     amount
 }
 
-/// The line of this place: in each round x, y and w bid on their licences, z on three of them, and the round is closed.
+/// The line of this place. In each round x, y and w bid on their licences, z bids on three of them, and the round is
+/// closed.
 fn line(alloc: Global, place: u32) -> Result<String, Fail> {
     let round = place / IN_ROUND;
     let ticket = round.saturating_add(1);
@@ -42,7 +44,7 @@ fn line(alloc: Global, place: u32) -> Result<String, Fail> {
     Ok(format!(in alloc; "BID {sender} {ticket} {node} {amount}\n")?)
 }
 
-/// So many lines, each of which is accepted.
+/// This many lines, each of which is accepted.
 fn lines(alloc: Global, count: u32) -> Result<String, Fail> {
     let mut text = String::new(alloc);
     for place in 0..count {
@@ -51,12 +53,12 @@ fn lines(alloc: Global, count: u32) -> Result<String, Fail> {
     Ok(text)
 }
 
-/// How a session goes over a journal of so many frames: so many commands are asked, so many together, and a checkpoint is
-/// wanted after each so many batches. Then how many batches they make, and how many calls of the device these have.
+/// A session: the journal's frames, how many commands it has, how many are committed together, and after how many
+/// batches a checkpoint is due. Then how many batches there are, and how many calls of the device they take.
 type Pace = (u32, u32, usize, u32, u64, usize);
 
-/// A session over an engine, which is given back, was ended by no fault, and so many commands are accepted then. How many
-/// calls it had.
+/// Runs a session over an engine. It must end without a fault, with this many accepted commands. Gives the engine back,
+/// and how many calls the session made.
 fn run(
     rt: &impl Abort,
     alloc: Global,
@@ -78,8 +80,8 @@ fn run(
     Ok((boxed(alloc, engine)?, calls))
 }
 
-/// A session over a new device has its batches and its calls. The same lines once more are all repeats, and have no call,
-/// though the journal is full or nearly so.
+/// A session over a new device has its batches and its calls. The same lines once more are all repeats, and make no
+/// call, though the journal is full or nearly so.
 fn keep_pace(
     rt: &impl Abort,
     alloc: Global,
@@ -101,10 +103,14 @@ fn keep_pace(
     Ok(())
 }
 
-/// Sessions over pages, by the order of the calls. A batch has four. A checkpoint of m batches has ten and m, and the first
-/// one of a new device one fewer, as the gate of its other slot is closed already. One comes where the journal is full, and
-/// one behind each so many batches, which are counted anew then. The first of these are 620 batches and 154 checkpoints of
-/// 4; the last ones 620 and 10 checkpoints, twice four of 64 and one of 44, and 78 and 26 checkpoints of 3.
+/// Sessions over pages, with counts from the order of the calls:
+/// - A batch has four calls.
+/// - A checkpoint of m batches has ten and m. The first one of a new device has one fewer, as the gate of its other
+///   slot is closed already.
+/// - A checkpoint is made when the journal is full, and behind each so many batches, which are then counted anew.
+///
+/// The first session has 620 batches and 154 checkpoints of 4. The last three have 620 batches and 10 checkpoints;
+/// twice four of 64 and one of 44; and 78 batches and 26 checkpoints of 3.
 const OVER_PAGES: [Pace; 12] = [
     (4, 620, 1, 0, 620, 4_635),
     (4, 200, 1, 1, 200, 2_999),
@@ -120,7 +126,7 @@ const OVER_PAGES: [Pace; 12] = [
     (64, 620, 8, 3, 78, 649),
 ];
 
-/// And over cells.
+/// The same over cells.
 const OVER_CELLS: [Pace; 8] = [
     (16, 620, 1, 0, 620, 3_467),
     (16, 200, 1, 1, 200, 2_999),
@@ -148,8 +154,8 @@ fn paces_over_cells(rt: HostRuntime) -> Result<(), Fail> {
     Ok(())
 }
 
-/// Over 1,024 frames too a checkpoint comes after each 300 batches: 620 batches, and two checkpoints of 300, which is
-/// 2,480 calls and 619.
+/// Over 1,024 frames, too, a checkpoint comes after each 300 batches: 620 batches and two checkpoints of 300, with
+/// 2,480 and 619 calls.
 #[test]
 fn pace_of_300_with_1024_pages(rt: HostRuntime) -> Result<(), Fail> {
     let pace = (1_024, 620, 1, 300, 620, 3_099);

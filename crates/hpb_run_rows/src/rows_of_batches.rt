@@ -11,7 +11,7 @@ use std::alloc::Global;
 use std::process::Abort;
 use std::test::Fail;
 
-/// Commits the command that comes after so many, with so many calls of the device.
+/// Commits the command behind so many others, with so many calls of the device.
 fn commit_with(
     rt: &impl Abort,
     alloc: Global,
@@ -40,7 +40,7 @@ fn checkpoint_with(
     Ok(())
 }
 
-/// A checkpoint of one batch, and another one, for which all is covered and clean: no step of it has a call.
+/// A checkpoint of one batch, and another one, for which all is covered and clean: none of its steps makes a call.
 fn checkpoint_twice(rt: &impl Abort, alloc: Global, shape: JournalShape) -> Result<(), Fail> {
     let mut engine = new_engine(alloc, shape)?;
     commit_with(rt, alloc, &mut engine, 0, 4)?;

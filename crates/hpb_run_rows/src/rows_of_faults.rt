@@ -1,4 +1,4 @@
-//! A call of the device fails.
+//! Calls of the device that fail.
 
 use crate::mixed_run::{Moment, events, moments};
 use crate::runs::run;
@@ -20,7 +20,7 @@ use std::alloc::Global;
 use std::process::Abort;
 use std::test::Fail;
 
-/// How many commands are opened of what a stop leaves of a device, where all pending writes have one fate.
+/// How many commands a device opens with after a stop, if all pending writes have one fate.
 fn count_after(alloc: Global, disk: &MemoryDisk, fate: Fate) -> Result<u32, Fail> {
     let stopped = disk.after_stop(alloc, &[fate; 16])?;
     Ok(count_on(alloc, stopped)?)
@@ -52,7 +52,7 @@ fn refuses_all<D: Disk + Drop>(engine: &mut Engine<D>, events: &[Event]) -> bool
     true
 }
 
-/// Whether a run was ended by 91 at this moment: so many answers had left, and so many commands are committed.
+/// Whether a run ended by 91 at this moment: so many answers had left, and so many commands are committed.
 fn is_ended_at<D: Disk + Drop>(driven: &Driven<D>, moment: Moment) -> bool {
     driven.fault == Some(Fault::Device)
         && driven.answers.len() == moment.answers()
@@ -60,17 +60,18 @@ fn is_ended_at<D: Disk + Drop>(driven: &Driven<D>, moment: Moment) -> bool {
         && count(&driven.engine) == moment.committed()
 }
 
-/// Whether an engine that failed at this moment answers each of these events by 93, and tells what is committed.
+/// Whether an engine that failed at this moment answers each of these events by 93, and still shows the committed
+/// commands.
 fn stays_ended<D: Disk + Drop>(engine: &mut Engine<D>, events: &[Event], moment: Moment) -> bool {
     refuses_all(engine, events) && count(engine) == moment.committed()
 }
 
-/// Whether a run was ended by 91 at this moment, and then all of these events are answered by 93.
+/// Whether a run ended by 91 at this moment, and then answers all of these events by 93.
 fn is_ended_once<D: Disk + Drop>(driven: &mut Driven<D>, events: &[Event], moment: Moment) -> bool {
     is_ended_at(driven, moment) && stays_ended(&mut driven.engine, events, moment)
 }
 
-/// The device of a run that has to be ended so.
+/// The device of a run, which must have ended so.
 fn finished<D: Disk + Drop>(
     driven: Box<Driven<D>>,
     events: &[Event],
@@ -84,7 +85,7 @@ fn finished<D: Disk + Drop>(
     }
 }
 
-/// A device that isn't opened, as a call of its opening failed.
+/// The device that wasn't opened, since a call of its opening failed.
 fn unopened<D: Disk + Drop>(fault: OpenFault<D>, moment: Moment) -> Result<D, Fail> {
     if fault.cause == Cause::Device && moment == Moment::START {
         Ok(fault.disk)
@@ -93,8 +94,8 @@ fn unopened<D: Disk + Drop>(fault: OpenFault<D>, moment: Moment) -> Result<D, Fa
     }
 }
 
-/// Drives the events over a device of which a call fails at this moment, and hands it back. 91 is told once, and 93 is
-/// answered to all that comes later. Where a call of opening fails there is no engine.
+/// Drives the events over a device with a call that fails at this moment, and hands the device back. 91 comes once, and
+/// all later events get 93. If a call of opening fails, there is no engine.
 fn run_into_fault<D: Disk + Drop>(
     alloc: Global,
     disk: D,
@@ -107,8 +108,8 @@ fn run_into_fault<D: Disk + Drop>(
     }
 }
 
-/// What is found after stops, each with another fate of all pending writes, has to be what may stand: whether the batch
-/// in flight has landed after one.
+/// Whether the batch in flight has landed after one of some stops, each with another fate of all pending writes. All
+/// that is found after them must be allowed.
 fn has_landed(alloc: Global, disk: &MemoryDisk, moment: Moment) -> Result<bool, Fail> {
     let mut has_landed = false;
     for fate in FATES {
@@ -121,8 +122,7 @@ fn has_landed(alloc: Global, disk: &MemoryDisk, moment: Moment) -> Result<bool, 
     Ok(has_landed)
 }
 
-/// Whether the batch in flight has landed after a stop, where all calls of this device fail from the one at this moment
-/// on.
+/// Whether the batch in flight has landed after a stop, if all calls of this device fail from this moment on.
 fn lands_after_fuse(
     alloc: Global,
     disk: FuseDisk<MemoryDisk>,
@@ -133,7 +133,7 @@ fn lands_after_fuse(
     has_landed(alloc, &disk.into_inner(), moment)
 }
 
-/// The run over a device of which all calls fail from one on, for each call of it.
+/// The run over a device whose calls all fail from one on, for each call of it.
 fn try_every_fuse(rt: &impl Abort, alloc: Global, shape: JournalShape) -> Result<(), Fail> {
     let events = events(alloc)?;
     let moments = moments(alloc, &mut *new_engine(alloc, shape)?, &events)?;
@@ -146,7 +146,7 @@ fn try_every_fuse(rt: &impl Abort, alloc: Global, shape: JournalShape) -> Result
         }
     }
     assert!(rt; moments.len() > 80, "{}", moments.len());
-    // The write of each gate and the sync after it, and steps of checkpoints between these.
+    // These are the write of each gate and the sync after it, and steps of checkpoints between them.
     assert!(rt; landed > 20, "{landed}");
     Ok(())
 }
@@ -161,8 +161,8 @@ fn fuse_at_every_call_over_cells(rt: HostRuntime) -> Result<(), Fail> {
     try_every_fuse(&rt, rt.alloc(), CELLS)
 }
 
-/// Whether the batch in flight has landed after a stop, where the call of this device at this moment alone fails. Without
-/// a stop, too, what is opened has to be what may stand.
+/// Whether the batch in flight has landed after a stop, if only the call of this device at this moment fails. Without a
+/// stop, too, the commands found must be allowed.
 fn lands_after_fault(
     alloc: Global,
     disk: OnceDisk<MemoryDisk>,
@@ -178,7 +178,7 @@ fn lands_after_fault(
     Ok(has_landed)
 }
 
-/// The run over a device of which one call fails, for each call of it.
+/// The run over a device with one call that fails, for each call of it.
 fn try_every_fault(rt: &impl Abort, alloc: Global, shape: JournalShape) -> Result<(), Fail> {
     let events = events(alloc)?;
     let moments = moments(alloc, &mut *new_engine(alloc, shape)?, &events)?;
@@ -191,7 +191,7 @@ fn try_every_fault(rt: &impl Abort, alloc: Global, shape: JournalShape) -> Resul
         }
     }
     assert!(rt; moments.len() > 80, "{}", moments.len());
-    // The write of each gate and the sync after it, and steps of checkpoints between these.
+    // These are the write of each gate and the sync after it, and steps of checkpoints between them.
     assert!(rt; landed > 20, "{landed}");
     Ok(())
 }
@@ -246,7 +246,7 @@ fn left_by_second_sync(
     Ok(Box::into_inner(engine).finish().into_inner())
 }
 
-/// What stops leave of it: the write of the second gate is kept, lost, or filled with bytes.
+/// The devices that stops leave: the write of the second gate is kept, lost, or filled with bytes.
 fn stop_after_second_sync(rt: &impl Abort, alloc: Global, shape: JournalShape) -> Result<(), Fail> {
     let disk = left_by_second_sync(rt, alloc, shape)?;
     for (fate, wanted) in FATES.iter().zip([2, 1, 1, 2]) {

@@ -1,4 +1,4 @@
-//! Events one after another, and what is found after a stop.
+//! Events one after another, and the device that is opened after a stop.
 
 use crate::runs::{driven, survived};
 use hpb_codec::JournalShape;
@@ -39,13 +39,13 @@ fn events(alloc: Global, steps: usize) -> Result<Vec<Event>, Fail> {
     Ok(events)
 }
 
-/// The device that a stop at the end of a run leaves.
+/// The device that is left by a stop at the end of a run.
 fn left_by(alloc: Global, shape: JournalShape, events: &[Event]) -> Result<MemoryDisk, Fail> {
     let driven = driven(alloc, new_engine(alloc, shape)?, events)?;
     Ok(driven.engine.disk.after_stop(alloc, &[])?)
 }
 
-/// A run over a new device, and the device that a stop at its end leaves, opened.
+/// Runs events over a new device, and opens the device that a stop at the end leaves.
 fn survived_whole(
     alloc: Global,
     shape: JournalShape,
@@ -55,7 +55,7 @@ fn survived_whole(
     survived(alloc, shape, events, left)
 }
 
-/// What was found on the device that was opened.
+/// The result on the opened device.
 fn found_of(survived: &Survived<MemoryDisk, MemoryDisk>) -> Option<Found> {
     match &survived.found {
         Ok(opened) => Some(found_in(opened)),
@@ -79,8 +79,8 @@ fn drive_nothing(rt: &impl Abort, alloc: Global, shape: JournalShape) -> Result<
     Ok(())
 }
 
-/// A batch and a whole checkpoint are driven, and all is found after a stop. A first checkpoint of one batch takes
-/// eleven steps; the twelfth is idle.
+/// A batch and a whole checkpoint are driven, and all commands are found after a stop. A first checkpoint of one batch
+/// takes eleven steps; the twelfth is idle.
 fn drive_all(rt: &impl Abort, alloc: Global, shape: JournalShape) -> Result<(), Fail> {
     let survived = survived_whole(alloc, shape, &events(alloc, 12)?)?;
     assert!(rt; ends_well(&survived.driven));

@@ -8,7 +8,7 @@ use hpb_recover::Opened;
 use std::alloc::Global;
 use std::test::Fail;
 
-/// What events come to.
+/// The result of events.
 pub(crate) fn driven<D: Disk + Drop>(
     alloc: Global,
     engine: Box<Engine<D>>,

@@ -21,7 +21,7 @@ const LINES: &[u8] =
 const ANSWERS: &[u8] = b"OK 1\nOK 2\nOK 3\nOK 4\nOK 5\nROUND 2 STAGE 1 OPEN REVENUE 500 COUNT 5\n\
     OK 6\nOK 7\nROUND 3 STAGE 1 OPEN REVENUE 500 COUNT 7\nNODE a HIGH 100 x PRICE 100 MIN 110 WIN yes\n";
 
-/// What was written, with what the session came to.
+/// The bytes written, and the result of the session.
 #[derive(Drop)]
 pub(crate) struct Session<D: Disk + Drop> {
     pub(crate) ran: Ran<D>,
@@ -54,7 +54,7 @@ fn end_well<D: Disk + Drop>(
     assert_eq!(rt; session.ran.end, Ok(()), "{batch} {every}");
 }
 
-/// How many calls the lines take over a new device, on which all commands are found then.
+/// How many calls the lines take over a new device, which then must have all commands.
 fn calls(
     rt: &impl Abort,
     alloc: Global,
@@ -72,8 +72,8 @@ fn calls(
     Ok(calls)
 }
 
-/// How many calls seven batches have: with a checkpoint before the fifth where there are four frames, and without one
-/// where there are more.
+/// How many calls seven batches take. With four frames there is a checkpoint before the fifth batch; with more there is
+/// none.
 fn calls_of_seven(shape: JournalShape) -> usize {
     match shape.layout {
         JournalLayout::Pages => 41,
@@ -81,8 +81,8 @@ fn calls_of_seven(shape: JournalShape) -> usize {
     }
 }
 
-/// The text is the same for each pair of these numbers, with so many calls: seven batches, four or two, each of four
-/// calls. A checkpoint of m batches has ten calls and m, and the first one of them one fewer.
+/// The text is the same for each pair of these numbers, with so many calls. There are seven, four or two batches, each
+/// of four calls. A checkpoint of m batches has ten calls and m, and the first one has one fewer.
 fn write_same_text(rt: &impl Abort, alloc: Global, shape: JournalShape) -> Result<(), Fail> {
     for (batch, every, wanted) in [
         (1, 0, calls_of_seven(shape)),
@@ -122,7 +122,7 @@ fn run_at_a_terminal(
     boxed(alloc, Session { ran, written })
 }
 
-/// Runs the lines over a new device at a terminal, and gives how many calls that took.
+/// Runs the lines over a new device at a terminal. Gives how many calls that took.
 fn calls_at_a_terminal(
     rt: &impl Abort,
     alloc: Global,
@@ -136,8 +136,8 @@ fn calls_at_a_terminal(
     Ok(session.ran.engine.disk.calls().saturating_sub(before))
 }
 
-/// Seven batches of a command each, of four calls, and with a checkpoint after each: ten calls of the first one, whose
-/// slot is closed already, and eleven of each of the six others.
+/// Seven batches of a command each, with four calls, and a checkpoint after each. The first checkpoint has ten calls,
+/// since its slot is closed already, and each of the six others eleven.
 fn count_calls_at_a_terminal(
     rt: &impl Abort,
     alloc: Global,
@@ -167,10 +167,10 @@ const WAIVED: &[u8] =
     ERR 28 waiver\nOK 8\nROUND 3 STAGE 1 CLOSED REVENUE 500 COUNT 8\n\
     WHO x ELIGIBILITY 0 ACTIVITY 0 TICKET 2 WAIVERS 0\n";
 
-/// What `x` is shown at the end, on the device that is opened again.
+/// The view of `x` at the end, on the device that is opened again.
 const OPENED: &[u8] = b"WHO x ELIGIBILITY 0 ACTIVITY 0 TICKET 2 WAIVERS 0\n";
 
-/// What a session over a device with one waiver leaves, with a checkpoint after each so many batches.
+/// The device after a session over one waiver, with a checkpoint after each so many batches.
 fn left_by_waiver(
     rt: &impl Abort,
     alloc: Global,
@@ -183,7 +183,7 @@ fn left_by_waiver(
     Ok(Box::into_inner(session).ran.engine.finish())
 }
 
-/// Such a session, and one over what it left.
+/// Such a session, and one over the device that it left.
 fn waive(rt: &impl Abort, alloc: Global, shape: JournalShape, every: u32) -> Result<(), Fail> {
     let engine = engine_over(alloc, left_by_waiver(rt, alloc, shape, every)?)?;
     let session = run_lines(alloc, engine, b"WHO x\n", 1, 0)?;
@@ -191,7 +191,7 @@ fn waive(rt: &impl Abort, alloc: Global, shape: JournalShape, every: u32) -> Res
     Ok(())
 }
 
-/// The waiver stands in a state where each batch has a checkpoint, and in a frame where only a full journal has one.
+/// The waiver stands in a state if each batch has a checkpoint. It stands in a frame if only a full journal has one.
 fn waive_each(rt: &impl Abort, alloc: Global, shape: JournalShape) -> Result<(), Fail> {
     waive(rt, alloc, shape, 1)?;
     waive(rt, alloc, shape, 0)
@@ -203,7 +203,7 @@ fn waivers_on_a_device(rt: HostRuntime) -> Result<(), Fail> {
     Ok(())
 }
 
-/// Runs the lines over a device of which one call fails: so many after it was opened.
+/// Runs the lines over a device with one call that fails: the one of this number after the opening.
 fn run_faulty(
     alloc: Global,
     shape: JournalShape,
@@ -215,7 +215,7 @@ fn run_faulty(
     Ok(run_lines(alloc, engine, LINES, batch, every)?)
 }
 
-/// What a session of batches of two writes where a call of the second one fails.
+/// The output of a session of batches of two, if a call of the second one fails.
 const FAULT_IN_SECOND_BATCH: &[u8] = b"OK 1\nOK 2\nERR 91 device\nERR 91 device\nERR 93 failed\n\
     ROUND 1 STAGE 1 OPEN REVENUE 0 COUNT 2\nERR 93 failed\nERR 93 failed\n\
     ROUND 1 STAGE 1 OPEN REVENUE 0 COUNT 2\nNODE a HIGH 0 - PRICE 0 MIN 100 WIN no\n";
@@ -228,7 +228,7 @@ fn fail_second_batch<D: Disk + Drop>(rt: &impl Abort, session: &Session<D>, call
     assert_eq!(rt; count(&session.ran.engine), 2, "{call}");
 }
 
-/// At each of the four calls of the second commit.
+/// The fault comes at each of the four calls of the second commit.
 fn fail_each_call(rt: &impl Abort, alloc: Global, shape: JournalShape) -> Result<(), Fail> {
     for call in 5..9 {
         let session = run_faulty(alloc, shape, call, 2, 0)?;
@@ -243,7 +243,7 @@ fn fault_in_second_batch(rt: HostRuntime) -> Result<(), Fail> {
     Ok(())
 }
 
-/// What a session writes of which the checkpoint after the first batch fails: no command gets 91.
+/// The output of a session whose checkpoint after the first batch fails: no command gets 91.
 const FAULT_IN_A_CHECKPOINT: &[u8] =
     b"OK 1\nOK 2\nOK 3\nOK 4\nOK 5\nROUND 2 STAGE 1 OPEN REVENUE 500 COUNT 5\n\
     ERR 93 failed\nERR 93 failed\nROUND 2 STAGE 1 OPEN REVENUE 500 COUNT 5\n\

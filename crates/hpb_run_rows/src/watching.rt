@@ -1,23 +1,23 @@
-//! Which calls a device in memory has.
+//! The calls that a device in memory gets.
 
 use hpb_disk::{Fate, MemoryDisk};
 use hpb_engine_rows::devices::bytes_of;
 use std::alloc::Global;
 use std::test::Fail;
 
-/// What a device was asked between two looks at it.
+/// The calls of a device between two looks at it.
 #[derive(Clone, Copy, Debug, PartialEq, Eq)]
 pub(crate) enum Call {
     Nothing,
     Sync,
-    /// So many bytes were written from here on, the first of which is this.
+    /// So many bytes were written from this offset on, and this is the first.
     Write { at: usize, len: usize, first: u8 },
 }
 
 /// Looks at a device after each of its calls.
 #[derive(Drop)]
 pub(crate) struct Watch {
-    /// How many calls it had.
+    /// How many calls it has had.
     calls: usize,
     /// A fate for each write that no sync covers: all of them are lost.
     lost: Vec<Fate>,
@@ -32,7 +32,7 @@ impl Watch {
         }
     }
 
-    /// The one call that the device had since the last look, if it had one.
+    /// The one call that the device has had since the last look, if it had one.
     pub(crate) fn look(&mut self, alloc: Global, disk: &MemoryDisk) -> Result<Call, Fail> {
         let calls = disk.calls();
         if calls == self.calls {
@@ -51,14 +51,14 @@ impl Watch {
     }
 }
 
-/// The bytes that a stop leaves, with one more write than so many that are lost.
+/// The bytes that a stop leaves if these writes are lost and the one behind them has this fate.
 fn left_with(alloc: Global, disk: &MemoryDisk, lost: &[Fate], fate: Fate) -> Result<Vec<u8>, Fail> {
     let mut fates = lost.to_vec(alloc)?;
     fates.push(fate)?;
     Ok(bytes_of(alloc, disk.after_stop(alloc, &fates)?)?)
 }
 
-/// The write after so many that no sync covers. A sync where there is none.
+/// The write behind these, which no sync covers. If there is none, the call was a sync.
 fn newest_write(alloc: Global, disk: &MemoryDisk, lost: &[Fate]) -> Result<Call, Fail> {
     let zeros = left_with(alloc, disk, lost, Fate::Filled(0))?;
     let ones = left_with(alloc, disk, lost, Fate::Filled(1))?;

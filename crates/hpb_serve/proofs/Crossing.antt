@@ -1,4 +1,4 @@
--- What of the threads of sessions may cross them: the checkpointer's gate, which has the house and the watch.
+-- The parts that the threads of sessions share: the checkpointer's gate, which has the house and the watch.
 use denote.RattleType.{RattleType}
 use denote.Ref.{NamedLft}
 use denote.Param.Send.{IsSend, IsSync, sendable}

@@ -8,7 +8,7 @@ use Rattle.hpb_serve.specs.Ended.{EndsIll}
 use Rattle.hpb_serve.specs.declared.fault.ServeFault.{ServeFault}
 use Rattle.hpb_serve.specs.declared.fault.ServeFault.TheVariants.{Memory, Writer, Start, Order, Counts}
 
--- one of writing leaves nothing to tell of
+-- a fault of writing has no fact but the bytes written
 pub of_writing : {D : Type 0} (seen : D → List ℕ) (may_leave : D → List ℕ → Type 0) (fails : D → ℕ) (image : List ℕ) (failures : ℕ) (before : AuctionValue) (sessions : ℕ) (fault : ServeFault D)
     → IsOfWriting fault → EndsIll seen may_leave fails image failures before sessions fault
 of_writing seen may_leave fails image failures before sessions Memory is = tt
@@ -17,7 +17,7 @@ of_writing seen may_leave fails image failures before sessions (Start cause) is 
 of_writing seen may_leave fails image failures before sessions (Order client) is = absurd is
 of_writing seen may_leave fails image failures before sessions (Counts differing) is = absurd is
 
--- behind one of writing there is as much as behind it
+-- with a fault, the bytes written don't depend on the kind of result
 pub written_as : (A : Type 0) {D : Type 0} (line : List ℕ) (old new : Option (List ℕ)) (fault : ServeFault D) → Announces {A = ⊤} line old new (Err fault) → Announces {A = A} line old new (Err fault)
 written_as A line old new Memory is = is
 written_as A line old new Writer is = is
@@ -25,7 +25,7 @@ written_as A line old new (Start cause) is = is
 written_as A line old new (Order client) is = is
 written_as A line old new (Counts differing) is = is
 
--- one behind the line has the line before it
+-- a fault after the line leaves the whole line written
 pub written_behind : (A : Type 0) {D : Type 0} (line : List ℕ) (old new : Option (List ℕ)) (fault : ServeFault D) → IsBehind fault → Appends old new line → Announces {A = A} line old new (Err fault)
 written_behind A line old new Memory is appends = inr appends
 written_behind A line old new Writer is appends = absurd is
@@ -33,7 +33,7 @@ written_behind A line old new (Start cause) is appends = absurd is
 written_behind A line old new (Order client) is appends = appends
 written_behind A line old new (Counts differing) is appends = appends
 
--- so it is told of what came behind the line
+-- and so the line is written, whatever comes after it
 pub written_by : (A : Type 0) {D : Type 0} (line : List ℕ) (old new : Option (List ℕ)) (result : Result A (ServeFault D)) → IfErr result IsBehind → Appends old new line → Announces {A = A} line old new result
 written_by A line old new (Ok done) is appends = appends
 written_by A line old new (Err fault) is appends = written_behind A line old new fault is appends

@@ -1,4 +1,4 @@
--- Commands that are asked together: letters that wait, answers that are taken, and the commands that get none.
+-- Commands that are sent together: letters that wait, answers that are taken, and the commands that get none.
 use Rattle.std.proofs.Common.{[], ◌≡◌, inl, inr, ℕ, zero, suc, ◌+◌, ◌-◌, ◌<◌, ◌≤◌, true, false, List, ◌∷◌, ◌++◌, length, take, drop, slice_get, Some, None, refl, sym, ap, subst, ◌∙◌, arith, add-one, take_all}
 use Rattle.std.proofs.lemmas.Bool.{false≢true}
 use Rattle.std.proofs.lemmas.List.{length-drop, length-map, length-take-le, take-append-drop, take-take}
@@ -20,7 +20,7 @@ use Rattle.hpb_serve.specs.Stops.{is_over, refusal_of}
 use Rattle.hpb_serve.proofs.Order.{next_later}
 use Rattle.hpb_serve.proofs.Steps.{after_answer, after_stop, answered, count_known, follows_self, follows_trans, from_ring, goes_self, ring_kept, same_ring, stopped, stopped_stands}
 
--- ---- commands that are asked one after another
+-- ---- commands that are sent one after another
 -- commands, and then more
 pub asks_then : (commands more : List Command) (given others : List Reply) (old mid new : State)
     → AsksAll RepliesAt over_at old commands given mid → over_at mid ≡ false → AsksAll RepliesAt over_at mid more others new → AsksAll RepliesAt over_at old (commands ++ more) (given ++ others) new
@@ -31,7 +31,7 @@ asks_then (command ∷ commands) more given others old mid new (inl over) goes_o
 asks_then (command ∷ commands) more given others old mid new (inr asked) goes_on then =
     inr (asked.0, asked.1, asked.2 ++ others, asked.3, asked.4, asks_then commands more asked.2 others asked.3 mid new asked.5 goes_on then, ap (λ (l : List Reply). l ++ others) asked.6)
 
--- none once the session is over
+-- no replies once the session is over
 pub asks_none : (state : State) (commands : List Command) → over_at state ≡ true → AsksAll RepliesAt over_at state commands [] state
 asks_none state [] over = (refl, refl)
 asks_none state (command ∷ commands) over = inl (over, refl, refl)
@@ -49,13 +49,13 @@ asks_halted state (command ∷ commands) is = inr (
   refl,
 )
 
--- and a desk that has stopped stays where it is
+-- and a desk that has stopped stays as it is
 pub asks_stopped : (state : State) (commands : List Command) (why : Stop) → state.stop ≡ Some why → AsksAll RepliesAt over_at state commands (refused_after why (length commands)) state
 asks_stopped state commands Halted is = asks_halted state commands is
 asks_stopped state commands Order is = asks_none state commands (ap is_over is)
 
 -- ---- letters that wait
--- the oldest one, where so many were taken
+-- the oldest one, once so many were taken
 oldest_posted : (seat mark : ℕ) (commands : List Command) (count : ℕ) (given : Answer) → IsForOldest (drop count (waiting_for seat mark commands)) given
     → (command : Command) × (take (suc count) commands ≡ take count commands ++ command ∷ []) × (given.letter ≡ record { seat = seat; command = command })
 oldest_posted seat mark [] zero given is = absurd is
@@ -64,7 +64,7 @@ oldest_posted seat mark (command ∷ commands) zero given is = (command, refl, s
 oldest_posted seat mark (command ∷ commands) (suc count) given is =
     let rest = oldest_posted seat mark commands count given is in (rest.0, ap (λ (l : List Command). command ∷ l) rest.1, rest.2)
 
--- the answer to the first one was given after all that was known when they were posted
+-- the answer to the first one was given after all commands that the client knew when they were posted
 pub awaits_first : {M : Type 0} (client : Client M) (commands : List Command) (count : ℕ) → client.waiting.items ≡ waiting_for client.seat client.mark commands → count ≤ client.mark → AwaitsAfter client count
 awaits_first client commands count waits known view given follows at oldest = by commands (subst (λ (ws : List Waiting). IsForOldest ws given) waits oldest)
   where
@@ -72,12 +72,12 @@ awaits_first client commands count waits known view given follows at oldest = by
     by [] is = absurd is
     by (command ∷ commands) is = omega (arith, is.1, known)
 
--- and that to the next one after all that the answer before it tells of
+-- and the answer to the next one after all commands of the answer before it
 awaits_next : {M : Type 0} (client : Client M) (taken : ℕ) (given : Answer) → slice_get (answers_of client.seat client.viewer) taken ≡ Some given → client.taken ≡ taken + 1 → AwaitsAfter client (count_after given)
 awaits_next client taken given at next view later follows behind oldest =
     next_later client.seat taken client.viewer view given later follows at (subst (λ n. slice_get (answers_of client.seat view) n ≡ Some later) next behind)
 
--- a client that posted these commands, so many, went on from where its session stands, and their letters wait
+-- a client that posted these commands, so many, went on from the state of its session, and their letters wait
 abbrev pub HavePosted : {M : Type 0} (state : State) (client : Client M) (commands : List Command) (count : ℕ) → Type 0
 HavePosted state client commands count = CameFrom state client × (client.waiting.items ≡ waiting_for client.seat client.mark commands) × (length client.waiting.items ≡ count)
 
@@ -99,11 +99,11 @@ posted_start old new state commands count stands same ring posted within = (
 )
 
 -- ---- answers that are taken
--- no look at all, and looks behind looks
+-- without a look, and looks after looks
 pub looked_self : {M : Type 0} (client : Client M) → HasLooked client client
 looked_self client = (refl, refl, follows_self client.viewer, omega arith, λ halted. halted)
 
--- nothing that a look changes is changed
+-- a client that kept all that a look may change
 pub looked_aside : {M : Type 0} (old new : Client M) → new.seat ≡ old.seat → new.letters ≡ old.letters → new.viewer ≡ old.viewer → new.mark ≡ old.mark → (old.is_halted ≡ true → new.is_halted ≡ true) → HasLooked old new
 looked_aside old new seat letters viewer mark stays = (
   seat,
@@ -122,12 +122,12 @@ looked_trans first second third one two = (
   λ halted. two.4 (one.4 halted),
 )
 
--- a client that viewed and took goes on from where it came from
+-- a client that viewed and took goes on from the state that it came from
 pub came_on : {M : Type 0} (state : State) (old new : Client M) → CameFrom state old → new.seat ≡ old.seat → SameProducer old.letters new.letters → Follows old.viewer new.viewer → old.mark ≤ new.mark → CameFrom state new
 came_on state old new came seat letters follows mark =
     (seat ∙ came.0, same_ring state.letters old.letters new.letters came.1 letters, follows_trans state.viewing old.viewer new.viewer came.2 follows, omega (arith, came.3, mark), came.4)
 
--- a turn: whether it is halted is asked, it yields or sleeps, and looks
+-- a turn: asks whether it is halted, yields or sleeps, and looks
 pub looked_turn : {M : Type 0} (first was asked rested new : Client M) → HasLooked first was → HasLooked was asked → HasLooked asked rested → HasLooked rested new → HasLooked first new
 looked_turn first was asked rested new before a r l = looked_trans first was new before (looked_trans was asked new a (looked_trans asked rested new r l))
 
@@ -165,13 +165,13 @@ module _ {M : Type 0} (first old new : Client M) (count : ℕ) (given : Answer) 
         λ some. stands,
       )
 
--- what is answered of those that were posted is answered of all
+-- the commands answered among those that were posted are answered among all
 pub front_answered : (state next : State) (commands : List Command) (had : List Reply) (count : ℕ) → length had ≤ count
     → AsksAll RepliesAt over_at state (take (length had) (take count commands)) had next → AsksAll RepliesAt over_at state (take (length had) commands) had next
 front_answered state next commands had count within asked =
     subst (λ (front : List Command). AsksAll RepliesAt over_at state front had next) (take-take (length had) count commands within) asked
 
--- and where that is each of them, they are all answered
+-- and if they are all of them, all commands are answered
 pub all_answered : (state next : State) (commands : List Command) (had : List Reply) (count : ℕ) → length had ≡ count → length commands ≤ count
     → AsksAll RepliesAt over_at state (take (length had) (take count commands)) had next → AsksAll RepliesAt over_at state commands had next
 all_answered state next commands had count is all asked =
@@ -201,7 +201,7 @@ refused_left state client came Order (command ∷ commands) some = inr (
   refl,
 )
 
--- the rest of what was asked together, behind so many that are answered
+-- the rest of the commands that were sent together, behind so many that are answered
 pub rest_refused : {M : Type 0} (state mid : State) (client : Client M) (why : Stop) (commands : List Command) (had : List Reply) (all : List Reply) → length had < length commands
     → AsksAll RepliesAt over_at state (take (length had) commands) had mid → CameFrom mid client → all ≡ had ++ refused_by why (length commands - length had)
     → (next : State) × AsksAll RepliesAt over_at state commands all next × DeskStands client (Some why) next

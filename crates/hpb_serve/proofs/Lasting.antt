@@ -1,4 +1,4 @@
--- What each reply and each look keeps lasts to the end of a session.
+-- The facts that each reply and each look keep last to the end of a session.
 use Rattle.std.proofs.Common.{[], ◌≡◌, ℕ, ◌≤◌, Bool, List, ◌∷◌, ◌++◌, Option, None, refl, sym, ap, subst, inl, inr, arith, take_all}
 use Rattle.std.specs.Prelude.{Result, Ok, Err, ⊤}
 use Rattle.std.specs.List.{slice_split}
@@ -52,12 +52,12 @@ module _ {S : Type 0} (rules : S → Rules) (over : S → Bool) (asks : S → Co
   session_keeps most takes_memory unread budget before after old new (Err fault) (inl never) is = same old new never.2 is
   session_keeps most takes_memory unread budget before after old new (Err fault) (inr s) is = lines_keep (slice_split is_line_feed s.done) old new s.text s.answers is
 
--- what a session on a house comes to
+-- the result of a session on a house
 module _ {M : Type 0} (client : Client M) (next : State) (goes : GoesFrom (at_start client) next) where
   start_told : (opened : List Command) → Shows client.viewer.opened opened → told_by opened (at_start client) ≡ seen_by opened client.viewer
   start_told opened shows = take_all (auction_of client.viewer).count (seen_by opened client.viewer) (omega (arith, seen_counted opened client.viewer shows))
 
-  -- what it is told of at last goes on from what its viewer showed at the start
+  -- the commands that it reports at last go on from those that its viewer showed at the start
   pub tells_on : TellsOn client.viewer next
   tells_on opened shows = (
     told_by opened next,
@@ -73,7 +73,7 @@ house_session client most takes_memory unread budget before after next result se
     (λ old new shown it is. goes_trans (at_start client) old new is it.0)
     most takes_memory unread budget before after (at_start client) next result serves (goes_self (at_start client))
 
--- a desk with a client stands at the start
+-- a desk with a client is at the start
 pub starts : {M : Type 0} (client own : Client M) (stop : Option Stop) → own ≡ client → stop ≡ None → DeskStands own stop (at_start client)
 starts client own stop same none =
     (ap (λ c. c.seat) (sym same), ap (λ c. c.viewer) (sym same), subst (λ c. (auction_of client.viewer).count ≤ c.mark) (sym same) client.marked, sym none, ap (λ c. c.letters) (sym same))

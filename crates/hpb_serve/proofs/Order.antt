@@ -1,4 +1,4 @@
--- The answers to a seat follow one another: each was judged after all that those before it tell of.
+-- The answers to a seat follow one another: each was judged after all commands of those before it.
 use Rattle.std.proofs.Common.{◌≡◌, ℕ, zero, suc, ◌+◌, ◌<◌, ◌≤◌, ◌==◌, Bool, true, false, cond, List, [], ◌∷◌, slice_get, Some, refl, subst, arith}
 use Rattle.std.specs.Prelude.{if◌then◌else◌, filter, ⊤}
 use Rattle.hpb_rules.specs.declared.command.Command.{Command}
@@ -27,7 +27,7 @@ next_counted value letter = by (is_reply_new value.count (reply_in value letter.
     by true (Waive from ticket) = refl
     by false command = refl
 
--- an answer tells of no fewer than were accepted before it
+-- an answer counts no fewer commands than were accepted before it
 pub count_later : (given : Answer) → given.at ≤ count_after given
 count_later given = by (is_answer_new given)
   where
@@ -35,12 +35,12 @@ count_later given = by (is_answer_new given)
     by true = omega arith
     by false = omega arith
 
--- each of these answers was given after so many commands at least
+-- each of these answers was given after at least so many commands
 abbrev AreAfter : ℕ → List Answer → Type 0
 AreAfter count [] = ⊤
 AreAfter count (given ∷ answers) = (count ≤ given.at) × AreAfter count answers
 
--- each was given after all that those before it tell of
+-- each was given after all commands of those before it
 abbrev FollowOneAnother : List Answer → Type 0
 FollowOneAnother [] = ⊤
 FollowOneAnother (given ∷ answers) = AreAfter (count_after given) answers × FollowOneAnother answers
@@ -91,14 +91,14 @@ get_follow (given ∷ answers) zero (suc j) first later follow less at behind =
 get_follow (given ∷ answers) (suc i) zero first later follow less at behind = absurd (omega (arith, less))
 get_follow (given ∷ answers) (suc i) (suc j) first later follow less at behind = get_follow answers i j first later follow.1 (omega (arith, less)) at behind
 
--- of a seat's answers the later one was given after all that the earlier one tells of
+-- of a seat's answers, the later one was given after all commands of the earlier one
 pub given_later : (seat : ℕ) (v : Viewing) (i j : ℕ) (first later : Answer) → i < j → slice_get (answers_of seat v) i ≡ Some first → slice_get (answers_of seat v) j ≡ Some later
     → count_after first ≤ later.at
 given_later seat v i j first later less at behind =
     get_follow (answers_of seat v) i j first later
     (some_follow (λ (a : Answer). a.letter.seat == seat) (judged_in v.opened (joined v.list)) (judged_follow v.opened (joined v.list))) less at behind
 
--- and so where it came in a later view
+-- and so it is if it came in a later view
 pub next_later : (seat taken : ℕ) (v w : Viewing) (first later : Answer) → Follows v w → slice_get (answers_of seat v) taken ≡ Some first → slice_get (answers_of seat w) (taken + 1) ≡ Some later
     → count_after first ≤ later.at
 next_later seat taken v w first later follows at behind =

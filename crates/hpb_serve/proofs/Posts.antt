@@ -1,4 +1,4 @@
--- What a client sent, and the answer that isn't the one that it waits for.
+-- The letters that a client sent, and the answer that isn't the one for which it waits.
 use Rattle.std.proofs.Common.{◌≡◌, ℕ, List, ◌++◌, Some, take, slice_get, sym, ap, subst, ◌∙◌}
 use Rattle.hpb_rules.specs.declared.letter.Answer.{Answer}
 use Rattle.hpb_rules.proofs.Lists.{get_front}
@@ -11,7 +11,7 @@ use Rattle.hpb_serve.specs.Stops.{IsInOrder}
 use Rattle.hpb_rings.specs.declared.slip.Slip.{Slip}
 use Rattle.hpb_rings.specs.declared.waiting.Waiting.{Waiting}
 
--- where these are the same, nothing was sent
+-- if these are the same, nothing was sent
 pub same_sent : (seat seat' : ℕ) (viewer viewer' : Viewing) (taken taken' : ℕ) (waiting waiting' : List Waiting) (sent sent' : List Slip)
     → seat' ≡ seat → viewer' ≡ viewer → taken' ≡ taken → waiting' ≡ waiting
     → sent ≡ slips (letters_of (take taken (answers_of seat viewer)) ++ posted waiting)

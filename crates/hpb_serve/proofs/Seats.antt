@@ -1,4 +1,4 @@
--- What is told of a session that ended.
+-- The facts about a session that ended.
 use Rattle.std.proofs.Common.{◌≡◌, ◌∙◌, ℕ, List, [], Contains, Option, refl, sym, subst}
 use Rattle.std.proofs.lemmas.List.{append-nil}
 use Rattle.hpb_board.specs.Publication.{Viewing}
@@ -14,7 +14,7 @@ use Rattle.hpb_serve.specs.declared.end.SessionEnd.{SessionEnd}
 use Rattle.hpb_serve.specs.declared.end.SessionEnd.TheVariants.{Finished, Left}
 use Rattle.hpb_serve.specs.Ended.{EndsWith, IsLeft, IsOutOfOrder}
 
--- a client is left only out of order
+-- a session leaves its client only if it is out of order
 pub left_by : (stop : Option Stop) (end : SessionEnd Halt) → EndsBy stop end → (client : Client Halt) → end ≡ Left client → IsOutOfOrder client
 left_by stop end ends client is = (subst (λ (e : SessionEnd Halt). EndsBy stop e) is ends).1
 
@@ -27,7 +27,7 @@ pub finished : (began : Client Halt) (end : SessionEnd Halt) (report : Report) �
 finished began end report ends is =
     let own = subst (λ (e : SessionEnd Halt). IsEndOf began e) is ends.own in ((own.1.0, own.1.1), own.0, own.2)
 
--- or its client is left with a reason
+-- or its client is left, for a reason
 pub left : (eye : Viewing) (began : Client Halt) (end : SessionEnd Halt) (client : Client Halt) (seats : List ℕ) → SameBoard eye began.viewer → Contains seats began.seat → EndsWith began end → end ≡ Left client
     → IsLeft eye.opened seats client
 left eye began end client seats of_house among ends is =

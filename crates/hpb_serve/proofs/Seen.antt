@@ -21,13 +21,13 @@ use Rattle.hpb_board.specs.Publication.{Viewing, answers_of, auction_of, recent}
 use Rattle.hpb_serve.specs.Sessions.{Follows, IsToldBy, count_after, seen_by}
 
 -- ---- lists
--- what stands in a list is so as all of it is
+-- a fact about all of a list holds of each element
 all_get : {A : Type 0} (P : A → Type 0) (xs : List A) (i : ℕ) (x : A) → All P xs → slice_get xs i ≡ Some x → P x
 all_get P [] i x all at = absurd (cc)
 all_get P (y ∷ ys) zero x all at = let same : y ≡ x = cc in subst P same (all zero y (omega arith))
 all_get P (y ∷ ys) (suc i) x all at = all_get P ys i x (λ k d h. all (suc k) d (omega (arith, h))) at
 
--- fewer of a front stand before more of the whole
+-- fewer of a front come before more of the whole
 pub fronts_of : {A : Type 0} (n m : ℕ) (xs ys : List A) → n ≤ m → IsFront xs ys → IsFront (take n xs) (take m ys)
 fronts_of zero m xs ys le front = (take m ys, refl)
 fronts_of (suc n) m [] ys le front = (take m ys, refl)
@@ -66,7 +66,7 @@ module _ (value : AuctionValue) (history : List Command) (shows : Shows value hi
   is_new_there : is_answer_new (answer_in value letter) ≡ is_reply_new (length history) (answer value.rules history letter.command)
   is_new_there = ap (λ n. is_reply_new n (reply_in value letter.command)) counted ∙ ap (is_reply_new (length history)) replied
 
-  -- what the letter's answer accepts, and then what more accept
+  -- the commands that the letter's answer accepts, and then those that more accept
   accepted_first : (rest : List Answer) → history ++ new_commands (answer_in value letter ∷ rest) ≡ next_history ++ new_commands rest
   accepted_first rest =
       by (is_answer_new (answer_in value letter))
@@ -112,7 +112,7 @@ judged_fit (letter ∷ letters) value history shows =
     (subst (λ rules. All (Fits rules (longer ++ new_commands rest)) rest) (next_rules value letter.command) all))
 
 -- ---- the history that a viewer shows
--- of a list of batches that goes on from another
+-- a list of batches that goes on from another
 grows : (opened : List Command) (value : AuctionValue) (list rest : List (List Letter))
     → IsFront (opened ++ new_commands (judged_in value (joined list))) (opened ++ new_commands (judged_in value (joined (list ++ rest))))
 grows opened value list rest =
@@ -149,7 +149,7 @@ recent_at answers (suc place) given at = (place, by (nat_lt (length answers) (pl
     by true h = h
     by false h = absurd (cc)
 
--- an answer that a viewer tells fits the history that it shows
+-- an answer that a viewer has fits the history that it shows
 pub told_fits : (opened : List Command) (v : Viewing) (seat : ℕ) (given : Answer) → Shows v.opened opened → IsToldBy (answers_of seat v) given → Fits v.opened.rules (seen_by opened v) given
 told_fits opened v seat given shows told =
     let fit : Answer → Type 0 = Fits v.opened.rules (seen_by opened v) in
@@ -157,7 +157,7 @@ told_fits opened v seat given shows told =
     let at = recent_at (answers_of seat v) told.0 given told.1 in
     all_get fit (answers_of seat v) at.0 given (All-filter (λ (a : Answer). a.letter.seat == seat) fit (judged_in v.opened (joined v.list)) all) at.1
 
--- where an answer fits, its own command leads to so many as it tells
+-- if an answer fits, its own command leads to as many as it counts
 pub fits_after : (rules : Rules) (seen : List Command) (given : Answer) → Fits rules seen given → history_after rules (take given.at seen) given.letter.command ≡ take (count_after given) seen
 fits_after rules seen given fits =
     let front : List Command = take given.at seen in

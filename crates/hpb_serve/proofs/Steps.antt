@@ -25,7 +25,7 @@ use Rattle.hpb_serve.specs.Stops.{refusal_of}
 use Rattle.hpb_serve.proofs.Order.{count_later}
 use Rattle.hpb_serve.proofs.Seen.{fits_after, fronts_of, seen_counted, seen_front, seen_shown, told_fits}
 
--- what an answer tells is known by the mark after it
+-- all commands that an answer counts are known by the mark after it
 pub count_known : (mark : ℕ) (given : Answer) → count_after given ≤ greatest mark given
 count_known mark given = by given.reply
   where
@@ -37,7 +37,7 @@ count_known mark given = by given.reply
     by (replies.Ok n) = number given n (is_reply_new given.at (replies.Ok n)) refl
     by (replies.Refused refusal) = omega arith
 
--- a session that is told of no fewer commands goes on
+-- a session that reports no fewer commands goes on
 pub goes : (old new : State) → new.seat ≡ old.seat → SameProducer old.letters new.letters → Follows old.viewing new.viewing → old.told ≤ new.told → GoesFrom old new
 goes old new seat letters follows more = record {
   seat = seat;
@@ -46,7 +46,7 @@ goes old new seat letters follows more = record {
   told = λ opened. fronts_of old.told new.told (seen_by opened old.viewing) (seen_by opened new.viewing) more (seen_front opened old.viewing new.viewing follows);
 }
 
--- one ring where nothing of it has changed
+-- one ring, if nothing of it has changed
 pub ring_kept : (first second : Producer Slip Global AnyItems) → second ≡ first → SameProducer first second
 ring_kept first second same = subst (SameProducer first) (sym same) ((refl, refl, refl, refl), refl)
 
@@ -63,7 +63,7 @@ same_ring first second third one two =
 pub follows_self : (viewing : Viewing) → Follows viewing viewing
 follows_self viewing = (refl, refl, refl, ([], sym (append_nil viewing.list)))
 
--- it goes on to itself, and so does what goes on from what goes on
+-- a state goes on from itself, and going on twice is going on
 pub goes_self : (state : State) → GoesFrom state state
 goes_self state = record {
   seat = refl;
@@ -89,9 +89,9 @@ goes_trans first second third one two = record {
   told = λ opened. front_trans (told_by opened first) (told_by opened second) (told_by opened third) (one.told opened) (two.told opened);
 }
 
--- ---- a command that is replied, by where its client came from
+-- ---- a command with its reply, by the state that its client came from
 module _ {M : Type 0} (state : State) (client : Client M) (came : CameFrom state client) where
-  -- where a session stands once an answer is taken
+  -- the state of a session once an answer is taken
   abbrev pub after_answer : Answer → State
   after_answer given = record { seat = client.seat; letters = client.letters; viewing = client.viewer; told = count_after given; stop = None }
 
@@ -118,7 +118,7 @@ module _ {M : Type 0} (state : State) (client : Client M) (came : CameFrom state
     }),
   )
 
-  -- where it stands once a command gets none
+  -- its state once a command gets none
   abbrev pub after_stop : Stop → State
   after_stop why = record { seat = client.seat; letters = client.letters; viewing = client.viewer; told = state.told; stop = Some why }
 
@@ -143,7 +143,7 @@ module _ {M : Type 0} (old new : Client M) (stop : Option Stop) (state : State) 
   seated : new.seat ≡ state.seat
   seated = same ∙ sym stands.0
 
-  -- a look at what is published
+  -- a look at the published auction
   pub looked : (value : AuctionValue) → value ≡ auction_of new.viewer → new.mark ≡ max old.mark (auction_of new.viewer).count
       → (next : State) × ShowsAt state (Some value) next × DeskStands new stop next
   looked value is most =
@@ -165,13 +165,13 @@ module _ {M : Type 0} (old new : Client M) (stop : Option Stop) (state : State) 
         (refl, refl, omega (arith, stands.2, most), refl, refl),
       )
 
-  -- a look where nothing is published any more
+  -- a look when nothing is published any more
   pub looked_away : new.mark ≡ max old.mark (auction_of new.viewer).count → (next : State) × ShowsAt state None next × DeskStands new stop next
   looked_away most =
       let next : State = record { seat = new.seat; letters = new.letters; viewing = new.viewer; told = state.told; stop = stop } in
       (next, (goes state next seated on_ring at (omega arith), sym stands.3, tt), (refl, refl, omega (arith, stands.2, most), refl, refl))
 
--- what isn't some reason is none
+-- a stop that is none of the reasons is `None`
 pub none_of : (stop : Option Stop) → ((why : Stop) → stop ≡ Some why → ⊥) → stop ≡ None
 none_of None never = refl
 none_of (Some why) never = absurd (never why refl)

@@ -1,4 +1,4 @@
--- Lists that are gone over, one element a turn.
+-- Lists that a loop walks through, one element a turn.
 use Rattle.std.proofs.Common.{[], ◌≡◌, ◌∙◌, zero, suc, List, ◌∷◌, ◌++◌, length, map, arith, All, Contains, Option, Some, None, IfSome, true, refl, sym, ap, subst}
 use Rattle.std.specs.declared.vec.IntoIter.{IntoIter}
 use Rattle.std.specs.Vec.Iter.{into_iter_items, into_iter_steps}
@@ -7,7 +7,7 @@ use Rattle.std.specs.Option.{is_some}
 use Rattle.std.proofs.lemmas.List.Elements.{Contains-append_right}
 use Rattle.hpb_house.specs.Starts.{AreOneByOne}
 
--- what is so of each element that is to come is so of the next
+-- a fact about each element that is to come holds of the next
 pub next_of : {A Z : Type 0} (P : A → Type 0) (s t : IntoIter A Z) (x : A) → All P (into_iter_items s) → into_iter_steps s (Some x) t → P x
 next_of P s t x all steps = let h : All P (x ∷ into_iter_items t) = subst (All P) steps.0 all in h zero x (omega arith)
 
@@ -15,7 +15,7 @@ next_of P s t x all steps = let h : All P (x ∷ into_iter_items t) = subst (All
 pub rest_of : {A Z : Type 0} (P : A → Type 0) (s t : IntoIter A Z) (x : A) → All P (into_iter_items s) → into_iter_steps s (Some x) t → All P (into_iter_items t)
 rest_of P s t x all steps k d lt = let h : All P (x ∷ into_iter_items t) = subst (All P) steps.0 all in h (suc k) d (omega arith)
 
--- what was made of the elements so far, and what is told of those to come, is one list: so it stays where one more is made of the next
+-- the values made so far and those of the elements to come are one list, and it stays if one more is made of the next
 pub one_more : {A B C Z : Type 0} (f : A → C) (g : B → C) (whole : List C) (made : List A) (more : A) (s t : IntoIter B Z) (x : B)
     → map f made ++ map g (into_iter_items s) ≡ whole → into_iter_steps s (Some x) t → f more ≡ g x
     → map f (made ++ more ∷ []) ++ map g (into_iter_items t) ≡ whole
@@ -26,14 +26,14 @@ one_more f g whole made more s t x is steps same =
     ∙ ap (λ items. map f made ++ map g items) (sym steps.0)
     ∙ is
 
--- what is told of the next is on that list
+-- the value of the next element is on that list
 pub among : {A B C Z : Type 0} (f : A → C) (g : B → C) (whole : List C) (made : List A) (s t : IntoIter B Z) (x : B)
     → map f made ++ map g (into_iter_items s) ≡ whole → into_iter_steps s (Some x) t → Contains whole (g x)
 among f g whole made s t x is steps =
     subst (λ l. Contains l (g x)) is (Contains-append_right (map f made) (map g (into_iter_items s)) (g x)
     (subst (λ items. Contains (map g items) (g x)) (sym steps.0) (zero, omega arith, refl)))
 
--- pairs so far: with those of what is to come they are all
+-- the pairs so far, with those of the elements to come, are all
 pub one_joined : {A B C Z : Type 0} (has : A → B → Type 0) (f : C → A) (whole : List A) (made : List B) (one : B) (s t : IntoIter C Z) (x : C)
     → ((more : List B) → AreOneByOne has (map f (into_iter_items s)) more → AreOneByOne has whole (made ++ more)) → into_iter_steps s (Some x) t → has (f x) one
     → (more : List B) → AreOneByOne has (map f (into_iter_items t)) more → AreOneByOne has whole ((made ++ one ∷ []) ++ more)
@@ -46,7 +46,7 @@ pub all_joined : {A B C : Type 0} (has : A → B → Type 0) (f : C → A) (whol
 all_joined has f whole made [] so_far none = subst (AreOneByOne has whole) (append-nil made) (so_far [] tt)
 all_joined has f whole made (x ∷ rest) so_far none = absurd (omega arith)
 
--- what is told of what is told of each
+-- a map of a map
 pub told_twice : {A B C : Type 0} (f : A → B) (g : B → C) (xs : List A) → map (λ x. g (f x)) xs ≡ map g (map f xs)
 told_twice f g [] = refl
 told_twice f g (x ∷ xs) = ap (λ rest. g (f x) ∷ rest) (told_twice f g xs)
@@ -56,7 +56,7 @@ all_told P f [] all k d lt = absurd (omega arith)
 all_told P f (x ∷ xs) all zero d lt = all zero (f x) (omega arith)
 all_told P f (x ∷ xs) all (suc k) d lt = all_told P f xs (λ j e l. all (suc j) e (omega (arith, l))) k d (omega (arith, lt))
 
--- what is so while something is there
+-- a fact that holds as long as something is there
 pub while_some : {A : Type 0} (o : Option A) (P Q : Type 0) → (P → Q) → IfSome o (λ x. P) → IfSome o (λ x. Q)
 while_some None P Q f it = tt
 while_some (Some x) P Q f it = f it

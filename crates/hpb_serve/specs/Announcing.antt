@@ -1,4 +1,4 @@
--- What is written of the port that sessions are served at.
+-- The line that is written about the port.
 -- Source: this project's own.
 use Rattle.std.specs.Prelude.{◌⊎◌, ℕ, List, ◌++◌, Option, Result, Ok, Err, codes, decimal}
 use Rattle.std.specs.Io.KnownBytes.{Appends, Keeps}
@@ -6,13 +6,15 @@ use Rattle.hpb_rules.specs.Fronts.{IsFront}
 use Rattle.hpb_serve.specs.declared.fault.ServeFault.{ServeFault}
 use Rattle.hpb_serve.specs.declared.fault.ServeFault.TheVariants.{Memory, Writer, Start, Order, Counts}
 
--- **What is written.** One line with the port, before the first session. Where serving ends ill, as much of it as the fault leaves.
+-- **The bytes written.** One line with the port is written before the first session. If serving ends ill, as much of
+-- the line is written as the fault leaves.
 --
--- The line that tells of a port that can be connected to.
+-- The line with a port to which clients can connect.
 abbrev pub listening_line : ℕ → List ℕ
 listening_line port = codes "LISTENING " ++ decimal port ++ codes "\n"
 
--- A line is written before the first session. Where the house is not started nothing is written, and where the writer fails a front of it; memory may be refused before it or behind it.
+-- The line is written before the first session. If the house isn't started, nothing is written; if the writer fails, a
+-- front of the line. Memory may be refused before it or behind it.
 abbrev pub Announces : {A D : Type 0} → List ℕ → (old new : Option (List ℕ)) → Result A (ServeFault D) → Type 0
 Announces line old new (Ok done) = Appends old new line
 Announces line old new (Err Memory) = Keeps old new ⊎ Appends old new line
@@ -21,7 +23,7 @@ Announces line old new (Err (Start cause)) = Keeps old new
 Announces line old new (Err (Order client)) = Appends old new line
 Announces line old new (Err (Counts differing)) = Appends old new line
 
--- A fault that comes behind the line.
+-- A fault that comes after the line.
 abbrev pub IsBehind : {D : Type 0} → ServeFault D → Type 0
 IsBehind Memory = Unit {0}
 IsBehind Writer = ⊥

@@ -18,50 +18,55 @@ use Rattle.hpb_serve.specs.declared.end.SessionEnd.TheVariants.{Left}
 use Rattle.hpb_serve.specs.Ends.{IsEndOf}
 use Rattle.hpb_serve.specs.Stops.{IsInOrder}
 
--- **How a session ends.** It ends with the client that it began with, which goes on posting into the same ring: nothing else posts into that one. The
--- client has finished; or the session left it, since the next answer to its seat isn't the one that it waits for. Of such a client a 95 tells, and hands
--- it back: it has one of the seats, and its viewer began with the auction that was opened.
+-- **How a session ends.** It ends with the client that it began with, which goes on posting into the same ring: nothing
+-- else posts into that one. The client has finished, or the session left it, since the next answer to its seat isn't
+-- the one for which it waits. A 95 hands such a client back. It has one of the seats, and its viewer began with the
+-- opened auction.
 --
--- The next answer to the seat of a client isn't the one that it waits for.
+-- The next answer to the seat of a client isn't the one for which it waits.
 abbrev pub IsOutOfOrder : Client Halt → Type 0
 IsOutOfOrder client = IsInOrder client.seat client.viewer client.taken client.waiting.items → ⊥
 
--- A session ended with the client that it began with. It left the client only where that is out of order.
+-- A session ended with the client that it began with. It left the client only if that is out of order.
 pub record EndsWith (began : Client Halt) (end : SessionEnd Halt) : Type 0 where
   pub own : IsEndOf began end
   pub left : (client : Client Halt) → end ≡ Left client → IsOutOfOrder client
 
--- A session left its client, which is that of one of these seats and began with this auction: the next answer to its seat isn't the one that it waits for.
+-- A session left its client, which is that of one of these seats and began with this auction. The next answer to its
+-- seat isn't the one for which it waits.
 pub record IsLeft (auction : AuctionValue) (seats : List ℕ) (client : Client Halt) : Type 0 where
   pub seat : Contains seats client.seat
   pub opened : client.viewer.opened ≡ auction
   pub order : IsOutOfOrder client
 
--- Where a session of these seats left its client, that is handed back.
+-- If a session of these seats left its client, that client is handed back.
 abbrev pub LeavesOne : (auction : AuctionValue) (seats : List ℕ) → ThreadsFault → Type 0
 LeavesOne auction seats threads.Memory = Unit {0}
 LeavesOne auction seats (threads.Order client) = IsLeft auction seats client
 
--- **What sessions that have ended come to.**
+-- **The result of sessions that have ended.**
 --
--- What is so once so many sessions have ended, where the device was opened with these bytes and this auction, and so many calls of it had failed before.
+-- The facts once so many sessions have ended. The device was opened with these bytes and this auction, after so many
+-- failed calls.
 pub record EndsAll {D : Type 0} (seen : D → List ℕ) (may_leave : D → List ℕ → Type 0) (fails : D → ℕ) (image : List ℕ) (failures : ℕ) (before : AuctionValue) (sessions : ℕ) (served : Served D) : Type 0 where
   -- There is a report of each seat.
   pub seats : map (λ (report : Report). report.seat) served.reports.items ≡ range_with_len 0 sessions
   -- The house is closed: the reports show one history, which the device keeps.
   pub closed : Closed seen may_leave fails image failures before served.closing served.reports.items
 
--- **What they come to where serving ends ill.** A 96 hands back the reports, with what the house leaves. Of a 90, a 92 and a 94 nothing is told but
--- what was written.
+-- **The result if serving ends ill.** A 96 hands back the reports, with the remains of the house. For a 90, a 92 and a
+-- 94 there is no fact but the bytes written.
 --
--- What is so once so many sessions have ended, and what they were answered isn't what was committed, or a batch is in flight though no call of the device has failed.
+-- The facts once so many sessions have ended, and their answers differ from the committed commands, or a batch is in
+-- flight though no call of the device has failed.
 pub record EndsDiffering {D : Type 0} (seen : D → List ℕ) (may_leave : D → List ℕ → Type 0) (fails : D → ℕ) (image : List ℕ) (failures : ℕ) (before : AuctionValue) (sessions : ℕ) (differing : Differing D) : Type 0 where
   -- There is a report of each seat.
   pub seats : map (λ (report : Report). report.seat) differing.reports.items ≡ range_with_len 0 sessions
-  -- The house is refused: the device keeps what was committed.
+  -- The close is refused: the device keeps the committed commands.
   pub unsettled : Unsettled seen may_leave fails image failures before differing.fault differing.reports.items
 
--- A session left its client, or all have ended and what they were answered differs; of want of memory, of the writer and of the start nothing more is told.
+-- A session left its client, or all have ended and their answers differ. If memory, the writer or the start failed,
+-- there is no more to say.
 abbrev pub EndsIll : {D : Type 0} (seen : D → List ℕ) (may_leave : D → List ℕ → Type 0) (fails : D → ℕ) (image : List ℕ) (failures : ℕ) (before : AuctionValue) (sessions : ℕ) → ServeFault D → Type 0
 EndsIll seen may_leave fails image failures before sessions faults.Memory = Unit {0}
 EndsIll seen may_leave fails image failures before sessions faults.Writer = Unit {0}

@@ -37,7 +37,8 @@ posts_of (Left client) = client.letters
 abbrev pub IsEndOf : {M : Type 0} → Client M → SessionEnd M → Type 0
 IsEndOf client end = (seat_of end ≡ client.seat) × Follows client.viewer (viewer_of end) × SameProducer client.letters (posts_of end)
 
--- How a session ends by what stopped its commands, if something did. The client has finished, and got a halt where the session told of one; or it is handed back as it stands, since the next answer to its seat isn't the one that it waits for.
+-- How a session ends, by the reason that stopped its commands, if any did. The client has finished, and got a halt if
+-- the session reported one. Or it is handed back, since the next answer to its seat isn't the one for which it waits.
 abbrev pub EndsBy : {M : Type 0} → Option Stop → SessionEnd M → Type 0
 EndsBy stop (Finished report) = (is_over stop ≡ false) × (stop ≡ Some Halted → report.is_halted ≡ true)
 EndsBy stop (Left client) = (is_over stop ≡ true) × (IsInOrder client.seat client.viewer client.taken client.waiting.items → ⊥)
@@ -46,6 +47,7 @@ EndsBy stop (Left client) = (is_over stop ≡ true) × (IsInOrder client.seat cl
 abbrev pub EndsAt : {M : Type 0} → SessionEnd M → State → Type 0
 EndsAt end state = (state.seat ≡ seat_of end) × (state.viewing ≡ viewer_of end) × EndsBy state.stop end
 
--- Where what was opened shows a history, what a session was told of at last goes on from what this viewer showed at the start.
+-- If the opened auction shows a history, the commands that a session reported at last go on from those that this viewer
+-- showed at the start.
 abbrev pub TellsOn : Viewing → State → Type 0
 TellsOn began state = (opened : List Command) → Shows began.opened opened → GoesOn (seen_by opened began) (TellsAt state)

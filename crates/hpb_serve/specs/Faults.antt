@@ -1,4 +1,4 @@
--- How serving that ended ill is told of.
+-- The refusal by which a failed serving is reported.
 -- Source: this project's own.
 use Rattle.hpb_rules.specs.declared.refusal.Refusal.{Refusal}
 use Rattle.hpb_rules.specs.declared.refusal.Refusal.TheVariants as refusals
@@ -6,7 +6,7 @@ use Rattle.hpb_house.specs.Told as starts
 use Rattle.hpb_serve.specs.declared.fault.ServeFault.{ServeFault}
 use Rattle.hpb_serve.specs.declared.fault.ServeFault.TheVariants.{Memory, Writer, Start, Order, Counts}
 
--- The refusal that it is told by.
+-- The refusal of each fault.
 abbrev pub refusal_of : {D : Type 0} → ServeFault D → Refusal
 refusal_of Memory = refusals.Memory
 refusal_of Writer = refusals.Stream

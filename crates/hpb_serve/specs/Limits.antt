@@ -4,14 +4,14 @@ use Rattle.hpb_serve.specs.declared.connection.TheConstants.{READ_LOOKS, ANSWER_
 use Rattle.hpb_serve.specs.declared.door.TheConstants.{MISSED_WAIT}
 use Rattle.hpb_serve.specs.declared.sameness.TheConstants.{PIECE_BYTES}
 
--- Each limit of the code is the number that the documents name.
+-- Each limit of the code is the number in the documents.
 pub record LimitsAre : Type 0 where
-  -- So often a session looks for more to read, and so often for an answer.
+  -- How often a session looks for more to read, and how often for an answer.
   pub read_looks : READ_LOOKS ≡ 100
   pub answer_looks : ANSWER_LOOKS ≡ 400
   -- With more sessions than these none looks.
   pub looking : MOST_LOOKING ≡ 8
-  -- So many milliseconds nothing is accepted after a connection that was not.
+  -- How many milliseconds no accept is tried after one that failed.
   pub missed_wait : MISSED_WAIT ≡ 100
-  -- So many bytes of a device are compared at a time, with the lock taken.
+  -- How many bytes of a device are compared at a time, with the lock taken.
   pub piece : PIECE_BYTES ≡ 65536

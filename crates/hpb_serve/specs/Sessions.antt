@@ -1,4 +1,5 @@
--- Where a session with a client of a house stands, what a command is replied there, and what is shown: a desk whose answers fit.
+-- The state of a session with a client of a house, its replies, and the auction that it shows: a desk whose answers
+-- fit.
 -- Source: this project's own.
 use Rattle.std.specs.Prelude.{◌≡◌, ◌⊎◌, ℕ, suc, ◌≤◌, Bool, List, ◌++◌, take, Option, Some, None, if◌then◌else◌, ⊤}
 use Rattle.std.specs.declared.alloc.Global.{Global}
@@ -23,23 +24,26 @@ use Rattle.hpb_rings.specs.declared.slip.Slip.{Slip}
 use Rattle.hpb_serve.specs.declared.stop.Stop.{Stop}
 use Rattle.hpb_serve.specs.Stops.{is_over, refusal_of}
 
--- **States.** A viewer follows the publisher that it followed, from the same opened auction on, and has entered all that it had entered.
+-- **States.** A viewer follows the same publisher from the same opened auction on, and has entered all that it had
+-- entered before.
 abbrev pub Follows : Viewing → Viewing → Type 0
 Follows old new = (new.book ≡ old.book) × (new.opened ≡ old.opened) × (new.seats ≡ old.seats) × IsPrefix old.list new.list
 
--- The history that a viewer shows, where what it opened shows this one: that, and then the commands newly accepted among the letters that it has entered.
+-- The history that a viewer shows, if its opened auction shows this one: this history, and then the commands newly
+-- accepted among the letters that it has entered.
 abbrev pub seen_by : List Command → Viewing → List Command
 seen_by opened viewing = opened ++ new_commands (judged_in viewing.opened (joined viewing.list))
 
--- An answer is told under some number, among these answers.
+-- An answer has some number among these answers.
 abbrev pub IsToldBy : List Answer → Answer → Type 0
 IsToldBy answers given = (number : ℕ) × (recent answers number ≡ Some given)
 
--- How many commands are accepted by what an answer tells: those before it, and its own where that is newly accepted.
+-- How many commands are accepted by an answer: those before it, and its own if that is newly accepted.
 abbrev pub count_after : Answer → ℕ
 count_after given = if is_answer_new given then suc given.at else given.at
 
--- Where a session stands: its seat, its client's end of its letter ring, what its client's viewer shows, how many accepted commands it was told of, and why its commands get no more answers of the rules, if they don't.
+-- The state of a session: its seat, its client's end of its letter ring, and its client's viewer. Also how many
+-- accepted commands it has reported, and why its commands get no more answers of the rules, if they don't.
 pub record State : Type 0 where
   pub seat : ℕ
   pub letters : Producer Slip Global AnyItems
@@ -47,7 +51,7 @@ pub record State : Type 0 where
   pub told : ℕ
   pub stop : Option Stop
 
--- The definition: it is that of the auction that was opened.
+-- The definition: it is that of the opened auction.
 abbrev pub rules_at : State → Rules
 rules_at state = state.viewing.opened.rules
 
@@ -55,36 +59,41 @@ rules_at state = state.viewing.opened.rules
 abbrev pub over_at : State → Bool
 over_at state = is_over state.stop
 
--- So many commands are in flight at most: posted together, before the first of them is answered.
+-- At most so many commands are in flight: posted together, before the first of them is answered.
 abbrev pub most_in_flight : ℕ
 most_in_flight = MOST_WAITING
 
--- The commands that a session was told of, where what was opened shows this history: so many of those that the viewer then shows.
+-- The commands that a session has reported, if the opened auction shows this history: so many of those that the viewer
+-- then shows.
 abbrev pub told_by : List Command → State → List Command
 told_by opened state = take state.told (seen_by opened state.viewing)
 
--- What a session may have been told of: that.
+-- The commands that a session may have reported: those.
 abbrev pub TellsAt : State → List Command → Type 0
 TellsAt state told = (opened : List Command) × Shows state.viewing.opened opened × (told ≡ told_by opened state)
 
--- A session goes on: it has the same client, and what it is told of goes on from what it was told of.
+-- A session goes on: it has the same client, and the commands that it reports go on from those reported before.
 pub record GoesFrom (old new : State) : Type 0 where
   pub seat : new.seat ≡ old.seat
   pub letters : SameProducer old.letters new.letters
   pub viewer : Follows old.viewing new.viewing
   pub told : (opened : List Command) → IsFront (told_by opened old) (told_by opened new)
 
--- **Replies.** A command is replied by an answer to the seat's letter with it, which the viewer tells. The answer fits the history that the viewer
--- shows, and was judged after a front of it that goes on from what the session was told of. So a session that was told of its own bid, or saw
--- another's, is never judged by a list without it. Or the desk tells of itself, then and ever after.
+-- **Replies.** A command's reply is an answer to the seat's letter with that command, and the viewer has it. The answer
+-- fits the history that the viewer shows. It was judged after a front of it that goes on from the commands that the
+-- session has reported. So a session that has reported its own bid or another's is never judged by a list without it.
+-- Or else the desk itself refuses the command, then and ever after.
 --
--- Where what was opened shows this history, an answer fits the history that the viewer shows, and was judged after a front of it that goes on from what the session was told of. Then the session is told of that front, with the command at its end where it is newly accepted.
+-- Suppose the opened auction shows this history. An answer fits the history that the viewer shows, and was judged after
+-- a front of it that goes on from the commands that the session has reported. The session then reports that front, with
+-- the command at its end if it is newly accepted.
 pub record FitsSession (old : State) (given : Answer) (new : State) (opened : List Command) : Type 0 where
   pub fits : Fits (rules_at old) (seen_by opened new.viewing) given
   pub later : IsFront (told_by opened old) (take given.at (seen_by opened new.viewing))
   pub told : told_by opened new ≡ history_after (rules_at old) (take given.at (seen_by opened new.viewing)) given.letter.command
 
--- A command is replied by an answer that fits: the seat's own answer to the letter with that command, which its client's viewer tells.
+-- A command's reply is an answer that fits: the seat's own answer to the letter with that command, which its client's
+-- viewer has.
 pub record Answers (old : State) (command : Command) (reply : Reply) (new : State) : Type 0 where
   pub given : Answer
   pub own : given.letter ≡ record { seat = old.seat; command = command }
@@ -94,32 +103,34 @@ pub record Answers (old : State) (command : Command) (reply : Reply) (new : Stat
   pub before : old.stop ≡ None
   pub after : new.stop ≡ None
 
--- The desk tells of itself: why its commands get no answers of the rules, now and ever after.
+-- The desk itself refuses: it says why its commands get no answers of the rules, now and ever after.
 pub record Stops (old : State) (reply : Reply) (new : State) : Type 0 where
   pub why : Stop
   pub before : (old.stop ≡ None) ⊎ (old.stop ≡ Some why)
   pub after : new.stop ≡ Some why
   pub replied : reply ≡ replies.Refused (refusal_of why)
 
--- A command gets an answer that fits, or the desk tells of itself.
+-- A command gets an answer that fits, or the desk itself refuses it.
 abbrev pub RepliesAt : State → Command → Reply → State → Type 0
 RepliesAt old command reply new = GoesFrom old new × (Answers old command reply new ⊎ Stops old reply new)
 
--- **Looks.** The auction that the client's viewer shows is shown, and all of it told of. Or there is none to show any more.
+-- **Looks.** A look shows the auction of the client's viewer, and reports all of its commands. Or there is no auction
+-- to show any more.
 abbrev pub ShowsSeen : Option AuctionValue → State → Type 0
 ShowsSeen None new = ⊤
 ShowsSeen (Some value) new = (value ≡ auction_of new.viewing) × ((opened : List Command) → Shows new.viewing.opened opened → (told_by opened new ≡ seen_by opened new.viewing) × Shows value (told_by opened new))
 
--- A look shows it, and stops nothing.
+-- A look shows the auction, and stops nothing.
 abbrev pub ShowsAt : State → Option AuctionValue → State → Type 0
 ShowsAt old shown new = GoesFrom old new × (new.stop ≡ old.stop) × ShowsSeen shown new
 
--- A desk stands at a state: its client has this seat, this end of its ring and this viewer, and knows of as many accepted commands as the session was told of.
+-- A desk is at a state: its client has this seat, this end of its ring and this viewer. It knows of at least as many
+-- accepted commands as the session has reported.
 abbrev pub DeskStands : {M : Type 0} → Client M → Option Stop → State → Type 0
 DeskStands client stop state = (state.seat ≡ client.seat) × (state.viewing ≡ client.viewer) × (state.told ≤ client.mark) × (state.stop ≡ stop) × (state.letters ≡ client.letters)
 
--- **Start and end.** At the end the client has finished; after a 95 it is handed back as it stands.
+-- **Start and end.** At the end the client has finished; after a 95 it is handed back as it is.
 --
--- The state at the start of a session with a client: it counts as told of all that the client's viewer shows.
+-- The state at the start of a session with a client: all that the client's viewer shows counts as reported.
 abbrev pub at_start : {M : Type 0} → Client M → State
 at_start client = record { seat = client.seat; letters = client.letters; viewing = client.viewer; told = (auction_of client.viewer).count; stop = None }

@@ -1,4 +1,4 @@
--- The desk of a session on a house tells of histories that go on from one another.
+-- The desk of a session on a house reports histories that go on from one another.
 use Rattle.std.specs.Prelude.{◌≡◌, ◌<◌, ◌≤◌, List, take, Option, Some, None}
 use Rattle.std.proofs.Common.{refl, sym, ap, subst, ◌∙◌, inl, inr, arith, ⊎_elim}
 use Rattle.hpb_rules.specs.declared.command.Command.{Command}
@@ -20,7 +20,7 @@ some_in_flight = (omega arith, omega arith)
 pub house_keeps_rules : (old new : State) (command : Command) (reply : Reply) → RepliesAt old command reply new → rules_at new ≡ rules_at old
 house_keeps_rules old new command reply it = ap (λ (value : AuctionValue). value.rules) it.0.viewer.1
 
--- what a stop is told by, the desk tells of itself
+-- the desk itself gives the refusal of a stop
 of_desk : (why : Stop) → IsOfDesk (replies.Refused (refusal_of why))
 of_desk Halted = inr (inl refl)
 of_desk Order = inr (inr (inr refl))

@@ -1,4 +1,4 @@
-//! The line that tells of the port.
+//! The line that says at which port sessions are served.
 ghost use Rattle.std.specs.Prelude.{IfErr};
 ghost use Rattle.hpb_serve.specs.Announcing.{Announces, IsOfWriting, listening_line};
 
@@ -8,7 +8,7 @@ use hpb_server::send_bytes;
 use std::alloc::Global;
 use std::io::Write;
 
-/// Writes the line that tells of the port, and has it handed on.
+/// Writes the line with the port, and flushes it.
 pub(crate) fn announce<D: Disk + Drop, W: Write>(
     alloc: Global,
     port: u16,

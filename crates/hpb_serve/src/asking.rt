@@ -1,4 +1,4 @@
-//! Commands of a session that are asked together: they are posted, and their answers are waited for.
+//! Commands of a session that are sent together: posts them, and waits for their answers.
 ghost use Rattle.std.specs.Prelude.{◌≡◌, ◌⊎◌, ◌+◌, ◌-◌, ◌<◌, ◌≤◌, [], ◌∷◌, ◌++◌, List, length, take, true, false, None, Some, IfOk, IsOk, IsErr, IsSome, MatchOption, Ok, Err};
 ghost use Rattle.rtrb.specs.Ring.{SameProducer, sent};
 ghost use Rattle.hpb_board.specs.Publication.{answers_of, recent};
@@ -16,12 +16,14 @@ use hpb_rules::{Answer, Command, Letter, MOST_LETTERS, MOST_WAITING, Refusal, Re
 use std::sync::Wait;
 use std::thread;
 
-/// Asks for commands of a client's seat together: posts them, the oldest first, up to the first where the client is
-/// halted, and then takes the answers in that order. It looks for each so many times, and other threads run between
-/// two looks; then it sleeps until the bell of its seat rings.
+/// Posts a client's commands together, the oldest first, and then takes their answers in that order. If the client is
+/// halted, it stops posting.
 ///
-/// The replies are put into `replies`. Where a command gets no answer it is told why: after a halt it is refused, and
-/// so is each behind it; and where an answer comes out of order, none behind it is replied.
+/// It looks for each answer `looks` times, and other threads run between two looks. Then it sleeps until the bell of
+/// its seat rings.
+///
+/// The replies go into `replies`. If a command gets no answer, the result says why. After a halt, that command and each
+/// one behind it are refused. If an answer comes out of order, its command gets 95, and none behind it gets a reply.
 pub(crate) fn ask_client<M: Copy, R: Wait>(
     rt: &R,
     client: &mut Client<M>,
@@ -38,10 +40,10 @@ pub(crate) fn ask_client<M: Copy, R: Wait>(
     ensures opened { client.new.viewer.opened ≡ client.old.viewer.opened }
     ensures idle { result ≡ None → client.new.waiting.items ≡ [] }
     ensures halted { result ≡ Some Halted → client.new.is_halted ≡ true }
-    // All that is posted is answered, or the next answer isn't there.
+    // All posted letters are answered, or the next answer isn't there.
     ensures unanswered { result ≡ Some Halted → (client.new.waiting.items ≡ []) ⊎ (recent (answers_of client.new.seat client.new.viewer) (client.new.taken + 1) ≡ None) }
     ensures order { result ≡ Some Order → IsInOrder client.new.seat client.new.viewer client.new.taken client.new.waiting.items → ⊥ }
-    // Nothing is posted by a client that is halted.
+    // A halted client posts nothing.
     ensures silent { client.old.is_halted ≡ true → sent client.new.letters ≡ sent client.old.letters }
 {
     let posted = post_letters(rt, client, commands);
@@ -56,7 +58,7 @@ pub(crate) fn ask_client<M: Copy, R: Wait>(
     None
 }
 
-/// Posts letters with commands, in their order, up to the first where the client is halted. It tells how many.
+/// Posts letters with commands, in order. If the client is halted, it stops. Returns how many it posted.
 fn post_letters<M: Copy, R: Wait>(rt: &R, client: &mut Client<M>, commands: &[Command]) -> usize
     requires most { length commands.now ≤ MOST_WAITING }
     requires idle { client.old.waiting.items ≡ [] }
@@ -75,7 +77,7 @@ fn post_letters<M: Copy, R: Wait>(rt: &R, client: &mut Client<M>, commands: &[Co
     commands.len()
 }
 
-/// Posts a letter with a command, as soon as the ring has a free place. Refused where the client is halted.
+/// Posts a letter with a command, as soon as the ring has a free place. Refused if the client is halted.
 fn post_letter<M: Copy, R: Wait>(
     rt: &R,
     client: &mut Client<M>,
@@ -105,8 +107,8 @@ fn post_letter<M: Copy, R: Wait>(
     unreachable!()
 }
 
-/// Takes the answers to all letters that wait, in their order, and puts their replies into `replies`. Where one gets
-/// none it tells why, and takes no more.
+/// Takes the answers to all letters that wait, in order, and puts their replies into `replies`. If one gets no answer,
+/// the result says why, and it takes no more.
 fn take_answers<M: Copy, R: Wait>(
     rt: &R,
     client: &mut Client<M>,
@@ -134,7 +136,7 @@ fn take_answers<M: Copy, R: Wait>(
     None
 }
 
-/// Puts a reply at the end.
+/// Appends a reply.
 fn put(replies: &mut Replies, reply: Reply)
     requires { length replies.old < MOST_LETTERS }
     ensures { replies.new ≡ replies.old ++ reply ∷ [] }
@@ -142,8 +144,8 @@ fn put(replies: &mut Replies, reply: Reply)
     let _ = replies.push(reply);
 }
 
-/// Refuses those of so many commands that have no reply yet, of which the first got no answer: each of them where the
-/// client is halted; else that one, which ends the session.
+/// Refuses those of `count` commands that have no reply yet; the first of them got no answer. If the client is halted,
+/// it refuses all of them. Otherwise it refuses the first alone, which ends the session.
 fn refuse_rest(stop: Stop, count: usize, replies: &mut Replies)
     requires some { length replies.old < count }
     requires most { count ≤ MOST_LETTERS }
@@ -155,8 +157,8 @@ fn refuse_rest(stop: Stop, count: usize, replies: &mut Replies)
     }
 }
 
-/// What so many commands are replied once one got no answer: each is refused where the client is halted; else the
-/// session is over, and none is replied.
+/// The replies to `count` commands that come behind one without an answer. If the client is halted, each is refused.
+/// Otherwise the session is over, and none gets a reply.
 pub(crate) fn refuse_later(stop: Stop, count: usize) -> Replies
     requires { count ≤ MOST_LETTERS }
     ensures { result ≡ refused_after stop count }
@@ -171,7 +173,7 @@ pub(crate) fn refuse_later(stop: Stop, count: usize) -> Replies
     }
 }
 
-/// Puts so many times 93 at the end.
+/// Appends 93 `failed` this many times.
 fn refuse_all(count: usize, replies: &mut Replies)
     requires { length replies.old + count ≤ MOST_LETTERS }
     ensures { replies.new ≡ replies.old ++ refused_by Halted count }
@@ -181,11 +183,13 @@ fn refuse_all(count: usize, replies: &mut Replies)
     }
 }
 
-/// Takes the answer to the oldest letter that waits: one that its view has already, and else it yields or sleeps before
-/// each look. Refused where none has come by the first look after a halt, and where an answer comes that isn't for that
-/// letter, or is older than what the client knew when it posted it.
+/// Takes the answer to the oldest letter that waits. If the client's view has none yet, it yields or sleeps before each
+/// look.
 ///
-/// Whether the client is halted is asked before each look: an answer that came before the halt is found by that look.
+/// Refused with `Halted` if the first look after a halt finds no answer. Refused with `Order` if an answer is for
+/// another letter, or is older than the client's knowledge when it posted the letter.
+///
+/// It checks for a halt before each look, so that look finds every answer that came before the halt.
 fn take_answer<M: Copy, R: Wait>(rt: &R, client: &mut Client<M>, looks: u32) -> Result<Answer, Stop>
     ensures looked { HasLooked client.old client.new }
     ensures taken { IfOk result (HasTaken client.old client.new) }
@@ -207,9 +211,8 @@ fn take_answer<M: Copy, R: Wait>(rt: &R, client: &mut Client<M>, looks: u32) -> 
     unreachable!()
 }
 
-/// Waits before a look, of which so many are left: it lets other threads run, or, where none is left, sleeps until
-/// the bell of its seat rings. It tells how many are left then. A client that is halted does neither, since nothing may
-/// ring that bell any more.
+/// Waits before a look, and returns how many looks are left after it. It lets other threads run; if no look is left, it
+/// sleeps until the bell of its seat rings. A halted client does neither, since nothing may ring that bell any more.
 fn yield_or_sleep<M: Copy, R: Wait>(rt: &R, client: &mut Client<M>, left: u32) -> u32
     ensures same { (client.new.seat ≡ client.old.seat) × (client.new.letters ≡ client.old.letters) × (client.new.viewer ≡ client.old.viewer) × (client.new.waiting ≡ client.old.waiting) × (client.new.taken ≡ client.old.taken) × (client.new.mark ≡ client.old.mark) × (client.new.is_halted ≡ client.old.is_halted) }
     ensures fewer { client.old.is_halted ≡ false → result ≡ left - 1 }
@@ -225,8 +228,8 @@ fn yield_or_sleep<M: Copy, R: Wait>(rt: &R, client: &mut Client<M>, left: u32) -
     left - 1
 }
 
-/// Looks once for the answer to the oldest letter that waits, behind the question whether the client is halted:
-/// `was_halted` is what that told. Where it was, and none has come, there is none to come.
+/// Looks once for the answer to the oldest letter that waits. `was_halted` says whether the client was halted before
+/// this look. If it was, and the look finds no answer, none will come.
 fn look_behind<M: Copy>(client: &mut Client<M>, was_halted: bool) -> Result<Option<Answer>, Stop>
     requires asked { was_halted ≡ true → client.old.is_halted ≡ true }
     ensures looked { HasLooked client.old client.new }
@@ -243,7 +246,7 @@ fn look_behind<M: Copy>(client: &mut Client<M>, was_halted: bool) -> Result<Opti
     }
 }
 
-/// Takes the answer to the oldest letter that waits where the client's last view has it.
+/// Takes the answer to the oldest letter that waits, if the client's last view has it.
 fn take_seen<M: Copy>(client: &mut Client<M>) -> Result<Option<Answer>, Stop>
     ensures looked { HasLooked client.old client.new }
     ensures same { (client.new.viewer ≡ client.old.viewer) × (client.new.is_halted ≡ client.old.is_halted) }

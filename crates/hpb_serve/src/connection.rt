@@ -14,13 +14,13 @@ use std::io;
 use std::net::Shutdown;
 use std::sync::Wait;
 
-/// How often a session looks at its connection for more to read before it sleeps until there is some.
+/// How often a session looks at its connection for more to read before it sleeps until something comes.
 const READ_LOOKS: u32 = 100;
 
 /// How often it looks for an answer of the house before it sleeps until one comes.
 const ANSWER_LOOKS: u32 = 400;
 
-/// A client for which no letter is outstanding, and which of how many sessions it has.
+/// A client without outstanding letters, and the number of its session among all sessions.
 #[derive(Drop)]
 pub(crate) struct Idle {
     pub(crate) client: Client<Halt>,
@@ -43,10 +43,10 @@ impl Idle {
     }
 }
 
-/// With more sessions than these none looks: each look would take a core from a thread that others wait for.
+/// With more sessions than this, none looks: each look would take a core from a thread for which others wait.
 const MOST_LOOKING: usize = 8;
 
-/// So many looks, or none where there are many sessions.
+/// The given number of looks, or none if there are many sessions.
 fn looks_among(looks: u32, sessions: usize) -> u32
     ensures few { sessions ≤ MOST_LOOKING → result ≡ looks }
     ensures many { MOST_LOOKING < sessions → result ≡ 0 }
@@ -54,10 +54,11 @@ fn looks_among(looks: u32, sessions: usize) -> u32
     if sessions <= MOST_LOOKING { looks } else { 0 }
 }
 
-/// Runs a client's session over the connection that it gets at the door, which is closed at the end. Without one the
-/// client is finished at once.
+/// Runs a client's session over the connection that it gets at the door, and closes the connection at the end. If it
+/// gets none, it finishes the client at once.
 ///
-/// What ends the session early, 90 `memory` or 92 `stream`, ends nothing else. A watch is told why it has ended.
+/// A fault that ends the session early, 90 `memory` or 92 `stream`, ends no other. A watch gets the reason why the
+/// session ended.
 pub(crate) fn serve_connection<R: Wait, V: Watch>(
     rt: &R,
     alloc: Global,
@@ -82,13 +83,13 @@ pub(crate) fn serve_connection<R: Wait, V: Watch>(
     let mut writer = reader;
     let looks = looks_among(ANSWER_LOOKS, sessions);
     let session = run_session(rt, alloc, &mut reader, &mut writer, client, looks);
-    // A connection that its other side has closed is shut down.
+    // This fails if the other side has closed the connection; then it is shut down already.
     let _ = stream.shutdown(Shutdown::Both);
     watch.ended(&guest.place, cause_of(&session, failure.get()));
     session.end
 }
 
-/// Why a session has ended, with how the last call of its connection failed, if it did.
+/// Why a session ended. If the last call of its connection failed, the cause has that error.
 fn cause_of(session: &Session<Halt>, failure: Option<io::Error>) -> EndCause {
     match (&session.end, session.fault) {
         (SessionEnd::Left(_), _) => EndCause::Order,

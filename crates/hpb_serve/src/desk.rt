@@ -15,19 +15,24 @@ use hpb_tree::Definition;
 use std::alloc::{AllocError, Global};
 use std::sync::Wait;
 
-/// The desk of a session on a house. It posts commands that have come, up to 16, as letters of its client's seat, and
-/// then waits for their answers in that order.
+/// The desk of a session on a house. It posts up to 16 commands that have come together, as letters of its client's
+/// seat, and then waits for their answers in order.
 ///
-/// It stands at a state by the history that its client's viewer opened. A command is replied by an answer to its
-/// letter, which fits what the viewer then shows and was judged after all that the session was told of; or, from the
-/// first of these on, by 93 `failed` where the client is halted and one more look finds no answer, or by 95 `order`
-/// where an answer comes that isn't the one that it waits for. A 95 ends the session: no command behind it is replied.
-/// Questions are answered by what is published.
+/// The state of a desk is relative to the history that its client's viewer opened. A command's reply is the answer to
+/// its letter. The answer fits the auction that the viewer then shows, and was judged after all that the session has
+/// reported.
+///
+/// Two things end such replies, from a first command on:
+/// - 93 `failed`: the client is halted, and one more look finds no answer;
+/// - 95 `order`: an answer comes that isn't the one that it waits for. It ends the session: no command behind it gets a
+///   reply.
+///
+/// Questions are answered by the published auction.
 #[derive(Drop)]
 pub struct HouseDesk<M: Copy, R: Wait + Drop> {
     rt: R,
     client: Client<M>,
-    /// Why its commands get no more answers of the rules, if they don't.
+    /// Why its commands get no more answers of the rules, or `None`.
     stop: Option<Stop>,
     /// How often it looks for an answer before it sleeps.
     looks: u32,
@@ -45,7 +50,7 @@ impl<M: Copy, R: Wait + Drop> HouseDesk<M, R> {
     ghost use Rattle.hpb_serve.specs.Sessions.{DeskStands, RepliesAt, State, over_at};
     ghost use Rattle.hpb_serve.specs.Stops.{is_over};
 
-    /// A desk with a client for which no letter is outstanding. It sleeps until its answers come.
+    /// A desk with a client without outstanding letters. It sleeps until its answers come.
     pub fn new(rt: R, client: Client<M>) -> Self
         requires idle { client.waiting.items ≡ [] }
         ensures client { result.client ≡ client }
@@ -59,7 +64,8 @@ impl<M: Copy, R: Wait + Drop> HouseDesk<M, R> {
         }
     }
 
-    /// The same desk, which looks so many times for each answer before it sleeps. Other threads run between two looks.
+    /// The same desk, which looks this many times for each answer before it sleeps. Other threads run between two
+    /// looks.
     pub fn looking(mut self, looks: u32) -> Self
         ensures client { result.client ≡ self.client }
         ensures stop { result.stop ≡ self.stop }
@@ -68,7 +74,7 @@ impl<M: Copy, R: Wait + Drop> HouseDesk<M, R> {
         self
     }
 
-    /// The client, as it stands.
+    /// The client, in its present state.
     pub fn client(self) -> Client<M>
         ensures { result ≡ self.client }
     {
@@ -76,7 +82,7 @@ impl<M: Copy, R: Wait + Drop> HouseDesk<M, R> {
         client
     }
 
-    /// Finishes the client; after a 95 it is handed back.
+    /// Finishes the client. After a 95 it hands the client back instead.
     pub(crate) fn finish(self) -> SessionEnd<M>
         ensures seat { seat_of result ≡ self.client.seat }
         ensures viewer { viewer_of result ≡ self.client.viewer }
@@ -95,16 +101,16 @@ impl<M: Copy, R: Wait + Drop> HouseDesk<M, R> {
         }
     }
 
-    /// What commands that are asked together are replied.
+    /// The replies to commands that are sent together.
     fn reply(&mut self, commands: &Commands) -> Replies
         requires some { 0 < length commands.now }
         requires most { length commands.now ≤ MOST_WAITING }
         ensures replied { (state : State) → DeskStands self.old.client self.old.stop state
             → (next : State) × AsksAll RepliesAt over_at state commands.now result next × DeskStands self.new.client self.new.stop next }
         ensures rules { self.new.client.viewer.opened ≡ self.old.client.viewer.opened }
-        // Nothing is posted once the client is halted.
+        // A halted client posts nothing.
         ensures silent { self.old.client.is_halted ≡ true → sent self.new.client.letters ≡ sent self.old.client.letters }
-        // Once the desk has stopped, nothing is posted either.
+        // A desk that has stopped posts nothing either.
         ensures stopped { IsSome self.old.stop → self.new.client ≡ self.old.client }
     {
         if let Some(stop) = self.stop {

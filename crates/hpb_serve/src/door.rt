@@ -7,7 +7,7 @@ use std::sync::{Mutex, MutexGuard, Wait};
 use std::thread::Parker;
 use std::time::Duration;
 
-/// How long nothing is accepted after a connection that was not, in milliseconds: what was missing may be there then.
+/// After an accept that failed, how long none is tried, in milliseconds. Whatever was missing may be there then.
 const MISSED_WAIT: u64 = 100;
 
 /// A connection that was accepted.
@@ -17,7 +17,7 @@ pub(crate) struct Guest {
     pub(crate) place: Place,
 }
 
-/// What lies under the door's lock.
+/// The state under the door's lock.
 #[derive(Drop)]
 pub(crate) struct Entry {
     /// `None` once the last place is taken.
@@ -27,7 +27,7 @@ pub(crate) struct Entry {
 }
 
 impl Entry {
-    /// Takes the next place, and waits for its connection. One that is not accepted has ended.
+    /// Takes the next place, and waits for its connection. If the accept fails, the session of that place has ended.
     fn take<R: Wait, V: Watch>(&mut self, rt: &R, watch: &V, places: usize) -> Option<Guest> {
         let Some(listener) = &self.listener else {
             return None;
@@ -56,7 +56,8 @@ impl Entry {
     }
 }
 
-/// The door of a house. One session at a time waits there for its connection, and the last one closes it behind itself.
+/// The door of a house. One session at a time waits there for its connection, and the last one closes the door behind
+/// itself.
 #[derive(Drop)]
 pub(crate) struct Door {
     entry: Mutex<Entry>,
@@ -67,7 +68,7 @@ pub(crate) struct Door {
 }
 
 impl Door {
-    /// A door for so many sessions, each of which has a thread as far as is known.
+    /// A door for this many sessions. Each counts as having a thread until `admit` says otherwise.
     pub(crate) fn new(listener: TcpListener, places: usize) -> Door {
         let entry = Entry {
             listener: Some(listener),
@@ -85,13 +86,13 @@ impl Door {
         self.entry.lock(rt)
     }
 
-    /// Only so many sessions, the first ones, have a thread.
+    /// Admits this many sessions, the first ones, since no more have a thread.
     pub(crate) fn admit(&self, sessions: usize) {
         self.sessions.store(sessions, Ordering::SeqCst);
     }
 
-    /// The connection of the session of this number, from 0 on. It waits until one comes. `None` where it is not
-    /// accepted, and at once where that session has no thread.
+    /// Waits for the connection of the session of this number, from 0 on. `None` if the accept fails, and at once if
+    /// that session has no thread.
     pub(crate) fn enter<R: Wait, V: Watch>(
         &self,
         rt: &R,

@@ -8,10 +8,10 @@ use hpb_rings::{Client, Report};
 use hpb_rules::Refusal;
 use std::alloc::{AllocError, AllocFailed};
 
-/// Sessions that have all ended, and were answered something else than what was committed.
+/// The error of sessions that have all ended, but whose answers differ from the committed commands.
 #[derive(Drop)]
 pub struct Differing<D: Disk + Drop> {
-    /// What the house leaves, and the two numbers.
+    /// The remains of the house, and the two numbers.
     pub fault: CloseFault<D>,
     /// The report of each session's client, from seat 0 on.
     pub reports: Vec<Report>,
@@ -20,21 +20,21 @@ pub struct Differing<D: Disk + Drop> {
 /// Why sessions were not served, or not to their end.
 #[derive(Drop)]
 pub enum ServeFault<D: Disk + Drop> {
-    /// 90 `memory`: memory was refused, or a thread.
+    /// 90 `memory`: memory or a thread was refused.
     Memory,
-    /// 92 `stream`: the line that tells of the port was not written.
+    /// 92 `stream`: the line with the port wasn't written.
     Writer,
     /// 90 `memory` or 94 `place`: the house was not started.
     Start(StartCause),
-    /// 95 `order`: an answer came that isn't the one that its session waited for. This is the client of that session,
-    /// as it left it.
+    /// 95 `order`: an answer came that isn't the one for which its session waited. This is that session's client, as it
+    /// was left.
     Order(Client<Halt>),
-    /// 96 `counts`: what the sessions were answered isn't what was committed.
+    /// 96 `counts`: the sessions' answers differ from the committed commands.
     Counts(Differing<D>),
 }
 
 impl<D: Disk + Drop> ServeFault<D> {
-    /// The refusal that an `ERR` line tells it by.
+    /// The refusal that an `ERR` line reports.
     pub fn refusal(&self) -> Refusal
         ensures { result ≡ refusal_of self.now }
     {
@@ -58,13 +58,13 @@ impl<D: Disk + Drop> From<AllocError> for ServeFault<D> {
     }
 }
 
-/// Why there isn't a report of each session.
+/// Why the report of a session is missing.
 #[derive(Drop)]
 pub(crate) enum ThreadsFault {
-    /// 90 `memory`: memory was refused, or a thread.
+    /// 90 `memory`: memory or a thread was refused.
     Memory,
-    /// 95 `order`: an answer came that isn't the one that its session waited for. This is the client of that session,
-    /// as it left it.
+    /// 95 `order`: an answer came that isn't the one for which its session waited. This is that session's client, as it
+    /// was left.
     Order(Client<Halt>),
 }
 

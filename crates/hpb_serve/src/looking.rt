@@ -1,4 +1,4 @@
-//! Reading a connection by looks, before it is waited for.
+//! Reading a connection by looks, before its thread sleeps.
 ghost use Rattle.std.specs.Io.{ReadsAtMost, WritesAtMost};
 
 use std::cell::Cell;
@@ -6,8 +6,9 @@ use std::io::{ErrorKind, Read, Write};
 use std::net::TcpStream;
 use std::{io, thread};
 
-/// A side of a connection that is looked at for more to read, so many times, before its thread sleeps until there is
-/// some. Other threads run between two looks. With 0 looks it sleeps at once. It notes how a call has failed.
+/// One side of a connection, which looks for more to read this many times before its thread sleeps until something
+/// comes. Other threads run between two looks. With 0 looks it sleeps at once. It notes the error of a call that
+/// failed.
 #[derive(Clone, Copy)]
 pub(crate) struct Looking<'a> {
     stream: &'a TcpStream,
@@ -16,13 +17,13 @@ pub(crate) struct Looking<'a> {
 }
 
 impl<'a> Looking<'a> {
-    /// A side of a connection, by which each write is sent at once.
+    /// This side of a connection. Each write is sent at once.
     pub(crate) fn new(
         stream: &'a TcpStream,
         looks: u32,
         failure: &'a Cell<Option<io::Error>>,
     ) -> Looking<'a> {
-        // Where either is refused the connection serves as well, and more slowly.
+        // If either of these is refused, the connection still works, only more slowly.
         let _ = stream.set_nodelay(true);
         if looks > 0 {
             let _ = stream.set_nonblocking(true);
@@ -34,7 +35,7 @@ impl<'a> Looking<'a> {
         }
     }
 
-    /// Reads what has come, and waits for it behind the last look.
+    /// Reads any bytes that have come. If no look finds any, it waits for some.
     fn look(&self, buf: &mut [u8]) -> io::Result<usize>
         ensures { ReadsAtMost result buf.new }
     {
@@ -48,7 +49,7 @@ impl<'a> Looking<'a> {
                 ended => return ended,
             }
         }
-        // No look found any: this call waits.
+        // No look found any: the next call waits.
         stream.set_nonblocking(false)?;
         let ended = stream.read(buf);
         let _ = stream.set_nonblocking(true);
@@ -64,14 +65,14 @@ impl<'a> Looking<'a> {
             Err(error) if error.kind() == ErrorKind::WouldBlock => {}
             ended => return ended,
         }
-        // The other side takes no more yet: this call waits.
+        // The other side takes no more yet: the next call waits.
         stream.set_nonblocking(false)?;
         let ended = stream.write(buf);
         let _ = stream.set_nonblocking(true);
         ended
     }
 
-    /// Notes how a call has ended.
+    /// Notes the error of a call, if it failed.
     fn note(&self, ended: &io::Result<usize>) {
         if let Err(error) = ended {
             self.failure.set(Some(*error));

@@ -1,4 +1,4 @@
-//! Whether a device has what its house knows.
+//! Whether a device still has the bytes that its house wrote.
 
 use hpb_disk::Disk;
 use hpb_house::{House, Naming};
@@ -7,8 +7,8 @@ use std::sync::Wait;
 /// How many bytes are compared at a time.
 const PIECE_BYTES: usize = 65_536;
 
-/// Whether somebody else has written the device of a house, or cut it. It is compared piece by piece, with the lock
-/// taken for one at a time, so that whoever commits waits for one piece at most.
+/// Whether somebody else has written the device of a house, or cut it. It compares piece by piece, and takes the lock
+/// for one piece at a time, so that a commit waits for one piece at most.
 pub(crate) fn is_overwritten<D: Disk + Drop, W: Wait + Drop, J: Naming, R: Wait>(
     rt: &R,
     house: &House<D, W, J>,

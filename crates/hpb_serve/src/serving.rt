@@ -21,26 +21,31 @@ use std::net::{Net, TcpListener, TcpStream};
 use std::sync::Wait;
 use std::thread::Threads;
 
-/// What sessions that have all ended came to.
+/// The result of sessions that have all ended.
 #[derive(Drop)]
 pub struct Served<D: Disk + Drop> {
-    /// What the house leaves.
+    /// The remains of the house.
     pub closing: Closing<D>,
     /// The report of each session's client, from seat 0 on.
     pub reports: Vec<Report>,
 }
 
-/// Serves so many sessions, from 1 to 32, with an opened auction, over connections to a listener.
+/// Serves 1 to 32 sessions with an opened auction, over connections to a listener.
 ///
-/// `LISTENING` with the listener's port is written once the house is started. Then each session gets a thread of its own,
-/// and once all have theirs each accepts its connection, one after another; the last one closes the listener. It waits
-/// until all sessions have ended, and closes the house. An accept that fails counts as a session that ended. What ends one session, 90 `memory` or 92 `stream`, ends
+/// Once the house is started, it writes `LISTENING` with the listener's port. Then each session gets a thread of its
+/// own. Once all have theirs, each accepts its connection, one after another; the last one closes the listener. It
+/// waits until all sessions have ended, and closes the house.
+///
+/// An accept that fails counts as a session that ended. A fault that ends one session, 90 `memory` or 92 `stream`, ends
 /// no other.
 ///
-/// Refused: 90 `memory` where memory or a thread is refused, 94 `place` where a session's place is, both before
-/// anything is written or, for 90, after the line; 92 `stream` where the line was not written; 95 `order` where a
-/// session left its client, which is handed back; 96 `counts` where what the sessions were answered isn't what was
-/// committed: their reports are handed back with what the house leaves.
+/// Refused:
+/// - 90 `memory`: memory or a thread is refused, before the line or after it;
+/// - 92 `stream`: the line wasn't written;
+/// - 94 `place`: a session's place is refused, before anything is written;
+/// - 95 `order`: a session left its client, which is handed back;
+/// - 96 `counts`: the sessions' answers differ from the committed commands. Their reports are handed back with the
+///   remains of the house.
 pub fn serve_opened<
     H: Net<Listener = TcpListener, Stream = TcpStream> + Threads + Wait + Sync,
     D: Disk + Drop + Send,
@@ -56,10 +61,10 @@ pub fn serve_opened<
 ) -> Result<Served<D>, ServeFault<D>>
     requires { (1 ≤ sessions) × (sessions ≤ MOST_SEATS) }
     ensures written { Announces (listening_line port) (W.contents output.old) (W.contents output.new) result }
-    // All sessions have ended, and the commands that they were told of as newly accepted are those that were committed.
+    // All sessions have ended. The commands that they reported as newly accepted are those that were committed.
     ensures ended { IfOk result (λ served. EndsAll D.seen D.may_leave D.failures (D.seen opened.disk) (D.failures opened.disk) opened.plan.auction sessions served) }
-    // A 95 hands back the client that a session left with a reason, and a 96 what was answered and what the device
-    // keeps.
+    // A 95 hands back the client that a session left, for a reason. A 96 hands back the reports, and the device keeps
+    // the committed commands.
     ensures ill { IfErr result (EndsIll D.seen D.may_leave D.failures (D.seen opened.disk) (D.failures opened.disk) opened.plan.auction sessions) }
 {
     serve_watched(
@@ -67,11 +72,15 @@ pub fn serve_opened<
     )
 }
 
-/// Serves so many sessions as `serve_opened` does, while a watch is told what happens beside them: of each place that
-/// is taken, and of its end, of each connection that is not accepted, and then nothing is accepted for a moment, of a
-/// thread that is refused, of the first call of the device that fails, and of a device that somebody else has written.
-/// For that the whole device is compared at each checkpoint, until it differs, and once all sessions have ended. The
-/// watch looks at each checkpoint until it has told people of something, and once all sessions have ended.
+/// Serves sessions as `serve_opened` does, and reports to a watch:
+/// - each place that is taken, and each that ends;
+/// - each accept that fails, after which none is tried for 100 milliseconds;
+/// - a thread that is refused;
+/// - the first call of the device that fails;
+/// - a device that somebody else has written.
+///
+/// To find the last, it compares the whole device at each checkpoint, until it differs, and once all sessions have
+/// ended. The watch itself looks at each checkpoint until it has warned somebody, and once all sessions have ended.
 pub fn serve_watched<
     H: Net<Listener = TcpListener, Stream = TcpStream> + Threads + Wait + Sync,
     D: Disk + Drop + Send,
@@ -89,10 +98,10 @@ pub fn serve_watched<
 ) -> Result<Served<D>, ServeFault<D>>
     requires { (1 ≤ sessions) × (sessions ≤ MOST_SEATS) }
     ensures written { Announces (listening_line port) (W.contents output.old) (W.contents output.new) result }
-    // All sessions have ended, and the commands that they were told of as newly accepted are those that were committed.
+    // All sessions have ended. The commands that they reported as newly accepted are those that were committed.
     ensures ended { IfOk result (λ served. EndsAll D.seen D.may_leave D.failures (D.seen opened.disk) (D.failures opened.disk) opened.plan.auction sessions served) }
-    // A 95 hands back the client that a session left with a reason, and a 96 what was answered and what the device
-    // keeps.
+    // A 95 hands back the client that a session left, for a reason. A 96 hands back the reports, and the device keeps
+    // the committed commands.
     ensures ill { IfErr result (EndsIll D.seen D.may_leave D.failures (D.seen opened.disk) (D.failures opened.disk) opened.plan.auction sessions) }
 {
     let started = match House::start(rt, alloc, opened, sessions) {
@@ -105,7 +114,7 @@ pub fn serve_watched<
     serve_started::<Brand, D, &H, H, V>(rt, alloc, started, listener, watch)
 }
 
-/// Serves a session for each client of a house that was started, by the name that is its own.
+/// Serves a session for each client of a house that was started, and gives the house its name.
 fn serve_started<
     J: Naming + Send + Sync,
     D: Disk + Drop + Send,

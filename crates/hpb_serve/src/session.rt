@@ -18,15 +18,15 @@ use std::io::{Read, Write};
 use std::sync::Wait;
 use std::thread;
 
-/// Answers each line of the reader by one line on the writer, as `serve` does, from the house of a client, and then
-/// finishes the client. After a 95 `order` the client is handed back in place of that. For each answer of the house it
-/// looks so many times, while other threads run, before it sleeps.
+/// Answers each line of the reader by one line on the writer, as `serve` does, from the house of a client. Then it
+/// finishes the client; after a 95 `order` it hands the client back instead. For each answer of the house it looks this
+/// many times, while other threads run, before it sleeps.
 ///
-/// Commands that have come are posted together, up to 16. All that is answered is written and flushed before the next
-/// ones are posted, and before more is read.
+/// It posts up to 16 commands that have come together. It writes and flushes all answers before it posts the next ones
+/// or reads more.
 ///
-/// The replies fit what the client's viewer shows at the end: each was judged after commands that stand at the front of
-/// that history, and after all that the session was told of before.
+/// The replies fit the auction that the client's viewer shows at the end. Each was judged after commands at the front
+/// of that history, and after all that the session had reported before.
 pub fn run_session<M: Copy, R: Wait + Drop, I: Read, O: Write>(
     rt: R,
     alloc: Global,
@@ -37,8 +37,9 @@ pub fn run_session<M: Copy, R: Wait + Drop, I: Read, O: Write>(
 ) -> Session<M>
     requires idle { client.waiting.items ≡ [] }
     ensures own { IsEndOf client result.end }
-    // Each line has the answer of a desk whose answers fit, and the session ends at the state where these lead. Where
-    // what was opened shows a history, what was told of last goes on from what the client's viewer showed at the start.
+    // Each line has the answer of a desk whose answers fit, and the session ends at the state to which they lead. If
+    // the opened auction shows a history, the commands reported at last go on from those that the client's viewer
+    // showed at the start.
     ensures served { (state : State) × Serves rules_at over_at RepliesAt ShowsAt most_in_flight no_memory [] MOST_READ_BYTES
         (streams (I.remaining reader.old) (O.contents writer.old)) (streams (I.remaining reader.new) (O.contents writer.new))
         (at_start client) state result.fault
@@ -52,7 +53,7 @@ pub fn run_session<M: Copy, R: Wait + Drop, I: Read, O: Write>(
     }
 }
 
-/// Finishes a client for which no letter is outstanding, or which is halted.
+/// Finishes a client without outstanding letters, or one that is halted.
 pub fn finish_client<M: Copy, R: Wait + Drop>(rt: R, client: Client<M>) -> Report
     requires ended { (client.waiting.items ≡ []) ⊎ (client.is_halted ≡ true) }
     ensures seat { result.seat ≡ client.seat }

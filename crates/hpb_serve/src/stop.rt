@@ -7,14 +7,14 @@ use hpb_rules::Refusal;
 /// Why the commands of a session get no more answers of the rules.
 #[derive(Clone, Copy, Debug, PartialEq, Eq)]
 pub enum Stop {
-    /// 93 `failed`: the client is halted, and one more look found no answer. Each later command is told so too.
+    /// 93 `failed`: the client is halted, and one more look found no answer. Each later command is refused so too.
     Halted,
-    /// 95 `order`: an answer came that isn't the one that the client waits for. The session is over.
+    /// 95 `order`: an answer came that isn't the one for which the client waits. The session is over.
     Order,
 }
 
 impl Stop {
-    /// The refusal that a command is told it by.
+    /// The refusal that the command gets.
     pub fn refusal(self) -> Refusal
         ensures { result ≡ refusal_of self }
     {

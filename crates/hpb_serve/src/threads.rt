@@ -33,8 +33,7 @@ fn finish_clients<R: Wait>(rt: &R, clients: Vec<Client<Halt>>)
 
 /// Starts a session for each client, in a thread of its own, before any of them takes a connection.
 ///
-/// 90 where a thread is refused. The sessions that have one are served all the same, and the other clients are
-/// finished.
+/// 90 if a thread is refused. The sessions that have one are served all the same, and the other clients are finished.
 fn start_sessions<'s, E, R: Threads + Wait + Sync, V: Watch + Sync>(
     scope: &Scope<'s, E>,
     rt: &'s R,
@@ -67,14 +66,14 @@ fn start_sessions<'s, E, R: Threads + Wait + Sync, V: Watch + Sync>(
             Ok(thread) => {
                 if threads.push(thread).is_err() {
                     is_whole = false;
-                    // That session runs, and is the last.
+                    // This session runs, and is the last.
                     door.admit(threads.len().saturating_add(1));
                 }
             }
             Err(refused) => {
                 watch.refused_thread();
                 is_whole = false;
-                // This session has no thread to wait in: the door admits it no more, and its client is finished.
+                // This session has no thread in which to wait: the door won't admit it, and its client is finished.
                 door.admit(threads.len());
                 let session = refused.value;
                 session();
@@ -89,12 +88,15 @@ fn start_sessions<'s, E, R: Threads + Wait + Sync, V: Watch + Sync>(
     }
 }
 
-/// Runs the workers of a house and a session for each client, and waits for all of them: of each client its report.
+/// Runs the workers of a house and a session for each client, and waits for all of them. Returns the report of each
+/// client.
 ///
-/// 90 where memory or a thread is refused, 95 where a session left its client: that is handed back. Each client that
-/// has no session is finished, so that the committer ends. A watch is told of each place that is taken and of its end,
-/// of connections that were not accepted, of a thread that was refused, and of a device that failed or that somebody
-/// else has written. It looks at each checkpoint, and at the end unless a thread was refused.
+/// 90 if memory or a thread is refused. 95 if a session left its client, which is handed back. Each client that has no
+/// session is finished, so that the committer ends.
+///
+/// A watch gets reports of each place that is taken or ends, of accepts that fail, and of a thread that is refused. It
+/// also gets those of a device that fails or that somebody else has written. It looks at each checkpoint, and at the
+/// end unless a thread was refused.
 pub(crate) fn run_threads<
     D: Disk + Drop + Send,
     W: Wait + Drop + Send,

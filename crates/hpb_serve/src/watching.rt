@@ -1,4 +1,4 @@
-//! What happens beside the sessions.
+//! The watch: reports of events beside the sessions.
 
 use crate::end::EndCause;
 use crate::sameness::is_overwritten;
@@ -12,20 +12,21 @@ use std::sync::Wait;
 /// A place that a connection took.
 #[derive(Clone, Copy, Debug)]
 pub struct Place {
-    /// Which one, from 1 on.
+    /// Its number, from 1 on.
     pub number: usize,
-    /// How many there are.
+    /// How many places there are.
     pub places: usize,
     /// The other side of the connection.
     pub peer: SocketAddr,
 }
 
-/// Is told what happens beside the sessions, and looks after what they are served by. Several threads call it.
+/// Takes reports of events beside the sessions, and looks after the file or device that they are served from. Several
+/// threads call it.
 pub trait Watch {
-    /// A connection has come, or was missed: so many of these places are taken now.
+    /// A connection has come, or an accept failed: this many of these places are taken now.
     fn taken(&self, taken: usize, places: usize);
 
-    /// A connection was not accepted, for this reason, and so its session has ended.
+    /// An accept failed, for this reason, and so the session of its place has ended.
     fn missed(&self, error: &io::Error);
 
     /// The session of a connection that has come begins.
@@ -40,18 +41,18 @@ pub trait Watch {
     /// A call of the device has failed, for the first time: no command is accepted any more.
     fn failed(&self);
 
-    /// Somebody else has written what is served, or cut it. It may be told more than once.
+    /// Somebody else has written the device, or cut it. This may be reported more than once.
     fn overwritten(&self);
 
-    /// Looks whether what is served is still where it was, and tells people where it isn't. `true` says that they were
-    /// told.
+    /// Looks whether the device is still in its place, and warns somebody if it isn't. `true` if it has warned
+    /// somebody.
     fn look(&self) -> bool;
 
     /// The same, once all sessions have ended.
     fn look_last(&self);
 }
 
-/// Nobody is told, and nothing is looked after.
+/// A watch that does nothing.
 #[derive(Clone, Copy, Debug)]
 pub struct Unwatched;
 
@@ -77,8 +78,8 @@ impl Watch for Unwatched {
     fn look_last(&self) {}
 }
 
-/// The gate of a checkpointer. At each checkpoint it compares all that is served with what the house knows, and has a
-/// watch look, each until people were told. It tells the watch that the device has failed.
+/// The gate of a checkpointer. At each checkpoint it compares the device with the house's own bytes until they differ,
+/// and has the watch look until that has warned somebody. It reports a failed device to the watch.
 #[derive(Drop)]
 pub(crate) struct Rounds<'a, D: Disk + Drop, W: Wait + Drop, J: Naming, V> {
     house: &'a House<D, W, J>,
@@ -97,7 +98,7 @@ impl<'a, D: Disk + Drop, W: Wait + Drop, J: Naming, V: Watch> Rounds<'a, D, W, J
         }
     }
 
-    /// A checkpoint has begun.
+    /// Does so at the beginning of a checkpoint.
     fn look<R: Wait>(&self, rt: &R) {
         if !self.is_overwritten.get() && is_overwritten(rt, self.house) {
             self.is_overwritten.set(true);
@@ -119,7 +120,7 @@ impl<D: Disk + Drop, W: Wait + Drop, J: Naming, V: Watch> Gate for Rounds<'_, D,
     }
 }
 
-/// Compares all that was served, and has a watch look, once all sessions have ended.
+/// Compares the device, and has the watch look, once all sessions have ended.
 pub(crate) fn look_last<D: Disk + Drop, W: Wait + Drop, J: Naming, V: Watch, R: Wait>(
     rt: &R,
     house: &House<D, W, J>,

@@ -12,12 +12,12 @@ use std::alloc::{AllocError, Global};
 #[derive(Clone, Copy, Debug, PartialEq, Eq)]
 pub(crate) struct Size {
     pub(crate) nodes: u64,
-    /// The first so many of them: none, one over all others, or those of a full binary tree.
+    /// How many of the nodes are packages, which come first: none, one over all others, or those of a full binary tree.
     pub(crate) packages: u64,
     pub(crate) bidders: u64,
 }
 
-/// How commands are sent: so many, in batches of so many, with a checkpoint after so many batches.
+/// How many commands are sent, how many in a batch, and after how many batches a checkpoint is made.
 #[derive(Clone, Copy, Debug, PartialEq, Eq)]
 pub(crate) struct Sent {
     pub(crate) commands: u32,
@@ -139,7 +139,7 @@ pub(crate) fn events(alloc: Global, size: Size, sent: Sent) -> Result<Vec<Event>
     Ok(events)
 }
 
-/// A commit, and a whole checkpoint where the journal is full.
+/// A commit, and a whole checkpoint if the journal is full.
 fn push_batch(
     events: &mut Vec<Event>,
     letters: Letters,

@@ -1,4 +1,4 @@
-//! What is opened for a house: six nodes, four bidders and a journal of a given shape.
+//! Opened devices for houses: six nodes, four bidders and a journal of a given shape.
 
 use anyhow::Error;
 use hpb_codec::JournalShape;
@@ -15,7 +15,7 @@ pub(crate) fn new_opened(alloc: Global, shape: JournalShape) -> Result<Opened<Me
     }
 }
 
-/// The same, of which one call fails: so many after it was opened, from 1.
+/// The same with one call that fails: the one of this number after the opening, counted from 1.
 pub(crate) fn faulty_opened(
     alloc: Global,
     shape: JournalShape,

@@ -27,7 +27,7 @@ const SIZE: Size = Size {
 /// How many steps a checkpoint may have.
 const STEPS: u32 = 2_000;
 
-/// Whether each letter's seat is one of so many.
+/// Whether each letter's seat is below this number of seats.
 fn are_seated(seats: u8, letters: &[Letter]) -> bool
     ensures { IsTrue result ↔ AreSeated seats letters.now }
 {
@@ -56,7 +56,7 @@ fn makes_room<D: Disk + Drop, W: Wait + Drop>(keeper: &mut Keeper<D, W>) -> Resu
     bail!("a checkpoint of more than {STEPS} steps")
 }
 
-/// Offers a batch of this letter: `false` where the journal is full.
+/// Offers a batch of this letter. `false` if the journal is full.
 fn offers<D: Disk + Drop, W: Wait + Drop>(
     keeper: &mut Keeper<D, W>,
     letter: &Letter,
@@ -74,7 +74,7 @@ fn offers<D: Disk + Drop, W: Wait + Drop>(
     }
 }
 
-/// Commits a batch of this letter, after a checkpoint where the journal is full.
+/// Commits a batch of this letter. If the journal is full, it makes a checkpoint first.
 fn keeps<D: Disk + Drop, W: Wait + Drop>(keeper: &mut Keeper<D, W>, letter: &Letter) -> Result<()> {
     if !offers(keeper, letter)? {
         makes_room(keeper)?;
@@ -97,7 +97,7 @@ fn new_keeper<R: Wait>(rt: &R, alloc: Global) -> Result<Box<Keeper<MemoryDisk, &
     }
 }
 
-/// Each batch has the next command that is accepted.
+/// Each batch has the next command, which is accepted.
 fn keeps_batches<D: Disk + Drop, W: Wait + Drop>(keeper: &mut Keeper<D, W>) -> Result<()> {
     let mut place = 0u64;
     for number in 1..=BATCHES {

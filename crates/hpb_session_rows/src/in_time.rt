@@ -1,4 +1,4 @@
-//! A session on a house that is given some time.
+//! A session on a house that must end within some time.
 
 use crate::one_session::{Outcome, run_on_new_device};
 use hpb_codec::JournalShape;
@@ -10,9 +10,10 @@ use std::thread;
 use std::thread::Threads;
 use std::time::{Clock, Duration};
 
-/// How often a flag is looked at at most, and how many milliseconds lie between two looks.
+/// The most looks at a flag.
 const TRIES: u32 = 2_000;
 
+/// The time between two looks, in milliseconds.
 const PAUSE: u64 = 10;
 
 /// Waits until a flag is up. `false` says that it isn't after the most tries.
@@ -26,15 +27,15 @@ fn goes_up<H: Clock>(rt: &H, flag: &AtomicBool) -> bool {
     false
 }
 
-/// What came of a session, if it could be run, and what it wrote.
+/// The result of a session, if it could be run, and its output.
 #[derive(Drop)]
 pub(crate) struct Spoken {
     pub(crate) outcome: Option<Outcome>,
     pub(crate) answers: Vec<u8>,
 }
 
-/// Runs a session on these lines, on a house over a new device in memory, by a thread of its own. Fails where it has
-/// not ended after the most tries.
+/// Runs a session on these lines in a thread of its own, on a house over a new device in memory. Fails if it hasn't
+/// ended after the most tries.
 pub(crate) fn run_in_time<H: Threads + Wait + Clock + Sync + Send + Copy + 'static>(
     rt: &H,
     alloc: Global,

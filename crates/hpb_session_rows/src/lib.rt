@@ -1,4 +1,4 @@
-//! Tests of sessions on a house; of what a viewer sees; and of devices, engines and houses of the least and the greatest
+//! Tests of sessions on a house; of a viewer's views; and of devices, engines and houses of the least and the greatest
 //! sizes.
 #![tactic(auto)]
 

@@ -26,10 +26,10 @@ use std::thread::Threads;
 /// How often the session looks for an answer before it sleeps.
 const LOOKS: u32 = 0;
 
-/// What came of a session, and of its house when that was closed.
+/// The result of a session, and of its house when that was closed.
 #[derive(Clone, Copy, Debug, PartialEq, Eq)]
 pub(crate) struct Outcome {
-    /// What ended the session before the end of its input.
+    /// The fault that ended the session before the end of its input, if one did.
     pub(crate) fault: Result<(), SessionFault>,
     /// How many answers its client took.
     pub(crate) taken: u64,
@@ -39,7 +39,7 @@ pub(crate) struct Outcome {
     pub(crate) has_failed: bool,
 }
 
-/// Runs a session on these lines beside the two workers of its house, all to their ends.
+/// Runs a session on these lines beside the two workers of its house, until all have ended.
 fn run_threads<
     D: Disk + Drop + Send,
     W: Wait + Drop + Send,
@@ -107,8 +107,8 @@ fn close_house<D: Disk + Drop, W: Wait + Drop, J: Naming>(
     }
 }
 
-/// Runs a session on these lines with the only client of a house that was started, by the name that is its own, and
-/// closes the house.
+/// Runs a session on these lines with the only client of a house that was started, gives the house its name, and closes
+/// it.
 fn run_started<
     J: Naming + Send + Sync,
     D: Disk + Drop + Send,
@@ -134,7 +134,7 @@ fn run_started<
     close_house(house, session)
 }
 
-/// Starts a house over what was opened, runs a session on these lines with its only client, and closes it.
+/// Starts a house over an opened device, runs a session on these lines with its only client, and closes it.
 fn run_on_house<D: Disk + Drop + Send, R: Threads + Wait + Sync, O: Write>(
     rt: &R,
     alloc: Global,
@@ -159,7 +159,7 @@ pub(crate) fn run_on_new_device<R: Threads + Wait + Sync, O: Write>(
     run_on_house(rt, alloc, new_opened(alloc, shape)?, lines, output)
 }
 
-/// The same over a device of which one call fails: so many after it was opened, from 1.
+/// The same over a device with one call that fails: the one of this number after the opening, counted from 1.
 pub(crate) fn run_on_faulty_device<R: Threads + Wait + Sync, O: Write>(
     rt: &R,
     alloc: Global,

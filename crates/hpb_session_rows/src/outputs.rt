@@ -1,4 +1,4 @@
-//! An output that counts how often it is written, and one that fails.
+//! An output that counts writes, and one that fails.
 
 use std::io;
 use std::io::{ErrorKind, Write};
@@ -17,7 +17,7 @@ impl Write for Deaf {
     }
 }
 
-/// An output that tells how often is written.
+/// An output that counts writes.
 #[derive(Drop)]
 pub(crate) struct Counted {
     pub(crate) bytes: Vec<u8>,

@@ -1,4 +1,4 @@
-//! Sizes at which all that is asked for has to be answered.
+//! Sizes at which all requests must be answered.
 
 ghost use Rattle.std.specs.Prelude.{◌≤◌};
 ghost use Rattle.hpb_rules.specs.declared.limits.TheConstants.{MOST_SEATS};
@@ -64,8 +64,8 @@ fn is_accepted(driven: &Driven<MemoryDisk>, accepted: u32) -> bool {
         && are_accepted(&driven.answers)
 }
 
-/// Formats a device, opens it, starts an engine and drives it: so many commands are accepted, and so many are found
-/// when the device is opened again.
+/// Formats a device, opens it, starts an engine and drives it. So many commands must be accepted, and found when the
+/// device is opened again.
 fn drives(
     alloc: Global,
     (size, shape): (Size, JournalShape),

@@ -1,4 +1,4 @@
-//! Commands that are sent ahead to a session on a house.
+//! Commands that a session on a house gets before it has answered the ones before them.
 
 use crate::one_session::{Outcome, run_on_faulty_device, run_on_new_device};
 use crate::outputs::Counted;
@@ -6,10 +6,10 @@ use hpb_engine_rows::over_layouts;
 use std::alloc::{AllocError, Global};
 use std::test::*;
 
-/// A command, what it is answered behind those before it, and how many are accepted by then.
+/// A command, its answer behind those before it, and how many are accepted by then.
 type Row = (&'static str, &'static str, u32);
 
-/// One command more than are in flight at most.
+/// One more command than may be in flight.
 const ROWS: [Row; 17] = [
     ("BID x 1 a 100", "OK 1", 1),
     ("BID y 1 b 100", "OK 2", 2),
@@ -40,7 +40,7 @@ fn lines(alloc: Global) -> Result<String, AllocError> {
     Ok(lines)
 }
 
-/// What they are answered where the house answers so many, and then halts.
+/// The answers if the house answers so many, and then halts.
 fn answers(alloc: Global, taken: u64) -> Result<String, AllocError> {
     let mut answers = String::new(alloc);
     for (place, (_, answer, _)) in ROWS.iter().enumerate() {
@@ -85,13 +85,13 @@ fn sixteen_commands_are_in_flight(rt: HostRuntime) -> Result<(), Fail> {
         assert_eq!(rt; outcome, wanted);
         let Counted { bytes, writes } = output;
         assert_eq!(rt; String::from_utf8(bytes)?.as_str(), answers(alloc, 17)?.as_str());
-        // What the first sixteen are answered leaves by one write, before the last one is posted.
+        // The answers to the first sixteen leave by one write, before the last command is posted.
         assert_eq!(rt; writes, 2);
     });
     Ok(())
 }
 
-// Where the halt comes in depends on how many letters each batch has; what is answered before it is no matter of that.
+// The moment of the halt depends on how many letters each batch has; the answers before it don't.
 #[test]
 fn halt_with_commands_in_flight(rt: HostRuntime) -> Result<(), Fail> {
     let alloc = rt.alloc();

@@ -31,7 +31,7 @@ fn session_on_a_house(rt: HostRuntime) -> Result<(), Fail> {
     Ok(())
 }
 
-/// One that takes no answer of the house.
+/// A session that takes no answer of the house.
 const NOTHING: Outcome = Outcome {
     fault: Ok(()),
     taken: 0,
@@ -39,7 +39,7 @@ const NOTHING: Outcome = Outcome {
     has_failed: false,
 };
 
-/// Commands and questions in turn, and what they are answered where the device fails at the first of them.
+/// Commands and questions in turn, and their answers if the device fails at the first of them.
 const LINES: &str = "BID x 1 a 100\nSHOW\nBID x 1 a 100\nWHO x\nCLOSE 1\n";
 
 const FAILED: &str = "ERR 93 failed
@@ -53,19 +53,19 @@ ERR 93 failed
 fn session_cut_short(rt: HostRuntime) -> Result<(), Fail> {
     let alloc = rt.alloc();
     over_layouts!(shape => {
-        // In the middle of a line.
+        // The input ends in the middle of a line.
         let mut answers = Vec::new(alloc);
         let outcome = run_on_new_device(&rt, alloc, shape, "BID x 1 a", &mut answers)?;
         assert_eq!(rt; outcome, NOTHING);
         assert_eq!(rt; String::from_utf8(answers)?.as_str(), "ERR 10 line\n");
-        // By the writer, at its first answer.
+        // The writer fails at its first answer.
         let outcome = run_on_new_device(&rt, alloc, shape, "BID x 1 a 100\n", &mut Deaf)?;
         let wanted = Outcome {
             fault: Err(SessionFault::Writer),
             ..ACCEPTED
         };
         assert_eq!(rt; outcome, wanted);
-        // By the device, at each of the four calls of the first commit.
+        // The device fails at each of the four calls of the first commit.
         let wanted = Outcome {
             has_failed: true,
             ..NOTHING

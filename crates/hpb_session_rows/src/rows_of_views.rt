@@ -1,4 +1,4 @@
-//! What a viewer sees, and when it sees nothing any more.
+//! A viewer's views, and when it sees nothing any more.
 ghost use Rattle.std.specs.Prelude.{◌≡◌, ◌<◌, []};
 
 use crate::devices::new_opened;
@@ -29,8 +29,8 @@ fn count_seen(viewer: &mut Viewer) -> Option<u32> {
     viewer.view().map(|auction| auction.count())
 }
 
-/// What a viewer sees of a first bid while it is prepared, and what one that is introduced then; and what both see once
-/// it is published.
+/// The views of a first bid while it is prepared, by an old viewer and by one that is introduced then; and the views of
+/// both once it is published.
 fn seen_of_prepared<R: Wait + Drop>(
     alloc: Global,
     publisher: &mut Publisher<R>,

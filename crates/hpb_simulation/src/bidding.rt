@@ -1,11 +1,11 @@
-//! What commands that look random have in common: tickets and amounts, most of which are accepted.
+//! Tickets and amounts of commands that look random, most of which are accepted.
 ghost use Rattle.std.specs.Prelude.{◌<◌};
 
 use crate::random::Random;
 use hpb_auction::Auction;
 use hpb_rules::{Accepted, Command, NodeId, Saved};
 
-/// Mostly the next ticket behind so many commands that aren't answered. Three of so many chances are other ones.
+/// Mostly the next ticket behind so many commands without an answer. Three chances in so many give another one.
 pub(crate) fn ticket_after(
     random: &mut Random,
     last: Option<Accepted>,
@@ -49,7 +49,7 @@ pub(crate) fn minimum(auction: &Auction, node: usize) -> u64 {
     }
 }
 
-/// Mostly the minimum, or a little more. At times it is far too much, where it may be.
+/// Mostly the minimum, or a little more. At times it is far too much, if that is allowed.
 pub(crate) fn amount(random: &mut Random, minimum: u64, may_be_high: bool) -> u64 {
     let pick = if may_be_high {
         random.below(14)

@@ -15,11 +15,11 @@ use std::alloc::{AllocError, Global};
 use std::sync::Wait;
 use tale::Tale;
 
-/// How many batches are tried at most until all is answered.
+/// How many batches are tried, at most, until all commands are answered.
 const BATCHES: u32 = 200;
 
-/// Goes through a seed: a new device, some lives of a house over it, each of which ends by a stop, and a last one in
-/// which all is answered. What was told before an error is told too.
+/// Goes through a seed: a new device, some lives of a house over it, each ended by a stop, and a last life in which all
+/// commands are answered. After an error the tale up to it is there too.
 pub(crate) fn simulate<R: Wait>(rt: &R, world: &mut World, seed: u64) -> Result<()> {
     make_device(world, seed)?;
     let lives = world.random.below(6).saturating_add(2);
@@ -27,13 +27,13 @@ pub(crate) fn simulate<R: Wait>(rt: &R, world: &mut World, seed: u64) -> Result<
         live(rt, world)?;
     }
     settle(rt, world)?;
-    // What is on the device at last.
+    // The auction on the device at the end goes into the tale.
     let _ = Life::begin(rt, world, 0)?;
     world.tale.line("end")?;
     Ok(())
 }
 
-/// What a seed begins with.
+/// The beginning of a seed.
 pub(crate) fn new_world(alloc: Global, seed: u64) -> Result<World, AllocError> {
     let mut senders = Vec::new(alloc);
     for _ in 0..SEATS {
@@ -61,7 +61,7 @@ fn make_device(world: &mut World, seed: u64) -> Result<()> {
     Ok(())
 }
 
-/// One life.
+/// One life of a house, from an opening to a stop.
 fn live<R: Wait>(rt: &R, world: &mut World) -> Result<()> {
     let fault = world.random.fault();
     let mut life = Life::begin(rt, world, fault)?;
@@ -69,7 +69,7 @@ fn live<R: Wait>(rt: &R, world: &mut World) -> Result<()> {
     Box::into_inner(life).stop(world)
 }
 
-/// Some steps, behind which a batch may be on its way.
+/// Makes some steps. A batch may be on its way behind them.
 fn make_steps<W: Wait + Drop>(life: &mut Life<W>, world: &mut World) -> Result<()> {
     let steps = world.random.below(400);
     let pace = pace(&mut world.random);
@@ -82,7 +82,7 @@ fn make_steps<W: Wait + Drop>(life: &mut Life<W>, world: &mut World) -> Result<(
     Ok(())
 }
 
-/// Of so many steps of workers one is of a checkpoint: they are seldom, or as many as of commits, or more.
+/// One in so many steps of workers is of a checkpoint: they are seldom, or as many as those of commits, or more.
 fn pace(random: &mut Random) -> u32
     ensures { 0 < result }
 {
@@ -93,7 +93,7 @@ fn pace(random: &mut Random) -> u32
     }
 }
 
-/// A life in which no call fails, until all is answered.
+/// A life in which no call fails, until all commands are answered.
 fn settle<R: Wait>(rt: &R, world: &mut World) -> Result<()> {
     let mut life = Life::begin(rt, world, 0)?;
     answer_all(&mut life, world)?;

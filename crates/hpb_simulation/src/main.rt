@@ -1,7 +1,10 @@
-//! Random events, the same for a seed each time. A walk takes an engine through them beside a plain model, with a stop
-//! after each call of the device. A house is taken through them without its threads: clients, rings, board, engine and
-//! a device that fails and stops, one step after another. What was sent and what came of it is told; `bench/simulate`
-//! holds that against the rules.
+//! Random events, the same for a seed each time.
+//!
+//! A walk takes an engine through them beside a plain model, with a stop after each call of the device. A house is
+//! taken through them without its threads: clients, rings, board, engine and a device that fails and stops, one step
+//! after another.
+//!
+//! The tale has all that was sent, and the results. `bench/simulate` checks it against the rules.
 #![tactic(auto)]
 
 mod bidding;
@@ -21,15 +24,15 @@ use std::sync::Wait;
 /// How many stops a walk makes over devices of a layout.
 const STOPS: u64 = 10_000;
 
-/// How many seeds a house is taken through where no words say so.
+/// Through how many seeds a house is taken, if no words say so.
 const SEEDS: u64 = 100;
 
-/// What the words ask for.
+/// The request of the words.
 #[derive(Clone, Copy)]
 struct Asked {
     first: u64,
     count: u64,
-    /// Whether there are no words: walks come first, and of the seeds it tells only how many there were.
+    /// Whether there are no words: then walks come first, and of the seeds only their number is printed.
     is_all: bool,
 }
 
@@ -49,7 +52,7 @@ fn failed(rt: &HostRuntime, error: &Error) -> ExitCode {
     ExitCode::FAILURE
 }
 
-/// The first seed, and how many.
+/// The first seed, and how many there are.
 fn read_words(rt: &HostRuntime) -> Result<Asked> {
     let words: Vec<String> = std::env::args(rt)?.collect(rt.alloc())?;
     match (words.get(1), words.get(2)) {
@@ -67,7 +70,7 @@ fn read_words(rt: &HostRuntime) -> Result<Asked> {
     }
 }
 
-/// Makes the walks, where all is asked for, and goes through the seeds.
+/// Makes the walks, if all is asked for, and goes through the seeds.
 fn run<R: Wait + Print>(rt: &R, alloc: Global, asked: Asked) -> Result<()> {
     if asked.is_all {
         over_layouts!(shape => walk_over(rt, alloc, shape)?);
@@ -87,8 +90,8 @@ fn run<R: Wait + Print>(rt: &R, alloc: Global, asked: Asked) -> Result<()> {
     Ok(())
 }
 
-/// Walks over devices with such a journal, and prints how many stops were made. All that can happen has to have
-/// happened often.
+/// Walks over devices with such a journal, and prints how many stops were made. Each kind of event must have come
+/// often.
 fn walk_over<P: Print>(rt: &P, alloc: Global, shape: JournalShape) -> Result<()> {
     let tally = walk_from(alloc, shape, STOPS, 1)?;
     if !tally.is_full() {

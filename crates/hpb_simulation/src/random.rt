@@ -4,15 +4,15 @@ ghost use Rattle.std.specs.Prelude.{◌<◌};
 use hpb_disk::Fate;
 use std::alloc::{AllocError, Global};
 
-/// More than there are writes that no sync covers.
+/// More than the number of writes that no sync covers.
 const WRITES: usize = 32;
 
 /// How a device stops.
 #[derive(Clone, Copy, Debug, PartialEq, Eq)]
 pub(crate) enum Stop {
-    /// The process ends: all that was written is there.
+    /// The process ends: all bytes that were written are there.
     Kept,
-    /// The power fails, and nothing is there that no sync covers.
+    /// The power fails: only writes that a sync covers are there.
     Lost,
     /// The power fails, and each write has a fate of its own.
     Torn,
@@ -46,14 +46,14 @@ impl Random {
         (self.roll() % u64::from(bound)) as u32
     }
 
-    /// Whether one of so many chances came.
+    /// Yes once in so many chances.
     pub(crate) fn is_one_in(&mut self, chances: u32) -> bool
         requires { 0 < chances }
     {
         self.below(chances) == 0
     }
 
-    /// The number of the call of a device that fails, 0 where none does.
+    /// The number of the device's call that fails, or 0 if none does.
     pub(crate) fn fault(&mut self) -> u64 {
         match self.below(4) {
             0 | 1 => 0,
@@ -70,7 +70,7 @@ impl Random {
         }
     }
 
-    /// What becomes of a write. Bytes of an open gate are not seldom.
+    /// The fate of a write. Bytes of an open gate are not seldom.
     fn fate(&mut self, stop: Stop) -> Fate {
         match stop {
             Stop::Kept => Fate::Kept,

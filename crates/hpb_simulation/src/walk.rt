@@ -42,7 +42,7 @@ impl Walk {
         })
     }
 
-    /// An event, and a stop if the device had a call. One in so many is a step of a checkpoint.
+    /// Makes an event, and then a stop if the device had a call. One event in so many is a step of a checkpoint.
     fn event(&mut self, random: &mut Random, steps: u32) -> Result<()>
         requires { 0 < steps }
     {
@@ -107,7 +107,7 @@ impl Walk {
         Ok(())
     }
 
-    /// What a stop leaves is opened. At times the walk goes on with it.
+    /// Opens the bytes that a stop leaves. At times the walk goes on with them.
     fn stop(&mut self, random: &mut Random) -> Result<()> {
         count_one(&mut self.tally.stops);
         let fates = random.fates(self.alloc, Stop::Torn)?;
@@ -126,7 +126,7 @@ impl Walk {
         Ok(())
     }
 
-    /// What is committed is what is acknowledged.
+    /// The committed commands are those that the model acknowledged.
     fn end(&self) -> Result<()> {
         let auction = self.model.auction(self.alloc)?;
         if !same(self.engine.committed(), &auction) {
@@ -136,7 +136,7 @@ impl Walk {
     }
 }
 
-/// Whether an offer was answered so. Letters come back where they weren't taken.
+/// Whether an offer had this result. Letters that weren't taken come back.
 fn is_offered(offered: &Offered, weight: Weight, answers: &Answers, sent: &[Letter]) -> bool {
     let is_back = match weight {
         Weight::Full | Weight::Busy => offered.back.as_slice() == sent,
@@ -148,8 +148,8 @@ fn is_offered(offered: &Offered, weight: Weight, answers: &Answers, sent: &[Lett
         && offered.answers.as_slice() == answers.as_slice()
 }
 
-/// Walks over one device with such a journal after another, up to so many stops. Checkpoints are seldom, or as many
-/// steps as of commits, or more.
+/// Walks over one device with such a journal after another, up to so many stops. Steps of checkpoints are seldom, or as
+/// many as those of commits, or more.
 pub(crate) fn walk_from(
     alloc: Global,
     shape: JournalShape,

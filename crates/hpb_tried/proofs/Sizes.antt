@@ -1,4 +1,4 @@
--- The sizes are those that the format wants.
+-- The sizes are those of the format.
 use Rattle.std.proofs.Common.{◌≡◌, ℕ, List, length, refl, arith}
 use Rattle.hpb_codec.specs.declared.layout.JournalLayout.{JournalLayout}
 use Rattle.hpb_codec.specs.declared.layout.JournalLayout.TheVariants.{Pages, Cells}

@@ -1,10 +1,10 @@
--- The definitions that calls are given.
+-- The definitions with which calls are made.
 use Rattle.std.specs.Prelude.{ℕ, zero, suc, ◌/◌, ◌-◌, List, [], ◌∷◌, ◌++◌, Option, None, Some, map, min, codes, decimal, nat_lt, if◌then◌else◌}
 use Rattle.std.specs.List.{range_with_len}
 use Rattle.hpb_rules.specs.declared.licence.Terms.{Terms}
 use Rattle.hpb_rules.specs.Tree.{Bidder, Node, Rules}
 
--- How many nodes there are where so many are asked for.
+-- How many nodes there are if so many are asked for.
 abbrev pub nodes_of : ℕ → ℕ
 nodes_of nodes = min nodes 127
 
@@ -12,16 +12,17 @@ nodes_of nodes = min nodes 127
 abbrev pub packages_of : ℕ → ℕ
 packages_of nodes = nodes_of nodes / 2
 
--- How many of them are licences: the others.
+-- How many of them are licences: all others.
 abbrev pub licences_of : ℕ → ℕ
 licences_of nodes = nodes_of nodes - packages_of nodes
 
--- The parent of the node at a place: the first node has none, the two behind it have the first, the next two the second, and so on.
+-- The parent of the node at a place: the first node has none, the two behind it have the first, the next two the
+-- second, and so on.
 abbrev pub parent_at : ℕ → Option ℕ
 parent_at zero = None
 parent_at (suc before) = Some (before / 2)
 
--- The terms of the node at a place: those of a licence are one unit and an opening of 100, a package has none.
+-- The terms of the node at a place: a licence has one unit and an opening of 100, a package has none.
 abbrev pub terms_at : (packages place : ℕ) → Option Terms
 terms_at packages place = if nat_lt place packages then None else Some (record { units = 1; opening = 100 })
 
@@ -29,7 +30,7 @@ terms_at packages place = if nat_lt place packages then None else Some (record {
 abbrev pub node_at : (packages place : ℕ) → Node
 node_at packages place = record { name = codes "n" ++ decimal place; parent = parent_at place; terms = terms_at packages place }
 
--- The bidder of a licence, named `b` and the licence's place. Its units are those of 64 licences, which are as many as there may be.
+-- The bidder of a licence, named `b` and the licence's place. It has the units of 64 licences, which are the most.
 abbrev pub bidder_of : ℕ → Bidder
 bidder_of licence = record { name = codes "b" ++ decimal licence; units = 64 }
 

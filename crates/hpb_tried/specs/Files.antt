@@ -1,4 +1,4 @@
--- What devices keep that are made for calls.
+-- The devices that are made for calls.
 use Rattle.std.specs.Prelude.{◌≡◌, ◌==◌, ℕ, ◌*◌, List, [], if◌then◌else◌}
 use Rattle.hpb_rules.specs.AuctionValue.{AuctionValue, Shows}
 use Rattle.hpb_codec.specs.declared.layout.JournalShape.{JournalShape}
@@ -8,15 +8,16 @@ use Rattle.hpb_codec.specs.Layouts.{least_frames}
 use Rattle.hpb_format.specs.Outcomes.{IsNew}
 use Rattle.hpb_tried.specs.Drafts.{rules_with}
 
--- The layout that a number names, or else the second.
+-- The layout of a number; any other number counts as the second layout's.
 abbrev pub layout_named : ℕ → JournalLayout
 layout_named layout = if layout == 1 then Pages else Cells
 
--- A journal of a layout with as few frames as it may have.
+-- The journal with the fewest frames in a layout.
 abbrev pub least_in : JournalLayout → JournalShape
 least_in layout = record { layout = layout; frames = least_frames layout }
 
--- The bytes of a device with such a journal: 13 pages of 4,096 bytes before the journal, and then 4 for as many frames, or 6 for 16 frames of cells.
+-- The bytes of a device with such a journal. Before the journal are 13 pages of 4,096 bytes. Behind them are 4 pages
+-- for as many frames, or 6 for 16 frames of cells.
 abbrev pub size_in : JournalLayout → ℕ
 size_in Pages = 4096 * 17
 size_in Cells = 4096 * 19
@@ -32,7 +33,7 @@ least_size layout = size_in (layout_named layout)
 abbrev pub IsNewOf : (nodes layout : ℕ) → List ℕ → Type 0
 IsNewOf nodes layout image = IsNew (rules_with nodes) (least_shape layout) image
 
--- The auction is under that definition, and accepted nothing yet.
+-- The auction is under that definition, and has accepted nothing yet.
 pub record IsFirst (nodes : ℕ) (value : AuctionValue) : Type 0 where
   pub rules : value.rules ≡ rules_with nodes
   pub shows : Shows value []

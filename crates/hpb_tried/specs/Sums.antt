@@ -1,5 +1,5 @@
--- The sums by which what calls are given and give is compared.
--- Source: the hash FNV-1a of 64 bits of Fowler, Noll and Vo. What it is taken of is this project's own.
+-- The sums by which arguments and results of calls are compared.
+-- Source: the hash FNV-1a of 64 bits of Fowler, Noll and Vo. The bytes that are hashed are this project's own.
 use Rattle.std.specs.Prelude.{ℕ, ◌*◌, ◌%◌, ◌^◌, List, fold, bit_xor}
 use Rattle.hpb_rules.specs.AuctionValue.{AuctionValue}
 use Rattle.hpb_rules.specs.Saved.{saved_of}
@@ -9,7 +9,7 @@ use Rattle.hpb_codec.specs.States.{state_of}
 use Rattle.hpb_codec.specs.declared.layout.JournalLayout.TheVariants.{Pages}
 use Rattle.hpb_codec.specs.declared.state_format.StateFormat.TheVariants.{Two}
 
--- By this each byte multiplies a hash.
+-- The factor of a hash at each byte.
 abbrev pub prime : ℕ
 prime = 0x100000001b3
 

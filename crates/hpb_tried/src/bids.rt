@@ -1,4 +1,4 @@
-//! Letters to an auction, and what an engine does with them.
+//! Letters to an auction, and events that make an engine commit them.
 ghost use Rattle.std.specs.Prelude.{◌≡◌, ◌+◌, ◌<◌, ◌++◌, ◌∷◌, [], length, IfOk};
 ghost use Rattle.hpb_rules.specs.declared.limits.TheConstants.{MOST_BIDDERS, MOST_LETTERS, MOST_NODES};
 ghost use Rattle.hpb_tried.specs.Bids.{first_bid, first_bids, first_events};
@@ -8,7 +8,7 @@ use hpb_engine::Event;
 use hpb_rules::{BidderId, Command, Letter, Letters, NodeId};
 use std::alloc::{AllocError, Global};
 
-/// The first bid of a bidder, on the licence that stands at its place behind so many packages.
+/// The first bid of a bidder, on the licence of the same place among the licences, which come behind the packages.
 fn bid_of(packages: usize, bidder: usize) -> Letter
     requires node { packages + bidder < MOST_NODES }
     requires bidder { bidder < MOST_BIDDERS }
@@ -25,7 +25,7 @@ fn bid_of(packages: usize, bidder: usize) -> Letter
     }
 }
 
-/// Puts a letter at the end.
+/// Appends a letter.
 fn put(letters: &mut Letters, letter: Letter)
     requires { length letters.old < MOST_LETTERS }
     ensures { letters.new ≡ letters.old ++ letter ∷ [] }
@@ -33,7 +33,7 @@ fn put(letters: &mut Letters, letter: Letter)
     let _ = letters.push(letter);
 }
 
-/// The first bid of each bidder in an auction of so many nodes, on a licence of its own.
+/// The first bid of each bidder in an auction of this many nodes, each on a licence of its own.
 pub fn letters(nodes: u64) -> Letters
     ensures { result ≡ first_bids nodes }
 {
@@ -46,7 +46,7 @@ pub fn letters(nodes: u64) -> Letters
     letters
 }
 
-/// A bid of each bidder, offered together and committed, and a step of a checkpoint.
+/// The events of a first batch: a bid of each bidder, offered together and committed, and a step of a checkpoint.
 pub fn events(alloc: Global, nodes: u64) -> Result<Vec<Event>, AllocError>
     ensures { IfOk result (λ events. events.items ≡ first_events nodes) }
 {

@@ -1,14 +1,14 @@
-//! What came of a call.
+//! The result of a call.
 ghost use Rattle.std.specs.Prelude.{Some};
 ghost use Rattle.hpb_tried.specs.Tries.{came_text};
 
 use hpb_rules::Refusal;
 use std::fmt;
 
-/// What came of a call. It is written as `ok` and the sum, or as the number and the word of the refusal.
+/// The result of a call. It is written as `ok` and the sum, or as the number and the word of the refusal.
 #[derive(Clone, Copy, Debug, PartialEq, Eq)]
 pub enum Came {
-    /// It succeeded: a sum of all that it gave.
+    /// It succeeded: a sum of all its results.
     Well(u64),
     /// It was refused.
     Refused(Refusal),

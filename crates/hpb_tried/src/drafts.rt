@@ -8,19 +8,19 @@ use anyhow::Result;
 use hpb_tree::{BidderDraft, Definition, Draft, NodeDraft, TermsDraft};
 use std::alloc::{AllocError, Global};
 
-/// As many nodes as there may be.
+/// The greatest number of nodes.
 pub const MOST: u64 = 127;
 
-/// What each licence has.
+/// The terms of each licence.
 const TERMS: TermsDraft = TermsDraft {
     units: 1,
     opening: 100,
 };
 
-/// The units of each bidder, who may so bid on all licences at once.
+/// The units of each bidder, with which it may bid on all licences at once.
 const BIDDER_UNITS: u64 = 64;
 
-/// A node that is a package has its two children at twice its place and one, and two.
+/// The parent of the node at a place. A package's two children are at twice its place plus one, and plus two.
 fn parent(place: u64) -> Option<u64>
     ensures { result ≡ parent_at place }
 {
@@ -31,7 +31,7 @@ fn parent(place: u64) -> Option<u64>
     }
 }
 
-/// The packages come first.
+/// The node at a place. The packages come first.
 fn node(alloc: Global, packages: u64, place: u64) -> Result<NodeDraft, AllocError>
     ensures { IfOk result (λ node. node_said node ≡ node_at packages place) }
 {
@@ -73,8 +73,8 @@ fn bidder_drafts(alloc: Global, packages: u64, count: u64) -> Result<Vec<BidderD
     Ok(bidders)
 }
 
-/// A draft of so many nodes, an odd number from 1 to 127: of the greatest number there are 64 licences. There are as many
-/// bidders as licences, each of whom may bid on all of them.
+/// A draft of this many nodes, an odd number from 1 to 127; the greatest has 64 licences. There are as many bidders as
+/// licences, and each may bid on all of them.
 pub fn draft(alloc: Global, nodes: u64) -> Result<Draft, AllocError>
     ensures { IfOk result (λ draft. rules_of draft ≡ rules_with nodes) }
 {
@@ -90,7 +90,7 @@ pub fn draft(alloc: Global, nodes: u64) -> Result<Draft, AllocError>
     })
 }
 
-/// The definition of that draft.
+/// The definition by that draft.
 pub fn definition(alloc: Global, nodes: u64) -> Result<Definition>
     ensures { IfOk result (λ definition. definition ≡ rules_with nodes) }
 {

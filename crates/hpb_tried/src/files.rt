@@ -13,10 +13,10 @@ use hpb_format::format_layout;
 use hpb_recover::LEAST_PAGES;
 use std::fs;
 
-/// The name of the file, in the folder that the program is run in.
+/// The name of the file, in the folder in which the program runs.
 pub const FILE: &str = "device";
 
-/// The journal with as few frames as it may have, in the layout that this number names, or else in the second.
+/// The journal with the fewest frames in the layout of this number; any other number counts as the second layout's.
 pub fn shape_of(layout: u8) -> JournalShape
     ensures { result ≡ least_shape layout }
 {
@@ -33,14 +33,14 @@ pub fn shape_of(layout: u8) -> JournalShape
     }
 }
 
-/// The pages of a device with as few frames of cells as there may be: two more than frames of a page each want.
+/// The pages of a device with the fewest frames of cells: two more than frames of a page each need.
 const LEAST_PAGES_OF_CELLS: usize = LEAST_PAGES + 2;
 
 /// The bytes of a device of this layout: 17 pages, or 19.
 #[tactic(auto, using(crate::proofs::Sizes::fits))]
 pub fn size_of(layout: u8) -> usize
     ensures value { result ≡ least_size layout }
-    // It is as long as such a journal wants it.
+    // The device has the length that such a journal needs.
     ensures fits { (image : List ℕ) → length image ≡ result → HasLength (least_shape layout) image }
 {
     match shape_of(layout).layout {
@@ -49,7 +49,7 @@ pub fn size_of(layout: u8) -> usize
     }
 }
 
-/// A new file of zeros, in place of what is there.
+/// A new file of zeros, in place of the old one.
 pub fn new_file(rt: &HostRuntime, layout: u8) -> Result<FileDisk>
     ensures { IfOk result (λ disk. file_seen disk ≡ replicate (least_size layout) 0) }
 {
@@ -57,7 +57,7 @@ pub fn new_file(rt: &HostRuntime, layout: u8) -> Result<FileDisk>
     Ok(FileDisk::make(rt, rt.alloc(), FILE, size_of(layout))?)
 }
 
-/// A new file that keeps an auction of so many nodes.
+/// A new file that keeps an auction of this many nodes.
 pub fn formatted(rt: &HostRuntime, nodes: u64, layout: u8) -> Result<FileDisk>
     ensures { IfOk result (λ disk. Within (file_left disk) (IsNewOf nodes layout)) }
 {
@@ -71,7 +71,7 @@ pub fn formatted(rt: &HostRuntime, nodes: u64, layout: u8) -> Result<FileDisk>
     }
 }
 
-/// The sum of what is in the file, where it can be read.
+/// The sum of the file's bytes. `None` if the file can't be read.
 pub fn file_sum(rt: &HostRuntime) -> Option<u64> {
     match fs::read(rt, FILE) {
         Ok(bytes) => Some(sum_of(&bytes)),

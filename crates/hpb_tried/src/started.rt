@@ -1,4 +1,4 @@
-//! What is opened of a file, an engine over it, and their sums.
+//! An opened device, an engine over it, and their sums.
 ghost use Rattle.std.specs.Prelude.{◌≡◌, ◌↔◌, ℕ, false, IfOk, IsTrue};
 ghost use Rattle.hpb_disk.specs.FileDisks.{file_seen};
 ghost use Rattle.hpb_disk.specs.Images.{Within};
@@ -16,7 +16,7 @@ use hpb_recover::{Opened, Plan, open};
 use hpb_rules::Refusal;
 use std::alloc::{AllocError, Global};
 
-/// Opens a device that is new.
+/// Opens a new device.
 fn open_new<D: Disk + Drop>(alloc: Global, disk: D) -> Result<Opened<D>>
     ensures device { (nodes layout : ℕ) → Within (D.may_leave disk) (IsNewOf nodes layout) → IfOk result (λ opened. IsNewOf nodes layout (D.seen opened.disk)) }
     ensures auction { (nodes layout : ℕ) → Within (D.may_leave disk) (IsNewOf nodes layout) → IfOk result (λ opened. IsFirst nodes opened.plan.auction) }
@@ -28,7 +28,7 @@ fn open_new<D: Disk + Drop>(alloc: Global, disk: D) -> Result<Opened<D>>
     }
 }
 
-/// A new file of an auction of so many nodes, opened.
+/// A new file of an auction of this many nodes, opened.
 pub fn opened(rt: &HostRuntime, nodes: u64, layout: u8) -> Result<Opened<FileDisk>>
     ensures device { IfOk result (λ opened. IsNewOf nodes layout (file_seen opened.disk)) }
     ensures auction { IfOk result (λ opened. IsFirst nodes opened.plan.auction) }
@@ -58,7 +58,7 @@ pub fn auction_and_file_sum(rt: &HostRuntime, auction: &Auction) -> Option<u64> 
     }
 }
 
-/// Where what was opened stands, beside its auction.
+/// The plan of an opened device, beside its auction.
 fn plan_text(alloc: Global, plan: &Plan) -> Result<String, AllocError> {
     let Plan {
         frames,
@@ -81,12 +81,12 @@ fn sum_with(rt: &HostRuntime, auction: &Auction, text: &Result<String, AllocErro
     }
 }
 
-/// The sum of all that was opened, and of the file.
+/// The sum of all that opening gave, and of the file.
 pub fn opened_sum(rt: &HostRuntime, opened: &Opened<FileDisk>) -> Option<u64> {
     sum_with(rt, opened.auction(), &plan_text(rt.alloc(), &opened.plan))
 }
 
-/// Where the journal of an engine stands.
+/// The numbers of an engine's journal.
 fn window_text(alloc: Global, window: &Window) -> Result<String, AllocError> {
     let Window {
         frames,
@@ -99,7 +99,7 @@ fn window_text(alloc: Global, window: &Window) -> Result<String, AllocError> {
     format!(in alloc; "{frames:?} {covered} {next} {clean_end} {opened_at} {gates:?}")
 }
 
-/// Where the checkpoint of an engine and the retirement of frames stand.
+/// The numbers of an engine's checkpoint, and of its retirement of frames.
 fn checkpoint_text(alloc: Global, progress: &Progress) -> Result<String, AllocError> {
     let Checkpoint {
         newest,
@@ -113,7 +113,7 @@ fn checkpoint_text(alloc: Global, progress: &Progress) -> Result<String, AllocEr
     format!(in alloc; "{newest:?} {other_open} {steps} {covers} {body} {going} {upto}")
 }
 
-/// Where an engine stands, beside the auction that it has committed.
+/// The numbers of an engine, beside the auction that it has committed.
 fn engine_text(alloc: Global, engine: &Engine<FileDisk>) -> Result<String, AllocError> {
     let Engine {
         progress,
@@ -132,15 +132,15 @@ pub fn engine_sum(rt: &HostRuntime, engine: &Engine<FileDisk>) -> Option<u64> {
     sum_with(rt, engine.committed(), &engine_text(rt.alloc(), engine))
 }
 
-/// Whether a sum is the one that was given. There has to be one.
+/// Whether a sum is there and equals the given one.
 pub fn is_sum(found: Option<u64>, given: Option<u64>) -> bool
     ensures { IsTrue result ↔ IsGiven found given }
 {
     found.is_some() && found == given
 }
 
-/// What came of a call that succeeded, by the sum of what it gave. Where there is none, the stream is said to be at
-/// fault, which no call here is told by.
+/// The result of a call that succeeded, by the sum of its results. Without a sum it is `stream`, by which no call here
+/// is refused.
 pub fn came_of(sum: Option<u64>) -> Came
     ensures { result ≡ told_by sum }
 {

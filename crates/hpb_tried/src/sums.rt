@@ -1,4 +1,4 @@
-//! Sums of what calls are given and give: other bytes have most likely another sum.
+//! Sums of the arguments and the results of calls: other bytes most likely have another sum.
 ghost use Rattle.std.specs.Prelude.{◌≡◌, IfOk};
 ghost use Rattle.hpb_tried.specs.Sums.{fnv_1a, sum_of_auction, sum_of_definition};
 
@@ -10,7 +10,7 @@ use hpb_rules::Saved;
 use hpb_tree::Definition;
 use std::alloc::{AllocError, Global};
 
-/// Where a sum begins, and by what it is multiplied at each byte: those of the hash FNV-1a of 64 bits.
+/// The first value of a sum, and the factor at each byte: those of the hash FNV-1a of 64 bits.
 const BASIS: u64 = 0xcbf2_9ce4_8422_2325;
 
 const PRIME: u64 = 0x0000_0100_0000_01b3;
@@ -31,7 +31,7 @@ pub fn sum_of(bytes: &[u8]) -> u64
     sum
 }
 
-/// The sum of a definition: that of the head that keeps it.
+/// The sum of a definition: that of the head that keeps the definition.
 pub fn sum_of_definition(alloc: Global, definition: &Definition) -> Result<u64, AllocError>
     ensures { IfOk result (λ sum. sum ≡ sum_of_definition definition.now) }
 {

@@ -16,7 +16,7 @@ use std::io;
 #[derive(Clone, Copy, Debug, PartialEq, Eq)]
 pub struct Tried {
     pub first: Came,
-    /// Whether what it was given is afterwards what it was before.
+    /// Whether its argument is the same afterwards.
     pub is_same: bool,
     pub again: Came,
 }
@@ -24,7 +24,7 @@ pub struct Tried {
 impl Tried {
     ghost use Rattle.std.specs.Prelude.{◌≡◌, true};
 
-    /// A call that succeeded, and took what it was given.
+    /// A call that succeeded, and took its argument.
     pub fn well(came: Came) -> Self
         ensures first { result.first ≡ came }
         ensures same { result.is_same ≡ true }
@@ -38,7 +38,7 @@ impl Tried {
     }
 }
 
-/// Writes what came of a call, whether what it was given is as it was, and what came of it the second time.
+/// Writes the result of a call, whether its argument is the same, and the result of the second call.
 pub fn tell<R: Print>(rt: &R, tried: &Tried) -> io::Result<()> {
     let Tried {
         first,
@@ -49,7 +49,7 @@ pub fn tell<R: Print>(rt: &R, tried: &Tried) -> io::Result<()> {
     println!(rt; "{first}, {given}, {again}")
 }
 
-/// What came of a call that makes a definition: its sum, or that memory was refused (90).
+/// The result of a call that makes a definition: its sum, or that memory was refused (90).
 pub fn definition_came(
     alloc: Global,
     made: Result<Definition, AllocError>,
@@ -63,7 +63,7 @@ pub fn definition_came(
     }
 }
 
-/// What came of a call that makes an auction: its sum, or that memory was refused (90).
+/// The result of a call that makes an auction: its sum, or that memory was refused (90).
 pub fn auction_came(alloc: Global, made: Result<Auction, AllocError>) -> Result<Came, AllocError>
     ensures refused { OnErr made (IfOk result LacksMemory) }
     ensures came { IfOk made (λ auction. IfOk result (λ came. came ≡ Well (sum_of_auction auction))) }

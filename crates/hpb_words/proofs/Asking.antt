@@ -1,4 +1,4 @@
--- What words ask for, by the kind of error that they give.
+-- The jobs that words ask for, by the kind of error that they give.
 use Rattle.std.proofs.Common.{◌≡◌, ◌⊎◌, ◌∙◌, ℕ, Bool, true, false, List, [], ◌∷◌, Option, Some, None, ap, subst, refl, inl, inr, ⊎_elim}
 use Rattle.std.specs.Prelude.{Err, find, option_map, if◌then◌else◌}
 use Rattle.clap.specs.Built.{AddsSubcommand}
@@ -14,7 +14,7 @@ use Rattle.hpb_words.specs.Words.{hpb, AreWellGiven, AsksFor, HasKnownCommand, I
 use Rattle.hpb_words.specs.declared.words.WordsFault.{WordsFault}
 use Rattle.hpb_words.specs.declared.words.WordsFault.TheVariants.{Memory, Refused}
 
--- one command more
+-- one more command
 pub added_command : (old sub new : Command) (app : App) (shape : Shape) → AddsSubcommand old sub new → (out-Command sub).has_globals ≡ false
     → app_of old ≡ app → shape_of sub ≡ shape → app_of new ≡ with_subcommand app shape
 added_command old sub new app shape adds local of is =
@@ -42,7 +42,7 @@ known_at (Some stop) = known_among (λ s. answers_to stop.0 (label_of s)) stop.1
 pub known_command : (words : List Text) → HasKnownCommand (subcommand_of hpb words)
 known_command words = known_at (stop_after (built hpb).top.rules (names_of (built hpb)) (argument_words hpb words))
 
--- what is wrong is told
+-- an error is reported
 pub told_asked : (words : List (List ℕ)) (app : App) (kind : ErrorKind) (fault : WordsFault) → app ≡ hpb
     → (is_simple_and_free app ≡ true → (kind ≡ OutOfMemory) ⊎ IsAmong kind (fault_of app words)) → IsTold kind fault → AsksFor words (Err fault)
 told_asked words app kind Memory is fails told = tt
@@ -52,7 +52,7 @@ told_asked words app kind (Refused text status) is fails told = inl (
   told.1,
 )
 
--- a value that isn't given well is told
+-- a value that isn't given well is reported
 pub told_value : (words : List (List ℕ)) (fault : WordsFault) → fault_of hpb words ≡ [] → (AreWellGiven (subcommand_of hpb words) → ⊥) → IsWrong fault → AsksFor words (Err fault)
 told_value words Memory none ill wrong = absurd wrong
 told_value words (Refused text status) none ill wrong = inr (none, ill, wrong)

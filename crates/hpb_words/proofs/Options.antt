@@ -1,4 +1,4 @@
--- What was found of a command and its options.
+-- The rows of a command and its options.
 use Rattle.std.proofs.Common.{◌≡◌, ◌∙◌, ℕ, List, [], Option, Some, None, Result, Ok, Err, ap, subst, refl, Bor}
 use Rattle.std.specs.Prelude.{option_map, unwrap_or, Box}
 use Rattle.std.specs.Str.Parse.{ParsesUnsigned}
@@ -13,7 +13,7 @@ use Rattle.clap.proofs.WalkLemmas.{first_value-rows, one_text-rows}
 use Rattle.std.specs.Box.{box_value}
 use Rattle.hpb_words.specs.Words.{IsNumberOr, text_in}
 
--- its name and its rows are those of what was found
+-- its name and its rows are those that `clap` found
 pub found_sub : (m : ArgMatches) (name : Text) (rows : List Row) → Some name ≡ subcommand_name_of m → Some rows ≡ option_map (λ p. p.1) (subcommand_rows_of m)
     → subcommand_rows_of m ≡ Some (name, rows)
 found_sub m name rows p q = go (out-ArgMatches m).subcommand p q

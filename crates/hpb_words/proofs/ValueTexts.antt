@@ -28,7 +28,7 @@ sign_read f id o s read is not given =
     let no : false ≡ true = sym not ∙ all in
     cc
 
--- all values are given well where the last of them is
+-- all values are given well if the last of them is
 pub by_last : {E : Type 0} (rows : List Row) (r : Result ⊤ E) → text_in rows (codes "file") ≢ [] → IsGivenByDigits rows (codes "journal") → IsGivenByDigits rows (codes "layout")
     → IsGivenByDigits rows (codes "batch") → IsGivenByDigits rows (codes "every") → IsGivenByDigits rows (codes "port")
     → MatchResult r (λ _. IsGivenByDigits rows (codes "sessions")) (λ _. IsGivenByDigits rows (codes "sessions") → ⊥) → MatchResult r (λ _. AreWellGivenIn rows) (λ _. AreWellGivenIn rows → ⊥)

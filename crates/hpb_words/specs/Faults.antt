@@ -1,4 +1,4 @@
--- The faults of jobs: what each is told by, and what becomes one.
+-- The faults of jobs: the refusal of each, and the faults from which they come.
 use Rattle.hpb_rules.specs.declared.refusal.Refusal.{Refusal}
 use Rattle.hpb_rules.specs.declared.refusal.Refusal.TheVariants as refusals
 use Rattle.hpb_define.specs.declared.fault.DefineCause.{DefineCause}
@@ -16,7 +16,7 @@ use Rattle.hpb_recover.specs.Causes as causes
 use Rattle.hpb_words.specs.declared.job_fault.JobFault.{JobFault}
 use Rattle.hpb_words.specs.declared.job_fault.JobFault.TheVariants as faults
 
--- The refusal that a fault is told by.
+-- The refusal by which a fault is reported.
 abbrev pub refusal_of : JobFault → Refusal
 refusal_of faults.Memory = refusals.Memory
 refusal_of faults.Reader = refusals.Stream
@@ -32,7 +32,7 @@ refusal_of faults.Place = refusals.Place
 refusal_of faults.Order = refusals.Order
 refusal_of faults.Counts = refusals.Counts
 
--- The fault of a job where its definition was refused.
+-- The fault of a job if its definition was refused.
 abbrev pub made_by : DefineCause → DefineFault → JobFault
 made_by defining.Memory fault = faults.Memory
 made_by cause fault = faults.Definition fault
@@ -40,17 +40,17 @@ made_by cause fault = faults.Definition fault
 abbrev pub made_of_definition : DefineFault → JobFault
 made_of_definition fault = made_by fault.cause fault
 
--- The same where its file was not opened or made,
+-- The same if its file was not opened or made,
 abbrev pub made_of_file : FileFault → JobFault
 made_of_file (files.Memory refused) = faults.Memory
 made_of_file fault = faults.File fault
 
--- where it was not formatted,
+-- if it was not formatted,
 abbrev pub made_of_formatting : FormatCause → JobFault
 made_of_formatting formatting.Memory = faults.Memory
 made_of_formatting cause = faults.Format cause
 
--- and where what it holds was not opened.
+-- and if its contents were not opened.
 abbrev pub made_of_opening : Cause → JobFault
 made_of_opening opening.Memory = faults.Memory
 made_of_opening cause = faults.Open cause

@@ -1,4 +1,4 @@
--- What words ask the program for, by what `clap` states of its commands and options.
+-- The jobs that words ask for, by what `clap` ensures for its commands and options.
 use Rattle.std.specs.Prelude.{◌≡◌, ◌≢◌, ◌⊎◌, IfSome, ℕ, ◌<◌, ◌≤◌, ◌^◌, max, min, List, [], ◌∷◌, true, false, pos, codes, unwrap_or, option_map, Option, Some, None, Result, Ok, Err}
 use Rattle.std.specs.Str.{all_ascii_digits}
 use Rattle.std.specs.Str.Parse.{IsNumeral, digits_value, without_leading_plus}
@@ -77,7 +77,7 @@ run_shape = (with_rule (with_rule (app_on_file (codes "run")) batch_rule) every_
 abbrev pub serve_shape : Shape
 serve_shape = (with_rule (with_rule (app_on_file (codes "serve")) port_rule) sessions_rule).top
 
--- A command has such a shape, and no option that its own commands would have as well.
+-- A command has this shape, and no option that its own commands would have as well.
 abbrev pub IsCommandOf : Shape → Command → Type 0
 IsCommandOf shape command = (shape_of command ≡ shape) × ((out-Command command).has_globals ≡ false)
 
@@ -85,7 +85,8 @@ IsCommandOf shape command = (shape_of command ≡ shape) × ((out-Command comman
 abbrev pub hpb_alone : App
 hpb_alone = on_top (λ s. record s { has_version = true; disable_help_subcommand = true }) (new_app (codes "hpb"))
 
--- The program as `clap` is told of it: it has a version and the commands `format`, `check`, `run` and `serve`, each with its options.
+-- The program as `clap` sees it: it has a version and the commands `format`, `check`, `run` and `serve`, each with its
+-- options.
 abbrev pub hpb : App
 hpb = with_subcommand (with_subcommand (with_subcommand (with_subcommand hpb_alone format_shape) check_shape) run_shape) serve_shape
 
@@ -93,19 +94,20 @@ hpb = with_subcommand (with_subcommand (with_subcommand (with_subcommand hpb_alo
 abbrev pub IsShown : ErrorKind → Type 0
 IsShown kind = (kind ≡ DisplayHelp) ⊎ (kind ≡ DisplayVersion)
 
--- What is asked for ends well, and what is wrong doesn't.
+-- Words that ask for help or the version end well, and wrong words don't.
 abbrev pub EndsBy : ErrorKind → ℕ → Type 0
 EndsBy kind status = (IsShown kind × (status ≡ WELL)) ⊎ ((IsShown kind → ⊥) × (status ≡ WRONG_WORDS))
 
--- The text of an option among what was found of a command.
+-- The text of an option among the rows of a command.
 abbrev pub text_in : List Row → List ℕ → List ℕ
 text_in rows name = unwrap_or (first_of name rows) []
 
--- An option's value is digits alone, where it has one.
+-- An option's value is digits alone, if it has one.
 abbrev pub IsGivenByDigits : List Row → List ℕ → Type 0
 IsGivenByDigits rows name = IfSome (first_of name rows) (λ text. all_ascii_digits text ≡ true)
 
--- The values of options are well given where a file's name has a character at least and each number is digits alone, without a sign.
+-- The values of options are well given if a file's name has at least one character and each number is digits alone,
+-- without a sign.
 abbrev pub AreWellGivenIn : List Row → Type 0
 AreWellGivenIn rows =
     (text_in rows (codes "file") ≢ []) × IsGivenByDigits rows (codes "journal") × IsGivenByDigits rows (codes "layout") × IsGivenByDigits rows (codes "batch")
@@ -120,7 +122,7 @@ AreWellGiven (Some found) = AreWellGivenIn found.1
 abbrev pub IsNumber : (bits : ℕ) → List ℕ → Type 0
 IsNumber bits digits = IsNumeral 10 digits × (digits_value 10 digits < 2 ^ bits)
 
--- The number of so many bits that a text spells, or another where it spells none.
+-- The number of so many bits that a text spells, or another if it spells none.
 abbrev pub IsNumberOr : (bits other : ℕ) → Option (List ℕ) → ℕ → Type 0
 IsNumberOr bits other None number = number ≡ other
 IsNumberOr bits other (Some text) number =
@@ -131,23 +133,23 @@ IsNumberOr bits other (Some text) number =
 abbrev pub IsNumberOf : Option (List ℕ) → ℕ → Type 0
 IsNumberOf text number = IsNumberOr 32 0 text number
 
--- A layout is the one that is named by the number that a text spells, or by 1 where it spells no number.
+-- The layout whose number a text spells; 1 counts if it spells no number.
 abbrev pub IsLayoutOf : Option (List ℕ) → JournalLayout → Type 0
 IsLayoutOf text layout = (number : ℕ) × IsNumberOr 8 1 text number × ((named : JournalLayout) → number ≡ layout_byte named → layout ≡ named)
 
--- A batch has as many commands as a text spells, or 1 where it spells no number: 1 at least, and as many as any batch may have at most.
+-- The most commands of a batch: the number that a text spells, or 1 if it spells none, but at least 1 and at most 64.
 abbrev pub IsBatchOf : Option (List ℕ) → ℕ → Type 0
 IsBatchOf text batch = (number : ℕ) × IsNumberOr 32 1 text number × (batch ≡ max 1 (min number MOST_LETTERS))
 
--- A port is the one that a text spells, or the least where it spells no number or a lesser one.
+-- The port that a text spells, or the least one if it spells none or a lesser one.
 abbrev pub IsPortOf : Option (List ℕ) → ℕ → Type 0
 IsPortOf text port = (number : ℕ) × IsNumberOr 16 LEAST_PORT text number × (port ≡ max number LEAST_PORT)
 
--- There are as many sessions as a text spells, or 1 where it spells no number: 1 at least, and as many as there may be at most.
+-- The number of sessions that a text spells, or 1 if it spells none, but at least 1 and at most 32.
 abbrev pub AreSessionsOf : Option (List ℕ) → ℕ → Type 0
 AreSessionsOf text sessions = (number : ℕ) × IsNumberOr 8 1 text number × (sessions ≡ max 1 (min number MOST_SESSIONS))
 
--- A job is what a command and its options say.
+-- A job is the one that a command and its options say.
 abbrev pub IsJobOf : Option (List ℕ × List Row) → Job → Type 0
 IsJobOf None job = job ≡ Script
 IsJobOf (Some found) Script = ⊥
@@ -181,7 +183,7 @@ file_of (Check file) = Some file.now
 file_of (Run file batch every) = Some file.now
 file_of (Serve file port sessions) = Some file.now
 
--- The journal that a job asks for: of a new file alone.
+-- The journal that a job asks for, which only the making of a file does.
 abbrev pub journal_of : Job → Option JournalShape
 journal_of (Format file journal) = Some journal
 journal_of job = None
@@ -195,13 +197,14 @@ abbrev pub HasKnownCommand : Option (List ℕ × List Row) → Type 0
 HasKnownCommand None = Unit {0}
 HasKnownCommand (Some found) = IsKnownName found.0
 
--- These words ask for no job, and end by such a status: by one of the kinds of what is wrong or asked for, or with a value that isn't given well.
+-- These words ask for no job, and end with such a status. The reason is a kind of error, help or the version, or a
+-- value that isn't given well.
 abbrev pub EndsWords : List (List ℕ) → ℕ → Type 0
 EndsWords words status =
     ((kind : ErrorKind) × IsAmong kind (fault_of hpb words) × EndsBy kind status)
     ⊎ ((fault_of hpb words ≡ []) × (AreWellGiven (subcommand_of hpb words) → ⊥) × (status ≡ WRONG_WORDS))
 
--- These words ask for a job where nothing is wrong with them and their values are given well, and else end by a status.
+-- These words ask for a job if they have no error and their values are given well. Otherwise they end with a status.
 abbrev pub AsksFor : List (List ℕ) → Result Job WordsFault → Type 0
 AsksFor words (Ok job) = (fault_of hpb words ≡ []) × AreWellGiven (subcommand_of hpb words) × IsJobOf (subcommand_of hpb words) job
 AsksFor words (Err Memory) = Unit {0}
@@ -212,12 +215,12 @@ abbrev pub HasStatus : WordsFault → Type 0
 HasStatus Memory = Unit {0}
 HasStatus (Refused text status) = (status ≡ WELL) ⊎ (status ≡ WRONG_WORDS)
 
--- What is told of an error of this kind.
+-- The fault for an error of this kind.
 abbrev pub IsTold : ErrorKind → WordsFault → Type 0
 IsTold kind Memory = Unit {0}
 IsTold kind (Refused text status) = (kind ≢ OutOfMemory) × EndsBy kind status
 
--- Words are told to be wrong.
+-- Words are reported as wrong.
 abbrev pub IsWrong : WordsFault → Type 0
 IsWrong Memory = ⊥
 IsWrong (Refused text status) = status ≡ WRONG_WORDS
@@ -238,7 +241,8 @@ run_options_in = option_map (λ found. (found.0, first_of (codes "file") found.1
 abbrev pub serve_options_in : Option (List ℕ × List Row) → Option (List ℕ × Option (List ℕ) × Option (List ℕ) × Option (List ℕ))
 serve_options_in = option_map (λ found. (found.0, first_of (codes "file") found.1, one_of (codes "port") found.1, one_of (codes "sessions") found.1))
 
--- What is asked for by some words without a command, or wrong with them: none and an end of options ask for a script, others for help or the version, and what the program doesn't know is wrong.
+-- Some words without a command, with the error of each. No words and an end of options ask for a script. Others ask for
+-- help or the version, and words that the program doesn't know are wrong.
 pub record AskedAlone (program : List ℕ) : Type 0 where
   pub name : fault_of hpb (program ∷ []) ≡ []
   pub script : subcommand_of hpb (program ∷ []) ≡ None
@@ -251,7 +255,7 @@ pub record AskedAlone (program : List ℕ) : Type 0 where
   pub letter : fault_of hpb (program ∷ codes "-b" ∷ []) ≡ UnknownArgument ∷ []
   pub first : fault_of hpb (program ∷ codes "bogus" ∷ codes "--help" ∷ []) ≡ UnknownArgument ∷ InvalidSubcommand ∷ []
 
--- What `format` is asked for by some options, or what is wrong with them.
+-- Some options of `format`, with the error or the values of each.
 pub record AskedToFormat (program : List ℕ) : Type 0 where
   pub format : fault_of hpb (program ∷ codes "format" ∷ codes "--file" ∷ codes "a.hpb" ∷ codes "--journal" ∷ codes "4" ∷ []) ≡ []
   pub formats : format_options_in (subcommand_of hpb (program ∷ codes "format" ∷ codes "--file" ∷ codes "a.hpb" ∷ codes "--journal" ∷ codes "4" ∷ []))
@@ -266,7 +270,7 @@ pub record AskedToFormat (program : List ℕ) : Type 0 where
   pub no_journal : fault_of hpb (program ∷ codes "format" ∷ codes "--file=a.hpb" ∷ []) ≡ MissingRequiredArgument ∷ []
   pub no_number : fault_of hpb (program ∷ codes "format" ∷ codes "--journal=four" ∷ []) ≡ ValueValidation ∷ []
 
--- What `check` is asked for by some options, or what is wrong with them.
+-- Some options of `check`, with the error or the values of each.
 pub record AskedToCheck (program : List ℕ) : Type 0 where
   pub check : fault_of hpb (program ∷ codes "check" ∷ codes "--file=a.hpb" ∷ []) ≡ []
   pub checks : options_in (subcommand_of hpb (program ∷ codes "check" ∷ codes "--file=a.hpb" ∷ [])) ≡ Some (codes "check", Some (codes "a.hpb"), None)
@@ -274,7 +278,7 @@ pub record AskedToCheck (program : List ℕ) : Type 0 where
   pub check_file : fault_of hpb (program ∷ codes "check" ∷ []) ≡ MissingRequiredArgument ∷ []
   pub no_name : AreWellGiven (subcommand_of hpb (program ∷ codes "check" ∷ codes "--file=" ∷ [])) → ⊥
 
--- What `run` is asked for by some options, or what is wrong with them.
+-- Some options of `run`, with the error or the values of each.
 pub record AskedToRun (program : List ℕ) : Type 0 where
   pub run : fault_of hpb (program ∷ codes "run" ∷ codes "--file" ∷ codes "a.hpb" ∷ codes "--batch" ∷ codes "16" ∷ codes "--every" ∷ codes "50" ∷ []) ≡ []
   pub runs : run_options_in (subcommand_of hpb (program ∷ codes "run" ∷ codes "--file" ∷ codes "a.hpb" ∷ codes "--batch" ∷ codes "16" ∷ codes "--every" ∷ codes "50" ∷ []))
@@ -289,7 +293,7 @@ pub record AskedToRun (program : List ℕ) : Type 0 where
   pub above_batch : fault_of hpb (program ∷ codes "run" ∷ codes "--file=a.hpb" ∷ codes "--batch=65" ∷ []) ≡ ValueValidation ∷ []
   pub signed_every : AreWellGiven (subcommand_of hpb (program ∷ codes "run" ∷ codes "--file=a.hpb" ∷ codes "--every=-0" ∷ [])) → ⊥
 
--- What `serve` is asked for by some options, or what is wrong with them.
+-- Some options of `serve`, with the error or the values of each.
 pub record AskedToServe (program : List ℕ) : Type 0 where
   pub signed_port : AreWellGiven (subcommand_of hpb (program ∷ codes "serve" ∷ codes "--file=a.hpb" ∷ codes "--port=+5000" ∷ codes "--sessions=2" ∷ [])) → ⊥
   pub serve : fault_of hpb (program ∷ codes "serve" ∷ codes "--file" ∷ codes "a.hpb" ∷ codes "--port" ∷ codes "5000" ∷ codes "--sessions" ∷ codes "2" ∷ []) ≡ []
@@ -308,7 +312,7 @@ pub record AskedToServe (program : List ℕ) : Type 0 where
   pub below_sessions : fault_of hpb (program ∷ codes "serve" ∷ codes "--file=a.hpb" ∷ codes "--port=5000" ∷ codes "--sessions=0" ∷ []) ≡ ValueValidation ∷ []
   pub above_sessions : fault_of hpb (program ∷ codes "serve" ∷ codes "--file=a.hpb" ∷ codes "--port=5000" ∷ codes "--sessions=33" ∷ []) ≡ ValueValidation ∷ []
 
--- What is asked for by some words behind the program's name, whatever that is, or wrong with them; and nothing is wrong where there is no word at all.
+-- All of these cases, whatever the program's name is. If there is no word at all, not even the name, nothing is wrong.
 pub record WordsAskFor : Type 0 where
   pub none : fault_of hpb [] ≡ []
   pub alone : (program : List ℕ) → AskedAlone program

@@ -1,5 +1,5 @@
-//! What people are told of how a job ended ill: why, and what to do. Each text of that kind stands here, but for what is wrong
-//! with a definition, which `hpb_reasons` says.
+//! Messages on standard error about a job that ended ill: why, and what to do. All texts of that kind stand here. Only
+//! the faults of a definition have theirs in `hpb_reasons`.
 
 use crate::escaped::{Escaped, Pasted};
 use crate::job_fault::JobFault;
@@ -17,12 +17,12 @@ use hpb_server::SessionFault;
 use std::io::ErrorKind;
 use std::{fmt, io};
 
-/// What is said of a job on a file that was not done: why, and what to do.
+/// The message about a job on a file that was not done: why, and what to do.
 #[derive(Clone, Copy)]
 pub struct JobAdvice<'a> {
     /// Why it was not done.
     pub fault: &'a JobFault,
-    /// What is known of it beside that.
+    /// The facts known about the job beside its fault.
     pub known: Known<'a>,
 }
 
@@ -68,7 +68,7 @@ impl fmt::Display for JobAdvice<'_> {
     }
 }
 
-/// Answers that aren't those that a file keeps.
+/// The text for answers that differ from those that a file keeps.
 fn advise_of_differing<W: fmt::Write>(
     f: &mut fmt::Formatter<W>,
     known: Known<'_>,
@@ -83,7 +83,7 @@ fn advise_of_differing<W: fmt::Write>(
 
 const MEMORY: &str = "memory was refused";
 
-/// The same of serving, which takes a thread for memory.
+/// The text for want of memory while serving, which takes threads too.
 const MEMORY_OR_THREAD: &str =
     "memory was refused, or a thread, which was told then: free some memory, let the process have more threads (ulimit -u), or give fewer to --sessions. All that was answered by OK is kept";
 
@@ -94,7 +94,7 @@ fn memory_of(job: Job<'_>) -> &'static str {
     }
 }
 
-/// A number of frames that the layout can't have: which it can, and the nearest.
+/// The text for a number of frames that the layout can't have: those it can have, and the nearest.
 fn advise_of_journal<W: fmt::Write>(f: &mut fmt::Formatter<W>, job: Job<'_>) -> fmt::Result {
     let Some(asked) = job.journal() else {
         return Ok(());
@@ -156,7 +156,7 @@ fn advise_of_file<W: fmt::Write>(
     }
 }
 
-/// A file for which the system refused a call, before anything was read of it. Only `format` makes files.
+/// The text for a file for which the system refused a call, before anything was read of it. Only `format` makes files.
 fn advise_of_system<W: fmt::Write>(
     f: &mut fmt::Formatter<W>,
     known: Known<'_>,
@@ -199,7 +199,7 @@ fn advise_of_format<W: fmt::Write>(
     }
 }
 
-/// A file that is there, with another length than the journal wants.
+/// The text for a file that is there, with another length than the journal wants.
 fn advise_of_length<W: fmt::Write>(f: &mut fmt::Formatter<W>, known: Known<'_>) -> fmt::Result {
     let file = Escaped(known.file());
     let (Some(asked), Some(seen)) = (known.job.journal(), known.seen) else {
@@ -229,7 +229,7 @@ fn advise_of_length<W: fmt::Write>(f: &mut fmt::Formatter<W>, known: Known<'_>) 
     }
 }
 
-/// The length of a file, in pages where it has whole ones.
+/// The length of a file: in pages if it has whole ones, and otherwise in bytes.
 #[derive(Clone, Copy)]
 struct Length(u64);
 
@@ -272,7 +272,7 @@ fn advise_of_open<W: fmt::Write>(
     }
 }
 
-/// A file that keeps no auction: it never did, or it was cut or overwritten.
+/// The text for a file that keeps no auction: it never did, or it was cut or overwritten.
 fn advise_of_unformatted<W: fmt::Write>(
     f: &mut fmt::Formatter<W>,
     known: Known<'_>,
@@ -296,12 +296,12 @@ fn advise_of_unformatted<W: fmt::Write>(
     )
 }
 
-/// Whether so many bytes may be those of a file that keeps an auction.
+/// Whether a file of this many bytes may keep an auction.
 fn has_pages(bytes: u64) -> bool {
     bytes % PAGE_BYTES as u64 == 0 && bytes / PAGE_BYTES as u64 >= LEAST_PAGES as u64
 }
 
-/// A file whose head is damaged, or whose length isn't the one that its head tells.
+/// The text for a file whose head is damaged, or whose length isn't the one in its head.
 fn advise_of_layout<W: fmt::Write>(f: &mut fmt::Formatter<W>, known: Known<'_>) -> fmt::Result {
     let file = Escaped(known.file());
     let Some(seen) = known.seen else {
@@ -336,12 +336,12 @@ fn advise_of_layout<W: fmt::Write>(f: &mut fmt::Formatter<W>, known: Known<'_>) 
     )
 }
 
-/// What is said of a run or of serving that ended ill and had begun: why, and what to do.
+/// The message about a run or serving that had begun and ended ill: why, and what to do.
 #[derive(Clone, Copy)]
 pub struct EndAdvice<'a> {
     /// How it ended.
     pub end: RunEnd,
-    /// What is known of it beside that.
+    /// The facts known about the job beside its end.
     pub known: Known<'a>,
 }
 
@@ -361,7 +361,7 @@ impl fmt::Display for EndAdvice<'_> {
     }
 }
 
-/// What is said of the file of a job that somebody else cut, made longer or wrote while it was served, once all sessions
+/// The message about a job's file that somebody else cut, made longer or wrote while it was served, once all sessions
 /// have ended.
 #[derive(Clone, Copy)]
 pub struct SpoiledAdvice<'a>(pub Known<'a>);
@@ -377,7 +377,7 @@ impl fmt::Display for SpoiledAdvice<'_> {
     }
 }
 
-/// A disk of which a call failed while its auction was run or served.
+/// The text for a disk of which a call failed while its auction was run or served.
 fn advise_of_disk<W: fmt::Write>(
     f: &mut fmt::Formatter<W>,
     known: Known<'_>,
@@ -395,7 +395,7 @@ fn advise_of_disk<W: fmt::Write>(
     )
 }
 
-/// The commands that have to be sent again once a disk has failed. While an auction is served no answer is 91.
+/// The commands that have to be sent again once a disk has failed. While an auction is served, no answer is 91.
 fn unkept(job: Job<'_>) -> &'static str {
     match job {
         Job::Serve { .. } => "the commands that were answered by 93",
@@ -403,7 +403,7 @@ fn unkept(job: Job<'_>) -> &'static str {
     }
 }
 
-/// A stream that failed, or memory that was refused, once a run or serving had begun.
+/// The text for a stream that failed, or memory that was refused, once a run or serving had begun.
 fn advise_of_fault<W: fmt::Write>(
     f: &mut fmt::Formatter<W>,
     known: Known<'_>,
@@ -433,10 +433,10 @@ fn advise_of_fault<W: fmt::Write>(
     }
 }
 
-/// What is said of a script that a fault ended.
+/// The message about a script that a fault ended.
 #[derive(Clone, Copy)]
 pub struct ScriptAdvice {
-    /// What ended it.
+    /// The fault that ended it.
     pub fault: SessionFault,
     /// How its input and its output failed.
     pub failures: Failures,
@@ -452,7 +452,7 @@ impl fmt::Display for ScriptAdvice {
     }
 }
 
-/// An input that failed, in the words of the system; or one that had too many bytes.
+/// The text for an input that failed, in the words of the system, or one that had too many bytes.
 fn write_reading<W: fmt::Write>(f: &mut fmt::Formatter<W>, failures: Failures) -> fmt::Result {
     match failures.reading {
         Some(error) => write!(f, "reading: {error}"),
@@ -460,7 +460,7 @@ fn write_reading<W: fmt::Write>(f: &mut fmt::Formatter<W>, failures: Failures) -
     }
 }
 
-/// An output that failed, in the words of the system; or one that took nothing.
+/// The text for an output that failed, in the words of the system, or one that took nothing.
 fn write_writing<W: fmt::Write>(f: &mut fmt::Formatter<W>, failures: Failures) -> fmt::Result {
     match failures.writing {
         Some(error) => write!(f, "writing: {error}"),
@@ -468,7 +468,7 @@ fn write_writing<W: fmt::Write>(f: &mut fmt::Formatter<W>, failures: Failures) -
     }
 }
 
-/// What is said where a standard stream is closed, and nothing else could be opened in its place.
+/// The message if a standard stream is closed, and nothing else could be opened in its place.
 #[derive(Clone, Copy)]
 pub struct StreamsAdvice<'a>(pub &'a io::Error);
 
@@ -482,14 +482,14 @@ impl fmt::Display for StreamsAdvice<'_> {
     }
 }
 
-/// What is said of a standard stream that leads to a job's file.
+/// The message about a standard stream that leads to a job's file.
 #[derive(Clone, Copy)]
 pub struct LedAdvice<'a> {
-    /// Which one, in words: as standard input.
+    /// Its name, such as "standard input".
     pub stream: &'static str,
     /// The path of the job's file.
     pub file: &'a str,
-    /// Whether it leads to no file of that path, but to the one that has this name while it is made.
+    /// Whether it leads to the file `F.new`, as file `F` is called while it is made, and not to `F` itself.
     pub is_new: bool,
 }
 

@@ -1,14 +1,14 @@
-//! Texts of the user's in what people are told.
+//! The user's own texts, such as file names, in messages.
 
 use std::fmt;
 
-/// How many characters of a file's name are shown at most.
+/// How many characters of a file's name are shown, at most.
 const MOST_SHOWN: usize = 100;
 
-/// How many bytes a name in a command has at most.
+/// How many bytes a name in a command has, at most.
 const MOST_PASTED: usize = 400;
 
-/// A file's name, escaped as a word is, and cut where it is long.
+/// A file's name, with the characters escaped that a terminal obeys or doesn't show, and cut if it is long.
 #[derive(Clone, Copy)]
 pub struct Escaped<'a>(pub &'a str);
 
@@ -27,8 +27,8 @@ impl fmt::Display for Escaped<'_> {
     }
 }
 
-/// A file's name in a command that is to be pasted: in quotes where a shell wants it, and whole. `F` stands for one
-/// that is longer than a line may be, or has characters that a terminal obeys or doesn't show.
+/// A file's name in a command that is to be pasted. It is whole, and in quotes if a shell wants them. If it is too long
+/// for a line, or has characters that a terminal obeys or doesn't show, `F` stands for it.
 #[derive(Clone, Copy)]
 pub struct Pasted<'a>(pub &'a str);
 
@@ -38,7 +38,7 @@ impl fmt::Display for Pasted<'_> {
         if name.len() > MOST_PASTED || name.chars().any(is_escaped) {
             return f.write_str("F");
         }
-        // A name that begins as an option does would be taken for one.
+        // A name that begins like an option would be taken for one.
         let front = if name.starts_with('-') { "./" } else { "" };
         if name.chars().all(is_plain) {
             return write!(f, "{front}{name}");
@@ -54,7 +54,7 @@ impl fmt::Display for Pasted<'_> {
     }
 }
 
-/// Whether no shell takes a character for more than itself.
+/// Whether a character means only itself to every shell.
 fn is_plain(letter: char) -> bool {
     letter.is_ascii_alphanumeric()
         || matches!(
@@ -85,7 +85,7 @@ fn write_escaped<W: fmt::Write>(f: &mut fmt::Formatter<W>, letter: char) -> fmt:
     }
 }
 
-/// As how many characters one is shown.
+/// How many characters this one takes when it is shown.
 fn width(letter: char) -> usize {
     if is_escaped(letter) {
         letter.escape_debug().count()
@@ -94,7 +94,7 @@ fn width(letter: char) -> usize {
     }
 }
 
-/// Whether `{:?}` escapes a character. Quotes and backslashes stay as they are, since no quotes stand around.
+/// Whether `{:?}` escapes this character. Quotes and backslashes stay as they are, since no quotes stand around.
 pub(crate) fn is_escaped(letter: char) -> bool {
     match letter {
         '\'' | '"' | '\\' => false,

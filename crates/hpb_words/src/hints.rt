@@ -1,4 +1,4 @@
-//! What a terminal is told to type.
+//! The hint that a terminal gets before a job reads from it.
 ghost use Rattle.std.specs.Prelude.{◌≡◌, true};
 ghost use Rattle.hpb_words.specs.Hints.{hint_text};
 
@@ -13,7 +13,7 @@ const FORMAT_HINT: &str =
 const RUN_HINT: &str =
     "hpb: standard input is a terminal: type commands and questions, one a line; Ctrl-D ends the run\n";
 
-/// What a terminal is told to type for a job, before the job reads it: nothing where it reads nothing.
+/// The hint for a job, before the job reads a terminal. It is empty if the job reads nothing.
 pub fn hint_for(job: Job<'_>) -> &'static str
     ensures { result.now ≡ hint_text true job.entry }
 {

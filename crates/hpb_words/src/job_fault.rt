@@ -27,14 +27,14 @@ pub enum JobFault {
     File(FileFault),
     /// 41, 43 or 91: the file was not formatted.
     Format(FormatCause),
-    /// 40, 42, 44, 45 or 91: what the file holds was not opened.
+    /// 40, 42, 44, 45 or 91: the contents of the file were not opened.
     Open(Cause),
-    /// 92: connections to this port can't be had.
+    /// 92: no connections to this port can be had.
     Port {
         port: u16,
         error: io::Error,
     },
-    /// 92: so many sessions want so many files and connections at a time, and can't have them.
+    /// 92: so many sessions want this many files and connections at a time, and can't have them.
     Descriptors {
         sessions: u8,
         wanted: u64,
@@ -42,14 +42,14 @@ pub enum JobFault {
     },
     /// 94: the place of a session was refused.
     Place,
-    /// 95: an answer came that isn't the one that its session waited for.
+    /// 95: an answer came that isn't the one for which its session waited.
     Order,
-    /// 96: what the sessions were answered isn't what was kept.
+    /// 96: the sessions' answers differ from the commands that were kept.
     Counts,
 }
 
 impl JobFault {
-    /// The refusal that it is told by.
+    /// The refusal by which this fault is reported.
     pub fn refusal(&self) -> Refusal
         ensures { result ≡ refusal_of self.now }
     {
@@ -68,7 +68,7 @@ impl JobFault {
         }
     }
 
-    /// The one of a file that was not formatted.
+    /// The fault of a job whose file was not formatted.
     pub fn of_formatting(cause: FormatCause) -> JobFault
         ensures { result ≡ made_of_formatting cause }
     {
@@ -78,7 +78,7 @@ impl JobFault {
         }
     }
 
-    /// The one of a device that was not opened, or not looked at.
+    /// The fault of a job whose device was not opened, or not looked at.
     pub fn of_opening(cause: Cause) -> JobFault
         ensures { result ≡ made_of_opening cause }
     {
@@ -88,7 +88,7 @@ impl JobFault {
         }
     }
 
-    /// Whether it is one of what a file holds, or of how long it is.
+    /// Whether the fault is about the contents of a file, or about its length.
     pub(crate) fn is_of_bytes(&self) -> bool {
         matches!(
             self,

@@ -1,4 +1,4 @@
-//! What is known of a job that ended ill, beside its fault.
+//! The facts known about a job that ended ill, beside its fault.
 ghost use Rattle.std.specs.Prelude.{◌≡◌};
 ghost use Rattle.hpb_codec.specs.Layouts.{IsShape};
 ghost use Rattle.hpb_words.specs.Pages.{pages_of};
@@ -18,16 +18,16 @@ use std::fs::{File, Files};
 use std::io;
 use std::os::unix::fs::FileExt;
 
-/// A job, with what failed of its streams, and what was seen of its file after it was refused.
+/// A job, the failures of its streams, and its file as it is after it was refused.
 #[derive(Clone, Copy)]
 pub struct Known<'a> {
-    /// What was asked for.
+    /// The job itself.
     pub job: Job<'a>,
     /// How its input and its output failed.
     pub failures: Failures,
-    /// Its file as it is now, where that was looked at and could be opened.
+    /// Its file as it is now, if it was looked at and could be opened.
     pub seen: Option<SeenFile>,
-    /// What the system said of the file's disk, where a call of that failed before and fails again.
+    /// The system's error, if a call of the file's disk failed before and fails again.
     pub trouble: Option<io::Error>,
 }
 
@@ -38,8 +38,8 @@ impl<'a> Known<'a> {
     }
 }
 
-/// What is known of a job beside how it ended. A file whose bytes or whose length were refused, or of which a call
-/// failed, is looked at once more.
+/// Collects the facts about a job beside its end. If a file's bytes or length were refused, or a call of its disk
+/// failed, it looks at the file once more.
 pub fn known_of<'a, H: Files<File = File>, T>(
     rt: &H,
     alloc: Global,
@@ -66,31 +66,31 @@ pub fn known_of<'a, H: Files<File = File>, T>(
     }
 }
 
-/// The length of a file, and what its first pages are.
+/// The length of a file, and the contents of its first pages.
 #[derive(Clone, Copy, Debug, PartialEq, Eq)]
 pub struct SeenFile {
     /// Its length in bytes.
     pub bytes: u64,
-    /// What its first pages are.
+    /// The contents of its first pages.
     pub head: SeenHead,
 }
 
-/// What the first pages of a file are.
+/// The contents of a file's first pages.
 #[derive(Clone, Copy, Debug, PartialEq, Eq)]
 pub enum SeenHead {
     /// No head, or one whose gate is closed: the file keeps no auction.
     Closed,
-    /// A head that begins as one and spells none.
+    /// A head that begins as one, but is damaged.
     Damaged,
-    /// The head of an auction with such a journal.
+    /// The head of an auction with a journal of this shape.
     Of(JournalShape),
 }
 
-/// How many bytes a file begins with that are its head and the gate of that.
+/// How many bytes the head and its gate take at the beginning of a file.
 const FRONT_BYTES: usize = HEAD_AT + HEAD_SIZE;
 
 impl SeenFile {
-    /// The file of a path, if it can be opened, as it is now. Nothing of it is changed.
+    /// The file of a path as it is now, if it can be opened. It changes nothing of it.
     pub(crate) fn of<H: Files<File = File>>(rt: &H, alloc: Global, path: &str) -> Option<SeenFile> {
         let file = File::open(rt, path).ok()?;
         let bytes = file.metadata().ok()?.len();
@@ -99,8 +99,7 @@ impl SeenFile {
     }
 }
 
-/// What the system says of the file of a path, and its disk, where it can't be synced or read from the beginning to the
-/// end.
+/// The system's error if the file of a path can't be synced, or read from beginning to end. `None` if it can.
 pub(crate) fn trouble_of<H: Files<File = File>>(rt: &H, path: &str) -> Option<io::Error> {
     match read_all(rt, path) {
         Ok(()) => None,
@@ -119,7 +118,7 @@ fn read_all<H: Files<File = File>>(rt: &H, path: &str) -> io::Result<()> {
     Ok(())
 }
 
-/// What a file begins with, if it can be read and memory isn't refused.
+/// The contents of a file's first pages, if they can be read and memory isn't refused.
 fn head_of(alloc: Global, file: &File) -> Option<SeenHead> {
     let mut front = vec![in alloc; 0; FRONT_BYTES].ok()?;
     let mut head = vec![in alloc; 0; HEAD_SIZE].ok()?;
@@ -147,7 +146,7 @@ pub fn pages_of(journal: JournalShape) -> usize
     AnyFrames::new(journal).device_len() / PAGE_BYTES
 }
 
-/// How many pages a file has whose journal has this shape, and 0 where none can have it.
+/// How many pages a file has whose journal has this shape. 0 if no journal can have it.
 pub(crate) fn pages_for(journal: JournalShape) -> u64 {
     if journal.is_allowed() {
         pages_of(journal) as u64
@@ -156,7 +155,7 @@ pub(crate) fn pages_for(journal: JournalShape) -> u64 {
     }
 }
 
-/// The journal with which a file has so many bytes, in this layout or else in the other.
+/// The journal with which a file has this many bytes, in this layout or else in the other.
 pub(crate) fn journal_fitting(bytes: u64, layout: JournalLayout) -> Option<JournalShape> {
     let other = match layout {
         JournalLayout::Pages => JournalLayout::Cells,
@@ -176,7 +175,8 @@ fn fitting_in(bytes: u64, layout: JournalLayout) -> Option<JournalShape> {
     None
 }
 
-/// A journal that can be, in the layout of one that can't: with as many frames or a few more, as far as the range goes.
+/// An allowed journal near one that isn't, in the same layout: with as many frames or a few more, as far as the range
+/// goes.
 pub(crate) fn journal_near(asked: JournalShape) -> JournalShape {
     let layout = asked.layout;
     for frames in asked.frames..=MOST_FRAMES {

@@ -1,6 +1,8 @@
-//! The words of the command line, what they ask for, and what people are told: of words that ask for nothing, of a job that ended
-//! ill and what to do then, by the line of each refusal, and of what happens beside sessions that are served. Here stand the
-//! faults of jobs, and the streams that remember how they failed.
+//! The words of the command line, the jobs that they ask for, and all messages to people. There are messages about
+//! words that ask for nothing, about a job that ended ill, with what to do then, and about events while sessions are
+//! served. Each refusal has its line.
+//!
+//! The faults of jobs stand here too, and the streams that remember how they failed.
 #![tactic(auto)]
 
 mod advice;

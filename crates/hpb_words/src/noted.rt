@@ -1,17 +1,17 @@
-//! Streams whose failures are remembered, for what is told of them.
+//! Streams that remember their failures, for messages.
 
 use hpb_server::send_bytes;
 use std::io;
 use std::io::{Read, Write};
 
-/// A stream, and the failure of its last call, where that failed.
+/// A stream, and the error of its last call, if that failed.
 #[derive(Drop)]
 pub struct Noted<S> {
     /// The stream itself.
     pub stream: S,
-    /// How its last call failed.
+    /// The error of its last call, if that failed.
     pub failure: Option<io::Error>,
-    /// Whether its last write or flush failed or took nothing. Nobody else sets it.
+    /// Whether its last write or flush failed or took nothing. Only `send` sets it.
     cut: bool,
 }
 
@@ -32,8 +32,8 @@ impl<S> Noted<S> {
         }
     }
 
-    /// Whether the last text that it was to take was cut: it failed, or took nothing, so that a front of the text may
-    /// stand there.
+    /// Whether the last text was cut: the stream failed or took nothing, so that only a front of the text may be
+    /// written.
     pub fn is_cut(&self) -> bool
         ensures { result ≡ is_cut self.now }
     {
@@ -46,7 +46,7 @@ impl<W: Write> Noted<W> {
     ghost use Rattle.hpb_words.specs.Telling.{is_cut};
     ghost use Rattle.hpb_server.specs.Writing.{Puts};
 
-    /// Writes a text and has it handed on, and remembers whether all of it was taken.
+    /// Writes a text and flushes it, and remembers whether all of it was taken.
     pub fn send(&mut self, text: &[u8]) -> io::Result<()>
         ensures bytes { Puts (W.contents self.old.stream) (W.contents self.new.stream) text.now result }
         ensures cut { MatchResult result (λ _. is_cut self.new ≡ false) (λ _. is_cut self.new ≡ true) }
@@ -129,16 +129,16 @@ impl<W: Write> Write for Noted<W> {
 /// The failures of a job's input and output.
 #[derive(Clone, Copy)]
 pub struct Failures {
-    /// How the last read of the input failed.
+    /// The error of the input's last read, if that failed.
     pub reading: Option<io::Error>,
-    /// How the last write or flush of the output failed.
+    /// The error of the output's last write or flush, if that failed.
     pub writing: Option<io::Error>,
 }
 
 impl Failures {
     ghost use Rattle.std.specs.Prelude.{◌≡◌};
 
-    /// Those of an input and an output.
+    /// The failures of these two.
     pub fn of<R, W>(input: &Noted<R>, output: &Noted<W>) -> Self
         ensures reading { result.reading ≡ input.now.failure }
         ensures writing { result.writing ≡ output.now.failure }

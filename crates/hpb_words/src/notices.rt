@@ -1,4 +1,4 @@
-//! What people are told while an auction is served.
+//! Messages to people while an auction is served.
 
 use crate::advice::ScriptAdvice;
 use crate::escaped::Escaped;
@@ -8,7 +8,7 @@ use hpb_server::SessionFault;
 use std::net::SocketAddr;
 use std::{fmt, io};
 
-/// So many notices that people were not told.
+/// How many notices were lost.
 #[derive(Clone, Copy, Debug, PartialEq, Eq)]
 pub struct MissedNotices(pub u64);
 
@@ -22,7 +22,7 @@ impl fmt::Display for MissedNotices {
     }
 }
 
-/// The file of this path, of whose disk a call has failed.
+/// A call of the disk of this path's file has failed.
 #[derive(Clone, Copy)]
 pub struct FailedNotice<'a>(pub &'a str);
 
@@ -37,16 +37,16 @@ impl fmt::Display for FailedNotice<'_> {
     }
 }
 
-/// What became of a file while it was served.
+/// The fate of a file while it was served.
 #[derive(Clone, Copy, Debug, PartialEq, Eq)]
 pub enum Change {
     /// It has another length, or bytes that somebody else wrote.
     Spoiled,
     /// It has another name.
     Moved,
-    /// Its name was removed, or is another file's, and it has another one besides. This is its inode's number.
+    /// Its name was removed, or is another file's, and it has another name besides. This is its inode's number.
     Unnamed { inode: u64 },
-    /// It has no name any more, and this process, which has it open by this descriptor, is all that keeps it.
+    /// It has no name any more. Only this process keeps it, which has it open by this descriptor.
     Nameless { process: i32, descriptor: i32 },
 }
 
@@ -101,14 +101,14 @@ impl fmt::Display for ChangeNotice<'_> {
     }
 }
 
-/// What became of a connection that asked for a session.
+/// The fate of a connection that asked for a session.
 #[derive(Clone, Copy)]
 pub enum SeatNotice<'a> {
     /// It took a place.
     Taken { taken: usize, places: usize },
-    /// It was not accepted.
+    /// The accept failed.
     Missed(&'a io::Error),
-    /// A thread was refused to it.
+    /// Its session got no thread.
     Refused,
 }
 
@@ -130,15 +130,15 @@ impl fmt::Display for SeatNotice<'_> {
 /// A place of a session, and the other side of its connection.
 #[derive(Clone, Copy)]
 pub struct PlaceNotice {
-    /// Which place, from 1 on.
+    /// Its number, from 1 on.
     pub number: usize,
-    /// How many there are.
+    /// How many places there are.
     pub places: usize,
     pub peer: SocketAddr,
     pub state: PlaceState,
 }
 
-/// How a place stands.
+/// The state of a place.
 #[derive(Clone, Copy)]
 pub enum PlaceState {
     /// A session has it.
@@ -165,9 +165,9 @@ impl fmt::Display for PlaceNotice {
 pub enum Ending {
     /// The other side has ended the connection.
     Closed,
-    /// A fault ended it, with how the last call of the connection that failed did so, if one has.
+    /// A fault ended it. If a call of the connection failed, also the last error.
     Failed(SessionFault, Option<io::Error>),
-    /// It was given another answer than that to its command.
+    /// It got another answer than that to its command.
     OutOfOrder,
 }
 

@@ -1,4 +1,4 @@
-//! The words that ask for a job, as people are told to type them.
+//! The words that ask for a job, in the form in which people type them.
 
 use crate::escaped::Pasted;
 use crate::words::Job;

@@ -1,4 +1,4 @@
-//! What is told of a fault, on the output and on the errors.
+//! The report of a fault, on standard output and on standard error.
 ghost use Rattle.std.specs.Prelude.{◌≡◌, true, codes};
 ghost use Rattle.std.specs.Io.KnownBytes.{Keeps};
 ghost use Rattle.hpb_words.specs.Telling.{is_cut, AnswersJob, TellsLine};
@@ -49,11 +49,11 @@ pub fn tell_job<W: Write>(fault: &JobFault, output: &mut Noted<W>)
     }
 }
 
-/// What people are told of 90, without taking memory.
+/// The message of 90, for which no memory is taken.
 const MEMORY_TOLD: &str = "hpb: 90 memory: memory was refused\n";
 
-/// Tells people of a refusal, and what to do, as far as memory and the errors allow. Where memory is refused for more
-/// they are told of 90 all the same.
+/// Writes a refusal and what to do to standard error, as far as memory and that stream allow. If memory is refused for
+/// the message, it still writes the message of 90, if the refusal is 90.
 pub fn advise<A: fmt::Display + Copy, E: Write>(
     alloc: Global,
     refusal: Refusal,
@@ -68,7 +68,7 @@ pub fn advise<A: fmt::Display + Copy, E: Write>(
     }
 }
 
-/// Tells people of 90, and of no other refusal.
+/// Writes the message of 90 if the refusal is 90, and nothing otherwise.
 fn tell_of_memory<E: Write>(refusal: Refusal, errors: &mut E)
     ensures { TellsOf (E.contents errors.old) (E.contents errors.new) refusal }
 {
@@ -78,7 +78,7 @@ fn tell_of_memory<E: Write>(refusal: Refusal, errors: &mut E)
     }
 }
 
-/// Tells people of 90, without taking memory.
+/// Writes the message of 90, without taking memory.
 pub fn tell_memory<E: Write>(errors: &mut E)
     ensures { Says (E.contents errors.old) (E.contents errors.new) (told_line refusals.Memory (codes "memory was refused")) }
 {
@@ -91,7 +91,7 @@ fn line_of_memory_told() -> &'static str
     MEMORY_TOLD
 }
 
-/// Tells a terminal what a job reads, before it does.
+/// Tells a terminal what a job reads from it, before it does.
 pub fn hint<E: Write>(job: Job<'_>, is_terminal: bool, errors: &mut E)
     ensures { Says (E.contents errors.old) (E.contents errors.new) (hint_text is_terminal job.entry) }
 {

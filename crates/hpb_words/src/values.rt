@@ -1,4 +1,4 @@
-//! What is wrong with values of options that `clap` takes.
+//! Values of options that `clap` takes, but that are wrong.
 ghost use Rattle.std.specs.Prelude.{◌≡◌, MatchResult};
 ghost use Rattle.std.specs.Char.{is_ascii_digit};
 ghost use Rattle.std.specs.List.{list_all};
@@ -10,7 +10,7 @@ use crate::words::{BATCH, EVERY, FILE, JOURNAL, LAYOUT, PORT, SESSIONS};
 use clap::ArgMatches;
 use thiserror::Error;
 
-/// What is wrong with the value of an option, and with which.
+/// The fault of an option's value, with the option.
 #[derive(Clone, Copy, Debug, Error)]
 pub(crate) enum ValueFault<'a> {
     /// The name of a file is empty.
@@ -21,7 +21,8 @@ pub(crate) enum ValueFault<'a> {
     Sign { text: &'a str, option: &'static str },
 }
 
-/// Judges the values that words give their command.
+/// Judges the values that the words give their command. Refused: an empty file name, and a number that isn't digits
+/// alone.
 pub(crate) fn check_values<'a>(matches: &ArgMatches<'a>) -> Result<(), ValueFault<'a>>
     ensures { MatchResult result (λ _. AreWellGiven (subcommand_rows_of matches.now)) (λ _. AreWellGiven (subcommand_rows_of matches.now) → ⊥) }
 {
@@ -45,7 +46,7 @@ fn check_options<'a>(options: &ArgMatches<'a>) -> Result<(), ValueFault<'a>>
     check_number(options, SESSIONS, "--sessions <N>")
 }
 
-/// `clap` takes a number with a sign as well.
+/// Refuses a number with a sign, which `clap` takes.
 fn check_number<'a>(
     options: &ArgMatches<'a>,
     name: &str,

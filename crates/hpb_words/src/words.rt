@@ -15,7 +15,7 @@ use std::alloc::{AllocError, Global};
 use std::convert::AsStr;
 use thiserror::Error;
 
-/// The version, and the line of the kit that the program is proved with.
+/// The version, and the line of the kit with which the program is proved.
 const VERSION: &str = "0.1.0\nrattle-kit-13f logic dac8208d650f15bf";
 
 const USAGE: &str = r#"hpb < SCRIPT
@@ -191,7 +191,7 @@ pub(crate) const LAYOUT: &str = "layout";
 /// The option that gives the most commands of a batch.
 pub(crate) const BATCH: &str = "batch";
 
-/// The option that gives the number of batches after which there is a checkpoint.
+/// The option that gives the number of commits after which a checkpoint is made.
 pub(crate) const EVERY: &str = "every";
 
 /// The option that gives a port.
@@ -200,42 +200,42 @@ pub(crate) const PORT: &str = "port";
 /// The option that gives a number of sessions.
 pub(crate) const SESSIONS: &str = "sessions";
 
-/// As many commands as a batch may have.
+/// How many commands a batch may have, at most.
 const MOST_BATCH: u32 = MOST_LETTERS as u32;
 
-/// The least port that may be served at. Those below it are kept for the system's own programs.
+/// The least port at which sessions may be served. Those below it are kept for the system's own programs.
 const LEAST_PORT: u16 = 1_024;
 
 /// The greatest port that there is.
 const MOST_PORT: u16 = u16::MAX;
 
-/// As many sessions as there may be.
+/// How many sessions there may be, at most.
 const MOST_SESSIONS: u8 = MOST_SEATS as u8;
 
-/// What a command line asks for.
+/// The job that a command line asks for.
 #[derive(Clone, Copy, Debug, PartialEq, Eq)]
 pub enum Job<'a> {
     /// An auction in memory: a definition and lines from the input.
     Script,
-    /// A file that keeps an auction, by the definition from the input: the file's path, and the layout and the number
-    /// of frames of its journal, which may be out of the layout's range.
+    /// Make a file that keeps an auction, by the definition from the input. Given are the file's path, and the layout
+    /// and number of frames of its journal. The number may be out of the layout's range.
     Format {
         file: &'a str,
         journal: JournalShape,
     },
-    /// The auction that the file of this path keeps, shown.
+    /// Show the auction that the file of this path keeps.
     Check {
         file: &'a str,
     },
-    /// The auction that the file of this path keeps, with lines from the input: the most commands that are made durable
-    /// together, and the number of batches after which there is a checkpoint, or 0.
+    /// Run the auction that the file of this path keeps, with lines from the input. Given are the most commands that
+    /// are committed together, and after how many commits a checkpoint is made, or 0 for never.
     Run {
         file: &'a str,
         batch: u32,
         every: u32,
     },
-    /// The auction that the file of this path keeps, with lines from connections: the port of 127.0.0.1, from 1,024 on,
-    /// and the number of sessions, from 1 to 32.
+    /// Serve the auction that the file of this path keeps, with lines from connections. Given are the port of
+    /// 127.0.0.1, from 1,024 on, and the number of sessions, from 1 to 32.
     Serve {
         file: &'a str,
         port: u16,
@@ -258,7 +258,7 @@ impl<'a> Job<'a> {
         }
     }
 
-    /// The journal that it asks for, which only `format` does.
+    /// The journal that it asks for. Only `format` asks for one.
     pub fn journal(self) -> Option<JournalShape>
         ensures { result ≡ journal_of self.entry }
     {
@@ -275,8 +275,8 @@ pub enum WordsFault {
     /// 90: memory was refused.
     #[error("memory")]
     Memory,
-    /// The words are wrong, or ask for help. The text is for whoever wrote them, and the status is the
-    /// program's: 2 for wrong words, else 0.
+    /// The words are wrong, or ask for help. The text is for the person who typed them. The status is the program's: 2
+    /// for wrong words, and otherwise 0.
     #[error("{text}")]
     Refused { text: String, status: u8 },
 }
@@ -305,7 +305,7 @@ pub fn read_words<'a, S: AsStr>(alloc: Global, words: &'a [S]) -> Result<Job<'a>
     }
 }
 
-/// What matches ask for.
+/// The job that matches of `clap` ask for.
 fn job_of<'a>(matches: &ArgMatches<'a>) -> Job<'a>
     requires { HasKnownCommand (subcommand_rows_of matches.now) }
     ensures job { IsJobOf (subcommand_rows_of matches.now) result }
@@ -317,7 +317,7 @@ fn job_of<'a>(matches: &ArgMatches<'a>) -> Job<'a>
     }
 }
 
-/// What a command asks for. It takes words only with all its options, so none of them is missing here.
+/// The job that a command asks for. `clap` takes words only with all options of their command, so none is missing here.
 fn job_of_command<'a>(name: &str, options: &ArgMatches<'a>) -> Job<'a>
     requires { IsKnownName name.now }
     ensures job { IsJobOf (Some (name.now, rows_of (found_of options.now))) result }
@@ -350,7 +350,7 @@ fn job_of_command<'a>(name: &str, options: &ArgMatches<'a>) -> Job<'a>
     }
 }
 
-/// What becomes of words with such a value.
+/// The fault of words with such a value.
 fn refused_value(alloc: Global, fault: ValueFault<'_>) -> Result<WordsFault, AllocError>
     ensures { IfOk result IsWrong }
 {
@@ -361,7 +361,7 @@ fn refused_value(alloc: Global, fault: ValueFault<'_>) -> Result<WordsFault, All
     })
 }
 
-/// What becomes of words that `clap` gives no matches for.
+/// The fault of words for which `clap` gives no matches.
 fn refused<S: AsStr>(
     alloc: Global,
     error: &clap::Error,
@@ -380,8 +380,8 @@ fn refused<S: AsStr>(
     Ok(WordsFault::Refused { text, status })
 }
 
-/// What is said of words: of those with characters that a terminal obeys or doesn't show what is said of them once
-/// these are escaped.
+/// The message of `clap` about words. If they have characters that a terminal obeys or doesn't show, it is the message
+/// about the words with these escaped.
 fn said_of<S: AsStr>(
     alloc: Global,
     error: &clap::Error,
@@ -462,7 +462,7 @@ fn serve_command<'a>(alloc: Global) -> Result<Command<'a>, AllocError>
         .arg(sessions.required(true))
 }
 
-/// A command on a file, with what help says of it before its options and behind them.
+/// A command on a file, with the texts of help before and behind its options.
 fn new_command<'a>(
     alloc: Global,
     name: &'a str,

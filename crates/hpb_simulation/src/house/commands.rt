@@ -12,8 +12,8 @@ const NODES: u32 = 6;
 
 pub(crate) const BIDDERS: usize = 4;
 
-/// The next command of a client: of the auctioneer where there is no bidder of this place. So many before it aren't
-/// answered: mostly none. A close comes seldom, and hardly ever where it would end the auction.
+/// The next command of a client; the auctioneer's, if there is no bidder of this place. So many commands before it have
+/// no answer, mostly none. A close comes seldom, and hardly ever when it would end the auction.
 pub(crate) fn next_command(
     random: &mut Random,
     auction: &Auction,
@@ -36,7 +36,7 @@ pub(crate) fn next_command(
     }
 }
 
-/// A bid mostly, at times a waiver or the bidder's last command once more.
+/// Mostly a bid; at times a waiver, or the bidder's last command once more.
 fn next_of_bidder(
     random: &mut Random,
     auction: &Auction,
@@ -65,7 +65,7 @@ fn next_of_bidder(
     }
 }
 
-/// A package seldom: few bidders may bid on one.
+/// Seldom a package: few bidders may bid on one.
 fn node_of(random: &mut Random) -> usize
     ensures { result < 6 }
 {

@@ -20,10 +20,10 @@ use std::sync::Wait;
 /// How many clients a house has: four for the bidders, one for the auctioneer, and two more for the first two bidders.
 pub(crate) const SEATS: u8 = 7;
 
-/// A device in memory of which one call fails.
+/// A device in memory with one call that fails.
 type Device = OnceDisk<MemoryDisk>;
 
-/// What outlives a stop.
+/// The parts that outlive a stop.
 #[derive(Drop)]
 pub(crate) struct World {
     pub(crate) alloc: Global,
@@ -31,7 +31,7 @@ pub(crate) struct World {
     pub(crate) tale: Tale,
     /// By the seats of their clients.
     pub(crate) senders: Vec<Sender>,
-    /// What a stop has left, until it is opened.
+    /// The device after a stop, until it is opened.
     pub(crate) disk: Option<MemoryDisk>,
 }
 
@@ -47,7 +47,7 @@ pub(crate) struct Life<W: Wait + Drop> {
 }
 
 impl<W: Wait + Drop> Life<W> {
-    /// Opens the device, of which the call with this number fails, none at 0, and starts a house over it.
+    /// Opens the device, with one call that fails, that of this number (none at 0), and starts a house over it.
     pub(crate) fn begin(rt: W, world: &mut World, fault: u64) -> Result<Box<Life<W>>> {
         let opened = opened_in(world, fault)?;
         world.tale.auction(opened.auction())?;
@@ -79,7 +79,7 @@ impl<W: Wait + Drop> Life<W> {
         }
     }
 
-    /// One step of a client, or of a worker. So many of those of the workers have one of a checkpoint among them.
+    /// One step of a client, or of a worker. One in `pace` steps of the workers is of a checkpoint.
     pub(crate) fn step(&mut self, world: &mut World, pace: u32) -> Result<()>
         requires { 0 < pace }
     {
@@ -94,7 +94,7 @@ impl<W: Wait + Drop> Life<W> {
         }
     }
 
-    /// One step of a worker. What can't be done now is tried seldom.
+    /// One step of a worker. A step that can't be made now is seldom tried.
     fn work(&mut self, world: &mut World, pace: u32) -> Result<()>
         requires { 0 < pace }
     {
@@ -107,7 +107,7 @@ impl<W: Wait + Drop> Life<W> {
         }
     }
 
-    /// Posts what isn't answered, and does each worker's work for a batch.
+    /// Posts all commands without an answer, and does each worker's work for a batch.
     pub(crate) fn settle(&mut self, world: &mut World) -> Result<()> {
         for seat in 0..usize::from(SEATS) {
             self.post(world, seat)?;
@@ -265,7 +265,7 @@ impl<W: Wait + Drop> Life<W> {
         Ok(())
     }
 
-    /// After a fault each client is told.
+    /// After a fault each client gets the halt.
     fn halt(&mut self) -> Result<()> {
         let Some(halt) = self.keeper.halt() else {
             bail!("a fault that nobody is told");
@@ -279,7 +279,7 @@ impl<W: Wait + Drop> Life<W> {
         Ok(())
     }
 
-    /// The device has what a stop leaves of it.
+    /// The device then has the bytes that a stop leaves of it.
     pub(crate) fn stop(self, world: &mut World) -> Result<()> {
         let Life { keeper, .. } = self;
         let stop = world.random.stop();
@@ -295,8 +295,8 @@ impl<W: Wait + Drop> Life<W> {
     }
 }
 
-/// Opens the device, of which the call with this number fails. Where that is one of the opening, it is opened once
-/// more.
+/// Opens the device, with one call that fails, that of this number. If that is one of the opening, the device is opened
+/// once more.
 fn opened_in(world: &mut World, fault: u64) -> Result<Box<Opened<Device>>> {
     let Some(disk) = world.disk.take() else {
         bail!("there is no device");
@@ -313,7 +313,7 @@ fn opened_in(world: &mut World, fault: u64) -> Result<Box<Opened<Device>>> {
     }
 }
 
-/// Whether each letter's seat is one of so many.
+/// Whether each letter's seat is below this number of seats.
 fn are_seated(seats: u8, letters: &[Letter]) -> bool
     ensures { IsTrue result ↔ AreSeated seats letters.now }
 {

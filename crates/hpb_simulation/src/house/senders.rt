@@ -1,9 +1,9 @@
-//! What clients have sent that isn't answered yet. It outlives a stop.
+//! The commands that clients have sent and that have no answer yet. They outlive a stop.
 
 use hpb_rules::Command;
 use std::alloc::{AllocError, Global};
 
-/// How many commands of a client may be unanswered.
+/// How many commands of a client may have no answer.
 const MOST: usize = 16;
 
 /// A client's commands that have no answer yet.
@@ -23,7 +23,7 @@ impl Sender {
         }
     }
 
-    /// Whether it may send a new command: all others are posted, and there is room.
+    /// Whether the client may send a new command: all others are posted, and there is room.
     pub(crate) fn is_ready(&self) -> bool {
         self.posted >= self.unanswered.len() && self.unanswered.len() < MOST
     }
@@ -43,7 +43,7 @@ impl Sender {
         Ok(())
     }
 
-    /// The command that is to be posted next.
+    /// The command that is posted next.
     pub(crate) fn next(&self) -> Option<Command> {
         self.unanswered.get(self.posted).copied()
     }
@@ -61,7 +61,7 @@ impl Sender {
         self.posted = self.posted.saturating_sub(1);
     }
 
-    /// After a stop all are to be posted again.
+    /// After a stop all must be posted again.
     pub(crate) fn repeat(&mut self) {
         self.posted = 0;
     }

@@ -1,4 +1,4 @@
-//! What is told of a seed, line by line.
+//! The tale of a seed, line by line.
 
 use hpb_auction::Auction;
 use hpb_codec::JournalShape;
@@ -43,7 +43,7 @@ impl Tale {
         }
     }
 
-    /// Which seed it is, of which layout, and how many waivers each bidder has.
+    /// The line of the seed, its layout, and how many waivers each bidder has.
     pub(crate) fn begin(
         &mut self,
         seed: u64,
@@ -54,7 +54,7 @@ impl Tale {
         writeln!(self.text, "seed {seed} {layout} {frames} {waivers}")
     }
 
-    /// A line as it is.
+    /// Adds a line as it is.
     pub(crate) fn line(&mut self, words: &str) -> Result<(), AllocError> {
         writeln!(self.text, "{words}")
     }
@@ -149,7 +149,7 @@ impl Tale {
     }
 }
 
-/// The number of a sender's last command, 0 where it has none.
+/// The number of a sender's last command, or 0 if it has none.
 fn number_of(last: Option<Accepted>) -> u32 {
     match last {
         Some(accepted) => accepted.number,

@@ -9,8 +9,8 @@ use hpb_engine_rows::states::saved_of;
 use hpb_rules::{BidderId, Command, Letter, Letters, NodeId, Saved};
 use std::alloc::{AllocError, Global};
 
-/// Up to six letters, at times many more. Most of them can be accepted after the commands of the auction and one
-/// after another.
+/// Up to six letters, and at times many more. Most of them can be accepted after the commands of the auction, one after
+/// another.
 pub(crate) fn next_letters(
     random: &mut Random,
     alloc: Global,
@@ -31,7 +31,7 @@ pub(crate) fn next_letters(
     Ok(letters)
 }
 
-/// A bid mostly. A close without a bid would end the auction: it is seldom.
+/// Mostly a bid. A close without a bid would end the auction, so it is seldom.
 fn letter(random: &mut Random, auction: &Auction) -> Letter {
     let saved = saved_of(auction);
     let closes = if has_bid(&saved) { 2 } else { 1 };

@@ -11,17 +11,17 @@ use hpb_recover::{Opened, Plan};
 use hpb_rules::{Answer, Answers, Command, Letters};
 use std::alloc::{AllocError, Global};
 
-/// What a checkpoint has to do next.
+/// The work that is next for a checkpoint.
 #[derive(Clone, Copy, Debug, PartialEq, Eq)]
 enum Phase {
     Rest,
-    /// So many of the nine steps were made of a state that covers so many batches.
+    /// So many of the nine steps were made, of a state that covers so many batches.
     Writing { steps: u8, covers: u64 },
-    /// So many frames are left.
+    /// So many frames are left to retire.
     Retiring { left: u64 },
 }
 
-/// New commands on their way, the answers that leave with them, and the turns that were made.
+/// New commands on their way, the answers that leave with them, and how many turns were made.
 #[derive(Drop)]
 struct Flight {
     commands: Vec<Command>,
@@ -29,7 +29,7 @@ struct Flight {
     turns: u8,
 }
 
-/// Which of the batches stand after a stop.
+/// The batches that stand after a stop.
 #[derive(Clone, Copy, Debug, PartialEq, Eq)]
 pub(crate) enum Standing {
     Acknowledged,
@@ -86,7 +86,7 @@ impl Model {
         self.covered.saturating_add(self.frames)
     }
 
-    /// An offer: what becomes of it, and the answers that leave with it.
+    /// An offer: its result, and the answers that leave with it.
     pub(crate) fn offer(&mut self, alloc: Global, letters: &Letters) -> Result<(Weight, Answers)> {
         if self.flight.is_some() {
             return Ok((Weight::Busy, Answers::new()));
@@ -158,7 +158,7 @@ impl Model {
         }
     }
 
-    /// A frame is retired, or the last of them were.
+    /// Retires a frame, or finishes after the last.
     fn retire_on(&mut self, left: u64) -> Rest {
         if left > 0 {
             self.phase = Phase::Retiring { left: left - 1 };
@@ -169,7 +169,7 @@ impl Model {
         Rest::Whole
     }
 
-    /// Which batches stand on a device that was opened after a stop. None where it isn't what may stand.
+    /// The batches that stand on a device that was opened after a stop. `None` if they aren't allowed.
     pub(crate) fn standing(
         &self,
         alloc: Global,
@@ -195,8 +195,8 @@ impl Model {
         Ok(None)
     }
 
-    /// Whether the newest state and the clean frames may be these. The newest state is as it was, or the one whose gate
-    /// is written.
+    /// Whether the newest state and the clean frames may be these. The newest state is the old one, or the one whose
+    /// gate is written.
     fn may_be_planned(&self, plan: &Plan) -> bool {
         let written = Phase::Writing {
             steps: 8,
@@ -208,7 +208,7 @@ impl Model {
             && plan.clean_end <= plan.covered.saturating_add(self.frames)
     }
 
-    /// After a stop, as it was opened.
+    /// The model after a stop, as the device was opened.
     pub(crate) fn restart(
         &mut self,
         standing: Standing,
@@ -226,7 +226,7 @@ impl Model {
     }
 }
 
-/// Letters that are judged one after another from an auction on.
+/// Letters that are judged one after another, beginning with an auction.
 fn judged(alloc: Global, auction: Box<Auction>, letters: &Letters) -> Result<Flight, AllocError> {
     let mut auction = auction;
     let (mut answers, mut commands) = (Answers::new(), Vec::new(alloc));

@@ -1,15 +1,15 @@
-//! How often things happened.
+//! How often events came.
 
 use std::fmt;
 
-/// How often all that a walk is about has to happen, at least.
+/// How often each kind of event of a walk must come, at least.
 const LEAST: u64 = 21;
 
-/// How often things happened in a walk.
+/// How often each kind of event came in a walk.
 #[derive(Clone, Copy, Debug, Default, PartialEq, Eq)]
 pub(crate) struct Tally {
-    /// Stops, those after which the batch in flight had landed, and those after which the walk went on with what was
-    /// left.
+    /// Stops, those after which the batch in flight had landed, and those after which the walk went on with the device
+    /// that was left.
     pub(crate) stops: u64,
     pub(crate) landed: u64,
     pub(crate) restarts: u64,
@@ -24,7 +24,7 @@ pub(crate) struct Tally {
 }
 
 impl Tally {
-    /// Whether all of them happened often.
+    /// Whether each kind of event came often.
     pub(crate) fn is_full(&self) -> bool {
         self.landed >= LEAST
             && self.restarts >= LEAST

@@ -1,4 +1,4 @@
-//! What is told where a fault hardly comes, whole. What is told where one can be had, `examples/` hold.
+//! The whole messages for faults that hardly ever come. `examples/` hold those for faults that a test can cause.
 
 use crate::*;
 use hpb_disk::FileFault;
@@ -10,7 +10,7 @@ use std::io;
 use std::net::{Ipv4Addr, SocketAddr};
 use std::test::Fail;
 
-/// What is known of a job of which no call of a stream failed, and nothing was seen.
+/// The facts about a job if no call of a stream failed, and no file was looked at.
 fn known(job: Job<'_>) -> Known<'_> {
     Known {
         job,
@@ -23,7 +23,7 @@ fn known(job: Job<'_>) -> Known<'_> {
     }
 }
 
-/// What is known where a.hpb was served.
+/// The facts if a.hpb was served.
 fn known_of_serving() -> Known<'static> {
     known(Job::Serve {
         file: "a.hpb",
@@ -32,7 +32,7 @@ fn known_of_serving() -> Known<'static> {
     })
 }
 
-/// What is told of a fault where a.hpb was served.
+/// The message for a fault after a.hpb was served.
 fn told_of(alloc: Global, fault: JobFault) -> Result<String, AllocError> {
     let advice = JobAdvice {
         fault: &fault,
@@ -200,7 +200,7 @@ fn each_line_of_a_fault_is_told(rt: HostRuntime) -> Result<(), Fail> {
     Ok(())
 }
 
-/// What is told of the third of eight places.
+/// The message for the third of eight places.
 fn told_of_place(alloc: Global, state: PlaceState) -> Result<String, AllocError> {
     let notice = PlaceNotice {
         number: 3,

@@ -1,5 +1,5 @@
-//! What no clause says: how names of files are shown, and what faults are told by. What help and refusals say,
-//! `examples/check-streams` compares.
+//! Facts that no clause states: how names of files are shown, and which refusal reports each fault.
+//! `examples/check-streams` compares the texts of help and of refusals.
 
 use crate::*;
 use hpb_codec::{JournalLayout, JournalShape};

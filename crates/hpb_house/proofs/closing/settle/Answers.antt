@@ -6,7 +6,7 @@ use Rattle.hpb_rules.specs.Judging.{value_by}
 use Rattle.hpb_house.proofs.Histories.{list_counted}
 use Rattle.hpb_house.proofs.closing.settle.Goals as goal
 
--- the numbers where a batch is in flight
+-- the numbers if a batch is in flight
 pub returns-then-not-has_failed-clause-counts : goal.returns-then-not-has_failed-clause-counts
 returns-then-not-has_failed-clause-counts g c =
     let board = c.args.keeper.now.board in

@@ -6,7 +6,7 @@ use Rattle.hpb_house.proofs.Owing.{as_many}
 use Rattle.hpb_house.proofs.committing.committer.Goals.{then-len-eq0, else-len-eq0}
 use Rattle.hpb_house.proofs.committing.committer.Goals as goal
 
--- what is lost is what was held at the halt, and what was drained since
+-- the lost letters are those held at the halt, and those drained since
 pub returns-in-Halted : goal.returns-in-Halted
 returns-in-Halted g c =
     let list = c.turn.new.front.trail.log in

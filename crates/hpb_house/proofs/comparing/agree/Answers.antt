@@ -19,7 +19,7 @@ all_show-requires c = λ k d lt.
     let rules = λ (a : AuctionValue). a.rules in
     ap rules (c.requires.board k d lt).1 ∙ sym (ap rules c.requires.leads ∙ rules_by c.args.eye.now.opened (joined c.args.shown.now.log))
 
--- what is committed is what the list leads to, and so is what each report shows
+-- the list leads to the committed auction, and each report shows it
 pub returns-clause-agree : goal.returns-clause-agree
 returns-clause-agree c =
     let rs = c.args.reports.now in
@@ -50,7 +50,7 @@ returns-clause-agree c =
       };
     }
 
--- the numbers where they differ
+-- the numbers if they differ
 pub returns-then-not-all_show-clause-counts : goal.returns-then-not-all_show-clause-counts
 returns-then-not-all_show-clause-counts c =
     let long = list_counted c.args.eye.now.opened c.args.committed.now c.args.shown.now.log c.requires.leads in

@@ -11,7 +11,7 @@ use Rattle.hpb_house.proofs.sameness.same_bidders.Goals as goal
 number_decides : (one other : ℕ) → Decides (eqb one other) (one ≡ other)
 number_decides one other = (eqb-true one other, eq-eqb one other)
 
--- bidders are the same where each of their fields is
+-- bidders are the same if each of their fields is
 fields_decide : {a b : SavedBidder} {x y z w v : Bool} → Decides x (a.eligibility ≡ b.eligibility) → Decides y (a.last ≡ b.last) → Decides z (a.bid_on ≡ b.bid_on) → Decides w (a.waivers ≡ b.waivers) → Decides v (a.has_waived ≡ b.has_waived)
     → Decides (x && (y && (z && (w && v)))) (a ≡ b)
 fields_decide {a = a} {b = b} e l m w h =

@@ -3,7 +3,7 @@ use Rattle.hpb_program.specs.declared.formatting.TheConstants.{KEPT_BYTES}
 use Rattle.hpb_program.proofs.Taking.{Taken}
 use Rattle.hpb_program.proofs.formatting.read_text.Given as goal
 
--- what was read so far
+-- the bytes read so far
 abbrev pub invariant-parts : goal.invariant-parts
 invariant-parts g l = Taken (g.R.Read.remaining l.fn.input) (g.R.Read.remaining l.input) l.text.items
 

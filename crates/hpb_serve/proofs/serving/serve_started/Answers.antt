@@ -38,7 +38,7 @@ returns-in-Err-Order-clause-ill g c =
     subst (λ (v : Viewing). IsLeft v.opened (range_with_len 0 c.args.started.eye.seats) client) c.named-house.ensures.house
     (subst (λ (seats : List ℕ). IsLeft c.named-house.result.house.opened seats client) numbered left)
 
--- the reports after the close, which are lent to it, are of the same seats
+-- the reports after the close, which borrows them, are of the same seats
 closed_reports : (g : Over) (c : After-close g) → ((with_items c.in-Ok.reports c.close.new.reports).items ≡ c.close.new.reports)
     × (map (λ (report : Report). report.seat) (with_items c.in-Ok.reports c.close.new.reports).items ≡ range_with_len 0 c.args.started.eye.seats)
 closed_reports g c =
@@ -51,7 +51,7 @@ closed_reports g c =
     let items : (with_items c.in-Ok.reports new).items ≡ new = with_items_is c.in-Ok.reports new (omega (arith, long, ap length c.deref_mut.ensures.value)) in
     (items, ap (map (λ (report : Report). report.seat)) items ∙ seats ∙ numbered)
 
--- what the reports differ from
+-- the committed auction from which the reports differ
 pub returns-in-Err-clause-ill : goal.returns-in-Err-clause-ill
 returns-in-Err-clause-ill g c =
     let is = closed_reports g (goal.at.returns-in-Err-clause-ill g c).After-close in

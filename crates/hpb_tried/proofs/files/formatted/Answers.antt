@@ -5,7 +5,7 @@ use Rattle.hpb_format.specs.Outcomes.{IsNew}
 use Rattle.hpb_tried.specs.Drafts.{rules_with}
 use Rattle.hpb_tried.proofs.files.formatted.Goals as goal
 
--- the device is new under what `definition` gave, with the shape that was named
+-- the device is new, with the definition that `definition` gave and the named shape
 pub returns-in-Ok : goal.returns-in-Ok
 returns-in-Ok c = λ image left.
     let formats = c.in-Ok.ensures.formats c.shape_of-shape.result (record { layout_is = c.byte.ensures; frames_are = refl }) in

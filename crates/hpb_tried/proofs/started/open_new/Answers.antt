@@ -6,7 +6,7 @@ use Rattle.hpb_tried.proofs.started.open_new.Goals as goal
 pub returns-in-Ok-clause-device : goal.returns-in-Ok-clause-device
 returns-in-Ok-clause-device g c = λ nodes layout within. subst (IsNewOf nodes layout) (sym c.in-Ok.ensures.same) (within _ (g.met.D.Disk.seen_may_stay c.args.disk))
 
--- what is read is the new device's own head
+-- the bytes read are the new device's own head
 pub returns-in-Ok-clause-auction : goal.returns-in-Ok-clause-auction
 returns-in-Ok-clause-auction g c = λ nodes layout within.
     let new = within _ (g.met.D.Disk.seen_may_stay c.args.disk) in

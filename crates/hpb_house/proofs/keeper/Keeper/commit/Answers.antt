@@ -3,7 +3,7 @@ use Rattle.hpb_house.proofs.Keeping.{IsDone, IsNotDone, done_kept, turned_kept}
 use Rattle.hpb_house.proofs.Told.{begins_on, told_turn}
 use Rattle.hpb_house.proofs.keeper.Keeper.commit.Goals as goal
 
--- the last step publishes what is prepared
+-- the last step publishes the prepared batch
 pub invariant_of-self : goal.invariant_of-self
 invariant_of-self g c =
     let step = c.commit_step-step.ensures in

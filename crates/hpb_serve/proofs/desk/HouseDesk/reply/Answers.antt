@@ -6,7 +6,7 @@ use Rattle.hpb_serve.proofs.InFlight.{asks_stopped}
 use Rattle.hpb_serve.proofs.Steps.{none_of}
 use Rattle.hpb_serve.proofs.desk.HouseDesk.reply.Goals as goal
 
--- a desk that has stopped stays where it is
+-- a desk that has stopped stays as it is
 pub returns-in-Some-clause-replied : goal.returns-in-Some-clause-replied
 returns-in-Some-clause-replied g c state stands =
     let commands = c.args.commands.now in

@@ -5,7 +5,7 @@ use Rattle.hpb_rings.specs.declared.client.Client.{Client}
 use Rattle.hpb_house_rows.proofs.Threads.{all_kept}
 use Rattle.hpb_house_rows.proofs.harness.fn.run_threads.scope.Goals as goal
 
--- each thread was started with its client, and keeps what it promised
+-- each thread was started with its client, and keeps its promise
 pub returns : goal.returns
 returns g c =
     let threads = c.in_ok-threads.threads in

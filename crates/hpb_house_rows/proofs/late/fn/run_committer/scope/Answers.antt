@@ -2,7 +2,7 @@ use denote.Param.Send.{sendable}
 use Rattle.hpb_house.proofs.Crossing.{House-sync, Incoming-send}
 use Rattle.hpb_house_rows.proofs.late.fn.run_committer.scope.Goals as goal
 
--- the committer's thread takes the house and what has come
+-- the committer's thread takes the house and its share
 pub spawn-requires-send-F : goal.spawn-requires-send-F
 spawn-requires-send-F g c κs within =
     let cross = c.requires.cross in
