@@ -56,6 +56,11 @@ class Conditions:
         preloaded = {"LD_PRELOAD": " ".join(map(str, self.libraries))} if self.libraries else {}
         return {**known, **preloaded, **self.environment}
 
+    @property
+    def preparation(self) -> Callable[[], None] | None:
+        """What the child does between fork and exec. Without any a child is started faster."""
+        return self.prepare if self.network or self.limits or self.user or self.last else None
+
     def prepare(self) -> None:
         """Sets all this in the child, between fork and exec."""
         if self.network is not None:

@@ -29,6 +29,10 @@ class Ran:
         """The lines of standard output."""
         return self.output.splitlines()
 
+    def told(self) -> tuple[str, str, int]:
+        """What it wrote on both streams, and its status."""
+        return self.output, self.errors, self.status
+
 
 class TookTooLong(AssertionError):
     """A program was killed here because it didn't end within its time."""
@@ -50,30 +54,32 @@ class Program:
     ) -> subprocess.Popen[bytes]:
         """Starts it; the caller ends it."""
         return subprocess.Popen(
-            ["hpb", *map(str, words)],
+            ["hpb", *map(argument, words)],
             executable=self.path,
             stdin=input,
             stdout=output,
             stderr=errors,
             cwd=conditions.folder,
             env=conditions.variables(),
-            preexec_fn=conditions.prepare,
+            preexec_fn=conditions.preparation,
         )
 
     def run(
         self,
         *words: object,
         text: bytes = b"",
+        input: Stream | None = None,
         output: Stream = subprocess.PIPE,
         errors: Stream = subprocess.PIPE,
         conditions: Conditions = NORMAL,
         seconds: float = SECONDS,
     ) -> Ran:
-        """Runs it on this text to its end. TookTooLong if that takes longer than so many seconds."""
+        """Runs it on this text, or on an input that is open here, to its end. TookTooLong if that takes longer than so many seconds."""
         began = time.monotonic()
-        process = self.start(*words, input=subprocess.PIPE, output=output, errors=errors, conditions=conditions)
+        source = subprocess.PIPE if input is None else input
+        process = self.start(*words, input=source, output=output, errors=errors, conditions=conditions)
         try:
-            written, said = process.communicate(text, timeout=seconds)
+            written, said = process.communicate(text if input is None else None, timeout=seconds)
         except subprocess.TimeoutExpired:
             process.kill()
             written, said = process.communicate()
@@ -112,6 +118,11 @@ def format_words(file: Path, layout: Layout = Layout.PAGES, journal: int | None 
     """The words of `format`. The first layout needs none of its own."""
     chosen = [] if layout is Layout.PAGES else ["--layout", int(layout)]
     return ["format", "--file", file, "--journal", layout.least_journal if journal is None else journal, *chosen]
+
+
+def argument(word: object) -> str | bytes:
+    """A word of a command line; bytes may be no text."""
+    return word if isinstance(word, bytes) else str(word)
 
 
 def shown(data: bytes | None) -> str:
