@@ -20,7 +20,7 @@ def test_what_is_accepted_is_in_the_file_or_it_is_said_that_it_is_not(
     program: Program, room: Path, layout: Layout, serve: Serve, library: Callable[[Path], Path]
 ) -> None:
     loaded = library(SOURCE)
-    refused = replaced = 0
+    refused = 0
     for number in range(1, MOST_CALLS):
         file, other = room / f"F{number}", room / f"G{number}"
         for made in (file, other):
@@ -31,19 +31,18 @@ def test_what_is_accepted_is_in_the_file_or_it_is_said_that_it_is_not(
         except NotServing as reason:
             # The path leads to another file now than the one that was opened.
             assert (reason.ran.output, other.exists()) == ("ERR 91 device", False), reason.ran
-            assert reason.ran.errors.startswith("hpb: 91 device: "), reason.ran
             assert program.count(file) == 0
             refused += 1
             continue
-        if other.exists():
-            # No call has this number.
-            assert number > LEAST_CALLS and refused and replaced
-            return
+        was_swapped = not other.exists()
         with server.connect() as client:
             assert client.ask(BID) == "OK 1"
             assert client.finish() == []
         ran = server.ended()
         assert ran.output == "CLOSED 1\n", ran
         assert program.count(file) == 1 or "no name" in ran.errors, ran
-        replaced += 1
+        if not was_swapped:
+            # So few calls name the file.
+            assert number > LEAST_CALLS and refused
+            return
     raise AssertionError(f"more than {MOST_CALLS} calls name the file")
