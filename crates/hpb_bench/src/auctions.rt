@@ -61,7 +61,7 @@ pub(crate) fn count_of(auction: &Auction) -> u64 {
     u64::from(auction.count())
 }
 
-/// The next bid of a bidder on a node, so many steps above its minimum. Places of bidders and nodes wrap around.
+/// The next bid of a bidder on a node, this many steps above its minimum. Places of bidders and nodes wrap around.
 pub(crate) fn next_bid(auction: &Auction, bidder: usize, node: usize, steps: u8) -> Command {
     let definition = auction.definition();
     let bidder = BidderId::new(bidder % definition.bidder_count());

@@ -66,7 +66,7 @@ pub(crate) fn put_batch(
     Ok(())
 }
 
-/// Closes the gates of so many frames.
+/// Closes the gates of this many frames.
 pub(crate) fn close_frames(bytes: &mut [u8], frames: u16) {
     let pages = bytes.chunks_mut(PAGE_BYTES).skip(JOURNAL);
     for page in pages.take(usize::from(frames)) {
@@ -74,7 +74,7 @@ pub(crate) fn close_frames(bytes: &mut [u8], frames: u16) {
     }
 }
 
-/// Puts the state of an auction into a slot, as one that covers so many batches, and opens its gate.
+/// Puts the state of an auction into a slot, as one that covers this many batches, and opens its gate.
 pub(crate) fn put_state(
     alloc: Global,
     bytes: &mut [u8],

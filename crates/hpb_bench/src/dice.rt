@@ -31,7 +31,7 @@ impl Dice {
         (self.roll() % bound as u64) as usize
     }
 
-    /// Yes once in so many times.
+    /// Yes once in this many times.
     pub(crate) fn once_in(&mut self, times: usize) -> bool
         requires { 0 < times }
     {

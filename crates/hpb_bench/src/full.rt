@@ -22,7 +22,7 @@ const BIDDERS: u64 = MOST_BIDDERS as u64;
 /// How many commands a round has: a bid of each bidder on each node, and a close.
 const ROUND: usize = MOST_BIDDERS * MOST_NODES + 1;
 
-/// The next command of an auction that had so many. Of two bids on a node, the later one is higher.
+/// The next command of an auction that had `count`. Of two bids on a node, the later one is higher.
 fn command_at(auction: &Auction, count: u64) -> Command {
     let place = (count % ROUND as u64) as usize;
     if place == ROUND - 1 {
@@ -67,7 +67,7 @@ fn full_device(alloc: Global) -> Result<MemoryDisk> {
     Ok(MemoryDisk::of(alloc, full_bytes(alloc, &definition)?)?)
 }
 
-/// Opens the largest device so many times. Gives the sum of the numbers of commands.
+/// Opens the largest device this many times. Gives the sum of the numbers of commands.
 pub(crate) fn open_rounds(alloc: Global, rounds: u64) -> Result<u64> {
     let mut disk = full_device(alloc)?;
     let mut sum = 0_u64;
@@ -91,7 +91,7 @@ fn read_all(disk: &mut MemoryDisk, bytes: &mut [u8]) -> Result<()> {
     Ok(())
 }
 
-/// Reads all bytes of the largest device so many times. Gives the sum of their first ones.
+/// Reads all bytes of the largest device this many times. Gives the sum of their first ones.
 pub(crate) fn read_rounds(alloc: Global, rounds: u64) -> Result<u64> {
     let mut disk = full_device(alloc)?;
     let mut bytes = vec![in alloc; 0; disk.len()]?;

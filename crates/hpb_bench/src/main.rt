@@ -58,7 +58,7 @@ fn run(rt: &HostRuntime) -> Result<()> {
     }
 }
 
-/// The sum of so many rounds of a call that takes no memory.
+/// The sum of this many rounds of a call that takes no memory.
 fn sum_of(alloc: Global, call: &str, rounds: u64) -> Result<u64> {
     match call {
         "encode-batch" => encode_batches(alloc, rounds),
@@ -75,7 +75,7 @@ fn sum_of(alloc: Global, call: &str, rounds: u64) -> Result<u64> {
     }
 }
 
-/// Opens so many hostile devices, and prints how many had each result.
+/// Opens this many hostile devices, and prints how many had each result.
 fn print_trial(rt: &HostRuntime, count: u64, seed: u64) -> Result<()> {
     let trial = try_devices(rt.alloc(), count, seed)?;
     println!(rt; "random: {}", trial.random)?;
@@ -84,7 +84,7 @@ fn print_trial(rt: &HostRuntime, count: u64, seed: u64) -> Result<()> {
     Ok(())
 }
 
-/// Opens so many hostile devices. Some devices of each making must have each result.
+/// Opens this many hostile devices. Some devices of each making must have each result.
 fn check_trial(rt: &HostRuntime, count: u64, seed: u64) -> Result<()> {
     if !try_devices(rt.alloc(), count, seed)?.has_all() {
         bail!("an answer was never given");

@@ -66,7 +66,7 @@ fn are_opened(alloc: Global, devices: &[Vec<u8>]) -> Result<bool> {
     Ok(true)
 }
 
-/// Opens so many devices, a third of each making.
+/// Opens this many devices, a third of each making.
 pub(crate) fn try_devices(alloc: Global, count: u64, seed: u64) -> Result<Trial> {
     let mut dice = Dice::new(seed);
     let devices = good_devices(alloc, &mut dice)?;

@@ -232,7 +232,7 @@ module _ (laws : Laws) (s : Progress) (k : Cut) (fits : Fits s k) where
         retirement = reads.retirement;
       }
 
-  -- The checkpoint has made so many steps, and more than one.
+  -- The checkpoint goes on to this many steps, after the second.
   stepped_fits : (steps : ℕ) → 2 ≤ s.checkpoint.steps → steps ≤ 8 → Fits (stepped s steps) k
   stepped_fits steps from most = goes_on (stepped s steps).checkpoint (record {
     steps = most;

@@ -45,7 +45,7 @@ joined_takes (suc n) m (commands ∷ batches) =
     ∙ ap (λ (l : List Command). commands ++ l) (joined_takes n m batches)
     ∙ ap (λ (i : ℕ). joined (take i (commands ∷ batches))) (sym e)
 
--- So many more batches are as many more of the whole.
+-- The first m batches after the first n are the first n + m of the whole.
 pub upto_shortened : (k : Cut) (n m : ℕ) → upto (shortened k n) m ≡ upto k (n + m)
 upto_shortened k n m =
     append_assoc k.before (joined (take n k.batches)) (joined (take m (drop n k.batches)))

@@ -14,7 +14,7 @@ pub record Cut : Type 0 where
 abbrev pub all : Cut → List Command
 all cut = cut.before ++ joined cut.batches
 
--- The commands up to the end of so many batches.
+-- The commands up to the end of this many batches.
 abbrev pub upto : Cut → ℕ → List Command
 upto cut count = cut.before ++ joined (take count cut.batches)
 
@@ -22,6 +22,6 @@ upto cut count = cut.before ++ joined (take count cut.batches)
 abbrev pub landed : Cut → List Command → Cut
 landed cut commands = record cut { batches = cut.batches ++ commands ∷ [] }
 
--- The same with a checkpoint after so many batches.
+-- The same with a checkpoint after this many batches.
 abbrev pub shortened : Cut → ℕ → Cut
 shortened cut count = record cut { before = upto cut count; batches = drop count cut.batches }

@@ -33,7 +33,7 @@ pub record IsFlight (rules : Rules) (next : ℕ) (committed : AuctionValue) (his
   pub after : commit.working ≡ value_after committed commit.batch.commands
   pub new : commit.batch.commands ≡ new_commands commit.answers
 
--- The bytes spell, in the second format, a state of so many batches that shows a history.
+-- The bytes spell, in the second format, a state that covers this many batches and shows a history.
 pub record IsSnapshot (rules : Rules) (body : List ℕ) (covers : ℕ) (history : List Command) : Type 0 where
   pub saved : Saved
   pub spelled : SpellsStateIn Two rules body saved covers
@@ -45,7 +45,7 @@ pub record Fits (s : Progress) (cut : Cut) : Type 0 where
   pub rules : s.committed.rules ≡ cut.rules
   pub next : s.window.next ≡ s.window.covered + length cut.batches
   pub shows : Shows s.committed (all cut)
-  -- so many batches have at least so many commands
+  -- up to the end of any batch there are at least as many commands as batches
   pub enough : (count : ℕ) → count ≤ length cut.batches → s.window.covered + count ≤ length (upto cut count)
   pub flight : s.commit.busy ≡ true → IsFlight cut.rules s.window.next s.committed (all cut) s.commit
   pub snapshot : 1 ≤ s.checkpoint.steps → IsSnapshot cut.rules s.checkpoint.body.items s.checkpoint.covers (upto cut (s.checkpoint.covers - s.window.covered))

@@ -14,7 +14,7 @@ begun s batch answers working = record s { commit = record { busy = true; turns 
 -- **Turns.** The fourth turn alone is the last one, and a third one that fails counts all the same. To the machine a
 -- turn is a turn whose device call works or fails; after a fault there is none.
 --
--- A batch in flight has had so many turns.
+-- A batch in flight has had this many turns.
 abbrev pub turned : Progress → ℕ → Progress
 turned s turns = record s { commit = record s.commit { turns = turns } }
 
@@ -35,7 +35,7 @@ snapped s other = record s { checkpoint = record s.checkpoint { steps = 1; cover
 abbrev pub emptied : Progress → Progress
 emptied s = record s { checkpoint = record s.checkpoint { steps = 2; other_open = false } }
 
--- A checkpoint has made so many steps.
+-- A checkpoint has made this many steps.
 abbrev pub stepped : Progress → ℕ → Progress
 stepped s steps = record s { checkpoint = record s.checkpoint { steps = steps } }
 

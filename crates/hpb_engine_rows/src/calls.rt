@@ -79,7 +79,7 @@ pub fn commit<D: Disk + Drop>(engine: &mut Engine<D>, letters: Letters) -> Answe
     answers
 }
 
-/// How many steps a whole checkpoint has that retires so many frames: nine that write the state, one for each frame,
+/// How many steps a whole checkpoint has that retires this many frames: nine that write the state, one for each frame,
 /// and a last one.
 pub fn steps_retiring(frames: u32) -> usize {
     (frames as usize).saturating_add(10)

@@ -128,7 +128,7 @@ pub fn four() -> [Letter; 4] {
     ]
 }
 
-/// The command after so many others: bids of x and closes, round by round. These four are the first.
+/// The command after `count` others: bids of x and closes, round by round. These four are the first.
 pub fn after_four(count: u32) -> Letter {
     in_round(count.saturating_sub(2))
 }
@@ -152,7 +152,7 @@ pub fn two(first: Letter, second: Letter) -> Letters {
     list_of(&[first, second])
 }
 
-/// The answer to a letter that is accepted as the next after so many.
+/// The answer to a letter that is accepted as the next after `at` commands.
 pub fn accepted(letter: Letter, at: u32) -> Answer
     ensures letter { result.letter ≡ letter }
     ensures at { result.at ≡ at }
@@ -165,7 +165,7 @@ pub fn accepted(letter: Letter, at: u32) -> Answer
     }
 }
 
-/// The answer to a letter that is refused after so many.
+/// The answer to a letter that is refused after `at` commands.
 pub fn refused(letter: Letter, at: u32, refusal: Refusal) -> Answer
     ensures { result ≡ record { letter = letter; at = at; reply = replies.Refused refusal } }
 {

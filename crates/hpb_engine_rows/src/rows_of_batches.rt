@@ -56,7 +56,7 @@ fn second() -> Letter {
     bid(Y, 1, B, 150)
 }
 
-/// The answer to the first bid when it comes once more, after so many commands.
+/// The answer to the first bid when it comes once more, after `at` commands.
 fn repeated_at(at: u32) -> Answer {
     Answer {
         letter: first(),

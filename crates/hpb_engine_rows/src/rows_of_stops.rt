@@ -26,7 +26,7 @@ fn three() -> [Letter; 3] {
     [bid(X, 1, A, 100), bid(Y, 1, B, 150), close(1)]
 }
 
-/// A device without a checkpoint, with so many commands in so many batches, each in a frame of its own.
+/// A device without a checkpoint, with `count` commands in this many batches, each in a frame of its own.
 fn uncovered(shape: JournalShape, count: u32, batches: u32) -> Found {
     Found {
         count,

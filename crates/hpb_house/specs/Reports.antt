@@ -94,9 +94,9 @@ pub record Agree (opened committed : AuctionValue) (list : List (List Letter)) (
 
 -- The two numbers about reports that an error names.
 pub record AreCounts (opened auction : AuctionValue) (list : List (List Letter)) (reports : List Report) (counts : Counts) : Type 0 where
-  -- So many of the answers taken newly accepted a command, up to a greatest number.
+  -- How many of the answers taken newly accepted a command, up to a greatest number.
   pub accepted : counts.accepted ≡ min (total reports) (2 ^ 64 - 1)
-  -- So many commands were committed since the opening,
+  -- How many commands were committed since the opening,
   pub committed : counts.committed ≡ auction.count - opened.count
   -- which are those of the list.
   pub since : counts.committed ≡ length (history_in opened list)

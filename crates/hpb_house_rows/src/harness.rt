@@ -232,8 +232,7 @@ fn run_started<
     Ok(ended(closed, before, sums))
 }
 
-/// Starts a house over an opened device, with a client for each of so many sessions, runs all its threads and closes
-/// it.
+/// Starts a house over an opened device, with a client for each of these sessions, runs all its threads and closes it.
 fn run_house<D: Disk + Drop + Send, G: Gate + Sync, S: Session + Sync, R: Threads + Wait + Sync>(
     rt: &R,
     alloc: Global,

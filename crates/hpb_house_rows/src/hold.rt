@@ -75,7 +75,7 @@ impl Pages {
         self.told.load(Ordering::SeqCst)
     }
 
-    /// Lets the worker pass so many pages in all.
+    /// Lets the worker pass this many pages in all.
     pub(crate) fn let_on(&self, pages: u32) {
         self.passable.store(pages, Ordering::SeqCst);
         self.bell.unpark();

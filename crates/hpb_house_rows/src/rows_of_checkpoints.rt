@@ -18,7 +18,7 @@ use std::test::*;
 /// For how many short waits the client looks for an answer that must not come.
 const LOOKS: u32 = 10_000;
 
-/// Whether a letter that was posted is accepted with this number within so many turns.
+/// Whether a letter that was posted is accepted with this number within this many turns.
 fn is_accepted<R: Wait>(rt: &R, client: &mut Client<Halt>, number: u32, turns: u32) -> bool
     ensures same { SameClient client.old client.new }
 {
@@ -142,7 +142,7 @@ fn commits_beside_a_checkpoint(rt: HostRuntime) -> Result<(), Fail> {
     Ok(())
 }
 
-/// Waits until so many pages are reported. `false` if they aren't within the most turns, or if more are.
+/// Waits until this many pages are reported. `false` if they aren't within the most turns, or if more are.
 fn are_told<R: Wait>(rt: &R, pages: &Pages, count: u32) -> bool {
     for _ in 0..TURNS {
         if pages.told() >= count {
@@ -163,7 +163,7 @@ struct InTurns {
 }
 
 impl InTurns {
-    /// Lets it go on to the next page, with which so many are reported in all.
+    /// Lets it go on to the next page, with which this many are reported in all.
     fn goes_on<R: Wait>(&self, rt: &R, count: u32) {
         self.pages.let_on(count.saturating_sub(1));
         if are_told(rt, &self.pages, count) {

@@ -40,7 +40,7 @@ pub(crate) fn accepted_command(place: u32) -> Command {
     }
 }
 
-/// Whether the command of a place is newly accepted, as the next after so many.
+/// Whether the command of a place is newly accepted, as the next after as many others.
 fn is_accepted<R: Wait>(rt: &R, client: &mut Client<Halt>, place: u32) -> bool
     ensures same { SameClient client.old client.new }
 {

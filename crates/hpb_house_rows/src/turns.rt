@@ -28,7 +28,7 @@ pub(crate) fn post(client: &mut Client<Halt>, command: Command) -> bool
     client.post(Letter { seat, command }).is_ok()
 }
 
-/// Takes the next answer. `None` if there is none after so many turns, or if it is refused.
+/// Takes the next answer. `None` if there is none after this many turns, or if it is refused.
 pub(crate) fn take_within<R: Wait>(rt: &R, client: &mut Client<Halt>, turns: u32) -> Option<Answer>
     ensures same { SameClient client.old client.new }
 {

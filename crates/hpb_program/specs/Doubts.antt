@@ -40,7 +40,7 @@ doubts_line count found =
     codes "hpb: a checkpoint is damaged, which no power cut does, and it may be the newest: COUNT is " ++ decimal count ++ codes " by what was opened" ++ found
     ++ codes ". Copy the file before anything else, and hold COUNT against the number of the last OK: if that is greater, go back to your newest backup, and send again, in their order, the commands since then\n"
 
--- The warning after an auction of so many commands was opened: nothing if there are no doubts.
+-- The warning after an auction of this many commands was opened: nothing if there are no doubts.
 abbrev pub doubts_text : ℕ → Option ℕ → Option Later → List ℕ
 doubts_text count None None = []
 doubts_text count None (Some later) = doubts_line count (frame_text later.frame)

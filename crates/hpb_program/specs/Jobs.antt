@@ -46,7 +46,7 @@ IsOfFile (faults.File fault) = Unit {0}
 IsOfFile (faults.Format cause) = Unit {0}
 IsOfFile fault = ⊥
 
--- The lines of an auction's first nodes, so many of them.
+-- The lines of the first nodes of an auction, this many of them.
 abbrev pub nodes_text : AuctionValue → ℕ → List ℕ
 nodes_text value zero = []
 nodes_text value (suc place) = nodes_text value place ++ line_of (node_shown_in value place)
@@ -55,7 +55,7 @@ nodes_text value (suc place) = nodes_text value place ++ line_of (node_shown_in 
 abbrev pub check_text : AuctionValue → List ℕ
 check_text value = line_of (shown_in value) ++ nodes_text value (length value.rules.nodes)
 
--- The line of a formatted file with so many pages.
+-- The line of a formatted file with this many pages.
 abbrev pub formatted_line : ℕ → List ℕ
 formatted_line pages = codes "FORMATTED " ++ decimal pages ++ codes "\n"
 

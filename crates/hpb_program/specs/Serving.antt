@@ -23,7 +23,7 @@ use Rattle.hpb_program.specs.Jobs.{StopsWriting}
 abbrev pub closed_line : ℕ → List ℕ
 closed_line count = codes "CLOSED " ++ decimal count ++ codes "\n"
 
--- So many sessions have ended, which were served with the auction that is read on a device. The listening line alone
+-- This many sessions have ended, which were served with the auction that is read on a device. The listening line alone
 -- was written.
 pub record Ends {D : Type 0} (seen : D → List ℕ) (may_leave : D → List ℕ → Type 0) (failures : D → ℕ) (disk : D) (sessions port : ℕ) (old new : Option (List ℕ)) (served : Served D) : Type 0 where
   pub found : Found
@@ -59,7 +59,7 @@ IsUnserved image port old new faults.Order = IsReadable image × Appends old new
 IsUnserved image port old new faults.Counts = IsReadable image × Appends old new (listening_line port)
 IsUnserved image port old new fault = ⊥
 
--- The auction of a device was served to so many sessions at a port; or it was not, or not to the end.
+-- The auction of a device was served to this many sessions at a port; or it was not, or not to the end.
 abbrev pub ServesKept : {D : Type 0} (seen : D → List ℕ) (may_leave : D → List ℕ → Type 0) (failures : D → ℕ) (disk : D) (sessions port : ℕ) (old new : Option (List ℕ)) → Result (ServeEnd D) JobFault → Type 0
 ServesKept seen may_leave failures disk sessions port old new (Ok end) = Closes seen may_leave failures disk sessions port old new end
 ServesKept seen may_leave failures disk sessions port old new (Err fault) = IsUnserved (seen disk) port old new fault

@@ -77,7 +77,7 @@ impl<'a> Lookout<'a> {
         relay: &'a Relay,
     ) -> Result<Lookout<'a>, FileFault> {
         let file = File::open(rt, path)?;
-        // Compared behind the opening: a file that takes the place of this one in between would be watched in its stead.
+        // This comparison comes after the opening: a file that replaced this one in between would be watched instead.
         if !disk.stamp()?.is_at(rt, path) {
             return Err(FileFault::Busy);
         }

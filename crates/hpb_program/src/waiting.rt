@@ -7,8 +7,8 @@ use std::os::fd::AsRawFd;
 /// The limit in milliseconds of a wait without a limit.
 const NO_LIMIT: i32 = -1;
 
-/// Waits until a descriptor is ready for these events, or until so many milliseconds have passed. A descriptor that has
-/// failed, or whose other end is closed, is ready. `false` if time ran out.
+/// Waits until a descriptor is ready for these events, or until this many milliseconds have passed. A descriptor that
+/// has failed, or whose other end is closed, is ready. `false` if time ran out.
 pub(crate) fn wait_for(descriptor: i32, events: i16, milliseconds: i32) -> bool {
     let mut asked = [libc::types::pollfd {
         fd: descriptor,

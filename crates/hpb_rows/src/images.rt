@@ -125,7 +125,7 @@ pub(crate) fn put_state(
     Ok(())
 }
 
-/// Whether a device with these bytes opens with the auction after these commands, and with so many clean frames.
+/// Whether a device with these bytes opens with the auction after these commands, and with this many clean frames.
 pub(crate) fn opens_as(
     alloc: Global,
     bytes: &[u8],

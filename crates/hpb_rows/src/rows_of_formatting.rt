@@ -20,7 +20,7 @@ const SIZES: [(JournalShape, usize); 4] = [
     (MOST_CELLS, 1_626_112),
 ];
 
-/// The results on a device of so many bytes: of formatting it, of opening it then, and of formatting it again.
+/// The results on a device of this many bytes: of formatting it, of opening it then, and of formatting it again.
 fn formatted_twice(
     alloc: Global,
     definition: &Definition,

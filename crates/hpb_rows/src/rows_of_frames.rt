@@ -14,7 +14,7 @@ use std::test::Fail;
 /// The lowest byte of the index, in a frame.
 const INDEX: usize = 23;
 
-/// A device with so many commands, and so many frames that aren't clean.
+/// A device with this many commands, and this many frames that aren't clean.
 fn found(shape: JournalShape, count: u32, unclean: u32) -> Found {
     Ok((count, u64::from(shape.frames.saturating_sub(unclean))))
 }

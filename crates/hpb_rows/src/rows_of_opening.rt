@@ -24,7 +24,7 @@ fn flipped_at(at: usize, shape: JournalShape) -> Found {
     }
 }
 
-/// Flips all bits of so many bytes of the first page, one byte at a time.
+/// Flips all bits of this many bytes of the first page, one byte at a time.
 fn flip_head(
     rt: &impl Abort,
     alloc: Global,

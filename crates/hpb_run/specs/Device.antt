@@ -15,7 +15,7 @@ use Rattle.hpb_engine.specs.Keeping.{Keeps}
 -- **Replies.**
 --
 -- The phases of a session. So far all commands were answered by the rules. Or the batch in which the device failed is
--- being answered, and so many of its commands have no answer yet. Or a command was answered behind that batch, or
+-- being answered, and this many of its commands have no answer yet. Or a command was answered behind that batch, or
 -- without one.
 pub data Phase : Type 0 where
   works : Phase

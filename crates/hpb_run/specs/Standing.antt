@@ -22,7 +22,7 @@ letter_of command = record { seat = 0; command = command }
 abbrev pub reply_of : Answer → Reply
 reply_of answered = answered.reply
 
--- Each of so many commands is refused.
+-- The same refusal for each of this many commands.
 abbrev pub refused : ℕ → Refusal → List Reply
 refused count refusal = replicate count (replies.Refused refusal)
 
@@ -34,7 +34,7 @@ AreAlike seen may_leave disk s failed state count told =
     (told ≡ refused count refusals.Device)
     ⊎ ((told ≡ refused count refusals.Failed) × (state.phase ≡ works → Keeps seen may_leave disk s failed (at_rest state.history)))
 
--- A checkpoint is due after so many commits, unless it is never due.
+-- Whether a checkpoint is due after this many commits. With `every` 0 none is ever due.
 abbrev pub is_due : (every commits : ℕ) → Bool
 is_due every commits = not (every == 0) && nat_le every commits
 

@@ -20,8 +20,8 @@ pub record IsBetween (s : Progress) : Type 0 where
   pub begun : s.checkpoint.steps ≡ 0
   pub retiring : s.retirement.going ≡ false
 
--- The journal has so many more batches. Nothing else of it has changed, and nothing of the checkpoints: none was made,
--- begun or continued.
+-- The journal has this many more batches. Nothing else of it has changed, and nothing of the checkpoints: none was
+-- made, begun or continued.
 pub record HasTaken (batches : ℕ) (s t : Progress) : Type 0 where
   pub next : t.window.next ≡ s.window.next + batches
   pub covered : t.window.covered ≡ s.window.covered

@@ -25,7 +25,7 @@ pub struct DeviceDesk<D: Disk + Drop> {
     pub engine: Engine<D>,
     /// A copy of the auction's definition, by which lines are read.
     pub definition: Definition,
-    /// How many commands are committed together, from 1 to 64, if so many have come.
+    /// How many commands are committed together, from 1 to 64, if that many have come.
     pub batch: usize,
     /// After how many commits a checkpoint is due; 0 for never.
     pub every: u32,

@@ -14,7 +14,7 @@ use std::test::Fail;
 /// How many batches there are.
 const BATCHES: usize = 8;
 
-/// How many commands are committed once so many batches are acknowledged: none before the first, ten after the last.
+/// How many commands are committed once 0 to 8 batches are acknowledged, by the number of these.
 const COMMANDS: [u32; BATCHES + 1] = [0, 2, 4, 5, 6, 7, 8, 9, 10];
 
 /// How many answers have left by then.
@@ -50,7 +50,7 @@ pub(crate) fn events(alloc: Global) -> Result<Vec<Event>, AllocError> {
     Ok(events)
 }
 
-/// How far a run has come: so many batches are acknowledged, and one more may have landed.
+/// How far a run has come: this many batches are acknowledged, and one more may have landed.
 #[derive(Clone, Copy, Debug, PartialEq, Eq)]
 pub(crate) struct Moment {
     acknowledged: usize,
@@ -82,7 +82,7 @@ impl Moment {
         COMMANDS.get(self.acknowledged.saturating_add(1)).copied()
     }
 
-    /// Whether so many commands may be found after a stop.
+    /// Whether this many commands may be found after a stop.
     pub(crate) fn may_leave(&self, count: u32) -> bool {
         count == self.committed() || self.landed() == Some(count)
     }

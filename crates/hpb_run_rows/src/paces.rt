@@ -107,7 +107,7 @@ fn keep_pace(
 /// - A batch has four calls.
 /// - A checkpoint of m batches has ten and m. The first one of a new device has one fewer, as the gate of its other
 ///   slot is closed already.
-/// - A checkpoint is made when the journal is full, and behind each so many batches, which are then counted anew.
+/// - A checkpoint is made when the journal is full, and when one is due; batches are then counted anew.
 ///
 /// The first session has 620 batches and 154 checkpoints of 4. The last three have 620 batches and 10 checkpoints;
 /// twice four of 64 and one of 44; and 78 batches and 26 checkpoints of 3.

@@ -11,7 +11,7 @@ use std::alloc::Global;
 use std::process::Abort;
 use std::test::Fail;
 
-/// Commits the command behind so many others, with so many calls of the device.
+/// Commits the command behind `at` others, with this many calls of the device.
 fn commit_with(
     rt: &impl Abort,
     alloc: Global,
@@ -27,7 +27,7 @@ fn commit_with(
     Ok(())
 }
 
-/// Makes a whole checkpoint, with so many calls of the device.
+/// Makes a whole checkpoint, with this many calls of the device.
 fn checkpoint_with(
     rt: &impl Abort,
     engine: &mut Engine<MemoryDisk>,

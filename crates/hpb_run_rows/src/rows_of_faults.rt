@@ -52,7 +52,7 @@ fn refuses_all<D: Disk + Drop>(engine: &mut Engine<D>, events: &[Event]) -> bool
     true
 }
 
-/// Whether a run ended by 91 at this moment: so many answers had left, and so many commands are committed.
+/// Whether a run ended by 91 at this moment, with the moment's answers and committed commands.
 fn is_ended_at<D: Disk + Drop>(driven: &Driven<D>, moment: Moment) -> bool {
     driven.fault == Some(Fault::Device)
         && driven.answers.len() == moment.answers()

@@ -26,7 +26,7 @@ fn again() -> Letter {
     bid(X, 2, A, 120)
 }
 
-/// A batch, its four turns, and so many steps of a checkpoint.
+/// A batch, its four turns, and this many steps of a checkpoint.
 fn events(alloc: Global, steps: usize) -> Result<Vec<Event>, Fail> {
     let mut events = Vec::new(alloc);
     events.push(Event::Offer(two(first(), again())))?;

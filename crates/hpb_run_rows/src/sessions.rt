@@ -81,7 +81,7 @@ fn calls_of_seven(shape: JournalShape) -> usize {
     }
 }
 
-/// The text is the same for each pair of these numbers, with so many calls. There are seven, four or two batches, each
+/// The text is the same for each of these paces, with its number of calls. There are seven, four or two batches, each
 /// of four calls. A checkpoint of m batches has ten calls and m, and the first one has one fewer.
 fn write_same_text(rt: &impl Abort, alloc: Global, shape: JournalShape) -> Result<(), Fail> {
     for (batch, every, wanted) in [
@@ -170,7 +170,7 @@ const WAIVED: &[u8] =
 /// The view of `x` at the end, on the device that is opened again.
 const OPENED: &[u8] = b"WHO x ELIGIBILITY 0 ACTIVITY 0 TICKET 2 WAIVERS 0\n";
 
-/// The device after a session over one waiver, with a checkpoint after each so many batches.
+/// The device after a session over one waiver, with a checkpoint after each `every` batches.
 fn left_by_waiver(
     rt: &impl Abort,
     alloc: Global,

@@ -10,7 +10,7 @@ use std::test::Fail;
 pub(crate) enum Call {
     Nothing,
     Sync,
-    /// So many bytes were written from this offset on, and this is the first.
+    /// `len` bytes were written from this offset on, and `first` is the first.
     Write { at: usize, len: usize, first: u8 },
 }
 

@@ -55,7 +55,7 @@ asks_stopped state commands Halted is = asks_halted state commands is
 asks_stopped state commands Order is = asks_none state commands (ap is_over is)
 
 -- ---- letters that wait
--- the oldest one, once so many were taken
+-- the oldest one, once `count` were taken
 oldest_posted : (seat mark : ℕ) (commands : List Command) (count : ℕ) (given : Answer) → IsForOldest (drop count (waiting_for seat mark commands)) given
     → (command : Command) × (take (suc count) commands ≡ take count commands ++ command ∷ []) × (given.letter ≡ record { seat = seat; command = command })
 oldest_posted seat mark [] zero given is = absurd is
@@ -77,7 +77,8 @@ awaits_next : {M : Type 0} (client : Client M) (taken : ℕ) (given : Answer) �
 awaits_next client taken given at next view later follows behind oldest =
     next_later client.seat taken client.viewer view given later follows at (subst (λ n. slice_get (answers_of client.seat view) n ≡ Some later) next behind)
 
--- a client that posted these commands, so many, went on from the state of its session, and their letters wait
+-- a client that posted the first `count` of these commands went on from the state of its session, and their letters
+-- wait
 abbrev pub HavePosted : {M : Type 0} (state : State) (client : Client M) (commands : List Command) (count : ℕ) → Type 0
 HavePosted state client commands count = CameFrom state client × (client.waiting.items ≡ waiting_for client.seat client.mark commands) × (length client.waiting.items ≡ count)
 
@@ -131,7 +132,7 @@ came_on state old new came seat letters follows mark =
 pub looked_turn : {M : Type 0} (first was asked rested new : Client M) → HasLooked first was → HasLooked was asked → HasLooked asked rested → HasLooked rested new → HasLooked first new
 looked_turn first was asked rested new before a r l = looked_trans first was new before (looked_trans was asked new a (looked_trans asked rested new r l))
 
--- so many of the letters that a client had waiting are answered
+-- `count` of the letters that a client had waiting are answered
 abbrev pub AreTaken : {M : Type 0} (first client : Client M) (count : ℕ) (given : List Reply) → Type 0
 AreTaken first client count given =
     (commands : List Command) (state : State) → first.waiting.items ≡ waiting_for first.seat first.mark commands → CameFrom state first
@@ -201,7 +202,7 @@ refused_left state client came Order (command ∷ commands) some = inr (
   refl,
 )
 
--- the rest of the commands that were sent together, behind so many that are answered
+-- the rest of the commands that were sent together, behind those that are answered
 pub rest_refused : {M : Type 0} (state mid : State) (client : Client M) (why : Stop) (commands : List Command) (had : List Reply) (all : List Reply) → length had < length commands
     → AsksAll RepliesAt over_at state (take (length had) commands) had mid → CameFrom mid client → all ≡ had ++ refused_by why (length commands - length had)
     → (next : State) × AsksAll RepliesAt over_at state commands all next × DeskStands client (Some why) next

@@ -35,7 +35,7 @@ count_later given = by (is_answer_new given)
     by true = omega arith
     by false = omega arith
 
--- each of these answers was given after at least so many commands
+-- each of these answers was given after at least this many commands
 abbrev AreAfter : ℕ → List Answer → Type 0
 AreAfter count [] = ⊤
 AreAfter count (given ∷ answers) = (count ≤ given.at) × AreAfter count answers

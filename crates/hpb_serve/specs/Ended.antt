@@ -46,8 +46,8 @@ LeavesOne auction seats (threads.Order client) = IsLeft auction seats client
 
 -- **The result of sessions that have ended.**
 --
--- The facts once so many sessions have ended. The device was opened with these bytes and this auction, after so many
--- failed calls.
+-- The facts once this many sessions have ended. The device was opened with these bytes and this auction, after this
+-- many failed calls.
 pub record EndsAll {D : Type 0} (seen : D → List ℕ) (may_leave : D → List ℕ → Type 0) (fails : D → ℕ) (image : List ℕ) (failures : ℕ) (before : AuctionValue) (sessions : ℕ) (served : Served D) : Type 0 where
   -- There is a report of each seat.
   pub seats : map (λ (report : Report). report.seat) served.reports.items ≡ range_with_len 0 sessions
@@ -57,7 +57,7 @@ pub record EndsAll {D : Type 0} (seen : D → List ℕ) (may_leave : D → List 
 -- **The result if serving ends ill.** A 96 hands back the reports, with the remains of the house. For a 90, a 92 and a
 -- 94 there is no fact but the bytes written.
 --
--- The facts once so many sessions have ended, and their answers differ from the committed commands, or a batch is in
+-- The facts once this many sessions have ended, and their answers differ from the committed commands, or a batch is in
 -- flight though no call of the device has failed.
 pub record EndsDiffering {D : Type 0} (seen : D → List ℕ) (may_leave : D → List ℕ → Type 0) (fails : D → ℕ) (image : List ℕ) (failures : ℕ) (before : AuctionValue) (sessions : ℕ) (differing : Differing D) : Type 0 where
   -- There is a report of each seat.

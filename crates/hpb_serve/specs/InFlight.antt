@@ -20,7 +20,7 @@ use Rattle.hpb_serve.specs.declared.stop.Stop.TheVariants.{Halted, Order}
 abbrev pub waiting_for : (seat mark : ℕ) → List Command → List Waiting
 waiting_for seat mark commands = map (λ (command : Command). record { letter = record { seat = seat; command = command }; mark = mark }) commands
 
--- When the answer to the oldest letter that waits comes, it was given after at least so many accepted commands.
+-- When the answer to the oldest letter that waits comes, it was given after at least this many accepted commands.
 abbrev pub AwaitsAfter : {M : Type 0} → Client M → ℕ → Type 0
 AwaitsAfter client count =
     (view : Viewing) (given : Answer) → Follows client.viewer view → slice_get (answers_of client.seat view) client.taken ≡ Some given → IsForOldest client.waiting.items given → count ≤ given.at
@@ -46,13 +46,13 @@ HasTaken old new given =
 abbrev pub StillWaits : {M : Type 0} → Client M → Client M → Type 0
 StillWaits old new = (new.taken ≡ old.taken) × (new.waiting ≡ old.waiting)
 
--- The replies to so many commands if the first of them gets no answer. If the client is halted, each is refused.
+-- The replies to this many commands if the first of them gets no answer. If the client is halted, each is refused.
 -- Otherwise the first one is, which ends the session.
 abbrev pub refused_by : Stop → ℕ → List Reply
 refused_by Halted count = replicate count (replies.Refused (refusal_of Halted))
 refused_by Order count = replies.Refused (refusal_of Order) ∷ []
 
--- The replies to so many commands behind that one. If the client is halted, each is refused; otherwise none gets a
+-- The replies to this many commands behind that one. If the client is halted, each is refused; otherwise none gets a
 -- reply.
 abbrev pub refused_after : Stop → ℕ → List Reply
 refused_after Halted count = replicate count (replies.Refused (refusal_of Halted))

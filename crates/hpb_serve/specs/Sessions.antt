@@ -59,12 +59,12 @@ rules_at state = state.viewing.opened.rules
 abbrev pub over_at : State → Bool
 over_at state = is_over state.stop
 
--- At most so many commands are in flight: posted together, before the first of them is answered.
+-- How many commands are in flight, at most: posted together, before the first of them is answered.
 abbrev pub most_in_flight : ℕ
 most_in_flight = MOST_WAITING
 
--- The commands that a session has reported, if the opened auction shows this history: so many of those that the viewer
--- then shows.
+-- The commands that a session has reported, if the opened auction shows this history: as many as `told` says of those
+-- that the viewer then shows.
 abbrev pub told_by : List Command → State → List Command
 told_by opened state = take state.told (seen_by opened state.viewing)
 

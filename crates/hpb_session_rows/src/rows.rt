@@ -57,15 +57,15 @@ fn driven(alloc: Global, disk: MemoryDisk, events: &[Event]) -> Result<Box<Drive
     }
 }
 
-/// Whether there was no fault, and so many commands are newly accepted, from the first on.
+/// Whether there was no fault, and this many commands are newly accepted, from the first on.
 fn is_accepted(driven: &Driven<MemoryDisk>, accepted: u32) -> bool {
     driven.fault.is_none()
         && driven.answers.len() == accepted as usize
         && are_accepted(&driven.answers)
 }
 
-/// Formats a device, opens it, starts an engine and drives it. So many commands must be accepted, and found when the
-/// device is opened again.
+/// Formats a device, opens it, starts an engine and drives it. `accepted` commands must be accepted, and `found` be
+/// there when the device is opened again.
 fn drives(
     alloc: Global,
     (size, shape): (Size, JournalShape),

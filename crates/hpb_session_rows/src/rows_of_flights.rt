@@ -40,7 +40,7 @@ fn lines(alloc: Global) -> Result<String, AllocError> {
     Ok(lines)
 }
 
-/// The answers if the house answers so many, and then halts.
+/// The answers if the house answers `taken` commands, and then halts.
 fn answers(alloc: Global, taken: u64) -> Result<String, AllocError> {
     let mut answers = String::new(alloc);
     for (place, (_, answer, _)) in ROWS.iter().enumerate() {
@@ -55,7 +55,7 @@ fn answers(alloc: Global, taken: u64) -> Result<String, AllocError> {
     Ok(answers)
 }
 
-/// How many commands are accepted by so many answers.
+/// How many commands are accepted by the first `taken` answers.
 fn accepted(taken: u64) -> u32 {
     let mut accepted = 0;
     for (place, (_, _, count)) in ROWS.iter().enumerate() {

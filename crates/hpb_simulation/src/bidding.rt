@@ -5,7 +5,7 @@ use crate::random::Random;
 use hpb_auction::Auction;
 use hpb_rules::{Accepted, Command, NodeId, Saved};
 
-/// Mostly the next ticket behind so many commands without an answer. Three chances in so many give another one.
+/// Mostly the next ticket behind `ahead` commands without an answer. Three in `chances` times it is another one.
 pub(crate) fn ticket_after(
     random: &mut Random,
     last: Option<Accepted>,

@@ -82,7 +82,7 @@ fn make_steps<W: Wait + Drop>(life: &mut Life<W>, world: &mut World) -> Result<(
     Ok(())
 }
 
-/// One in so many steps of workers is of a checkpoint: they are seldom, or as many as those of commits, or more.
+/// One in this many steps of workers is of a checkpoint: they are seldom, or as many as those of commits, or more.
 fn pace(random: &mut Random) -> u32
     ensures { 0 < result }
 {

@@ -46,7 +46,7 @@ impl Random {
         (self.roll() % u64::from(bound)) as u32
     }
 
-    /// Yes once in so many chances.
+    /// Yes once in this many chances.
     pub(crate) fn is_one_in(&mut self, chances: u32) -> bool
         requires { 0 < chances }
     {

@@ -42,7 +42,7 @@ impl Walk {
         })
     }
 
-    /// Makes an event, and then a stop if the device had a call. One event in so many is a step of a checkpoint.
+    /// Makes an event, and then a stop if the device had a call. One event in `steps` is a step of a checkpoint.
     fn event(&mut self, random: &mut Random, steps: u32) -> Result<()>
         requires { 0 < steps }
     {
@@ -148,8 +148,8 @@ fn is_offered(offered: &Offered, weight: Weight, answers: &Answers, sent: &[Lett
         && offered.answers.as_slice() == answers.as_slice()
 }
 
-/// Walks over one device with such a journal after another, up to so many stops. Steps of checkpoints are seldom, or as
-/// many as those of commits, or more.
+/// Walks over one device with such a journal after another, up to this many stops. Steps of checkpoints are seldom, or
+/// as many as those of commits, or more.
 pub(crate) fn walk_from(
     alloc: Global,
     shape: JournalShape,

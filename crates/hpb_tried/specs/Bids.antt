@@ -12,8 +12,8 @@ use Rattle.hpb_tried.specs.Drafts.{licences_of, packages_of}
 abbrev pub first_bid : (packages bidder : ℕ) → Letter
 first_bid packages bidder = record { seat = 0; command = Bid bidder 1 (packages + bidder) 1000 }
 
--- The first bid of each bidder in an auction of so many nodes: as many as there are licences, each on a licence of its
--- own.
+-- The first bid of each bidder in an auction of this many nodes: as many as there are licences, each on a licence of
+-- its own.
 abbrev pub first_bids : ℕ → List Letter
 first_bids nodes = map (first_bid (packages_of nodes)) (range_with_len 0 (licences_of nodes))
 

@@ -4,7 +4,7 @@ use Rattle.std.specs.List.{range_with_len}
 use Rattle.hpb_rules.specs.declared.licence.Terms.{Terms}
 use Rattle.hpb_rules.specs.Tree.{Bidder, Node, Rules}
 
--- How many nodes there are if so many are asked for.
+-- How many nodes there are if this many are asked for.
 abbrev pub nodes_of : ℕ → ℕ
 nodes_of nodes = min nodes 127
 
@@ -34,7 +34,7 @@ node_at packages place = record { name = codes "n" ++ decimal place; parent = pa
 abbrev pub bidder_of : ℕ → Bidder
 bidder_of licence = record { name = codes "b" ++ decimal licence; units = 64 }
 
--- The definition of so many nodes: there is a bidder for each licence.
+-- The definition of this many nodes: there is a bidder for each licence.
 abbrev pub rules_with : ℕ → Rules
 rules_with nodes = record {
   step = 10;

@@ -29,7 +29,7 @@ least_shape layout = least_in (layout_named layout)
 abbrev pub least_size : ℕ → ℕ
 least_size layout = size_in (layout_named layout)
 
--- The image is that of a new device under the definition of so many nodes, with such a journal.
+-- The image is that of a new device with the definition of this many nodes, with such a journal.
 abbrev pub IsNewOf : (nodes layout : ℕ) → List ℕ → Type 0
 IsNewOf nodes layout image = IsNew (rules_with nodes) (least_shape layout) image
 

@@ -118,11 +118,11 @@ abbrev pub AreWellGiven : Option (List ℕ × List Row) → Type 0
 AreWellGiven None = Unit {0}
 AreWellGiven (Some found) = AreWellGivenIn found.1
 
--- Digits spell a number of so many bits.
+-- Digits spell a number of this many bits.
 abbrev pub IsNumber : (bits : ℕ) → List ℕ → Type 0
 IsNumber bits digits = IsNumeral 10 digits × (digits_value 10 digits < 2 ^ bits)
 
--- The number of so many bits that a text spells, or another if it spells none.
+-- The number of this many bits that a text spells, or another if it spells none.
 abbrev pub IsNumberOr : (bits other : ℕ) → Option (List ℕ) → ℕ → Type 0
 IsNumberOr bits other None number = number ≡ other
 IsNumberOr bits other (Some text) number =

@@ -21,7 +21,7 @@ pub enum JobFault {
     Writer,
     /// 50 to 57, 60 to 62: the definition is refused.
     Definition(DefineFault),
-    /// 43: a journal of this layout can't have so many frames.
+    /// 43: a journal of this layout can't have this many frames.
     Journal,
     /// 91: the file was not opened or made, or the system refused a call while it was formatted.
     File(FileFault),
@@ -34,7 +34,7 @@ pub enum JobFault {
         port: u16,
         error: io::Error,
     },
-    /// 92: so many sessions want this many files and connections at a time, and can't have them.
+    /// 92: these sessions need `wanted` files and connections at a time, and can't have them.
     Descriptors {
         sessions: u8,
         wanted: u64,

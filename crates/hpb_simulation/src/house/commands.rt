@@ -12,7 +12,7 @@ const NODES: u32 = 6;
 
 pub(crate) const BIDDERS: usize = 4;
 
-/// The next command of a client; the auctioneer's, if there is no bidder of this place. So many commands before it have
+/// The next command of a client; the auctioneer's, if there is no bidder of this place. `ahead` commands before it have
 /// no answer, mostly none. A close comes seldom, and hardly ever when it would end the auction.
 pub(crate) fn next_command(
     random: &mut Random,

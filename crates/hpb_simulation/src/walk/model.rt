@@ -15,9 +15,9 @@ use std::alloc::{AllocError, Global};
 #[derive(Clone, Copy, Debug, PartialEq, Eq)]
 enum Phase {
     Rest,
-    /// So many of the nine steps were made, of a state that covers so many batches.
+    /// This many of the nine steps were made, of a state that covers this many batches.
     Writing { steps: u8, covers: u64 },
-    /// So many frames are left to retire.
+    /// This many frames are left to retire.
     Retiring { left: u64 },
 }
 
@@ -50,7 +50,7 @@ pub(crate) struct Model {
 }
 
 impl Model {
-    /// A new device with so many frames.
+    /// A new device with this many frames.
     pub(crate) fn new(alloc: Global, frames: u32) -> Model {
         let frames = u64::from(frames);
         Model {
@@ -139,7 +139,7 @@ impl Model {
         self.end().saturating_sub(self.clean_end)
     }
 
-    /// One of nine steps, after so many.
+    /// Makes the next of nine steps, after `steps`.
     fn write_on(&mut self, steps: u8, covers: u64) -> Rest {
         self.phase = Phase::Writing {
             steps: steps.saturating_add(1),

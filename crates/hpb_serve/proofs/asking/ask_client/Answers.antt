@@ -7,7 +7,7 @@ use Rattle.hpb_serve.proofs.asking.ask_client.Given.{Over}
 use Rattle.hpb_serve.proofs.asking.ask_client.Goals.{After-post_letters-posted, In_default}
 use Rattle.hpb_serve.proofs.asking.ask_client.Goals as goal
 
--- so many commands are posted
+-- this many commands are posted
 posted : (g : Over) (c : After-post_letters-posted g) (state : State) → DeskStands c.args.client.now None state
     → HavePosted state c.post_letters-posted.new.client (take c.post_letters-posted.result c.args.commands.now) c.post_letters-posted.result
 posted g c state stands =

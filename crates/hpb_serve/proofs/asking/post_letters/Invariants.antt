@@ -3,7 +3,7 @@ use Rattle.rtrb.specs.Ring.{SameProducer}
 use Rattle.hpb_serve.specs.InFlight.{waiting_for}
 use Rattle.hpb_serve.proofs.asking.post_letters.Given as goal
 
--- so many are posted, none of them by a halted client
+-- those so far are posted, none of them by a halted client
 abbrev pub invariant-loop-place : goal.invariant-loop-place
 invariant-loop-place g l = record {
   seat : l.client.seat ≡ l.fn.client.seat;

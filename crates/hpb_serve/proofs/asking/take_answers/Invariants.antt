@@ -3,7 +3,7 @@ use Rattle.hpb_serve.specs.InFlight.{HasLooked}
 use Rattle.hpb_serve.proofs.InFlight.{AreTaken}
 use Rattle.hpb_serve.proofs.asking.take_answers.Given as goal
 
--- so many are answered, and the others wait
+-- those so far are answered, and the others wait
 abbrev pub invariant-loop : goal.invariant-loop
 invariant-loop g l = record {
   looked : HasLooked l.fn.client l.client;
