@@ -24,8 +24,8 @@ layout_of window = shaped (shape_of window.frames)
 abbrev pub end_of : Window → ℕ
 end_of window = window.covered + count_of window
 
--- Whether the gate of a frame that isn't clean may be open. It may if the frame's batch was there when the device was
--- opened, or was committed since. Otherwise it is as it was at the opening.
+-- Whether the gate of a frame that isn't clean may be open. It may if the frame has held a batch since the device was
+-- opened. Otherwise it is as it was at the opening.
 abbrev pub may_be_open : Window → ℕ → Bool
 may_be_open window b = nat_le (window.opened_at + count_of window) b || slice_index_or window.gates.items (b - window.opened_at) false
 

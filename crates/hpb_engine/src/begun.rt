@@ -4,7 +4,7 @@ use hpb_rules::{Answers, Letters};
 /// What would become of letters if they were offered now. Of several that apply, the first counts.
 #[derive(Clone, Copy, Debug, PartialEq, Eq)]
 pub enum Weight {
-    /// 93: a call of the device has failed before.
+    /// 93 `failed`: a call of the device has failed before.
     Failed,
     /// A batch is in flight. The letters can be offered again once it is acknowledged.
     Busy,
@@ -19,7 +19,7 @@ pub enum Weight {
 /// Why letters that are offered can't be taken. Of several that apply, the first counts.
 #[derive(Clone, Copy, Debug, PartialEq, Eq)]
 pub enum Bar {
-    /// 93: a call of the device has failed before.
+    /// 93 `failed`: a call of the device has failed before.
     Failed,
     /// A batch is in flight.
     Busy,
@@ -30,7 +30,7 @@ pub enum Bar {
 /// What became of letters that were offered. Letters that aren't taken are handed back.
 #[derive(Drop)]
 pub enum Begun {
-    /// 93: a call of the device has failed before.
+    /// 93 `failed`: a call of the device has failed before.
     Failed(Letters),
     /// A batch is in flight.
     Busy(Letters),

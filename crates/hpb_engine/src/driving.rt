@@ -18,7 +18,7 @@ pub struct Driven<D: Disk + Drop> {
     pub engine: Engine<D>,
     /// The answers that left, in order.
     pub answers: Vec<Answer>,
-    /// 91 if a call of the device failed: no event was taken after it. `None` if none failed.
+    /// 91 `device` if a call of the device failed: no event was taken after it. `None` if none failed.
     pub fault: Option<Fault>,
 }
 
@@ -27,12 +27,12 @@ pub struct Driven<D: Disk + Drop> {
 pub struct Run {
     /// The answers that left, in order.
     pub answers: Vec<Answer>,
-    /// 91 if a call of the device failed: no event was taken after it. `None` if none failed.
+    /// 91 `device` if a call of the device failed: no event was taken after it. `None` if none failed.
     pub fault: Option<Fault>,
 }
 
-/// Takes one event. Answers that leave go into the list, which is empty before. The result is 91 if a call of the
-/// device fails in the event.
+/// Takes one event. Answers that leave go into the list, which is empty before. The result is 91 `device` if a call of
+/// the device fails in the event.
 fn take_event<D: Disk + Drop>(
     engine: &mut Engine<D>,
     event: &Event,
@@ -94,7 +94,7 @@ fn take_all<D: Disk + Drop>(
 impl<D: Disk + Drop> Engine<D> {
     /// Takes events in order, as [`drive`] does, on an engine that stays in its place.
     ///
-    /// Room for all answers is made first. 90 if memory is refused: no event is taken, and nothing changes.
+    /// Room for all answers is made first. 90 `memory` if memory is refused: no event is taken, and nothing changes.
     pub fn run(&mut self, alloc: Global, events: &[Event]) -> Result<Run, AllocError>
         ensures ran { (machine : Machine) → Keeps D.seen D.may_leave self.old.disk self.old.progress self.old.failed machine
             → IfOk result (λ run. Ran D.seen D.may_leave D.moment D.left_since
@@ -113,7 +113,7 @@ impl<D: Disk + Drop> Engine<D> {
 }
 
 /// Takes events in order. Offers of letters, turns of commits and steps of checkpoints may come in any order. It stops
-/// after the first event at which a call of the device fails (91).
+/// after the first event at which a call of the device fails (91 `device`).
 ///
 /// An offer is dropped if a batch is in flight, if it has new commands and no clean frame is left, and after a fault. A
 /// turn with nothing in flight does nothing.
@@ -121,7 +121,7 @@ impl<D: Disk + Drop> Engine<D> {
 /// No acknowledged command is ever lost. A crash may come at any moment from the start on, within a call or between
 /// two. It leaves bytes that stand for all commands acknowledged by then, perhaps with those of later batches.
 ///
-/// Room for all answers is made first. 90 if memory is refused: the engine is handed back as it was.
+/// Room for all answers is made first. 90 `memory` if memory is refused: the engine is handed back as it was.
 pub fn drive<D: Disk + Drop>(
     alloc: Global,
     engine: Engine<D>,

@@ -92,7 +92,7 @@ impl<D: Disk + Drop> Engine<D> {
     /// makes no call of the device, and takes no memory.
     ///
     /// It hands the letters back in three cases, of which the first that applies counts:
-    /// - a call of the device has failed (93);
+    /// - a call of the device has failed (93 `failed`);
     /// - a batch is in flight;
     /// - some letters are new, and no clean frame is left.
     pub fn begin(&mut self, letters: Letters) -> Begun

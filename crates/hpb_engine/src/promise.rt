@@ -18,9 +18,9 @@ use hpb_rules::{fits_grow, rest_is_sound, run_is_moves, run_joins};
 use std::alloc::Global;
 
 /// Starts an engine over an opened device, and takes events in order, as `drive` does: up to the first at which a call
-/// of the device fails (91).
+/// of the device fails (91 `device`).
 ///
-/// 90 if memory is refused: no event is taken, and the device is handed back as it was opened.
+/// 90 `memory` if memory is refused: no event is taken, and the device is handed back as it was opened.
 pub fn drive_opened<D: Disk + Drop>(
     alloc: Global,
     opened: Opened<D>,
@@ -70,8 +70,8 @@ pub struct Survived<D: Disk + Drop, E: Disk + Drop> {
 /// The other device is handed in before the run, and may be any device. The promise holds if its bytes are among those
 /// that a stop may have left.
 ///
-/// 90 if memory is refused before the first event: both devices are handed back. If the other device is refused
-/// afterwards, `found` says why.
+/// 90 `memory` if memory is refused before the first event: both devices are handed back. If the other device is
+/// refused afterwards, `found` says why.
 pub fn drive_then_open<D: Disk + Drop, E: Disk + Drop>(
     alloc: Global,
     opened: Opened<D>,

@@ -61,7 +61,7 @@ fn fresh(plan: Plan, working: Auction, body: Vec<u8>) -> Progress
 impl<D: Disk + Drop> Engine<D> {
     /// Starts an engine over an opened device. It allocates all memory that the engine will use: no step takes more.
     ///
-    /// 90 if memory is refused: the opened device is handed back as it was.
+    /// 90 `memory` if memory is refused: the opened device is handed back as it was.
     pub fn start(alloc: Global, opened: Opened<D>) -> Result<Engine<D>, Opened<D>>
         // If the device stands for a history, the engine keeps that history, with nothing in flight.
         ensures keeps { (history : List Command) → Stands history (D.seen opened.disk)

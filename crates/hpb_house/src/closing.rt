@@ -26,10 +26,10 @@ pub struct Closing<D: Disk + Drop> {
     pub disk: D,
     /// The committed auction.
     pub auction: Auction,
-    /// Whether a call of the device has failed (91).
+    /// Whether a call of the device has failed (91 `device`).
     pub has_failed: bool,
     /// The answers of the batch in flight, if there is one; none of them has left. There may be one after a failed
-    /// call, and when a close is refused (96). The device may keep its new commands.
+    /// call, and when a close is refused (96 `counts`). The device may keep its new commands.
     pub in_flight: Option<Answers>,
     /// The list of the published batches, which lead to the committed auction.
     pub published: Trail,

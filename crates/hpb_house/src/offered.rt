@@ -20,10 +20,10 @@ pub enum Reason {
     Busy,
     /// Some letters are new, and no clean frame is left.
     Full,
-    /// 93: a call of the device has failed.
+    /// 93 `failed`: a call of the device has failed.
     Failed,
     /// The answers to a seat would number more than the board can count.
     Spent,
-    /// 90: memory was refused.
+    /// 90 `memory`: memory was refused.
     Memory,
 }

@@ -29,10 +29,10 @@ use thiserror::Error;
 /// Why a house wasn't started. The words are those of an `ERR` line.
 #[derive(Clone, Copy, Debug, PartialEq, Eq, Error)]
 pub enum StartCause {
-    /// 90: memory was refused.
+    /// 90 `memory`: memory was refused.
     #[error("memory")]
     Memory,
-    /// 94: a ring or a viewer's place was refused.
+    /// 94 `place`: a ring or a viewer's place was refused.
     #[error("place")]
     Place,
 }

@@ -24,7 +24,8 @@ pub struct Workers<J: Naming> {
 impl<J: Naming> Workers<J> {
     /// Starts the workers, each with a gate to which it reports the points that it passes.
     ///
-    /// 90 if a thread is refused. If the committer was started before, it ends by itself once every client is finished.
+    /// 90 `memory` if a thread is refused. If the committer was started before, it ends by itself once every client is
+    /// finished.
     pub fn start<
         's,
         E,

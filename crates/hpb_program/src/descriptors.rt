@@ -30,7 +30,7 @@ fn most_open() -> u64 {
 }
 
 /// Checks that the process may have as many more files and connections open as this many sessions take, by opening as
-/// many for a moment. Refused with 92 if it may not, and with 90 if memory is refused.
+/// many for a moment. Refused with 92 `stream` if it may not, and with 90 `memory` if memory is refused.
 pub(crate) fn look_for_descriptors<R: Files<File = File>>(
     rt: &R,
     alloc: Global,

@@ -67,8 +67,8 @@ pub(crate) struct Lookout<'a> {
 }
 
 impl<'a> Lookout<'a> {
-    /// A watch over the file of a path, from which a device was opened. Refused with 91 if the path leads to another
-    /// file by now, and with 90 if memory is refused.
+    /// A watch over the file of a path, from which a device was opened. Refused with 91 `device` if the path leads to
+    /// another file by now, and with 90 `memory` if memory is refused.
     pub(crate) fn new<H: Files<File = File>>(
         rt: &H,
         alloc: Global,

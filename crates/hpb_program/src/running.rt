@@ -73,8 +73,8 @@ pub fn program<
 }
 
 /// The program's status if its words can't be read: 1 if memory was refused, and otherwise 2. `errors` gets the reason,
-/// and `output` the line of 90 if memory was refused. A stream that leads to a file which the words may name gets
-/// nothing.
+/// and `output` the line of 90 `memory` if memory was refused. A stream that leads to a file which the words may name
+/// gets nothing.
 pub fn refuse_words<W: Write, E: Write>(
     error: &io::Error,
     led: Led,
@@ -340,7 +340,7 @@ fn tell_ended<E: Write>(alloc: Global, end: RunEnd, known: Known<'_>, errors: &m
 }
 
 /// Writes the message about wrong words, or the help that they ask for, and gives the program's status. `output` gets
-/// the line of 90 if memory was refused. A stream that leads to a file which the words may name gets nothing.
+/// the line of 90 `memory` if memory was refused. A stream that leads to a file which the words may name gets nothing.
 fn say_fault<W: Write, E: Write>(
     fault: WordsFault,
     led: Led,

@@ -48,7 +48,7 @@ pub struct FileEnd {
     pub left: Snapshot<Closing<FileDisk>>,
     /// The committed auction.
     pub auction: Auction,
-    /// Whether a call of the disk has failed (91).
+    /// Whether a call of the disk has failed (91 `device`).
     pub has_failed: bool,
     /// The system's number of the write or the sync that failed, if the system gave one.
     pub code: Option<i32>,
@@ -140,11 +140,15 @@ pub(crate) fn serve_file<
 /// written once all sessions have ended.
 ///
 /// If the device has doubts, which no honest device has, it reports them before anything else, on standard error. It
-/// asks for the port only once the device is opened. If either is refused, it writes nothing: 40, 42, 44, 45 and 91 for
-/// the device, 92 for the port.
+/// asks for the port only once the device is opened.
 ///
-/// 90 or 94: the house wasn't started. 95: a session took no answer. 96: the sessions' answers differ from the commands
-/// that were kept.
+/// Refused:
+/// - 40 `unformatted`, 42 `layout`, 44 `checkpoint`, 45 `frame` or 91 `device`: the device wasn't opened, and nothing
+///   is written;
+/// - 92 `stream`: the port was refused, and nothing is written; or the line with the port wasn't written;
+/// - 90 `memory` or 94 `place`: the house wasn't started;
+/// - 95 `order`: a session took no answer;
+/// - 96 `counts`: the sessions' answers differ from the commands that were kept.
 ///
 /// The result has the device. It keeps the history for which it stood when it was opened, and then the commands that
 /// the sessions reported as newly accepted.

@@ -90,8 +90,8 @@ pub(crate) fn tell_memory_unled<E: Write>(led: Led, errors: &mut E)
     }
 }
 
-/// Refuses a job to whose file a standard stream leads: reports 91, and gives the status 1. A stream that leads there
-/// gets nothing, since it would be written into the auction.
+/// Refuses a job to whose file a standard stream leads: reports 91 `device`, and gives the status 1. A stream that
+/// leads there gets nothing, since it would be written into the auction.
 pub(crate) fn refuse_led<W: Write, E: Write>(
     alloc: Global,
     file: &str,

@@ -12,7 +12,7 @@ use hpb_engine::Engine;
 use hpb_rules::{Commands, Refusal, Replies, judged_is_answered};
 use std::alloc::{AllocError, Global};
 
-/// Commits commands as one batch. If the device failed before, each is refused (93).
+/// Commits commands as one batch. If the device failed before, each is refused (93 `failed`).
 pub(crate) fn ask_engine<D: Disk + Drop>(
     alloc: Global,
     engine: &mut Engine<D>,

@@ -10,8 +10,8 @@ ghost use Rattle.hpb_run.specs.Takes.{MakesCheckpoint};
 use hpb_disk::Disk;
 use hpb_engine::{Engine, Fault, Rest};
 
-/// Makes steps of a checkpoint up to its last one. If a call of the device fails, it stops, and returns 91. It takes no
-/// memory.
+/// Makes steps of a checkpoint up to its last one. If a call of the device fails, it stops, and returns 91 `device`. It
+/// takes no memory.
 pub(crate) fn checkpoint<D: Disk + Drop>(engine: &mut Engine<D>) -> Option<Fault>
     requires works { engine.old.failed ≡ false }
     ensures keeps { (machine : Machine) → Keeps D.seen D.may_leave engine.old.disk engine.old.progress engine.old.failed machine
@@ -33,7 +33,7 @@ pub(crate) fn checkpoint<D: Disk + Drop>(engine: &mut Engine<D>) -> Option<Fault
 /// Finishes the checkpoint that is on its way, or else makes one of all committed batches. The acknowledged commands
 /// stay, and a clean frame is left, unless the device fails. If the device failed before, it makes no call.
 ///
-/// 91 if a call of the device failed. It takes no memory.
+/// 91 `device` if a call of the device failed. It takes no memory.
 pub fn make_checkpoint<D: Disk + Drop>(engine: &mut Engine<D>) -> Option<Fault>
     // If nothing is in flight, the engine keeps the same acknowledged commands. There is room for a batch, unless the
     // device has failed. If no checkpoint is on its way, it makes one of all committed batches, and finishes it unless

@@ -20,13 +20,14 @@ use std::alloc::{AllocError, Global};
 pub struct Ended {
     /// If there is no fault: the answers to all of them, in order.
     pub answers: Vec<Answer>,
-    /// 91: a call of the device failed in their commit. None is acknowledged, and a crash may keep them or not. 93: a
-    /// call had failed before, or in the checkpoint before their commit, or a batch was in flight. None was taken.
+    /// 91 `device`: a call of the device failed in their commit. None is acknowledged, and a crash may keep them or
+    /// not. 93 `failed`: a call had failed before, or in the checkpoint before their commit, or a batch was in flight.
+    /// None was taken.
     pub fault: Option<Fault>,
 }
 
 /// Makes the turns that are left of the batch in flight. Its answers, which leave with the fourth, replace those in
-/// `answers`. If a call of the device fails (91), the batch stays in flight.
+/// `answers`. If a call of the device fails (91 `device`), the batch stays in flight.
 fn land<D: Disk + Drop>(engine: &mut Engine<D>, answers: &mut Answers) -> Result<(), Fault>
     requires busy { engine.old.progress.commit.busy ≡ true }
     requires works { engine.old.failed ≡ false }
@@ -93,10 +94,10 @@ fn commit_all<D: Disk + Drop>(
 /// Commits letters as one batch: either all are answered and the accepted commands acknowledged, or none. If no clean
 /// frame is left for them, it first makes a whole checkpoint, which leaves one.
 ///
-/// The fault says why there are no answers. 91: a call of the device failed in the commit. 93: one failed before, or a
-/// batch is in flight.
+/// The fault says why there are no answers. 91 `device`: a call of the device failed in the commit. 93 `failed`: one
+/// failed before, or a batch is in flight.
 ///
-/// 90 if memory is refused: no letter is taken, and the acknowledged commands stay.
+/// 90 `memory` if memory is refused: no letter is taken, and the acknowledged commands stay.
 pub fn commit_letters<D: Disk + Drop>(
     alloc: Global,
     engine: &mut Engine<D>,

@@ -39,7 +39,7 @@ impl<D: Disk + Drop> DeviceDesk<D> {
     /// A desk that commits `batch` commands together, from 1 to 64, and makes a checkpoint after each `every` commits.
     /// A number out of the range counts as the nearest in it.
     ///
-    /// 90 if memory is refused: the engine is handed back.
+    /// 90 `memory` if memory is refused: the engine is handed back.
     pub fn new(
         alloc: Global,
         engine: Engine<D>,
@@ -97,7 +97,7 @@ impl<D: Disk + Drop> DeviceDesk<D> {
 
     /// Commits commands together, behind a checkpoint that is due, and counts the commit if it accepts any.
     ///
-    /// 90 if memory is refused: no command is taken.
+    /// 90 `memory` if memory is refused: no command is taken.
     pub fn ask_together(
         &mut self,
         alloc: Global,

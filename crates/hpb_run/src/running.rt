@@ -40,13 +40,14 @@ pub struct Ran<D: Disk + Drop> {
 /// is 0, it is made only when the journal is full.
 ///
 /// Answers to commands:
-/// - 91: a call of the device failed in the commit of this command's batch, of which no command is acknowledged;
-/// - 93: a call had failed before.
+/// - 91 `device`: a call of the device failed in the commit of this command's batch, of which no command is
+///   acknowledged;
+/// - 93 `failed`: a call had failed before.
 ///
 /// Questions are still answered by the acknowledged commands then.
 ///
-/// The session ends with 90 if memory is refused. It ends with 92 if the reader or the writer fails, or if more than
-/// 1,000,000,000 bytes are read.
+/// The session ends with 90 `memory` if memory is refused. It ends with 92 `stream` if the reader or the writer fails,
+/// or if more than 1,000,000,000 bytes are read.
 ///
 /// All answers are written and flushed before the next commit, before a checkpoint that is due, and before more is
 /// read.

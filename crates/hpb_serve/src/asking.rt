@@ -23,7 +23,8 @@ use std::thread;
 /// its seat rings.
 ///
 /// The replies go into `replies`. If a command gets no answer, the result says why. After a halt, that command and each
-/// one behind it are refused. If an answer comes out of order, its command gets 95, and none behind it gets a reply.
+/// one behind it are refused. If an answer comes out of order, its command gets 95 `order`, and none behind it gets a
+/// reply.
 pub(crate) fn ask_client<M: Copy, R: Wait>(
     rt: &R,
     client: &mut Client<M>,

@@ -33,7 +33,8 @@ fn finish_clients<R: Wait>(rt: &R, clients: Vec<Client<Halt>>)
 
 /// Starts a session for each client, in a thread of its own, before any of them takes a connection.
 ///
-/// 90 if a thread is refused. The sessions that have one are served all the same, and the other clients are finished.
+/// 90 `memory` if a thread is refused. The sessions that have one are served all the same, and the other clients are
+/// finished.
 fn start_sessions<'s, E, R: Threads + Wait + Sync, V: Watch + Sync>(
     scope: &Scope<'s, E>,
     rt: &'s R,
@@ -91,8 +92,8 @@ fn start_sessions<'s, E, R: Threads + Wait + Sync, V: Watch + Sync>(
 /// Runs the workers of a house and a session for each client, and waits for all of them. Returns the report of each
 /// client.
 ///
-/// 90 if memory or a thread is refused. 95 if a session left its client, which is handed back. Each client that has no
-/// session is finished, so that the committer ends.
+/// 90 `memory` if memory or a thread is refused. 95 `order` if a session left its client, which is handed back. Each
+/// client that has no session is finished, so that the committer ends.
 ///
 /// A watch gets reports of each place that is taken or ends, of accepts that fail, and of a thread that is refused. It
 /// also gets those of a device that fails or that somebody else has written. It looks at each checkpoint, and at the

@@ -49,7 +49,7 @@ pub fn tell<R: Print>(rt: &R, tried: &Tried) -> io::Result<()> {
     println!(rt; "{first}, {given}, {again}")
 }
 
-/// The result of a call that makes a definition: its sum, or that memory was refused (90).
+/// The result of a call that makes a definition: its sum, or that memory was refused (90 `memory`).
 pub fn definition_came(
     alloc: Global,
     made: Result<Definition, AllocError>,
@@ -63,7 +63,7 @@ pub fn definition_came(
     }
 }
 
-/// The result of a call that makes an auction: its sum, or that memory was refused (90).
+/// The result of a call that makes an auction: its sum, or that memory was refused (90 `memory`).
 pub fn auction_came(alloc: Global, made: Result<Auction, AllocError>) -> Result<Came, AllocError>
     ensures refused { OnErr made (IfOk result LacksMemory) }
     ensures came { IfOk made (λ auction. IfOk result (λ came. came ≡ Well (sum_of_auction auction))) }

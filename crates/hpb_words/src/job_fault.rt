@@ -13,38 +13,39 @@ use std::io;
 /// Why a job on a file was not done.
 #[derive(Debug, Drop)]
 pub enum JobFault {
-    /// 90: memory was refused.
+    /// 90 `memory`: memory was refused.
     Memory,
-    /// 92: the input failed.
+    /// 92 `stream`: the input failed.
     Reader,
-    /// 92: the output failed.
+    /// 92 `stream`: the output failed.
     Writer,
     /// 50 to 57, 60 to 62: the definition is refused.
     Definition(DefineFault),
-    /// 43: a journal of this layout can't have this many frames.
+    /// 43 `length`: a journal of this layout can't have this many frames.
     Journal,
-    /// 91: the file was not opened or made, or the system refused a call while it was formatted.
+    /// 91 `device`: the file was not opened or made, or the system refused a call while it was formatted.
     File(FileFault),
-    /// 41, 43 or 91: the file was not formatted.
+    /// 41 `formatted`, 43 `length` or 91 `device`: the file was not formatted.
     Format(FormatCause),
-    /// 40, 42, 44, 45 or 91: the contents of the file were not opened.
+    /// 40 `unformatted`, 42 `layout`, 44 `checkpoint`, 45 `frame` or 91 `device`: the contents of the file were not
+    /// opened.
     Open(Cause),
-    /// 92: no connections to this port can be had.
+    /// 92 `stream`: no connections to this port can be had.
     Port {
         port: u16,
         error: io::Error,
     },
-    /// 92: these sessions need `wanted` files and connections at a time, and can't have them.
+    /// 92 `stream`: these sessions need `wanted` files and connections at a time, and can't have them.
     Descriptors {
         sessions: u8,
         wanted: u64,
         error: io::Error,
     },
-    /// 94: the place of a session was refused.
+    /// 94 `place`: the place of a session was refused.
     Place,
-    /// 95: an answer came that isn't the one for which its session waited.
+    /// 95 `order`: an answer came that isn't the one for which its session waited.
     Order,
-    /// 96: the sessions' answers differ from the commands that were kept.
+    /// 96 `counts`: the sessions' answers differ from the commands that were kept.
     Counts,
 }
 

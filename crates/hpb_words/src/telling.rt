@@ -68,7 +68,7 @@ pub fn advise<A: fmt::Display + Copy, E: Write>(
     }
 }
 
-/// Writes the message of 90 if the refusal is 90, and nothing otherwise.
+/// Writes the message of 90 `memory` if that is the refusal, and nothing otherwise.
 fn tell_of_memory<E: Write>(refusal: Refusal, errors: &mut E)
     ensures { TellsOf (E.contents errors.old) (E.contents errors.new) refusal }
 {

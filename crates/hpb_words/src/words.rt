@@ -272,7 +272,7 @@ impl<'a> Job<'a> {
 /// Why words ask for no job.
 #[derive(Debug, Drop, Error)]
 pub enum WordsFault {
-    /// 90: memory was refused.
+    /// 90 `memory`: memory was refused.
     #[error("memory")]
     Memory,
     /// The words are wrong, or ask for help. The text is for the person who typed them. The status is the program's: 2
