@@ -1,4 +1,4 @@
--- The warning if a file opens but has doubts: facts that no honest file has.
+-- The warning if a file opens, but there are doubts about it: signs of damage that no honest file shows.
 use Rattle.std.proofs.Common.{◌≡◌, ◌⊎◌, ◌∙◌, ℕ, Bool, List, [], Option, Result, Ok, Err, sym, ap, subst, refl, inl, inr, ⊎_elim}
 use Rattle.std.specs.Bool.{⊤}
 use Rattle.std.proofs.KnownBytes.{Keeps-refl}
@@ -33,7 +33,7 @@ pub durable_still : {D : Type 0} (seen : D → List ℕ) (may_leave : D → List
     → Only (seen old) (may_leave old) → IsQuiet seen may_leave moment left_since calls old new → Only (seen new) (may_leave new)
 durable_still seen may_leave moment left_since calls old new only quiet = λ other left. only other (quiet.crash other left) ∙ sym quiet.same
 
--- the doubts of such a device are reported for the opened one
+-- the doubts about such a device are reported for the opened one
 pub tells : (first plan : Plan) (here image : List ℕ) (old new : Option (List ℕ)) (slot : Option ℕ) (later : Option Later) (count : ℕ) (text : List ℕ) → plan ≡ first → here ≡ image
     → IsSlotTold first here slot → IsFrameTold first here later → count ≡ plan.auction.count → text ≡ doubts_text count slot later → Says old new text → TellsDoubts plan image old new
 tells first plan here image old new slot later count text same at slot_told frame_told counted is says = (
@@ -133,7 +133,7 @@ told_unheld contents faults.Place is = absurd is
 told_unheld contents faults.Order is = absurd is
 told_unheld contents faults.Counts is = absurd is
 
--- the auction shown of an opened file is that of the bytes whose doubts were reported
+-- the auction shown of an opened file is that of the bytes about which doubts were reported
 pub checked : (image : List ℕ) (old new errors_old errors_new : Option (List ℕ)) (result : Result ⊤ JobFault)
     → ShowsKept image old new result → TellsKept image errors_old errors_new result → Checks old new errors_old errors_new result
 checked image old new errors_old errors_new (Ok done) shows told = (image, shows, told)

@@ -1,4 +1,4 @@
--- The warning if a file opens but has doubts: facts that no honest file has.
+-- The warning if a file opens, but there are doubts about it: signs of damage that no honest file shows.
 use Rattle.std.specs.Prelude.{◌≡◌, ◌⊎◌, ℕ, List, [], ◌++◌, Option, None, Some, Result, Ok, Err, codes, decimal}
 use Rattle.std.specs.Io.KnownBytes.{Keeps}
 use Rattle.hpb_disk.specs.FileDisks.{file_seen}
@@ -46,7 +46,7 @@ doubts_text count None None = []
 doubts_text count None (Some later) = doubts_line count (frame_text later.frame)
 doubts_text count (Some damaged) later = doubts_line count (slot_text damaged (later_text later))
 
--- Standard error gets exactly the doubts of a device.
+-- Standard error gets exactly the doubts about a device.
 abbrev pub TellsDoubts : Plan → List ℕ → (errors_old errors_new : Option (List ℕ)) → Type 0
 TellsDoubts plan image errors_old errors_new =
     (slot : Option ℕ) × (later : Option Later) × IsSlotTold plan image slot × IsFrameTold plan image later × Says errors_old errors_new (doubts_text plan.auction.count slot later)
@@ -55,8 +55,8 @@ TellsDoubts plan image errors_old errors_new =
 abbrev pub TellsImage : List ℕ → (errors_old errors_new : Option (List ℕ)) → Type 0
 TellsImage image errors_old errors_new = (plan : Plan) × IsPlan plan image × TellsDoubts plan image errors_old errors_new
 
--- A job on a device was not done, or not to its end. If the device was opened, its doubts were reported; if it wasn't
--- opened, nothing was. If memory was refused, either may be.
+-- A job on a device was not done, or not to its end. If the device was opened, the doubts about it were reported; if it
+-- wasn't opened, nothing was. If memory was refused, either may be.
 abbrev pub TellsStopped : List ℕ → (errors_old errors_new : Option (List ℕ)) → JobFault → Type 0
 TellsStopped image errors_old errors_new faults.Memory = Keeps errors_old errors_new ⊎ TellsImage image errors_old errors_new
 TellsStopped image errors_old errors_new (faults.File fault) = Keeps errors_old errors_new

@@ -75,7 +75,7 @@ ShowsKept image old new (Err faults.Writer) = (value : AuctionValue) × IsKept i
 ShowsKept image old new (Err (faults.Open (opening.Flawed flaw))) = Keeps old new × HasFlaw flaw image
 ShowsKept image old new (Err fault) = Keeps old new × ((fault ≡ faults.Memory) ⊎ (fault ≡ faults.Open opening.Device))
 
--- The same for a file. Its bytes are known only as those whose doubts were reported. Or nothing of it was shown.
+-- The same for a file. Its bytes are known only as those about which doubts were reported. Or nothing of it was shown.
 abbrev pub Checks : (old new errors_old errors_new : Option (List ℕ)) → Result ⊤ JobFault → Type 0
 Checks old new errors_old errors_new (Ok done) = (image : List ℕ) × ShowsKept image old new (Ok done) × TellsImage image errors_old errors_new
 Checks old new errors_old errors_new (Err faults.Writer) = (image : List ℕ) × ShowsKept image old new (Err faults.Writer) × TellsImage image errors_old errors_new

@@ -37,14 +37,14 @@ IsOfOpening (faults.File fault) = Unit {0}
 IsOfOpening (faults.Open cause) = Unit {0}
 IsOfOpening fault = ⊥
 
--- The messages of a run. If it began, the doubts of the device are reported first, and at a terminal then come lines of
--- the form of sentences. If it did not begin, the messages are those of any such job.
+-- The messages of a run. If it began, the doubts about the device are reported first, and at a terminal then come lines
+-- of the form of sentences. If it did not begin, the messages are those of any such job.
 abbrev pub TellsRunning : {T : Type 0} → (is_terminal : Bool) → List ℕ → (errors_old errors_new : Option (List ℕ)) → Result T JobFault → Type 0
 TellsRunning is_terminal image errors_old errors_new (Ok done) = (errors_told : Option (List ℕ)) × TellsImage image errors_old errors_told × ExplainsAt is_terminal errors_told errors_new
 TellsRunning is_terminal image errors_old errors_new (Err fault) = TellsStopped image errors_old errors_new fault
 
--- An auction was run by the contents of a file, of which only its doubts are known, since they were reported before. Or
--- the file was not opened, and nothing was read or written.
+-- An auction was run by the contents of a file, about which only the doubts are known, since they were reported before.
+-- Or the file was not opened, and nothing was read or written.
 abbrev pub RunsFile : (is_terminal : Bool) (before after : Streams) (errors_old errors_new : Option (List ℕ)) → Result RunEnd JobFault → Type 0
 RunsFile is_terminal before after errors_old errors_new (Ok end) =
     (opened : FileDisk) × (disk : FileDisk) × (progress : Progress) × IsRun file_seen file_left file_failures opened before after disk progress end.failed end.end

@@ -90,8 +90,8 @@ abbrev pub TellsServed : (cut : Bool) (old new errors_old errors_new : Option (L
 TellsServed cut old new errors_old errors_new (Ok end) status = Keeps old new × IsTaken cut end.said × TellsBeside errors_old errors_new end.is_spoiled end.said end.has_failed status
 TellsServed cut old new errors_old errors_new (Err fault) status = TellsFault cut old new errors_old errors_new fault status
 
--- The effect of a job on the streams and standard error, and its status. Doubts about the file, which no honest file
--- has, are reported first. The output may be cut at the end or not.
+-- The effect of a job on the streams and standard error, and its status. Doubts about the file are reported first. The
+-- output may be cut at the end or not.
 abbrev pub RunsJob : (is_terminal : Bool) → Job → (before after : Streams) (cut : Bool) (errors_old errors_new : Option (List ℕ)) → ℕ → Type 0
 RunsJob is_terminal Script before after cut errors_old errors_new status =
     (end : Result ScriptEnd SessionFault) × RunsScript before after end × (status ≡ status_of_script end)

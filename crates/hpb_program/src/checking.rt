@@ -31,8 +31,8 @@ pub(crate) fn run_check<H: Files<File = File>, W: Write, E: Write>(
 }
 
 /// Writes the lines of the auction that a device keeps: the answer to `SHOW`, and for each node, in the order of the
-/// definition, the answer to `NODE`. It syncs the device first, and writes nothing on it. If the device has doubts,
-/// which no honest device has, it reports them first, on standard error.
+/// definition, the answer to `NODE`. It syncs the device first, and writes nothing on it. If there are doubts about the
+/// device, signs of damage that no honest device shows, standard error gets them first.
 #[tactic(auto, using(crate::proofs::Doubting::shown_not, crate::proofs::Doubting::cut_not, crate::proofs::Doubting::told_not))]
 pub fn check_device<D: Disk + Drop, W: Write, E: Write>(
     alloc: Global,

@@ -52,10 +52,10 @@ pub(crate) fn run_file<H: Files<File = File>, R: Read, W: Write, E: Write>(
 }
 
 /// Answers the lines of the input by the auction that a device keeps, and keeps it there. Up to `batch` commands that
-/// have come are committed together and then answered. After every `every` commits it makes a checkpoint.
+/// have come are committed together and then answered. After each `every` commits it makes a checkpoint.
 ///
-/// If the device isn't opened, it reads and writes nothing. If the device has doubts, which no honest device has, it
-/// reports them first, on standard error.
+/// If the device isn't opened, it reads and writes nothing. If there are doubts about the device, signs of damage that
+/// no honest device shows, standard error gets them first.
 ///
 /// At a terminal commands are answered one at a time. Behind each one that is refused, standard error says which number
 /// would do.

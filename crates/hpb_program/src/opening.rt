@@ -20,9 +20,9 @@ use std::alloc::{AllocError, Global};
 use std::fmt;
 use std::io::Write;
 
-/// Opens a device, as `open` does, and looks for doubts. These are facts that no honest device has, and that show that
-/// its newest checkpoint may be damaged. If there are any, standard error gets a warning before anything else, with the
-/// counts that are possible. If there is none, it gets nothing.
+/// Opens a device, as `open` does, and looks for doubts: signs that its newest checkpoint is damaged, which no honest
+/// device shows. If there are any, standard error gets a warning before anything else, with the counts that are
+/// possible. If there is none, it gets nothing.
 ///
 /// 90 and 91 as of `open`, also if memory or a read is refused while it looks for doubts. Nothing is written to
 /// standard error then.
@@ -52,7 +52,7 @@ pub(crate) fn open_kept<D: Disk + Drop, E: Write>(
     Ok(opened)
 }
 
-/// An opened device, with its doubts.
+/// An opened device, with the doubts about it.
 #[derive(Drop)]
 struct Looked<D: Disk + Drop> {
     opened: Opened<D>,
@@ -89,7 +89,7 @@ fn opened_still<D: Disk + Drop>(disk: D, plan: Plan) -> Opened<D>
     Opened { disk, plan }
 }
 
-/// The warning about the doubts of an auction of `count` commands. It is empty if there are none.
+/// The warning for doubts about an auction of `count` commands. It is empty if there are none.
 pub(crate) fn line_of_doubts(
     alloc: Global,
     count: u32,

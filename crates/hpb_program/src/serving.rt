@@ -139,8 +139,8 @@ pub(crate) fn serve_file<
 /// with the port is written once clients can connect to it. `CLOSED` with the number of all accepted commands is
 /// written once all sessions have ended.
 ///
-/// If the device has doubts, which no honest device has, it reports them before anything else, on standard error. It
-/// asks for the port only once the device is opened.
+/// If there are doubts about the device, signs of damage that no honest device shows, standard error gets them before
+/// anything else. It asks for the port only once the device is opened.
 ///
 /// Refused:
 /// - 40 `unformatted`, 42 `layout`, 44 `checkpoint`, 45 `frame` or 91 `device`: the device wasn't opened, and nothing

@@ -1,4 +1,4 @@
-//! The doubts of devices that open, but that no honest device is like.
+//! Doubts about devices that open, but that no honest device is like.
 
 use crate::commands::{A, B, X, Y, bid};
 use crate::devices::new_device;
@@ -17,7 +17,7 @@ const GATE: usize = 32_768;
 
 const LAST: usize = 53_247;
 
-/// The doubts of a device: the count in the bytes of its other slot; and the index of its last later batch, with the
+/// The doubts about a device: the count in the bytes of its other slot; and the index of its last later batch, with the
 /// number of that batch's first command.
 type Told = (Option<u32>, Option<(u64, u64)>);
 
@@ -33,7 +33,7 @@ fn told_by(doubts: &Doubts) -> Told {
     (doubts.slot, later)
 }
 
-/// The doubts of an opened device, and how many commands it has.
+/// The doubts about an opened device, and how many commands it has.
 fn told_of_opened(alloc: Global, opened: Opened<MemoryDisk>) -> Option<(u32, Told)> {
     let Opened { mut disk, plan, .. } = opened;
     let doubts = find_doubts(alloc, &mut disk, &plan);
@@ -46,7 +46,7 @@ fn told_of_opened(alloc: Global, opened: Opened<MemoryDisk>) -> Option<(u32, Tol
     }
 }
 
-/// The doubts of a device with these bytes, and how many commands it has. `None` if it isn't opened.
+/// The doubts about a device with these bytes, and how many commands it has. `None` if it isn't opened.
 fn told_of(alloc: Global, bytes: &[u8]) -> Result<Option<(u32, Told)>, Fail> {
     let disk = MemoryDisk::of(alloc, bytes.to_vec(alloc)?)?;
     match open(alloc, disk) {
