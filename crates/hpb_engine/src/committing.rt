@@ -141,7 +141,8 @@ impl<D: Disk + Drop> Engine<D> {
     ///
     /// 91 `device`: the call failed. 93 `failed`: an earlier call failed; the device has to be opened again.
     pub fn make_turn(&mut self, leaving: &mut Answers) -> Result<Turned, Fault>
-        // If a machine is kept before the turn, its next turn is kept after it, and the machine's answers leave.
+        // If the engine keeps a machine before the turn, it keeps the machine after a turn of its own, and the
+        // machine's answers leave.
         ensures keeps { (machine : Machine) → Keeps D.seen D.may_leave self.old.disk self.old.progress self.old.failed machine
             → Keeps D.seen D.may_leave self.new.disk self.new.progress self.new.failed (turn_by (step_of result leaving.new) machine).machine }
         ensures leaving { (machine : Machine) → Keeps D.seen D.may_leave self.old.disk self.old.progress self.old.failed machine
@@ -174,7 +175,8 @@ impl<D: Disk + Drop> Engine<D> {
     ///
     /// 91 `device`: the call failed. 93 `failed`: an earlier call failed; the device has to be opened again.
     pub fn commit_step(&mut self) -> Result<Step, Fault>
-        // If a machine is kept before the turn, its next turn is kept after it, and the machine's answers leave.
+        // If the engine keeps a machine before the turn, it keeps the machine after a turn of its own, and the
+        // machine's answers leave.
         ensures keeps { (machine : Machine) → Keeps D.seen D.may_leave self.old.disk self.old.progress self.old.failed machine
             → Keeps D.seen D.may_leave self.new.disk self.new.progress self.new.failed (turn_by result machine).machine }
         ensures leaving { (machine : Machine) → Keeps D.seen D.may_leave self.old.disk self.old.progress self.old.failed machine

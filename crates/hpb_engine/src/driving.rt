@@ -54,7 +54,7 @@ fn take_event<D: Disk + Drop>(
     }
 }
 
-/// The fault of a step if its call of the device failed. 93 is none.
+/// The fault of a step, if its own call of the device failed (91 `device`). 93 `failed` counts as none.
 fn failure_in<T: Drop>(step: Result<T, Fault>) -> Option<Fault>
     ensures { result ≡ fault_in step }
 {

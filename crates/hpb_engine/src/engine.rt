@@ -30,7 +30,8 @@ impl<D: Disk + Drop> Engine<D> {
         &self.progress.committed
     }
 
-    /// Whether the device still holds these bytes at `at`, as its `Disk::still_holds` says.
+    /// Whether the device still holds its bytes from `at` on as its calls have left them: nobody else has written them
+    /// (`Disk::still_holds`). They are read into `room`.
     pub fn still_holds(&self, at: usize, room: &mut [u8]) -> bool
         // The range must lie within the device.
         requires range { at + length room.old ≤ length (D.seen self.now.disk) }

@@ -58,8 +58,8 @@ impl<D: Disk + Drop> Engine<D> {
     /// new commands are in flight, and no answer leaves yet. It makes no call of the device, and takes no memory.
     pub fn take(&mut self, letters: &Letters) -> Option<Answers>
         requires clear { CanTake self.old.failed self.old.progress letters.now }
-        // If a machine is kept before, then after it the machine that takes the letters is kept, and the machine's
-        // answers leave.
+        // If the engine keeps a machine before, it keeps the machine after that has taken the letters, and the
+        // machine's answers leave.
         ensures keeps { (machine : Machine) → Keeps D.seen D.may_leave self.old.disk self.old.progress self.old.failed machine
             → Keeps D.seen D.may_leave self.new.disk self.new.progress self.new.failed (take_letters self.old.progress.committed.rules machine letters.now).machine }
         ensures leaving { (machine : Machine) → Keeps D.seen D.may_leave self.old.disk self.old.progress self.old.failed machine
@@ -96,7 +96,7 @@ impl<D: Disk + Drop> Engine<D> {
     /// - a batch is in flight;
     /// - some letters are new, and no clean frame is left.
     pub fn begin(&mut self, letters: Letters) -> Begun
-        // If a machine is kept before, then after it the machine that is offered the letters is kept, and the machine's
+        // If the engine keeps a machine before the offer, it keeps the machine after the same offer, and the machine's
         // answers leave.
         ensures keeps { (machine : Machine) → Keeps D.seen D.may_leave self.old.disk self.old.progress self.old.failed machine
             → Keeps D.seen D.may_leave self.new.disk self.new.progress self.new.failed (offer_by result self.old.progress.committed.rules machine letters).machine }
@@ -123,7 +123,7 @@ impl<D: Disk + Drop> Engine<D> {
     /// Offers letters as `begin` does, but borrows them. Answers that leave go into the list, which is empty before.
     pub(crate) fn offer(&mut self, letters: &Letters, leaving: &mut Answers) -> Weight
         requires none { leaving.old ≡ [] }
-        // If a machine is kept before, then after it the machine that is offered the letters is kept, and the machine's
+        // If the engine keeps a machine before the offer, it keeps the machine after the same offer, and the machine's
         // answers leave.
         ensures keeps { (machine : Machine) → Keeps D.seen D.may_leave self.old.disk self.old.progress self.old.failed machine
             → Keeps D.seen D.may_leave self.new.disk self.new.progress self.new.failed (offer_by (begun_of result letters.now leaving.new) self.old.progress.committed.rules machine letters.now).machine }

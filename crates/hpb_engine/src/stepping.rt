@@ -108,7 +108,7 @@ impl<D: Disk + Drop> Engine<D> {
     ///
     /// 91 `device`: the call failed. 93 `failed`: an earlier call failed; the device has to be opened again.
     pub fn checkpoint_step(&mut self) -> Result<Rest, Fault>
-        // A machine that is kept before a step is kept after it.
+        // If the engine keeps a machine before the step, it keeps the same machine after it.
         ensures keeps { (machine : Machine) → Keeps D.seen D.may_leave self.old.disk self.old.progress self.old.failed machine
             → Keeps D.seen D.may_leave self.new.disk self.new.progress self.new.failed machine }
         // An image that a crash may leave since the call began stands for what a stop of the machine may leave.

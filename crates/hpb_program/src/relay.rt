@@ -29,7 +29,7 @@ const NO_WAIT: i32 = 0;
 
 /// Takes notices, and has a thread of its own write them to standard error, in order. So a caller with a notice never
 /// waits for its reader. A notice that finds no room is left out and counted, and the next notice says how many were.
-/// When the relay is dropped, it waits until all is written, for a second at most.
+/// When the relay is dropped, it waits for a while until all is written.
 pub(crate) struct Relay {
     alloc: Global,
     /// `None` if the system gave no pipe or no thread. Then a notice is written only if standard error takes it at

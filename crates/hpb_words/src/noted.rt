@@ -11,7 +11,7 @@ pub struct Noted<S> {
     pub stream: S,
     /// The error of its last call, if that failed.
     pub failure: Option<io::Error>,
-    /// Whether its last write or flush failed or took nothing. Only `send` sets it.
+    /// Whether its last write or flush failed or took nothing. Only the calls of this type set it.
     cut: bool,
 }
 
