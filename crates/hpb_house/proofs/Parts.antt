@@ -11,7 +11,7 @@ use Rattle.hpb_rules.proofs.Prefixes.{prefix_whole}
 differs : (x j k : ℕ) → (x == k) ≡ true → (j ≡ k → ⊥) → (x == j) ≡ false
 differs x j k e apart = grind (arith, nat_tests)
 
--- items of another key are among those that are not of a key
+-- leaving out the items of one key keeps those of another
 kept : {A : Type 0} (key : A → ℕ) (k j : ℕ) → (j ≡ k → ⊥) → (items : List A) → filter (λ a. key a == j) (filter (λ a. not (key a == k)) items) ≡ filter (λ a. key a == j) items
 kept key k j apart [] = refl
 kept {A} key k j apart (a ∷ items) = by (key a == k) refl (kept key k j apart items)

@@ -12,7 +12,7 @@ use Rattle.hpb_house.specs.declared.keeper.Halt.{Halt}
 use Rattle.hpb_rings.specs.declared.client.Client.{Client}
 use Rattle.hpb_rings.specs.declared.report.Report.{Report}
 
--- facts about each, by the one at its place
+-- a fact about each of a list gives one about its counterpart
 pub each_of : {A B : Type 0} (has : A → B → Type 0) (P : A → Type 0) (Q : B → Type 0) → ((x : A) (y : B) → P x → has x y → Q y) → (xs : List A) (ys : List B)
     → All P xs → AreOneByOne has xs ys → All Q ys
 each_of has P Q f [] [] all each k d lt = absurd (omega arith)
@@ -21,7 +21,7 @@ each_of has P Q f (x ∷ xs) [] all each k d lt = absurd each
 each_of has P Q f (x ∷ xs) (y ∷ ys) all each zero d lt = f x y (all zero x (omega arith)) each.0
 each_of has P Q f (x ∷ xs) (y ∷ ys) all each (suc k) d lt = each_of has P Q f xs ys (λ j e l. all (suc j) e (omega (arith, l))) each.1 k d (omega (arith, lt))
 
--- a value that is the same for both at each place
+-- if counterparts have the same value, the maps are equal
 pub told_of_each : {A B C : Type 0} (has : A → B → Type 0) (f : A → C) (g : B → C) → ((x : A) (y : B) → has x y → g y ≡ f x) → (xs : List A) (ys : List B)
     → AreOneByOne has xs ys → map g ys ≡ map f xs
 told_of_each has f g same [] [] each = refl
@@ -29,7 +29,7 @@ told_of_each has f g same [] (y ∷ ys) each = absurd each
 told_of_each has f g same (x ∷ xs) [] each = absurd each
 told_of_each has f g same (x ∷ xs) (y ∷ ys) each = ap (λ c. c ∷ map g ys) (same x y each.0) ∙ ap (λ cs. f x ∷ cs) (told_of_each has f g same xs ys each.1)
 
--- no two that are of the seats from 0 on are of one
+-- reports with the seats from 0 on are of different seats
 apart_by : (reports : List Report) (count : ℕ) → map (λ (report : Report). report.seat) reports ≡ range_with_len 0 count → AreApart reports
 apart_by reports count is i j d below within same =
     let long : length reports ≡ count = sym (length-map reports (λ (report : Report). report.seat)) ∙ ap length is ∙ length-range_with_len 0 count in
