@@ -24,7 +24,7 @@ JOBS = ("script", "format", "check", "run", "serve")
 REFUSED = "hpb: 90 memory: "
 REFUSALS = ("ERR 90 memory", "ERR 90 memory\n", "ERR 94 place", "ERR 94 place\n")
 # A stack that is enough for each job, whatever the environment is, in KiB.
-ENOUGH = 726
+ENOUGH = 1_408
 # Bytes of a variable, of which one may have 128 KiB with its name.
 LONG = 120 * KIB
 # The least stack by which the system starts a program with it, in KiB.

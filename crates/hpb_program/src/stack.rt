@@ -2,26 +2,27 @@
 
 use std::alloc::{AllocError, Global};
 
-/// How many bytes of the stack the program takes at most, and some more.
+/// The bytes of the stack that are held: more than the program takes, as either compiler makes it.
 const STACK_BYTES: usize = 1_024 * 1_024;
 
-/// How many of them each step takes that goes down the stack. One that took all of them at once would be made a part of
-/// its caller.
+/// The bytes of one step down the stack. A single step of all bytes would be inlined into its caller.
 const STEP_BYTES: usize = 16 * 1_024;
 
-/// How many steps go as far down as that.
+/// The number of steps that hold all bytes.
 const STEPS: usize = STACK_BYTES / STEP_BYTES;
 
-/// As many bytes as the words and the environment may have at least, by the system's own rule, which counts them as the
-/// stack's. They may have a quarter of the stack where that is more.
+/// The bytes that words and environment may always have. The system counts them as the stack's, and lets them have a
+/// quarter of the stack if that is more.
 const WORDS_BYTES: u64 = 128 * 1_024;
 
-/// What the system itself takes of the stack before the program begins, and some more.
+/// More bytes of the stack than the system itself takes before the program begins.
 const START_BYTES: u64 = 32 * 1_024;
 
-/// Has the system give the stack all the room that the program takes of it. To be called first: where so little memory
-/// is left that the stack can't grow, or it may not be as long, the system ends a program without a word. So the room is
-/// asked for as memory before, which is refused by an error, and handed back.
+/// Makes the system give the stack all the room that the program takes. Call it first.
+///
+/// If the stack may not be that long, or memory is too short for it to grow, the system ends a program without a word.
+/// So this looks at the limit, and asks for the room as memory first, which it hands back. Either refusal is an
+/// `AllocError`.
 pub fn hold_stack(alloc: Global) -> Result<(), AllocError> {
     if most_bytes() < STACK_BYTES as u64 {
         return Err(AllocError);
@@ -32,7 +33,7 @@ pub fn hold_stack(alloc: Global) -> Result<(), AllocError> {
     Ok(())
 }
 
-/// How many bytes the program may have of the stack, whatever its words and its environment are.
+/// The bytes of the stack that the program may have, whatever its words and its environment are.
 fn most_bytes() -> u64 {
     let mut limit = libc::types::rlimit {
         rlim_cur: u64::MAX,
@@ -44,8 +45,10 @@ fn most_bytes() -> u64 {
     most.saturating_sub(taken)
 }
 
-/// Goes so many steps down the stack. What was written once stays the stack's. The call of the system only keeps the array
-/// from being left out, and what is read of it behind the next step keeps the compiler from making a loop of the steps.
+/// Goes this many steps down the stack. Pages that were written once stay the stack's.
+///
+/// The call of the system keeps the compiler from leaving out the array. The read after the next step keeps it from
+/// making a loop of the steps.
 fn touch_stack(steps: usize) -> usize {
     let mut room = [0; STEP_BYTES];
     let count = usize::try_from(os::readlink(b"/", &mut room)).unwrap_or(0);
