@@ -3,7 +3,7 @@ from typing import Final
 
 from drawings.canvas import MARGIN, WIDTH, Box, Canvas
 
-# The lanes: where each begins, and how wide it is.
+# The lanes: the left edge of each, and its width.
 _SOCKET: Final = Box(MARGIN, 0, 90, 0)
 _SESSION: Final = Box(156, 0, 164, 0)
 _SHARED: Final = Box(352, 0, 92, 0)

@@ -86,7 +86,7 @@ class Canvas:
         self._parts.append(element("text", text, **_numbers(x=left, y=base), class_=looks or None))
 
     def paragraph(self, box: Box, text: str, looks: str = "") -> float:
-        """A text from the top of a box on, in as many lines as it takes; tells where the next one may begin."""
+        """A text from the top of a box on, in as many lines as it takes; returns the top of the next one."""
         step = round(size_of(looks) * _LINE)
         left = box.middle if "middle" in looks.split() else box.left
         base = box.top + size_of(looks)
@@ -133,7 +133,7 @@ class Canvas:
         self._parts.append(element("path", d=f"M{path} Z", class_=f"head {head}".strip()))
 
     def badge(self, left: float, centre: float, text: str) -> float:
-        """A number in a circle, which begins at the left; tells where a text behind it may begin."""
+        """A number in a circle, which begins at the left; returns the left edge of a text behind it."""
         width = max(18.0, breadth(text, "small") + 10)
         self.box(Box(left, centre - 9, width, 18), "badge", radius=9)
         self.text(left + width / 2, centre + 4, text, "small middle")

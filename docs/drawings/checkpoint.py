@@ -5,7 +5,7 @@ from typing import Final
 from drawings.canvas import MARGIN, WIDTH, Box, Canvas
 
 _ROW, _FIRST = 50, 112
-# Where the columns begin.
+# The left edges of the columns.
 _CALL, _OLDER, _NEWEST, _FRAMES, _LEFT = 62, 214, 362, 470, 608
 
 

@@ -1,11 +1,11 @@
-"""A life with a crash: what was acknowledged, what the crash may leave, and what is opened."""
+"""A life with a crash: the acknowledged batches, the bytes that the crash may leave, and the opened auction."""
 from dataclasses import dataclass
 from typing import Final
 
 from drawings.canvas import MARGIN, WIDTH, Box, Canvas
 
 _TIME, _HEIGHT = 96, 42
-# The four turns of the batch in flight: their call, where they begin, how wide they are, and their kind.
+# The four turns of the batch in flight: their call, left edge, width and kind.
 _TURNS: Final = (
     ("write the body", 348, 112, "torn"), ("sync", 464, 58, "kept"), ("write the gate", 526, 104, "torn"), ("sync", 634, 58, "kept"),
 )
@@ -15,7 +15,7 @@ _CARD: Final = (WIDTH - 2 * MARGIN - 2 * _GAP) / 3
 
 @dataclass(frozen=True, slots=True)
 class Crash:
-    """When it comes, from where to where on the line of time; the fourth frame then; what is opened; what its client does."""
+    """The time of a crash, as a stretch of the line of time; the fourth frame then; the batches that are opened; the client's next step."""
 
     name: str
     span: tuple[float, float]

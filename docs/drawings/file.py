@@ -31,7 +31,7 @@ def drawn() -> str:
 
 
 def _strip(canvas: Canvas, top: float, name: str, parts: list[_Part], about: str) -> float:
-    """A row of parts behind its name, with a line below that says more; tells where the next one may begin."""
+    """A row of parts behind its name, with a line below that says more; returns the top of the next row."""
     canvas.text(MARGIN, top + 22, name, "name")
     unit = _INNER / sum(part[1] for part in parts)
     left = float(_LEFT)
