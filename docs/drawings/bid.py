@@ -36,7 +36,7 @@ def drawn() -> str:
         Box(MARGIN, MARGIN, WIDTH - 2 * MARGIN, 34),
         "Time goes down. A number is that of a hop in the table below. Five times the committer takes the lock; between two of them it is free, "
         "and a step of a checkpoint may come.", "soft")
-    end = _row(12.2)
+    end = _row(12.05)
     for lane, name, under, kind in _LANES:
         _lane(canvas, Box(lane.left, _HEADS_AT, lane.width, end - _HEADS_AT), (name, under), kind)
     _way_in(canvas)
@@ -83,7 +83,7 @@ def _way_in(canvas: Canvas) -> None:
     ring = canvas.box(Box(_SHARED.left, posted.top, _SHARED.width, posted.height), "plain")
     canvas.label(ring, "ring of 16 letters, bell", "small")
     canvas.arrow([(posted.right, posted.centre), (ring.left, posted.centre)])
-    canvas.box(Box(_SESSION.middle - 5, _row(2), 10, 7.9 * _STEP), "thread", "dashed", 5)
+    canvas.box(Box(_SESSION.middle - 5, _row(2), 10, 7.75 * _STEP), "thread", "dashed", 5)
     gathered = _hop(canvas, _COMMITTER, (1, 2), "5", "gathers up to 64 letters, at most 16 of a seat")
     canvas.arrow([(ring.right, ring.centre), (gathered.left, ring.centre)])
 
@@ -95,10 +95,10 @@ def _locked(canvas: Canvas, first: float, height: float) -> Box:
 
 def _under_the_lock(canvas: Canvas) -> None:
     offer = "compares the front, sees that the board has room, makes a batch; the engine judges each letter, once"
-    _numbered(canvas, _locked(canvas, 2.1, 1.6), "6–9", offer)
+    _numbered(canvas, _locked(canvas, 2.1, 1.45), "6–9", offer)
     for number, (text, call, kind) in enumerate(_TURNS):
         is_last = number == len(_TURNS) - 1
-        box = _locked(canvas, 3.8 + 1.05 * number, 2.45 if is_last else 0.95)
+        box = _locked(canvas, 3.65 + 1.05 * number, 2.45 if is_last else 0.95)
         at = box.top + 22
         canvas.text(box.left + 8, box.top + 19, f"turn {number + 1}", "small name")
         canvas.paragraph(Box(box.left + 56, box.top + 8, box.width - 60, box.height - 10), text, "small")
@@ -110,13 +110,13 @@ def _under_the_lock(canvas: Canvas) -> None:
 
 
 def _way_back(canvas: Canvas) -> None:
-    woken = _hop(canvas, _COMMITTER, (9.5, 10.3), "13", "rings the seat's bell")
-    board = canvas.box(Box(_SHARED.left, _row(8.15), _SHARED.width, 1.1 * _STEP), "plain")
+    woken = _hop(canvas, _COMMITTER, (9.35, 10.15), "13", "rings the seat's bell")
+    board = canvas.box(Box(_SHARED.left, _row(8.0), _SHARED.width, 1.1 * _STEP), "plain")
     canvas.label(board, "board: two copies of the auction", "small")
     canvas.arrow([(_COMMITTER.left - 10, board.centre), (board.right, board.centre)])
     canvas.arrow([(woken.left, woken.centre), (_SESSION.middle + 5, woken.centre)])
     canvas.text((_SHARED.left + _SESSION.right) / 2, woken.centre - 6, "wakes", "small middle")
-    taken = _hop(canvas, _SESSION, (10.3, 11.3), "14–18", "views the board, takes its answer")
+    taken = _hop(canvas, _SESSION, (10.15, 11.15), "14–18", "views the board, takes its answer")
     canvas.arrow([(board.middle, board.bottom), (board.middle, taken.centre), (taken.right, taken.centre)])
-    sent = _hop(canvas, _SESSION, (11.3, 12.1), "19, 20", "writes it")
+    sent = _hop(canvas, _SESSION, (11.15, 11.95), "19, 20", "writes the OK")
     _across(canvas, (sent.left, sent.centre), _SOCKET.middle, "OK 1")
