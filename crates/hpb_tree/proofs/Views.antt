@@ -47,7 +47,7 @@ module _ {ns : List TreeNode} {nodes : List Node} {index node : ℕ} {n : TreeNo
   pub terms_at : n.terms ≡ terms_of nodes node
   terms_at = ap (λ (m : TreeNode). m.terms) read.found ∙ sym (node_seen ns index n inside).1 ∙ ap (λ xs. terms_of xs index) read.seen ∙ ap (terms_of nodes) read.same
 
-  -- what the code keeps of a node besides what was written
+  -- the sums, licences and rank that the code keeps of it
   pub summed_at : ((j : ℕ) (m : TreeNode) → slice_get ns j ≡ Some m → IsSummed (nodes_inside ns) j m) → IsSummed nodes node n
   summed_at sums =
       let here : IsSummed (nodes_inside ns) index n = sums index n (slice_get_read ns (length ns) index n refl inside read.found) in

@@ -14,7 +14,7 @@ const HINTS: usize = 4096;
 /// names that end in numbers seldom share a hint.
 const MIXED: u64 = 0xd0e1_ee28_c676_6bfd;
 
-/// Leads from a name to the place where it may stand: a hint for each hash of a key, and the key of the name at each
+/// Leads from a name to the place at which it may stand: a hint for each hash of a key, and the key of the name at each
 /// place.
 #[derive(Debug, Drop)]
 pub(crate) struct Hints {
