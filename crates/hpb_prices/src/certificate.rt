@@ -14,9 +14,14 @@ use hpb_tree::Tree;
 /// - `prices` has the price of each licence, in the licences' order.
 /// - Bit n of `winners` is for node n.
 ///
-/// The answer is yes if all of this holds: each winner is a node with a high bid; no two winners have a licence in
-/// common; no high bid exceeds the sum of its licences' prices; the prices sum to the winners' high bids. The answer is
-/// no for lists of another length, and for a bit that no node has.
+/// Yes if all of this holds:
+///
+/// - each winner is a node with a high bid;
+/// - no two winners have a licence in common;
+/// - no high bid exceeds the sum of its licences' prices;
+/// - the prices sum to the winners' high bids.
+///
+/// No for lists of another length, and for a bit that no node has.
 pub fn check_certificate(tree: &Tree, highs: &[Dollars], prices: &[Dollars], winners: u128) -> bool
     ensures yes { IsTrue result ↔ Certifies tree.now.nodes highs.now prices.now winners }
     ensures best { IsTrue result → (c : List Bool) → IsChoice tree.now.nodes (bid_listed highs.now) c → revenue (bid_listed highs.now) c ≤ revenue (bid_listed highs.now) (set_of tree.now.nodes winners) }

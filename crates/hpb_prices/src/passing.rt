@@ -89,8 +89,8 @@ fn carried_to(tree: &Tree, books: &Books, shares: &[Shares], node: NodeId) -> Do
     }
 }
 
-/// Notes the dollars that a package passes on to its children: those carried down to it and its surplus, together the
-/// part of its price above the best revenue inside it. A licence passes nothing on.
+/// Notes the dollars that a package passes on to its children: those carried down to it and its surplus. Together they
+/// are the part of its price above the best revenue inside it. A licence passes nothing on.
 fn pass_on(tree: &Tree, outcome: &Outcome, node: NodeId, price: Dollars, shares: &mut [Shares])
     requires node { node < length tree.now.nodes }
     requires price { slice_index outcome.now.inside node ≤ price }

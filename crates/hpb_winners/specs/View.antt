@@ -6,8 +6,8 @@ use Rattle.hpb_rules.specs.Tree.{Node, parent_of}
 use Rattle.hpb_rules.specs.Choices.{is_in, best, winners, revenue}
 pub use Rattle.hpb_bids.specs.View.{no_bid}
 
--- For each node its parent, the best revenue inside it, its value and whether it wins; the winners' revenue; and how
--- many values were formed since the pass that found it began.
+-- For each node its parent, the best revenue inside it, its value and whether it wins. Besides, the winners' revenue,
+-- and how many values were formed since the pass that found it began.
 pub record OutcomeView : Type 0 where
   pub parents : List (Option ℕ)
   pub inside : List ℕ
