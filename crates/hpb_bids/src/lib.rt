@@ -1,5 +1,5 @@
-//! The bids of an auction: on each node the high bid of closed rounds and the best bid of the open round, and for each
-//! bidder its nodes in the open round. Another part decides whether a saved auction may be restored.
+//! The bids of an auction. Each node has the high bid of closed rounds and the best bid of the open round, and each
+//! bidder the nodes on which it bid in the open round. Another part decides whether a saved auction may be restored.
 #![tactic(auto)]
 
 mod books;

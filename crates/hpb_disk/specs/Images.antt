@@ -40,7 +40,7 @@ abbrev pub Within : (List ℕ → Type 0) → (List ℕ → Type 0) → Type 0
 Within images those = (image : List ℕ) → images image → those image
 
 -- One call. The moment moves on by one. The images that a crash may have left since an earlier moment are those from
--- before the call and the images of the call; none of the earlier ones is forgotten.
+-- before the call and those of the call; none of the former is forgotten.
 pub record Elapses (before now : ℕ) (past since : ℕ → List ℕ → Type 0) (during : List ℕ → Type 0) : Type 0 where
   pub next : now ≡ before + 1
   pub nothing_else : (moment : ℕ) (image : List ℕ) → moment ≤ before → since moment image → past moment image ⊎ during image

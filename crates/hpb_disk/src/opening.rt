@@ -200,9 +200,9 @@ pub(crate) fn check_owner(file: &File) -> Result<(), FileFault> {
     Ok(())
 }
 
-/// Refuses the file at the name that a file has while it is made, unless a killed process of this user left it. So it
-/// refuses another user's file, a file that isn't regular, a file that has another name too and may be in use by it,
-/// and a file that others may write.
+/// Refuses the file at the name that a file has while it is made, unless a killed process of this user left it. It
+/// refuses another user's file, and one that isn't regular. It refuses a file that has another name too, by which it
+/// may be in use, and a file that others may write.
 fn check_rest(found: &Metadata) -> Result<(), FileFault> {
     if !is_own(found) {
         return Err(FileFault::BesideForeign);

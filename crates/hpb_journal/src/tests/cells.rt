@@ -6,7 +6,7 @@ use crate::{CellFrames, Frames};
 use hpb_disk::MemoryDisk;
 use std::test::*;
 
-/// The bytes at some offsets of a device with a batch of two cells: the gate, the index, the second cell with its
+/// Bytes at some offsets of a device with a batch of two cells. They are the gate, the index, the second cell with its
 /// number, and the end of the record that is cut in two.
 const PARTS: [(usize, &[u8]); 4] = [
     (60_928, &[0xa5]),
