@@ -2,8 +2,8 @@
 use Rattle.std.specs.Prelude.{ℕ, zero, suc, ◌+◌, nat_le, nat_lt, ◌==◌, Bool, ◌&&◌, ◌||◌, List, [], ◌∷◌, length, if◌then◌else◌}
 use Rattle.hpb_disk.specs.Events.{Event}
 
--- An entry has one of three kinds: 0, a call that was passed on; 1, a call that failed and wasn't; 2, a write that was
--- passed on and answered as failed.
+-- An entry has one of three kinds. Kind 0 is a call that was passed on. Kind 1 is a call that failed and wasn't passed
+-- on. Kind 2 is a write that was passed on and answered as failed.
 --
 -- How many calls of the device behind it an entry stands for.
 abbrev pub passed_on : Event → ℕ

@@ -28,8 +28,8 @@ end_of_room plan = plan.covered + (layout_in plan).count
 abbrev pub end_of_later : Plan → ℕ
 end_of_later plan = end_of_room plan + (layout_in plan).count
 
--- The frame is the last of those that are open with an index past that room and before an end, and its contents are
--- those that a reader of its batch finds.
+-- The frame is the last of those that are open with an index past that room and before an end. Its contents are those
+-- that a reader of its batch finds.
 pub record IsLatest (plan : Plan) (image : List ℕ) (end : ℕ) (later : Later) : Type 0 where
   pub past : end_of_room plan ≤ later.index
   pub before : later.index < end
