@@ -1,4 +1,4 @@
--- A bidder's activity by the tables is its activity by what is known.
+-- A bidder's activity by the tables is its activity by the history.
 use Rattle.std.proofs.Common.{◌≡◌, ℕ, ◌+◌, ◌<◌, ◌≤◌, Bool, true, false, ◌&&◌, ◌||◌, eqb, length, refl, sym, ap, ◌∙◌, arith, subst}
 use Rattle.std.specs.Prelude.{◌==◌}
 use Rattle.std.specs.List.{list_any, range_with_len}
@@ -25,7 +25,7 @@ one_of : (x y : Bool) → (x || y) ≡ true → (x ≡ false → y ≡ true)
 one_of true y e f = absurd (both_ways true f refl)
 one_of false y e f = e
 
--- what is found under one node more
+-- a licence is under some active node, with one more node active
 pub one_more : (under active : ℕ → Bool) (on a k : ℕ) → a ≤ on → on < a + k
     → list_any (λ n. under n && ((on == n) || active n)) (range_with_len a k) ≡ (list_any (λ n. under n && active n) (range_with_len a k) || under on)
 one_more under active on a k from to = same_answer _ _ there back

@@ -1,4 +1,4 @@
--- What is wrong with a command, by the tables.
+-- The fault of a command, by the tables.
 use Rattle.std.proofs.Common.{◌≡◌, ℕ, ◌%◌, ◌<◌, ◌≤◌, Bool, true, false, not, length, get_or, Option, Some, None, slice_index_or, refl, sym, ap, ◌∙◌, ⊎_elim, arith, subst}
 use Rattle.std.specs.Prelude.{if◌then◌else◌, ◌==◌, ◌↔◌, IsTrue, nat_lt, slice_index}
 use Rattle.std.proofs.lemmas.Bool.{lt-ltb, le-ltb, both_ways, cases_lt}
@@ -43,16 +43,16 @@ module _ (a : Inside) (kept : IsKept a) (q : AuctionValue) (seen : value_inside 
       both : (x y v w : ℕ) → x ≡ y → v ≡ w → nat_lt x v ≡ nat_lt y w
       both x y v w e f = cc
 
--- whether a number is above another, by a test of the converse
+-- whether a number is above another, from a test of the converse
 pub above : (x y : ℕ) (fits : Bool) → IsTrue fits ↔ (y ≤ x) → nat_lt x y ≡ not fits
 above x y true e = le-ltb x y (e.0 refl)
 above x y false e = lt-ltb x y (⊎_elim (λ less. less) (λ more. absurd (both_ways false refl (e.1 more))) (cases_lt x y))
 
--- a multiple of the step, by the step that was read
+-- whether an amount is a multiple of the step, from the step that was read
 pub stepped_at : (a : Inside) (q : AuctionValue) → value_inside a ≡ q → (amount step : ℕ) (is_multiple : Bool) → is_multiple ≡ (amount % step == 0) → step ≡ a.definition.step → is_multiple ≡ true → (amount % q.rules.step == 0) ≡ true
 stepped_at a q seen amount step is_multiple e f g = ap (λ (q : AuctionValue). amount % q.rules.step == 0) (sym seen) ∙ ap (λ n. amount % n == 0) (sym f) ∙ sym e ∙ g
 
--- whether the bid is over the eligibility that was read
+-- whether the bid exceeds the eligibility that was read
 pub over : (a : Inside) → IsKept a → (q : AuctionValue) → value_inside a ≡ q → (b n amount place : ℕ) → b < length q.rules.bidders → n < length q.rules.nodes
     → (row : BidderRow) → row ≡ get_or a.bidders.items place row → place ≡ b → (tree : TreeRules) → tree ≡ tree_of a.definition
     → (fits : Bool) → IsTrue fits ↔ (units.activity_with tree.nodes a.books a.outcome b n ≤ row.eligibility)

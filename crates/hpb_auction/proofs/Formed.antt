@@ -1,4 +1,4 @@
--- A close forms the values at and above those nodes whose high bids it changes.
+-- A close forms the values at and above the nodes whose high bids it changes.
 use Rattle.std.proofs.Common.{◌≡◌, ℕ, zero, suc, ◌+◌, ◌<◌, ◌≤◌, Bool, true, false, ◌&&◌, cond, ltb, List, length, Option, refl, sym, ap, ◌∙◌, arith, subst}
 use Rattle.std.specs.Prelude.{if◌then◌else◌}
 use Rattle.std.specs.List.{count_by, list_any, range_with_len}
@@ -25,7 +25,7 @@ use Rattle.hpb_auction.proofs.CloseTables.{IsFolded}
 use Rattle.hpb_auction.proofs.Histories.{new_told, old_told}
 use Rattle.hpb_auction.proofs.Tables.{node_here}
 
--- the bit of a node tells whether its high bid is raised
+-- the bit of a node says whether its high bid is raised
 bit_raised : (old incoming new : Option Offer) (bit : Bool) → new ≡ greater old incoming → (bit ≡ true → new ≡ old → ⊥) → (bit ≡ false → new ≡ old)
     → bit ≡ ltb (amount_of old) (amount_of incoming)
 bit_raised old incoming new bit e changed same = by (ltb (amount_of old) (amount_of incoming)) refl bit refl
@@ -44,7 +44,7 @@ bit_raised old incoming new bit e changed same = by (ltb (amount_of old) (amount
         kept p = rw p refl
     by false p false q = refl
 
--- tests that agree at each place hold at as many
+-- tests that agree at each place hold at equally many
 count_same : (p q : ℕ → Bool) (a k : ℕ) → ((n : ℕ) → a ≤ n → n < a + k → p n ≡ q n) → count_by p (range_with_len a k) ≡ count_by q (range_with_len a k)
 count_same p q a zero same = refl
 count_same p q a (suc k) same =
@@ -65,7 +65,7 @@ module _ (a : Inside) (books' : BooksView) (changed : ℕ) (folded : IsFolded a.
   formed_is = count_same (is_reached a.definition.nodes changed) (is_formed (value_inside a)) 0 (length a.definition.nodes)
       (λ n l m. list_any_same _ _ 0 (length a.definition.nodes) (λ k g h. ap (λ bit. bit && at_or_under a.definition.nodes n k) (raised k (omega arith))))
 
--- what a new command forms, and that any other forms nothing
+-- how many values a new command forms; any other forms none
 pub formed_new : (q : AuctionValue) (command : Command) (number : ℕ) → replies.Ok number ≡ reply_in q command → number ≡ q.count + 1 → formed_by q command ≡ formed_in q command
 formed_new q command number reply e = sym (ap (λ b. if b then formed_by q command else 0) (new_told q command number reply e))
 

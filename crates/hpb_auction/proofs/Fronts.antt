@@ -1,4 +1,4 @@
--- The letters so far in a loop over letters, and one more.
+-- A loop over letters: the letters so far, and one more.
 use Rattle.std.proofs.Common.{◌≡◌, ℕ, ◌+◌, ◌<◌, List, [], ◌∷◌, ◌++◌, get_or, take, drop, length, sym, ap, ◌∙◌, arith, append_assoc}
 use Rattle.std.proofs.lemmas.List.{take_more, take-append-drop}
 use Rattle.hpb_rules.specs.declared.letter.Letter.{Letter}

@@ -16,7 +16,7 @@ use Rattle.hpb_auction.specs.declared.auction.Auction.TheInside.{Inside}
 use Rattle.hpb_auction.specs.Inside.{value_inside, IsOfferOf, IsKept}
 use Rattle.hpb_auction.proofs.Tables.{node_here, no_node_here}
 
--- nothing stands on a place past the definition's nodes
+-- no bid stands at a place behind the definition's nodes
 pub none_past : (rules : Rules) (n : ℕ) (o : Option Offer) → IfSome o (IsOfferOf rules n) → length rules.nodes ≤ n → o ≡ None
 none_past rules n None h k = refl
 none_past rules n (Some x) h k = absurd (omega (arith, h.0))
@@ -43,7 +43,7 @@ module _ (a : Inside) (kept : IsKept a) where
   pub minimum_here : (n : ℕ) → n < length a.definition.nodes → slice_index a.prices.minima n ≡ minimum_in (value_inside a) n
   minimum_here n h = kept.tables.minima n h ∙ ap (λ (bid : ℕ → ℕ). minimum a.definition bid n) bids_here
 
--- the same of the value that is seen
+-- the same for the value that is seen
 module _ (a : Inside) (kept : IsKept a) (value : AuctionValue) (seen : value_inside a ≡ value) where
   pub revenue_found : a.outcome.revenue ≡ revenue_in value
   revenue_found = revenue_here a kept ∙ ap revenue_in seen

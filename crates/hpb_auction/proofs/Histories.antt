@@ -1,4 +1,4 @@
--- What a value answers and becomes is what the history says that it shows.
+-- The answers and changes of a value are those of the history that it shows.
 use Rattle.std.proofs.Common.{◌≡◌, ℕ, suc, ◌+◌, ◌≤◌, true, false, List, reverse, refl, sym, ap, ◌∙◌, arith, subst}
 use Rattle.std.specs.Prelude.{if◌then◌else◌}
 use Rattle.std.proofs.lemmas.Bool.{eq-eqb, ne_eqb}
@@ -24,7 +24,7 @@ shown_after q history command shows = subst (λ past. ShowsPast (next_value q co
 pub shown_at : (q next : AuctionValue) (command : Command) → next ≡ next_value q command → (history : List Command) → Shows q history → Shows next (history_after q.rules history command)
 shown_at q next command e history shows = subst (λ (v : AuctionValue). Shows v (history_after q.rules history command)) (sym e) (shown_after q history command shows)
 
--- a new command is told so, and any other is not
+-- a new command is answered as new, and any other isn't
 pub new_told : (q : AuctionValue) (command : Command) (number : ℕ) → replies.Ok number ≡ reply_in q command → number ≡ q.count + 1 → is_reply_new q.count (reply_in q command) ≡ true
 new_told q command number reply e = sym (ap (λ (r : Reply). is_reply_new q.count r) reply) ∙ eq-eqb number (suc q.count) (e ∙ omega arith)
 
@@ -41,6 +41,6 @@ old_told q command verdict reply not_new older = sym (ap (λ (r : Reply). is_rep
 pub next_new : (q : AuctionValue) (command : Command) (number : ℕ) → replies.Ok number ≡ reply_in q command → number ≡ q.count + 1 → changed q command ≡ next_value q command
 next_new q command number reply e = sym (ap (λ b. if b then changed q command else q) (new_told q command number reply e))
 
--- any other leaves it
+-- any other leaves the value as it is
 pub next_old : (q : AuctionValue) (command : Command) (verdict : Verdict) → reply_of verdict ≡ reply_in q command → ((number : ℕ) → verdict ≡ New number → ⊥) → IfRepeat verdict (λ number. number ≤ q.count) → q ≡ next_value q command
 next_old q command verdict reply not_new older = sym (ap (λ b. if b then changed q command else q) (old_told q command verdict reply not_new older))

@@ -1,4 +1,4 @@
--- What bidders hold, by the rules of an auction and after a bid.
+-- The licences that bidders hold, by the rules of an auction and after a bid.
 use Rattle.std.proofs.Common.{◌≡◌, ℕ, ◌<◌, ◌≤◌, Bool, true, false, ◌&&◌, ◌||◌, eqb, List, length, Option, Some, None, refl, sym, ap, ◌∙◌, arith}
 use Rattle.std.specs.Prelude.{◌==◌, slice_index}
 use Rattle.std.specs.List.{list_any}
@@ -34,7 +34,7 @@ activity_held nodes books outcome holdings are b within =
     are.summed.sums b within ∙ sum_over_same nodes (holds nodes holdings b) (held nodes books outcome b) (units_at nodes) (λ l some. are.licences b l within some)
 
 module _ (nodes : List Node) (books books' : BooksView) (outcome : OutcomeView) (b n amount : ℕ) (inside : n < length nodes) (placed : IsPlaced books books' b n amount) where
-  -- where a bidder is active after a bid
+  -- the nodes on which a bidder is active after a bid
   active_placed : (c m : ℕ) → is_active_on books' outcome c m ≡ (((b == c) && (n == m)) || is_active_on books outcome c m)
   active_placed c m =
       three _ ((b == c) && (n == m)) (has_bid books c m) _ _ (placed.bids c m) (ap (λ (offer : Option Offer). is_in outcome.wins m && is_of c offer) (placed.standing m))
@@ -43,7 +43,7 @@ module _ (nodes : List Node) (books books' : BooksView) (outcome : OutcomeView) 
       three x true z w w' e f = cc
       three x false z w w' e f = cc
 
-  -- what a bidder holds after a bid
+  -- the licences that a bidder holds after a bid
   held_placed : (c l : ℕ) → held nodes books' outcome c l ≡ (held nodes books outcome c l || ((b == c) && at_or_under nodes n l))
   held_placed c l = ap (λ (test : ℕ → Bool). list_any test (places nodes)) (λ i. λ m. ap (λ active. at_or_under nodes m l && active) (active_placed c m) i) ∙ by (eqb b c) refl
     where

@@ -1,4 +1,4 @@
--- What holds of the bids that the tables keep.
+-- Properties of the bids that the tables keep.
 use Rattle.std.proofs.Common.{◌≡◌, ℕ, Bool, true, false, Option, Vec, Global, length, refl, sym, ◌∙◌, subst, arith}
 use Rattle.std.specs.Prelude.{if◌then◌else◌, IfSome}
 use Rattle.hpb_rules.specs.declared.command.Offer.{Offer}
@@ -30,11 +30,12 @@ tables_by {rules = rules} {outcome = outcome} {priced = priced} high reached pri
   minima = subst (λ (bid : ℕ → ℕ). HasMinima (tree_of rules) bid priced) (sym high) minima;
 }
 
--- tables stay those of books whose high bids stay
+-- tables stay right if the books change and their high bids don't
 pub tables_stay : (rules : Rules) (books books' : BooksView) (outcome : OutcomeView) (priced : PricesView) → bid_of books' ≡ bid_of books → AreTablesOf rules books outcome priced → AreTablesOf rules books' outcome priced
 tables_stay rules books books' outcome priced high kept = tables_by high kept.reached kept.prices kept.minima
 
--- an auction keeps what it kept where its rows, the auctioneer's last command, the count or the stage change, and its value stays proper
+-- an auction keeps its invariant if its rows, the auctioneer's last command, the count or the stage change and its
+-- value stays proper
 module _ (a : Inside) (kept : IsKept a) where
   pub rows_kept : {bidders : Vec BidderRow Global} {auctioneer : Option Accepted} {count stage : ℕ} → length bidders.items ≡ length a.bidders.items
       → IsProper (value_inside (record a { bidders = bidders; auctioneer = auctioneer; count = count; stage = stage })) → IsKept (record a { bidders = bidders; auctioneer = auctioneer; count = count; stage = stage })

@@ -1,4 +1,4 @@
--- What is accepted may be kept: it has a ticket, and bidder and node of the definition.
+-- An accepted command may be kept: it has a ticket, and its bidder and node are the definition's.
 use Rattle.std.proofs.Common.{◌≡◌, ℕ, zero, suc, ◌<◌, Bool, true, List, [], ◌∷◌, Option, Some, None, refl, arith, subst}
 use Rattle.std.specs.List.{AllByRecursion}
 use Rattle.hpb_rules.specs.declared.command.Command.{Command}
@@ -13,7 +13,7 @@ use Rattle.hpb_rules.specs.Values.{fault_in, last_at, next_value}
 use Rattle.hpb_rules.specs.Rounds.{HasTicket}
 use Rattle.hpb_rules.proofs.Judged.{next_rules}
 
--- no command is new under ticket 0, nor of a bidder or a node that there isn't
+-- no command is new with ticket 0, or with an unknown bidder or node
 new_by : (u : Option Refusal) (ticket last : ℕ) (repeat : Reply) (count : ℕ) (over : Bool) (fault : Option Refusal)
     → is_reply_new count (reply_by u ticket last repeat count over fault) ≡ true → (0 < ticket) × (u ≡ None)
 new_by (Some refusal) ticket last repeat count over fault new = absurd (cc)

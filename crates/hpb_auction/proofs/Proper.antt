@@ -26,7 +26,7 @@ use Rattle.hpb_rules.proofs.ProperValues.{changed_proper}
 pub is_new : (value : AuctionValue) (command : Command) (number : ℕ) → reply_in value command ≡ replies.Ok number → number ≡ value.count + 1 → is_reply_new value.count (reply_in value command) ≡ true
 is_new value command number reply next = ap (is_reply_new value.count) reply ∙ eq-eqb number (suc value.count) (next ∙ omega arith)
 
--- what is taken in leaves a proper value
+-- a command that is taken in leaves a proper value
 pub taken_proper : (value : AuctionValue) (command : Command) (number : ℕ) → draft_refusal value.rules ≡ None → IsProper value → reply_in value command ≡ replies.Ok number → number ≡ value.count + 1 → IsProper (changed value command)
 taken_proper value command number accepted proper reply next = changed_proper value command accepted proper (is_new value command number reply next)
 
@@ -48,7 +48,7 @@ pub kept_number : (a : Inside) → IsProper (value_inside a) → (from : ℕ) �
 kept_number a proper from less = numbered a.definition a.count (bidder from) (row_at a.bidders.items from).last
     (subst (λ (last : Option (Command × ℕ)). IfSome last (λ last. IsLastOf a.definition a.count (bidder from) last.0 last.1)) (ap (λ (state : BidderState). state.last) (bidder_here a from less)) (proper.last (bidder from)))
 
--- what was read as the last command of the row at a bidder's place is the bidder's
+-- the last command read in the row at a bidder's place is the bidder's
 pub bidder_last : (a : Inside) → IsKept a → (q : AuctionValue) → value_inside a ≡ q → (place from : ℕ) (row : BidderRow) (read : Option (Bor Accepted))
     → row ≡ get_or a.bidders.items place row → place ≡ from → from < length a.bidders.items → option_copied read ≡ row.last → IsFoundIn (bidder_at q from).last q.count read
 bidder_last a kept q seen place from row read at same within copied =

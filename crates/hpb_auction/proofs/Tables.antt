@@ -1,4 +1,4 @@
--- What is known of a node, of a bidder and of a sender, by the tables.
+-- Nodes, bidders and senders, by the tables.
 use Rattle.std.proofs.Common.{◌≡◌, ℕ, ◌<◌, ◌≤◌, false, List, length, get_or, map, Option, Some, None, refl, ap, subst, ◌∙◌, arith}
 use Rattle.std.specs.Prelude.{option_copied, slice_index_or}
 use Rattle.std.specs.Borrow.{Bor}
@@ -25,7 +25,7 @@ module _ (a : Inside) where
   pub node_here : (n : ℕ) → n < length a.definition.nodes → node_at (value_inside a) n ≡ booked a.books n
   node_here n h = entry_at (booked a.books) (length a.definition.nodes) n no_bids h
 
-  -- beyond the definition's nodes there is no bid
+  -- behind the definition's nodes there is no bid
   pub no_node_here : (n : ℕ) → length a.definition.nodes ≤ n → node_at (value_inside a) n ≡ no_bids
   no_node_here n h = get_or_past (map (booked a.books) (places a.definition.nodes)) n no_bids (omega (arith, length-map-range_with_len (booked a.books) 0 (length a.definition.nodes)))
 

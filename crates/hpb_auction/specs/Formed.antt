@@ -9,11 +9,11 @@ use Rattle.hpb_rules.specs.Answer.{is_reply_new}
 use Rattle.hpb_rules.specs.AuctionValue.{AuctionValue}
 use Rattle.hpb_rules.specs.Values.{node_at, reply_in}
 
--- Whether a close changes a node's high bid: the greatest bid of the open round is more.
+-- Whether a close changes a node's high bid: the greatest bid of the open round exceeds it.
 abbrev pub is_raised : AuctionValue → ℕ → Bool
 is_raised value node = nat_lt (amount_of (node_at value node).high) (amount_of (node_at value node).incoming)
 
--- Whether a node is at or above one whose high bid a close changes.
+-- Whether a node is at or above some node whose high bid a close changes.
 abbrev pub is_formed : AuctionValue → ℕ → Bool
 is_formed value node = list_any (λ other. is_raised value other && at_or_under value.rules.nodes node other) (places value.rules.nodes)
 
@@ -21,7 +21,7 @@ is_formed value node = list_any (λ other. is_raised value other && at_or_under 
 abbrev pub formed_at_close : AuctionValue → ℕ
 formed_at_close value = count_by (is_formed value) (places value.rules.nodes)
 
--- How many values a newly accepted command forms: none but a close forms any.
+-- How many values a newly accepted command forms: only a close forms any.
 abbrev pub formed_by : AuctionValue → Command → ℕ
 formed_by value (Bid from ticket on amount) = 0
 formed_by value (Close ticket) = formed_at_close value

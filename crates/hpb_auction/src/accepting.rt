@@ -10,9 +10,9 @@ use crate::Auction;
 use crate::reply::is_new;
 use hpb_rules::{Letter, Letters};
 
-/// Whether an auction would newly accept any of the letters, were they judged one after another: `false` where all are
-/// refused or repeats, or there is none. Nothing changes.
-// As long as none is new, nothing changes, so each can be judged by the auction as it is.
+/// Whether an auction would newly accept any of the letters if they were judged one after another. `false` if there is
+/// none, or all would be refused or are repeats. Nothing changes.
+// As long as none is new, nothing changes. So each can be judged by the auction as it is.
 pub fn accepts_any(auction: &Auction, letters: &Letters) -> bool
     ensures value { result ≡ false ↔ new_commands (judged_in auction.now letters.now) ≡ [] }
     ensures history { (history : List Command) → Shows auction.now history

@@ -14,26 +14,26 @@ use crate::Auction;
 use crate::reply::is_new;
 use hpb_rules::{Answer, Answers, Commands, Letter, Letters};
 
-/// What judging letters gives.
+/// The result of judging letters.
 #[derive(Drop)]
 pub struct Judged {
     /// One answer for each letter, in their order.
     pub answers: Answers,
-    /// The commands that were newly accepted, in the order in which they were.
+    /// The newly accepted commands, in the order of their acceptance.
     pub commands: Commands,
 }
 
-/// Answers letters one after another; the auction takes in each command that is newly accepted. Refused letters and
+/// Answers letters one after another. The auction takes in each command that is newly accepted. Refused letters and
 /// repeats change nothing.
 ///
-/// The answers are those of the rules after each history that the auction shows, and the auction then shows that
+/// The answers are those that the rules give after each history that the auction shows. The auction then shows that
 /// history with the new commands at its end. Refusals are those of `Auction::judge`.
 pub fn judge_letters(auction: &mut Auction, letters: &Letters) -> Judged
     ensures value { result.answers ≡ judged_in auction.old letters.now }
     ensures answers { (history : List Command) → Shows auction.old history → result.answers ≡ judged auction.old.rules history letters.now }
     ensures commands { result.commands ≡ new_commands result.answers }
 
-    // What became of the auction.
+    // The auction after the letters.
     ensures accepted { AllAccepted auction.old result.commands }
     ensures after { auction.new ≡ value_after auction.old result.commands }
     ensures shown { (history : List Command) → Shows auction.old history → Shows auction.new (history ++ result.commands) }
@@ -41,7 +41,7 @@ pub fn judge_letters(auction: &mut Auction, letters: &Letters) -> Judged
     ensures rules { auction.new.rules ≡ auction.old.rules }
     ensures counted { auction.new.count ≡ auction.old.count + length result.commands }
 
-    // With a command at least they may be kept as a batch.
+    // If there is at least one command, they may be kept as a batch.
     ensures tickets { AllByRecursion HasTicket result.commands }
     ensures known { AllByRecursion (λ command. unknown auction.old.rules command ≡ None) result.commands }
     ensures each { length result.answers ≡ length letters.now }
@@ -56,7 +56,7 @@ pub fn judge_letters(auction: &mut Auction, letters: &Letters) -> Judged
     Judged { answers, commands }
 }
 
-/// Answers a letter, and puts its command to the others where it is newly accepted.
+/// Answers a letter, and adds its command to the others if it is newly accepted.
 fn judge_letter(
     auction: &mut Auction,
     letter: Letter,

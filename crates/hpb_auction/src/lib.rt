@@ -1,4 +1,4 @@
-//! The auction: a machine over commands. It keeps tables that never grow, by which it answers.
+//! The auction: a state machine over commands. It answers from tables that never grow.
 #![tactic(auto)]
 
 mod accepting;

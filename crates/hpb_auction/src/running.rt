@@ -9,19 +9,19 @@ use hpb_rules::{Command, Reply};
 use hpb_tree::Definition;
 use std::alloc::{AllocError, Global};
 
-/// An auction after commands, with what each of them was answered.
+/// An auction after commands, with the reply to each of them.
 #[derive(Drop)]
 pub struct Run {
-    /// The auction after all of them.
+    /// The auction after all commands.
     pub auction: Auction,
     /// One reply for each command, in their order.
     pub replies: Vec<Reply>,
 }
 
-/// Runs an auction from its beginning by commands, one after another. Fails only where memory is refused.
+/// Runs an auction from its beginning, by commands one after another. Fails only if memory is refused.
 ///
-/// The replies are those of the rules. At each point of the run the provisional winners are disjoint high
-/// bids of closed rounds, of the greatest total that these can have together, and the prices prove it.
+/// The replies are those of the rules. At each point of the run the provisional winners are disjoint high bids of
+/// closed rounds, with the greatest sum that such bids can have. The prices prove it.
 pub fn run_commands(
     alloc: Global,
     definition: &Definition,

@@ -6,7 +6,7 @@ use hpb_tree::{BidderDraft, Definition, Draft, NodeDraft, TermsDraft};
 use std::alloc::{AllocError, Global};
 use std::test::*;
 
-/// The licences `a` 0 and `b` 1, of 10 units each.
+/// The licences `a` (0) and `b` (1), of 10 units each.
 fn nodes(alloc: Global) -> Result<Vec<NodeDraft>, AllocError> {
     let mut nodes = Vec::new(alloc);
     for name in ["a", "b"] {
@@ -22,7 +22,7 @@ fn nodes(alloc: Global) -> Result<Vec<NodeDraft>, AllocError> {
     Ok(nodes)
 }
 
-/// The bidders `x` 0 and `y` 1, with 10 units each.
+/// The bidders `x` (0) and `y` (1), with 10 units each.
 fn bidders(alloc: Global) -> Result<Vec<BidderDraft>, AllocError> {
     let mut bidders = Vec::new(alloc);
     for name in ["x", "y"] {
@@ -57,7 +57,7 @@ fn new_auction(alloc: Global) -> Result<Box<Auction>, Fail> {
     Ok(Box::new(alloc, auction?)?)
 }
 
-/// A bid of `x` on `a`, by number 0, or of `y` on `b`, by number 1.
+/// A bid of `x` on `a` (number 0), or of `y` on `b` (number 1).
 fn bid(number: u8, ticket: u32, amount: u64) -> Letter
     requires { number < 2 }
 {
@@ -83,7 +83,7 @@ fn list_of(rows: &[Row]) -> Letters {
     letters
 }
 
-/// Whether the answer at a place is that of a row.
+/// Whether the answer at a place is that of the row.
 fn is_answer(judged: &Judged, place: usize, row: &Row) -> bool {
     let (letter, at, reply) = *row;
     judged.answers.get(place) == Some(Answer { letter, at, reply })
@@ -115,7 +115,7 @@ fn letters_are_judged_one_after_another(rt: HostRuntime) -> Result<(), Fail> {
     Ok(())
 }
 
-/// 64 letters: `x` bids once, and then sends the same 63 times more.
+/// 64 letters: `x` bids once, and then sends the same bid 63 times more.
 #[test]
 fn list_may_be_full(rt: HostRuntime) -> Result<(), Fail> {
     let row = (bid(0, 1, 100), 1, Reply::Ok(1));

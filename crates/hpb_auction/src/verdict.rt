@@ -6,19 +6,19 @@ ghost use Rattle.hpb_auction.specs.Verdicts.{reply_of, read_last, number_of_last
 use crate::sender::{last_ticket, ticket};
 use hpb_rules::{Accepted, Command, Refusal, Reply};
 
-/// What becomes of a command.
+/// The decision on a command.
 #[derive(Clone, Copy, Debug, PartialEq, Eq)]
 pub(crate) enum Verdict {
-    /// Newly accepted, as the command of this number.
+    /// Newly accepted, under this number.
     New(u32),
-    /// The sender's last command once more, which had this number.
+    /// A repeat of the sender's last command, which has this number.
     Repeat(u32),
-    /// Refused.
+    /// Refused: the command changes nothing.
     Refused(Refusal),
 }
 
 impl Verdict {
-    /// What the sender is told.
+    /// The reply to the sender.
     #[inline(always)]
     pub(crate) fn reply(self) -> Reply
         ensures { result ≡ reply_of self }
@@ -30,7 +30,7 @@ impl Verdict {
     }
 }
 
-/// What the tickets say of a command whose sender's last one is given: `None` where it is the next.
+/// The verdict on a command by its ticket, given its sender's last command. `None` if the ticket is the next.
 #[inline(always)]
 pub(crate) fn by_ticket(command: &Command, last: Option<&Accepted>) -> Option<Verdict>
     ensures reply { reply_told result ≡ ticket_reply command.now (read_last last.entry) }
@@ -52,7 +52,7 @@ pub(crate) fn by_ticket(command: &Command, last: Option<&Accepted>) -> Option<Ve
     None
 }
 
-/// What a command is under its sender's last ticket.
+/// The verdict on a command with its sender's last ticket.
 #[inline(always)]
 fn by_repeat(command: &Command, last: Option<&Accepted>) -> Verdict
     ensures reply { reply_of result ≡ repeated command.now (read_last last.entry) }

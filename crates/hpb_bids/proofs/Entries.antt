@@ -1,4 +1,4 @@
--- A saved auction may be restored exactly where its numbers and its entries are in order.
+-- A saved auction may be restored exactly if its numbers and its entries are in order.
 use Rattle.std.proofs.Common.{◌≡◌, ℕ, ◌<◌, ◌≤◌, true, false, get_or, length, Option, Some, None, refl, sym, ap, ◌∙◌, ⊎_elim, arith, subst}
 use Rattle.std.specs.Prelude.{IfSome, IsSome}
 use Rattle.std.proofs.lemmas.Bool.{cases_lt, both_ways, false_from_ne_true}
@@ -20,7 +20,7 @@ use Rattle.hpb_rules.proofs.Tests.{no_bit}
 use Rattle.hpb_rules.proofs.SavedValues.{same_node}
 use Rattle.hpb_bids.specs.Entries.{AreNumbers, IsNodeEntry, IsOwnEntry, IsBidderEntry}
 
--- what the tests say of all entries
+-- the tests of all entries, as statements
 abbrev pub AreNodes : Rules → Saved → Type 0
 AreNodes rules saved = (n : ℕ) (d : SavedNode) → n < length saved.nodes → IsNodeEntry rules n (get_or saved.nodes n d)
 
@@ -30,7 +30,7 @@ AreBidders rules saved = (b : ℕ) (d : SavedBidder) → b < length saved.bidder
 abbrev pub AreQuiet : Saved → Type 0
 AreQuiet saved = (n : ℕ) (d : SavedNode) → n < length saved.nodes → (get_or saved.nodes n d).incoming ≡ None
 
--- ---- what may be restored is in order
+-- ---- a saved auction that may be restored is in order
 module _ (rules : Rules) (saved : Saved) (is : IsSaved rules saved) where
   pub numbers_of : AreNumbers rules saved
   numbers_of = record { stage = is.stage; round = (is.round.0, omega (arith, is.round.1)); count = is.count }
@@ -52,7 +52,7 @@ module _ (rules : Rules) (saved : Saved) (is : IsSaved rules saved) where
   pub quiet_of : saved.over ≡ true → AreQuiet saved
   quiet_of over n d less = subst (λ (entry : SavedNode). entry.incoming ≡ None) (any_default saved.nodes n empty_node d less) (is.over_nodes over n)
 
--- ---- what is in order may be restored
+-- ---- a saved auction that is in order may be restored
 module _ (rules : Rules) (saved : Saved) (node_entries : length saved.nodes ≡ MOST_NODES) (bidder_entries : length saved.bidders ≡ MOST_BIDDERS)
     (numbers : AreNumbers rules saved) (told : IfSome saved.auctioneer (IsSavedLast rules saved.count auctioneer))
     (nodes : AreNodes rules saved) (bidders : AreBidders rules saved) (quiet : saved.over ≡ true → AreQuiet saved) (unwaived : saved.over ≡ true → list_any (λ (entry : SavedBidder). entry.has_waived) saved.bidders ≡ false) where
@@ -70,7 +70,7 @@ module _ (rules : Rules) (saved : Saved) (node_entries : length saved.nodes ≡ 
   some_in node None meets some = absurd (both_ways _ refl some)
   some_in node (Some offer) meets some = meets.known_node
 
-  -- what holds of each entry of a bidder
+  -- a property of each entry of a bidder holds of all of them
   each_entry : (P : ℕ → SavedBidder → Type 0) → ((from : ℕ) (entry : SavedBidder) → IsOwnEntry rules saved.count saved.nodes from entry → P from entry) → ((from : ℕ) → P from empty_bidder) → (from : ℕ) → P from (bidder_in saved from)
   each_entry P own empty from = ⊎_elim
       (λ less. ⊎_elim

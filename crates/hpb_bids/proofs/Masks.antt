@@ -18,7 +18,7 @@ use Rattle.hpb_bids.proofs.History.{bit_more, folded_standing}
 abbrev pub raised_at : List NodeBids → ℕ → Bool
 raised_at nodes n = get_or (map is_raised nodes) n false
 
--- the mask is of those of the first nodes whose bids are raised
+-- the mask has the bits of those among the first nodes whose bids are raised
 abbrev pub AreRaised : List NodeBids → ℕ → ℕ → Type 0
 AreRaised nodes i mask = (n : ℕ) → has_bit mask n ≡ (ltb n i && raised_at nodes n)
 
@@ -34,14 +34,14 @@ module _ (nodes : List NodeBids) (i mask : ℕ) (so_far : AreRaised nodes i mask
       (λ other. ap (λ b. b || has_bit mask n) (ne_eqb i n other) ∙ so_far n ∙ ap (λ b. b && raised_at nodes n) (sym (ltb_other n i (λ e. other (sym e)))))
       (cases_eq i n)
 
-  -- it is not
+  -- the node at the next place isn't raised
   pub raised_no_more : {new : ℕ} → raised_at nodes i ≡ false → new ≡ mask → AreRaised nodes (i + 1) new
   raised_no_more {new = new} raised made n = ap (λ m. has_bit m n) made ∙ so_far n ∙ ⊎_elim
       (λ same. and_right (ltb n i) (raised_at nodes n) (ap (raised_at nodes) (sym same) ∙ raised) ∙ sym (and_right (ltb n (i + 1)) (raised_at nodes n) (ap (raised_at nodes) (sym same) ∙ raised)))
       (λ other. ap (λ b. b && raised_at nodes n) (sym (ltb_other n i (λ e. other (sym e)))))
       (cases_eq i n)
 
--- the rows that are not looked at yet are as they were
+-- the rows that the loop hasn't reached are unchanged
 pub row_kept : (nodes : List NodeBids) (i : ℕ) (rows : List NodeBids) (row : NodeBids) → i < length nodes → rows ≡ map closed (take i nodes) ++ drop i nodes → row ≡ get_or rows i row → row ≡ get_or nodes i row
 row_kept nodes i rows row within e found =
     let front : length (map closed (take i nodes)) ≡ i = length-map (take i nodes) closed ∙ length-take-le i nodes (omega arith) in
@@ -49,24 +49,24 @@ row_kept nodes i rows row within e found =
     found ∙ ap (λ xs. get_or xs i row) e ∙ get_or-append_right (map closed (take i nodes)) (drop i nodes) i i row front (omega arith)
     ∙ get_or-drop i nodes (i - i) row ∙ ap (λ k. get_or nodes k row) start
 
--- the test of the row at a place
+-- the code's test of the row at a place
 pub raised_row : (nodes : List NodeBids) (i : ℕ) (row : NodeBids) → i < length nodes → row ≡ get_or nodes i row → raised_at nodes i ≡ is_raised row
 raised_row nodes i row within found = get_or-map is_raised nodes i row false within ∙ ap is_raised (sym found)
 
--- a raised bid displaces another one, and else the bid stays
+-- a raised bid displaces another one; if the bid isn't raised, the old one stays
 raised_is_other : (older newer : Option Offer) → nat_lt (amount_of older) (amount_of newer) ≡ true → greater older newer ≢ older
 raised_is_other older newer raised same =
     let taken : greater older newer ≡ newer = ap (λ b. if b then newer else older) raised in
     let less : amount_of older < amount_of newer = ltb-true (amount_of older) (amount_of newer) raised in
     omega (arith, ap amount_of (sym taken ∙ same))
 
--- whether it is raised, by the books
+-- whether the bid on a node is raised, by the books
 raised_view : (nodes : List NodeBids) (n : ℕ) → raised_at nodes n ≡ nat_lt (amount_of (get_or (map (λ (m : NodeBids). m.standing) nodes) n None)) (amount_of (get_or (map (λ (m : NodeBids). m.incoming) nodes) n None))
 raised_view [] n = refl
 raised_view (m ∷ ms) zero = refl
 raised_view (m ∷ ms) (suc n) = raised_view ms n
 
--- the whole mask
+-- the mask of all nodes
 pub raised_all : (nodes : List NodeBids) (masks : List ℕ) {old new : BooksView} (i mask : ℕ) → tables_view nodes masks ≡ old → IsBooks old → new ≡ folded old → length nodes ≤ i
     → AreRaised nodes i mask → AreChanged old new mask
 raised_all nodes masks {old = old} {new = new} i mask seen sized e all so_far = record {

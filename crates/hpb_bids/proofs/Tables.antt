@@ -23,13 +23,13 @@ small_at : (most : ℕ) (o : Option Offer) → IfSome o (λ x. x.amount ≤ most
 small_at most None h = omega arith
 small_at most (Some o) h = h
 
--- a place of a table has an offer of one of its rows, or none
+-- each place of a table has an offer of one of its rows, or none
 offers_small : (f : NodeBids → Option Offer) (nodes : List NodeBids) (n : ℕ) → All (λ m. IfSome (f m) (λ o. o.amount ≤ MOST_AMOUNT)) nodes → IfSome (get_or (map f nodes) n None) (λ o. o.amount ≤ MOST_AMOUNT)
 offers_small f [] n h = tt
 offers_small f (m ∷ ms) zero h = h 0 m (omega arith)
 offers_small f (m ∷ ms) (suc n) h = offers_small f ms n (λ i d within. h (suc i) d (omega arith))
 
--- what the code keeps is what its value keeps
+-- bounds that hold in the code's tables hold in the books
 pub kept_view : (inside : Inside) (books : BooksView) → books_view inside ≡ books → IsKept inside → IsBooks books
 kept_view inside books seen kept = subst IsBooks seen (record {
   standing = length-map inside.nodes.items _ ∙ kept.nodes;
@@ -75,7 +75,7 @@ zeros (x ∷ xs) = ap (λ ys. 0 ∷ ys) (zeros xs)
 pub folded_view : (nodes : List NodeBids) (masks : List ℕ) (books : BooksView) → tables_view nodes masks ≡ books → tables_view (map closed nodes) (replicate {A = ℕ} (length masks) 0) ≡ folded books
 folded_view nodes masks books seen = same_books (merged_view nodes) (cleared_view nodes) (zeros masks) ∙ ap folded seen
 
--- what a loop over the whole table leaves in it
+-- the table that a loop over all rows leaves
 pub whole : (nodes rows : List NodeBids) (i n : ℕ) → length nodes ≤ i → rows ≡ map closed (take i nodes) ++ drop i nodes → n ≡ length nodes → take n (rows ++ drop (length rows) nodes) ≡ map closed nodes
 whole nodes rows i n h e size =
     let all : rows ≡ map closed nodes = e ∙ ap (λ xs. map closed xs ++ drop i nodes) (take_all i nodes h) ∙ ap (λ xs. map closed nodes ++ xs) (drop_all i nodes h) ∙ append-nil (map closed nodes) in

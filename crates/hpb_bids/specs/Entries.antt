@@ -1,4 +1,4 @@
--- What a saved auction must meet to be restored, entry by entry.
+-- What each entry of a saved auction must meet to be restored.
 use Rattle.std.specs.Prelude.{◌≡◌, ℕ, ◌+◌, ◌<◌, ◌≤◌, true, List, length, IfSome, IsSome, slice_index_or}
 use Rattle.hpb_rules.specs.declared.limits.TheConstants.{MOST_COMMANDS}
 use Rattle.hpb_rules.specs.declared.saved.Saved.{Saved}
@@ -10,7 +10,7 @@ use Rattle.hpb_rules.specs.ProperValues.{IsOfferOn}
 use Rattle.hpb_rules.specs.Saved.{empty_node, empty_bidder, has_bit, IsSavedLast}
 use Rattle.hpb_rules.specs.Tree.{Rules}
 
--- The stage is one of the definition's, the round is from 1 to one more than the count, and the count is at most 1,000,000.
+-- The stage is one of the definition's, the round is from 1 to the count plus one, and the count is at most 1,000,000.
 pub record AreNumbers (rules : Rules) (saved : Saved) : Type 0 where
   pub stage : IsWithin 1 (length rules.stages) saved.stage
   pub round : IsWithin 1 (saved.count + 1) saved.round
@@ -24,7 +24,7 @@ IsNodeEntry rules node entry = IfSome entry.high (IsOfferOn rules node) × IfSom
 abbrev pub AreBits : List SavedNode → ℕ → Type 0
 AreBits nodes mask = (node : ℕ) → has_bit mask node ≡ true → IsSome (slice_index_or nodes node empty_node).incoming
 
--- The entry of a bidder of the definition.
+-- The entry of a bidder of the definition is in order.
 pub record IsOwnEntry (rules : Rules) (count : ℕ) (nodes : List SavedNode) (from : ℕ) (entry : SavedBidder) : Type 0 where
   pub eligibility : entry.eligibility ≤ bidder_units rules from
   pub last : IfSome entry.last (IsSavedLast rules count (bidder from))
@@ -32,7 +32,7 @@ pub record IsOwnEntry (rules : Rules) (count : ℕ) (nodes : List SavedNode) (fr
   pub waivers : entry.waivers ≤ rules.waivers
   pub fewer : entry.has_waived ≡ true → entry.waivers < rules.waivers
 
--- The entry of a bidder: past the definition's bidders it is empty.
+-- The entry at a bidder's place is in order: behind the definition's bidders it is empty.
 abbrev pub IsBidderEntry : Rules → ℕ → List SavedNode → ℕ → SavedBidder → Type 0
 IsBidderEntry rules count nodes from entry =
     (length rules.bidders ≤ from → entry ≡ empty_bidder) × (from < length rules.bidders → IsOwnEntry rules count nodes from entry)

@@ -7,7 +7,7 @@ use Rattle.hpb_bids.specs.View.{BooksView}
 use Rattle.hpb_bids.specs.declared.books.NodeBids.{NodeBids}
 use Rattle.hpb_bids.specs.declared.books.Books.TheInside.{Inside}
 
--- The tables as definitions see them.
+-- The books that the code's tables stand for.
 abbrev pub tables_view : List NodeBids → List ℕ → BooksView
 tables_view nodes bids = record {
   standing = map (λ (n : NodeBids). n.standing) nodes;
@@ -15,7 +15,7 @@ tables_view nodes bids = record {
   bids = bids;
 }
 
--- The value of the books.
+-- The books that the code stands for.
 abbrev pub books_view : Inside → BooksView
 books_view b = tables_view b.nodes.items b.bids.items
 
@@ -30,7 +30,7 @@ pub record IsKept (b : Inside) : Type 0 where
   pub bids : length b.bids.items ≡ MOST_BIDDERS
   pub amounts : All IsSmall b.nodes.items
 
--- The bids on a node after one more in the open round.
+-- The bids on a node after another bid in the open round.
 abbrev pub received : NodeBids → Offer → NodeBids
 received n o = record { standing = n.standing; incoming = greater n.incoming (Some o) }
 

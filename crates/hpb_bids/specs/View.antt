@@ -1,4 +1,4 @@
--- What the books stand for.
+-- What books are: bids by node, and nodes by bidder.
 use Rattle.std.specs.Prelude.{length, ◌≤◌, ◌≡◌, ◌≢◌, ℕ, ◌^◌, Bool, true, false, ◌==◌, List, [], ◌∷◌, map, Option, Some, None, IfSome, slice_index, slice_index_or, slice_set, bit_or}
 use Rattle.std.specs.Int.{bit_at}
 use Rattle.hpb_rules.specs.declared.command.Offer.{Offer}
@@ -6,21 +6,22 @@ use Rattle.hpb_rules.specs.declared.limits.TheConstants.{MOST_BIDDERS, MOST_NODE
 use Rattle.hpb_rules.specs.History.{amount_of, greater}
 use Rattle.hpb_rules.specs.Saved.{has_bit}
 
--- Of each node the high bid of closed rounds and the greatest of the open round, and of each bidder the nodes on which it bid in the open round: bit n of its number is for node n.
+-- For each node the high bid of closed rounds and the greatest bid of the open round. For each bidder the nodes on
+-- which it bid in the open round: bit n of its number is for node n.
 pub record BooksView : Type 0 where
   pub standing : List (Option Offer)
   pub incoming : List (Option Offer)
   pub bids : List ℕ
 
--- The bid on a node.
+-- The bid on a node, if there is one.
 abbrev pub offer_at : List (Option Offer) → ℕ → Option Offer
 offer_at offers n = slice_index_or offers n None
 
--- The high bid of a node, and 0 where it has none.
+-- The high bid of a node, or 0 if it has none.
 abbrev pub bid_of : BooksView → ℕ → ℕ
 bid_of books n = amount_of (offer_at books.standing n)
 
--- No node has a high bid.
+-- The high bids of a tree without a bid: 0 for each node.
 abbrev pub no_bid : ℕ → ℕ
 no_bid node = 0
 
@@ -59,7 +60,7 @@ folded books = record {
   bids = map (λ _. 0) books.bids;
 }
 
--- The bits of a mask are for exactly the nodes whose high bid is another than it was.
+-- The mask has bit n if and only if the high bid of node n changed.
 pub record AreChanged (old new : BooksView) (mask : ℕ) : Type 0 where
   pub changed : (n : ℕ) → has_bit mask n ≡ true → offer_at new.standing n ≢ offer_at old.standing n
   pub same : (n : ℕ) → has_bit mask n ≡ false → offer_at new.standing n ≡ offer_at old.standing n

@@ -10,7 +10,7 @@ use hpb_tree::Tree;
 use std::alloc::{AllocError, Global};
 use std::marker::Model;
 
-/// The bids on one node.
+/// The bids on one node: the high bid of closed rounds, and the greatest of the open round.
 #[derive(Clone, Copy, Debug)]
 pub(crate) struct NodeBids {
     pub(crate) standing: Option<Offer>,
@@ -21,14 +21,14 @@ pub(crate) struct NodeBids {
 #[derive(Debug, Drop)]
 pub struct Books {
     pub(crate) nodes: Vec<NodeBids>,
-    /// A mask for each bidder: bit n is for node n.
+    /// For each bidder a mask of the nodes on which it bid in the open round: bit n is for node n.
     pub(crate) bids: Vec<u128>,
 }
 
 impl NodeBids {
     ghost use Rattle.hpb_bids.specs.Inside.{received, closed, is_raised};
 
-    /// Takes a bid in the open round: it becomes the best where it is more than that.
+    /// Takes a bid in the open round. It becomes the round's best bid if it is greater than that.
     #[inline(always)]
     fn receive(&mut self, offer: Offer)
         ensures { self.new ≡ received self.old offer }
@@ -38,7 +38,7 @@ impl NodeBids {
         }
     }
 
-    /// Closes the round: its best bid stands where it is more than what stood.
+    /// Closes the round: its best bid becomes the standing bid if it is greater than that.
     fn close(&mut self)
         ensures { self.new ≡ closed self.old }
     {
@@ -48,14 +48,14 @@ impl NodeBids {
         }
     }
 
-    /// Whether the round's best bid is more than what stands: a close then changes the high bid.
+    /// Whether the round's best bid is greater than the standing one, so that a close changes the high bid.
     fn is_raised(&self) -> bool
         ensures { result ≡ is_raised self.now }
     {
         amount_or_zero(&self.standing) < amount_or_zero(&self.incoming)
     }
 
-    /// Closes the round, and answers whether the high bid changed. A node without a bid in the round is left alone.
+    /// Closes the round, and returns whether the high bid changed. A node without a bid in the round isn't written.
     fn fold(&mut self) -> bool
         ensures closed { self.new ≡ closed self.old }
         ensures raised { result ≡ is_raised self.old }
@@ -82,7 +82,7 @@ impl Model for Books {
 }
 
 impl Books {
-    /// Books without a bid, for any auction on the tree. Fails only where memory is refused.
+    /// Books without a bid, for any auction on the tree. Fails only if memory is refused.
     pub fn new(alloc: Global, _tree: &Tree) -> Result<Books, AllocError>
         ensures empty { IfOk result IsEmpty }
         ensures high { IfOk result (λ books. bid_of books ≡ no_bid) }
@@ -98,7 +98,7 @@ impl Books {
         })
     }
 
-    /// The same books once more. Fails only where memory is refused.
+    /// A copy of the books. Fails only if memory is refused.
     pub fn copy(&self, alloc: Global) -> Result<Books, AllocError>
         ensures { IfOk result (λ books. books ≡ self.now) }
     {
@@ -108,7 +108,7 @@ impl Books {
         })
     }
 
-    /// Becomes the same as other books. Takes no memory.
+    /// Makes these books equal to others. Takes no memory.
     pub fn copy_from(&mut self, other: &Books)
         ensures { self.new ≡ other.now }
     {
@@ -116,21 +116,21 @@ impl Books {
         self.bids.copy_from_slice(other.bids.as_slice());
     }
 
-    /// What is known of all books: their tables have their sizes, and no bid is above `MOST_AMOUNT`.
+    /// Proves what holds of all books: their tables have their sizes, and no bid is above `MOST_AMOUNT`.
     pub fn facts(&self)
         ensures { IsBooks self.now }
     {
         let _ = &self.nodes;
     }
 
-    /// The high bid of a node, by closed rounds.
+    /// The high bid of a node, from closed rounds.
     pub fn standing(&self, node: NodeId) -> Option<Offer>
         ensures value { result ≡ offer_at self.now.standing node }
     {
         self.nodes[node.place()].standing
     }
 
-    /// The greatest bid on a node in the open round, of equal ones the first.
+    /// The greatest bid on a node in the open round. If several are equal, it is the first of them.
     pub fn incoming(&self, node: NodeId) -> Option<Offer>
         ensures value { result ≡ offer_at self.now.incoming node }
     {
@@ -160,7 +160,7 @@ impl Books {
         self.bids.iter().all(|nodes| *nodes == 0)
     }
 
-    /// Takes a bid in the open round. It becomes the node's best where it is more than that.
+    /// Takes a bid in the open round. It becomes the node's best bid of the round if it is greater than that.
     #[inline(always)]
     pub fn place(&mut self, bidder: BidderId, node: NodeId, amount: u64)
         requires { amount ≤ MOST_AMOUNT }
@@ -174,8 +174,8 @@ impl Books {
         self.bids[bidder.place()] |= 1 << index;
     }
 
-    /// Closes the round: what was bid in it counts from now on, and the next round has no bid. Answers the
-    /// nodes whose high bid changed: bit n is for node n.
+    /// Closes the round: its bids count from now on, and the next round has no bid. Returns the nodes whose high bid
+    /// changed: bit n is for node n.
     pub fn fold_round(&mut self) -> u128
         ensures changed { AreChanged self.old self.new result }
         ensures value { self.new ≡ folded self.old }
@@ -211,7 +211,7 @@ impl Books {
     }
 }
 
-/// An offer's amount. None counts as 0.
+/// An offer's amount, or 0 if there is none.
 fn amount_or_zero(offer: &Option<Offer>) -> u64
     ensures { result ≡ amount_of offer.now }
 {

@@ -1,6 +1,5 @@
-//! The bids of an auction: on each node the high bid of closed rounds and the best of the open round,
-//! and for each bidder the nodes on which it bid in the open round; and which bids and standings, as they are saved, may
-//! be restored under a definition.
+//! The bids of an auction. Each node has the high bid of closed rounds and the best bid of the open round, and each
+//! bidder the nodes on which it bid in the open round. Another part decides whether a saved auction may be restored.
 #![tactic(auto)]
 
 mod books;

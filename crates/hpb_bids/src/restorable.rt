@@ -16,7 +16,7 @@ use hpb_rules::{
 };
 use hpb_tree::Definition;
 
-/// Whether a number is from 1 to the greatest.
+/// Whether a number is from 1 to `most`.
 fn is_within(number: u32, most: u32) -> bool
     ensures { IsTrue result ↔ IsWithin 1 most number }
 {
@@ -36,7 +36,7 @@ fn are_numbers(saved: &Saved, definition: &Definition) -> bool
     is_within(u32::from(saved.stage), definition.stage_count() as u32)
 }
 
-/// Whether an amount is a multiple of the step, more than 0, from the opening to the greatest.
+/// Whether an amount is a multiple of the step, greater than 0, at least the opening and at most the greatest amount.
 fn is_amount(amount: u64, step: u32, opening: u64) -> bool
     requires { 0 < step }
     ensures { IsTrue result ↔ ((amount % step ≡ 0) × (opening ≤ amount) × (0 < amount) × (amount ≤ MOST_AMOUNT)) }
@@ -54,7 +54,7 @@ fn opening_at(definition: &Definition, place: usize) -> u64
     definition.tree().opening(NodeId::new(place))
 }
 
-/// Whether an offer on the node at a place meets the rules, if there is one.
+/// Whether the offer on the node at a place meets the rules, or there is none.
 fn is_offer(offer: &Option<Offer>, place: usize, definition: &Definition) -> bool
     ensures { IsTrue result ↔ IfSome offer.now (IsOfferOn definition.now place) }
 {
@@ -109,7 +109,7 @@ fn has_waiver(bidders: &[SavedBidder]) -> bool
     bidders.iter().any(|bidder| bidder.has_waived)
 }
 
-/// Whether a last command, if there is one, can be the auctioneer's.
+/// Whether the last command can be the auctioneer's, or there is none.
 fn is_auctioneers(last: &Option<Accepted>, count: u32, definition: &Definition) -> bool
     ensures { IsTrue result ↔ IfSome last.now (IsSavedLast definition.now count auctioneer) }
 {
@@ -124,7 +124,7 @@ fn is_auctioneers(last: &Option<Accepted>, count: u32, definition: &Definition) 
     }
 }
 
-/// Whether a last command, if there is one, can be that of the bidder at a place.
+/// Whether the last command can be that of the bidder at a place, or there is none.
 fn is_bidders(last: &Option<Accepted>, place: usize, count: u32, definition: &Definition) -> bool
     requires { place < length definition.now.bidders }
     ensures { IsTrue result ↔ IfSome last.now (IsSavedLast definition.now count (bidder_sender place)) }
@@ -196,7 +196,7 @@ fn is_own(
     are_bits(entry.bid_on, nodes)
 }
 
-/// Whether nothing stands in the entry of a bidder.
+/// Whether a bidder's entry is empty.
 fn is_empty(entry: &SavedBidder) -> bool
     ensures { IsTrue result ↔ (entry.now ≡ empty_bidder) }
 {
@@ -207,7 +207,7 @@ fn is_empty(entry: &SavedBidder) -> bool
         && !entry.has_waived
 }
 
-/// Whether the entries of all bidders are in order, and those past the definition's bidders empty.
+/// Whether the entries of all bidders are in order, and those behind the definition's bidders are empty.
 fn are_bidders(
     bidders: &[SavedBidder],
     count: u32,
@@ -242,7 +242,7 @@ fn is_bidder(
     }
 }
 
-/// Whether what was saved may be restored under the definition.
+/// Whether a saved auction may be restored under the definition.
 pub fn is_saved(saved: &Saved, definition: &Definition) -> bool
     ensures found { IsTrue result → IsSaved definition.now saved.now }
     ensures only { IsSaved definition.now saved.now → IsTrue result }

@@ -9,11 +9,11 @@ use Rattle.logbook.specs.Pages.{Cell, cell, keeps, no_nib, step, Moves, Goes}
 use Rattle.hpb_board.specs.Trails.{IsKept, Adds}
 use Rattle.hpb_rules.proofs.Prefixes.{prefix_whole}
 
--- what clients see of the log
+-- the list that clients see of the log
 abbrev pub shown : List (List Letter) → List (List Letter)
 shown log = []
 
--- how what they see moves
+-- how that list changes
 abbrev pub moved : List (List Letter) → List (List Letter) → ℕ → Type 0
 moved xs ys n = Unit {0}
 
@@ -44,7 +44,7 @@ adds_goes log v e old len pre false is =
       rw is (subst (IsPrefix v) (sym all) pre),
     )
 
--- whatever the trail is, the exchange adds the batch to all that was seen, or finds that the list is longer
+-- whatever the trail is, the exchange adds the batch to the whole list, or finds that the list is longer
 pub adds_moves : (v : List (List Letter)) (e : List Letter) (old : ℕ) → length v ≡ old
     → Moves IsKept shown moved 0 (v, (no_nib, None)) (λ n. either (n == old) (old + 1) n) (Adds (step 0 old (old + 1) e) (v, (no_nib, None)))
 adds_moves v e old len cs log kept pre away =

@@ -23,7 +23,7 @@ use Rattle.hpb_board.proofs.Recent.{IsRow, noted_IsRow, blank_IsRow, note_here, 
 row_more : (xs : List Answer) (a : Answer) → row_of (xs ++ a ∷ []) ≡ noted (row_of xs) a
 row_more xs a = fold-append noted blank xs (a ∷ [])
 
--- the row of answers counts them, and has the last 16
+-- the row of some answers counts them, and has the last 16
 along_IsRow : (xs before : List Answer) (r : Row) → length before + length xs < 2 ^ 64 → IsRow r before → IsRow (fold noted r xs) (before ++ xs)
 along_IsRow [] before r few is = subst (IsRow r) (sym (append-nil before)) is
 along_IsRow (x ∷ xs) before r few is =
@@ -48,7 +48,7 @@ same_by : (r later : Row) (before more : List Answer) → r ≡ row_of before �
 same_by r later before [] is next none = is ∙ (ap row_of (sym (append-nil before)) ∙ sym next)
 same_by r later before (x ∷ xs) is next none = absurd (omega (arith, none))
 
--- a row that has as many answers is the same
+-- a row that has equally many answers is the same
 pub goes_same : (r later : Row) → GoesOn r later → r.count ≡ later.count → r ≡ later
 goes_same r later g e = let n = counts r later g in same_by r later g.0 g.1 g.2 g.3 (omega (arith, n.0, n.1, e))
 
@@ -61,7 +61,7 @@ recent_next : (before : List Answer) (a : Answer) (more : List Answer) → lengt
 recent_next before a more near true e = get_next before a more
 recent_next before a more near false e = let long = length-append before (a ∷ more) in absurd (grind (arith, nat_tests, long))
 
--- the first answer that is new, and what the row is with it
+-- the first new answer, and the row with it
 abbrev pub Next : Row → Row → Type 0
 Next r later = (a : Answer) × (told later (r.count + 1) ≡ Some a) × GoesOn (noted r a) later × ((noted r a).count ≡ r.count + 1)
 
@@ -87,7 +87,7 @@ next_by r later before (a ∷ more) is next few count some near =
       omega (arith, count, long, few),
     )
 
--- where fewer than 17 answers are new, the later row tells the first of them
+-- if fewer than 17 answers are new, the later row has the first of them
 pub goes_next : (r later : Row) → GoesOn r later → r.count < later.count → later.count < r.count + 17 → Next r later
 goes_next r later g less near =
     let n = counts r later g in next_by r later g.0 g.1 g.2 g.3 g.4 n.0 (omega (arith, n.0, n.1, less)) (omega (arith, n.0, n.1, near))
@@ -123,12 +123,12 @@ is_along (x ∷ xs) o s before is =
 row_is : (o : Opening) (s : ℕ) (xs : List Letter) (r : Row) → slice_get (shown_by (begun o) xs).rows s ≡ Some r → r ≡ row_of (answers_to s o.auction xs)
 row_is o s xs r h = is_along xs (begun o) s [] (λ q at. blank_at o.seats s q at) r h
 
--- letters that go on have answers that go on
+-- if letters begin other letters, their answers begin the others' answers
 answers_more : (s : ℕ) (value : AuctionValue) (xs ys : List Letter) → answers_to s value (xs ++ ys) ≡ answers_to s value xs ++ answers_to s (value_by value xs) ys
 answers_more s value xs ys =
     ap (filter (λ (a : Answer). a.letter.seat == s)) (judged_join value xs ys) ∙ filter-append (λ (a : Answer). a.letter.seat == s) (judged_in value xs) (judged_in (value_by value xs) ys)
 
--- where one list begins another, each row of the second goes on
+-- if one list begins another, each row of the second continues that of the first
 pub rows_go_on : (o : Opening) (xs ys : List (List Letter)) → IsPrefix xs ys → IsRoomy ys → GoOn (shown_by (begun o) (joined xs)).rows (shown_by (begun o) (joined ys)).rows
 rows_go_on o xs ys begins roomy s r r' at at' =
     let before : List Answer = answers_to s o.auction (joined xs) in

@@ -90,7 +90,7 @@ note_else (q ∷ rs) (suc k) (suc s) a n = note_else rs k s a (λ e. n (ap suc e
 abbrev Has : List Row → ℕ → List Answer → Type 0
 Has rs s as' = (r : Row) → slice_get rs s ≡ Some r → IsRow r as'
 
--- a letter more, where the test passes
+-- the letters with one more, if the test passes
 abbrev more : Bool → Letter → List Letter → List Letter
 more b x xs = cond b (x ∷ xs) xs
 
@@ -131,7 +131,7 @@ blank_at (suc n) (suc s) r h = blank_at n s r h
 pub blank_IsRow : IsRow blank []
 blank_IsRow = record { count = refl; size = refl; last = λ i lt near. absurd (omega arith) }
 
--- after any letters the row of a seat has the number of its answers, and the last 16
+-- after any letters the row of a seat has the number of its answers, and the last 16 of them
 pub rows_fresh : (o : Opening) (s : ℕ) (xs : List Letter) (r : Row) → tally s xs < 2 ^ 64 → slice_get (shown_by (begun o) xs).rows s ≡ Some r → IsRow r (answers_to s o.auction xs)
 rows_fresh o s xs r few h =
     rows_along xs (begun o) s [] (omega (arith, few)) (λ q at. subst (λ (t : Row). IsRow t []) (sym (blank_at o.seats s q at)) blank_IsRow) r h
@@ -171,7 +171,7 @@ get_is [] k d h = absurd (omega arith)
 get_is (r ∷ rs) zero d h = refl
 get_is (r ∷ rs) (suc k) d h = get_is rs k d (omega arith)
 
--- what the row of a seat tells is what its answers tell
+-- the row of a seat finds the same answers as the list of its answers
 pub answer_is : (rows : List Row) (o : Opening) (xs : List Letter) (s number : ℕ) (d : Row) → rows ≡ (shown_by (begun o) xs).rows → s < o.seats → tally s xs < 2 ^ 64
     → (s < length rows) × (told (slice_index_or rows s d) number ≡ recent (answers_to s o.auction xs) number)
 answer_is rows o xs s number d is inside few =

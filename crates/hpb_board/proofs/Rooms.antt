@@ -17,7 +17,7 @@ use Rattle.hpb_board.proofs.Recent.{rows_fresh, length_answers, length_shown, ge
 pub tally-append : (s : ℕ) (xs ys : List Letter) → tally s (xs ++ ys) ≡ tally s xs + tally s ys
 tally-append s xs ys = ap length (filter-append (λ (l : Letter). l.seat == s) xs ys) ∙ length-append (filter (λ (l : Letter). l.seat == s) xs) (filter (λ (l : Letter). l.seat == s) ys)
 
--- a number that is no seat's has no letter
+-- a number that isn't a seat's has no letter
 tally_none : (seats s : ℕ) (xs : List Letter) → AreSeated seats xs → seats ≤ s → tally s xs ≡ 0
 tally_none seats s [] all le = refl
 tally_none seats s (x ∷ xs) all le =
@@ -40,7 +40,7 @@ roomy_after seats list letters roomy seated room s =
     past : seats ≤ s → tally s (joined list ++ letters) < 2 ^ 64
     past le = omega (arith, tally-append s (joined list) letters, tally_none seats s letters seated le, roomy s)
 
--- the rows have room exactly where the list has
+-- the rows have room exactly if the list has
 pub room_is : (rows : List Row) (o : Opening) (list : List (List Letter)) (letters : List Letter) → rows ≡ (shown_by (begun o) (joined list)).rows → IsRoomy list
     → HaveRoom rows letters ↔ HasRoom o.seats list letters
 room_is rows o list letters is roomy = (there, back)

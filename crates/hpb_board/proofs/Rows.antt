@@ -22,7 +22,7 @@ length-note_at [] k a = refl
 length-note_at (r ∷ rs) zero a = refl
 length-note_at (r ∷ rs) (suc k) a = ap (λ (n : ℕ). suc n) (length-note_at rs k a)
 
--- letters change no number of rows
+-- letters don't change the number of rows
 pub length_rows : (xs : List Letter) (o : Shown) → length (shown_by o xs).rows ≡ length o.rows
 length_rows [] o = refl
 length_rows (x ∷ xs) o = length_rows xs (taken_in o x) ∙ length-note_at o.rows x.seat (answer_in o.auction x)

@@ -1,10 +1,10 @@
--- What is published, and what a prepared batch does to it.
+-- The published content, and how a prepared batch changes it.
 use Rattle.hpb_board.specs.declared.board.Content.{Content}
 use Rattle.hpb_board.specs.declared.board.Board.{Board}
 use Rattle.hpb_board.specs.declared.board.Prepared.{Prepared}
 use Rattle.hpb_board.specs.Rows.{shown_by}
 
--- What both copies of a board have in common.
+-- The content that both copies of a board have in common.
 abbrev pub content : Board → Content
 content b = record { trail = b.trail; shown = record { auction = b.auction; rows = b.rows.items } }
 

@@ -4,5 +4,5 @@ use Rattle.hpb_board.specs.declared.publisher.TheConstants.{MOST_BATCHES}
 
 -- Each limit of the code is the number that the documents name.
 pub record LimitsAre : Type 0 where
-  -- So many batches are published at most.
+  -- How many batches are published at most.
   pub batches : MOST_BATCHES ≡ 2 ^ 62

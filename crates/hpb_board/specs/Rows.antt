@@ -1,4 +1,4 @@
--- What letters do to the auction and the rows of answers.
+-- How letters change the auction and the rows of answers.
 use Rattle.std.specs.Prelude.{◌<◌, ◌&&◌, nat_lt, if◌then◌else◌, Option, Some, None, slice_get, slice_index_or, ◌≡◌, ℕ, ◌+◌, ◌%◌, ◌^◌, ◌-◌, min, zero, suc, List, [], ◌∷◌, ◌++◌, fold, length, slice_set, replicate}
 use Rattle.hpb_rules.specs.declared.letter.Answer.{Answer}
 use Rattle.hpb_rules.specs.declared.letter.Letter.{Letter}
@@ -12,7 +12,7 @@ use Rattle.hpb_board.specs.Publication.{tally}
 abbrev pub blank : Row
 blank = record { count = 0; last = replicate 16 None }
 
--- A row after an answer: it takes the place of the one that came 16 before it.
+-- A row after an answer, which replaces the one that came 16 before it.
 abbrev pub noted : Row → Answer → Row
 noted r a = record { count = min (r.count + 1) (2 ^ 64 - 1); last = slice_set r.last (r.count % 16) (Some a) }
 
@@ -20,11 +20,12 @@ noted r a = record { count = min (r.count + 1) (2 ^ 64 - 1); last = slice_set r.
 abbrev pub row_of : List Answer → Row
 row_of answers = fold noted blank answers
 
--- The second row is of the same seat with more answers, or as many: the first has some of them, from the first answer on.
+-- The second row belongs to the same seat, with as many answers or more: the answers of the first begin those of the
+-- second.
 abbrev pub GoesOn : Row → Row → Type 0
 GoesOn r later = (before more : List Answer) × (r ≡ row_of before) × (later ≡ row_of (before ++ more)) × (length (before ++ more) < 2 ^ 64)
 
--- Each row of the second list goes on from the one of its place in the first.
+-- Each row of the second list continues the row at its place in the first.
 abbrev pub GoOn : List Row → List Row → Type 0
 GoOn rows later = (seat : ℕ) (r r' : Row) → slice_get rows seat ≡ Some r → slice_get later seat ≡ Some r' → GoesOn r r'
 
@@ -34,7 +35,7 @@ note_at [] seat a = []
 note_at (r ∷ rs) zero a = noted r a ∷ rs
 note_at (r ∷ rs) (suc seat) a = r ∷ note_at rs seat a
 
--- What a row tells of the answer of a number, from 1.
+-- The answer that a row has for a number, from 1, if it has one.
 abbrev pub told : Row → ℕ → Option Answer
 told r zero = None
 told r (suc i) = if nat_lt i r.count && nat_lt r.count (i + 17) then slice_index_or r.last (i % 16) None else None
@@ -47,10 +48,10 @@ taken_in shown letter = record { auction = after_letter shown.auction letter; ro
 abbrev pub shown_by : Shown → List Letter → Shown
 shown_by shown letters = fold taken_in shown letters
 
--- What is shown at the opening: the auction, and no answer.
+-- The auction at the opening, without answers.
 abbrev pub begun : Opening → Shown
 begun o = record { auction = o.auction; rows = replicate o.seats blank }
 
--- No row's number of answers passes its greatest by these letters.
+-- These letters make no row's number of answers pass its greatest value.
 abbrev pub HaveRoom : List Row → List Letter → Type 0
 HaveRoom rows letters = (seat : ℕ) (row : Row) → slice_get rows seat ≡ Some row → row.count + tally seat letters < 2 ^ 64

@@ -1,4 +1,4 @@
-//! What is published.
+//! The board that is published.
 ghost use Rattle.std.specs.Prelude.{◌≡◌, length};
 ghost use Rattle.hpb_board.specs.Publication.{IsRoomy};
 ghost use Rattle.hpb_board.specs.Rows.{taken_in, shown_by};
@@ -11,21 +11,21 @@ use left_right::Absorb;
 use std::alloc::{AllocError, Global};
 use std::marker::Model;
 
-/// The auction and the answers, as data. No value of it is made.
+/// The auction and the answers, as data for contracts. No value of this type is ever made.
 #[derive(Drop)]
 pub struct Shown {
     pub auction: Auction,
     pub rows: [Row; 0],
 }
 
-/// What was opened, as data. No value of it is made.
+/// The auction at the opening, as data for contracts. No value of this type is ever made.
 #[derive(Drop)]
 pub struct Opening {
     pub auction: Auction,
     pub seats: u64,
 }
 
-/// What two copies of a board have in common. No value of it is made.
+/// The content that two copies of a board have in common. No value of this type is ever made.
 #[derive(Drop)]
 pub struct Content {
     pub trail: Trail,
@@ -44,7 +44,7 @@ pub struct Board {
     pub ghost roomy: { IsRoomy trail.log },
 }
 
-/// A batch to be published, and the trail with it.
+/// A batch to be published, with the trail after it.
 #[derive(Drop)]
 pub struct Prepared {
     pub letters: Letters,
@@ -61,7 +61,7 @@ impl Board {
     ghost use Rattle.hpb_board.specs.Contents.{content};
     ghost use Rattle.hpb_board.specs.Views.{AreOfOne};
 
-    /// The auction as opened, and no answers yet.
+    /// A board of the auction as it was opened, without answers.
     pub(crate) fn new(
         alloc: Global,
         trail: Trail,
@@ -80,7 +80,7 @@ impl Board {
         })
     }
 
-    /// A copy. Fails only where memory is refused.
+    /// A copy. Fails only if memory is refused.
     pub(crate) fn copy(&self, alloc: Global) -> Result<Board, AllocError>
         ensures { IfOk result (λ b. content b ≡ content self.now) }
     {
@@ -94,8 +94,8 @@ impl Board {
         })
     }
 
-    /// Becomes the same as a board of the same auction that has gone on. It takes over what is new there, and takes no
-    /// memory.
+    /// Makes this board equal to a later one of the same auction. Takes over only the parts that are new there, and
+    /// takes no memory.
     pub(crate) fn catch_up(&mut self, later: &Board)
         requires one { AreOfOne self.old later.now }
         requires later { IsPrefix self.old.trail.log later.now.trail.log }
@@ -114,7 +114,7 @@ impl Board {
     }
 }
 
-/// Becomes the same as a later value of the auction. With as many accepted commands it is the same already.
+/// Makes an auction equal to a later value of it. If both have equally many accepted commands, they are equal already.
 fn catch_up_auction(auction: &mut Auction, later: &Auction)
     requires rules { auction.old.rules ≡ later.now.rules }
     requires same { auction.old.count ≡ later.now.count → auction.old ≡ later.now }

@@ -5,11 +5,12 @@ ghost use Rattle.hpb_board.specs.Rows.{noted, note_at, told, GoesOn, GoOn, HaveR
 
 use hpb_rules::{Answer, Letter, MOST_WAITING};
 
-/// The answers of one seat: how many there were, and the last 16 of them, as many as may be waited for.
+/// The answers of one seat: how many there were, and the last 16 of them, since at most 16 letters may wait for
+/// answers.
 #[derive(Clone, Copy)]
 pub struct Row {
     pub(crate) count: u64,
-    // The answer of a number, from 1, has the place of its number less 1, modulo 16.
+    // The answer with a number, from 1, is at the place of that number less 1, modulo 16.
     pub(crate) last: [Option<Answer>; MOST_WAITING],
 }
 
@@ -20,7 +21,7 @@ pub(crate) const BLANK: Row = Row {
 };
 
 impl Row {
-    /// Counts an answer. It takes the place of the one that came 16 before it.
+    /// Counts an answer. It replaces the one that came 16 before it.
     fn note(&mut self, answer: Answer)
         ensures { self.new ≡ noted self.old answer }
     {
@@ -28,7 +29,7 @@ impl Row {
         self.count = self.count.saturating_add(1);
     }
 
-    /// The answer of this number, from 1, where it is among the last 16.
+    /// The answer with this number, from 1, if it is among the last 16.
     pub(crate) fn recent(&self, number: u64) -> Option<Answer>
         ensures { result ≡ told self.now number }
     {
@@ -38,7 +39,7 @@ impl Row {
         self.last[((number - 1) % MOST_WAITING as u64) as usize]
     }
 
-    /// Becomes the same as a row that goes on from it: it takes over the answers that are new there.
+    /// Makes this row equal to a later one of its seat, by taking over the answers that are new there.
     fn catch_up(&mut self, later: &Row)
         requires { GoesOn self.old later.now }
         ensures { self.new ≡ later.now }
@@ -56,7 +57,7 @@ impl Row {
     }
 }
 
-/// Each row becomes the same as the one of its place, which goes on from it.
+/// Makes each row equal to the later one at its place.
 pub(crate) fn catch_up_all(rows: &mut [Row], later: &[Row])
     requires long { length rows.old ≡ length later.now }
     requires later { GoOn rows.old later.now }
@@ -67,7 +68,7 @@ pub(crate) fn catch_up_all(rows: &mut [Row], later: &[Row])
     }
 }
 
-/// Counts an answer to a seat. A seat that there isn't has none.
+/// Counts an answer to a seat. An unknown seat has no row, and nothing is counted.
 #[tactic(auto, using(crate::proofs::Rows::row_lemmas))]
 pub(crate) fn note_in(rows: &mut [Row], seat: usize, answer: Answer)
     ensures { rows.new ≡ note_at rows.old seat answer }
@@ -90,7 +91,7 @@ fn count_of(seat: usize, letters: &[Letter]) -> u64
     count
 }
 
-/// Whether no row's number of answers would pass its greatest value by these letters.
+/// Whether each row's number of answers stays within its greatest value with these letters.
 pub(crate) fn have_room(rows: &[Row], letters: &[Letter]) -> bool
     ensures { IsTrue result ↔ HaveRoom rows.now letters.now }
 {

@@ -4,14 +4,15 @@ use crate::trail::Trail;
 use atomic_table::{Join, Split};
 use crossbeam_utils::rule::{Outcome, Protocol};
 
-/// What a publisher or a viewer knows: whose trail it is, and what was opened. No value of it is made.
+/// The knowledge of a publisher or of a viewer: the book of a trail, and the auction at the opening. No value of this
+/// type is ever made.
 #[derive(Drop)]
 pub enum View {
     New,
     Of(Trail, Opening),
 }
 
-/// What is published is what its trail makes of what was opened.
+/// The published board follows, by its trail, from the opening.
 pub struct Law;
 
 impl Protocol<Board, View> for Law {
@@ -23,7 +24,7 @@ impl Protocol<Board, View> for Law {
     ghost first = { New };
 }
 
-/// The publisher learns whose trail it publishes.
+/// The step by which the publisher learns the book of its trail.
 pub(crate) struct Opens;
 
 impl Outcome<Board, View> for Opens {

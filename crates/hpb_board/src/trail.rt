@@ -27,7 +27,7 @@ impl Rule<Letters, u64> for Batches {
     ghost moves = { λ ask before after answer. Unit {0} };
 }
 
-/// Whoever adds a batch gains nothing by it.
+/// The knowledge gained by adding a batch: none.
 pub struct Nothing;
 
 impl Gain<Letters, u64> for Nothing {
@@ -53,11 +53,11 @@ impl Plain<Letters, Letters, u64> for Add {
     ghost state = { λ batch. None };
 }
 
-/// A token without bytes: the list of a book had these batches. `again` copies it, and `learn` makes it that of another
-/// token of the same book where that one has more.
+/// A token without bytes: the list of a book had these batches. `again` copies it. `learn` makes it equal to another
+/// token of the same book, if that one has more.
 pub type Trail = Seen<Letters, u64, Batches>;
 
-/// The word that counts the batches. One publisher has it.
+/// The word that counts the batches. The one publisher holds it.
 #[derive(Drop)]
 pub struct Head {
     word: Word<Letters, u64, Batches>,
@@ -75,7 +75,7 @@ pub(crate) fn open() -> (Head, Trail)
     (head, trail)
 }
 
-/// Adds a batch to what the trail has. It doesn't where the list has grown beyond that.
+/// Adds a batch to the trail's list. It isn't added if the list has grown beyond that.
 pub(crate) fn append(head: &Head, trail: &mut Trail, number: u64, batch: &Letters) -> bool
     requires head { head.now.word ≡ head_of trail.old.book }
     requires number { (number ≡ length trail.old.log) × (number < 2 ^ 62) }

@@ -16,9 +16,10 @@ use std::marker::Model;
 
 pub(crate) type BoardReader = Reader<Board, View, Law>;
 
-/// The end that reads what a publisher publishes. It never waits.
+/// The end that reads the publications of a publisher. It never waits.
 ///
-/// To a contract it is whose trail it follows, what was opened, the seats, and the batches that it has entered.
+/// In contracts it is the book of the trail that it follows, the auction at the opening, the seats, and the batches
+/// that it has entered.
 #[derive(Drop)]
 pub struct Viewer {
     ends: Ends,
@@ -44,7 +45,7 @@ impl Model for Viewer {
     ghost invariant = { λ p. IsOf p.ends.own.trail.book (opened_of (knows p.ends.reader.place)) (knows p.ends.reader.place) × Fits p.ends.own (knows p.ends.reader.place) };
 }
 
-/// Enters, and takes over what is new. It takes over nothing where the publisher has ended.
+/// Enters the published list, and takes over its new parts. Takes over nothing if the publisher has ended.
 #[tactic(auto, using(crate::proofs::Keeping::viewing))]
 fn look(ends: Ends) -> (Ends, bool)
     requires knows { IsOf ends.own.trail.book (opened_of (view ends.reader.place)) (view ends.reader.place) }
@@ -65,7 +66,7 @@ fn look(ends: Ends) -> (Ends, bool)
     }
 }
 
-/// `look`, in place.
+/// The same as `look`, in place.
 fn look_again(ends: &mut Ends) -> bool
     requires knows { IsOf ends.old.own.trail.book (opened_of (view ends.old.reader.place)) (view ends.old.reader.place) }
     requires fits { Fits ends.old.own (view ends.old.reader.place) }
@@ -77,8 +78,8 @@ fn look_again(ends: &mut Ends) -> bool
     replace_with(ends, (), |ends, _| look(ends))
 }
 
-/// Catches up with a board of the same publisher where that has moved on, and there alone: with the same number of batches
-/// both are alike already.
+/// Catches up with a board of the same publisher, if that has more batches. With the same number of batches both are
+/// equal already.
 fn take_over(own: &mut Board, board: &Board)
     requires one { AreOfOne own.old board.now }
     ensures copied { own.old.number < board.now.number → content own.new ≡ content board.now }
@@ -103,7 +104,7 @@ impl Viewer {
     ghost use Rattle.hpb_board.specs.Views.{IsOf, Fits, opened_of};
     ghost use Rattle.hpb_board.specs.contracts.viewer.Viewer.{the_row};
 
-    /// `enter`, with the auction that it then has. `None` where the publisher has ended.
+    /// Does `enter`, and returns the auction. `None` if the publisher has ended.
     pub fn view(&mut self) -> Option<&Auction>
         ensures* after { sem 𝓛 (follows_so the_row the_row self.entry.ghost_name none (λ _ _. ⊤) (λ n. (n.book ≡ self.old.book) × (n.opened ≡ self.old.opened) × (n.seats ≡ self.old.seats) × IsPrefix self.old.list n.list × IfSome result (λ a. a.now ≡ auction_of n))) }
     {
@@ -124,7 +125,8 @@ impl Viewer {
         }
     }
 
-    /// Brings its board up to what is published. `false` where the publisher has ended: then it keeps what it had.
+    /// Brings this viewer's board up to the published one. `false` if the publisher has ended; then the board stays as
+    /// it was.
     pub fn enter(&mut self) -> bool
         ensures same { (self.new.book ≡ self.old.book) × (self.new.opened ≡ self.old.opened) × (self.new.seats ≡ self.old.seats) }
         ensures later { IsPrefix self.old.list self.new.list }
@@ -139,7 +141,7 @@ impl Viewer {
         &self.ends.own.auction
     }
 
-    /// The answer of this number to a seat, from 1, where it is among the last 16 that it has entered.
+    /// The answer with this number to a seat, from 1, if it is among the last 16 that the viewer has entered.
     pub fn answer(&self, seat: u8, number: u64) -> Option<Answer>
         requires seat { seat < self.now.seats }
         ensures recent { result ≡ recent (answers_of seat self.now) number }
@@ -165,7 +167,7 @@ impl Viewer {
         self.ends.own.trail.again()
     }
 
-    /// A trail learns what this viewer has entered.
+    /// A trail learns the list that this viewer has entered.
     pub fn teach(&self, all: &mut Trail)
         requires { all.old.book ≡ self.now.book }
         ensures book { all.new.book ≡ all.old.book }

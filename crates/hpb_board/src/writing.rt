@@ -27,7 +27,7 @@ pub(crate) fn copied(letters: &Letters) -> Letters
     copy
 }
 
-/// Puts a batch behind what is pending, and says whether it did. It didn't where memory was refused.
+/// Adds a batch to the pending operations, and returns whether it did. It didn't if memory was refused.
 pub(crate) fn put(writer: &mut BoardWriter, batch: Prepared) -> bool
     ensures desk { writer.new.desk ≡ writer.old.desk }
     ensures pending { MatchBool result (drop writer.new.behind writer.new.log.items ≡ drop writer.old.behind writer.old.log.items ++ batch ∷ []) (drop writer.new.behind writer.new.log.items ≡ drop writer.old.behind writer.old.log.items) }
@@ -35,7 +35,7 @@ pub(crate) fn put(writer: &mut BoardWriter, batch: Prepared) -> bool
     writer.append(batch).is_ok()
 }
 
-/// Puts an operation behind what is pending that changes nothing, and says whether it did.
+/// Adds an operation that changes nothing to the pending ones, and returns whether it did.
 fn put_blank(writer: &mut BoardWriter) -> bool
     requires { AreBlank writer.old.desk.shown.value (drop writer.old.behind writer.old.log.items) }
     ensures desk { writer.new.desk ≡ writer.old.desk }
@@ -50,7 +50,7 @@ fn put_blank(writer: &mut BoardWriter) -> bool
     put(writer, blank)
 }
 
-/// Puts two operations that change nothing. So the writer's list has room for two, and it keeps that room.
+/// Adds two operations that change nothing. So the writer's list has room for two, and keeps that room.
 pub(crate) fn reserve<R: Wait>(rt: &R, writer: BoardWriter) -> Result<BoardWriter, AllocError>
     requires { drop writer.behind writer.log.items ≡ [] }
     ensures desk { IfOk result (λ w. w.desk ≡ writer.desk) }
@@ -64,7 +64,7 @@ pub(crate) fn reserve<R: Wait>(rt: &R, writer: BoardWriter) -> Result<BoardWrite
     Err(AllocError)
 }
 
-/// Shows all that is prepared.
+/// Publishes all prepared batches.
 pub(crate) fn show<R: Wait>(rt: &R, writer: BoardWriter, trail: &Trail) -> BoardWriter
     requires { IsPublisher writer.desk.shown.value (view writer.desk.place) (drop writer.behind writer.log.items) trail.now.book trail.now.log }
     ensures kept { IsPublisher result.desk.shown.value (view result.desk.place) (drop result.behind result.log.items) trail.now.book trail.now.log }
@@ -79,8 +79,7 @@ pub(crate) fn show<R: Wait>(rt: &R, writer: BoardWriter, trail: &Trail) -> Board
     }
 }
 
-/// The publisher learns whose trail it publishes. Nothing is prepared yet that changes anything, and it waits for
-/// nobody.
+/// The publisher learns the book of its trail. No prepared operation changes anything yet, and no viewer is waited for.
 pub(crate) fn learn_whose<R: Wait>(rt: &R, writer: BoardWriter) -> BoardWriter
     requires pending { AreBlank writer.desk.shown.value (drop writer.behind writer.log.items) }
     requires empty { writer.desk.shown.value.trail.log ≡ [] }

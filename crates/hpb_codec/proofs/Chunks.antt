@@ -3,7 +3,7 @@ use Rattle.std.proofs.Common.{◌≡◌, ℕ, ◌+◌, ◌*◌, ◌≤◌, List,
 use Rattle.std.proofs.lemmas.List.{drop-drop, take-append-drop, take_all, length-drop}
 use Rattle.hpb_codec.specs.Laws.{chunk_of, ChunksAreBody}
 
--- what stands from a chunk on
+-- the bytes from a chunk on
 unfoldable from_chunk : ℕ → List ℕ → List ℕ
 from_chunk i body = drop (i * 4096) body
 

@@ -1,4 +1,4 @@
--- Nodes and bidders, one behind the other.
+-- Nodes and bidders, one after another.
 use Rattle.std.proofs.Common.{◌≡◌, ℕ, zero, suc, ◌+◌, ◌-◌, ◌*◌, ◌<◌, ◌≤◌, List, [], ◌∷◌, ◌++◌, length, take, drop, get_or, Option, Some, None, refl, sym, ap, ◌∙◌, arith, append_assoc, length-append}
 use Rattle.std.specs.List.{flat_map, AllByRecursion}
 use Rattle.std.specs.Prelude.{◌^◌, IfSome, slice_get, option_map}
@@ -24,17 +24,17 @@ pub name_sized : (name : List ℕ) → length name ≤ 16 → length (filled 16 
 unfolding filled
 name_sized name short = length-append name (number (16 - length name) 0) ∙ omega (arith, length-number (16 - length name) 0)
 
--- entries of one size are so many bytes
+-- the size of entries that each have the same size
 pub entries_sized : {X : Type 0} (f : X → List ℕ) (P : X → Type 0) (size : ℕ) → ((x : X) → P x → length (f x) ≡ size) → (values : List X) → AllByRecursion P values → length (flat_map f values) ≡ length values * size
 entries_sized f P size sized [] all = omega arith
 entries_sized f P size sized (x ∷ values) all = ap length (flat_map-cons f x values) ∙ omega (arith, add-mul (length values) 1 size, length-append (f x) (flat_map f values), sized x all.0, entries_sized f P size sized values all.1)
 
--- what stands at the front of a page
+-- the bytes at the start of a page
 pub page_front : (entries : List ℕ) (size n : ℕ) → length entries ≡ n → before n (filled size entries) ≡ entries
 unfolding before filled
 page_front entries size n len = take_at entries (number (size - length entries) 0) n len
 
--- one more entry at the end of those before
+-- one more entry behind those written so far
 pub one_more : {X : Type 0} (f : X → List ℕ) (values : List X) (i : ℕ) (d : X) (old out out' : List ℕ) (a b : ℕ) → i < length values → before a out ≡ before 0 old ++ flat_map f (take i values) → before b out' ≡ before a out ++ f (get_or values i d)
     → before b out' ≡ before 0 old ++ flat_map f (take (i + 1) values)
 one_more f values i d old out out' a b lt so_far written =
@@ -57,7 +57,7 @@ units_at [] i d lt = absurd (omega arith)
 units_at (b ∷ bs) zero d lt = refl
 units_at (b ∷ bs) (suc i) d lt = units_at bs i d (omega arith)
 
--- and a bidder the name and the units
+-- the bidder at a place has the name and the units of that place
 pub bidder_entry : (rules : Rules) (i : ℕ) (d : Bidder) → i < length rules.bidders → bidders.entry_of (bidder_name rules.bidders i) (bidder_units rules i) ≡ bidders.bidder_of (get_or rules.bidders i d)
 bidder_entry rules i d lt = ap (λ (name : List ℕ). bidders.entry_of name (bidder_units rules i)) (named_bidder rules.bidders i d lt) ∙ ap (bidders.entry_of (get_or rules.bidders i d).name) (units_at rules.bidders i d lt)
 
@@ -77,7 +77,7 @@ pub bidder_sized : (bidder : Bidder) → bidders.HasEntry bidder → length (bid
 unfolding bidders.entry_of
 bidder_sized bidder has = behind_text 16 (filled 16 bidder.name) _ (name_sized bidder.name has.name.0.1) (behind 4 _ _ (behind 4 _ _ refl))
 
--- the next entry at the front of what is left
+-- the next entry, at the start of the bytes that are left
 pub next_read : {X : Type 0} (f : X → List ℕ) (P : X → Type 0) (size : ℕ) → ((x : X) → P x → length (f x) ≡ size) → (values : List X) (i : ℕ) (d : X) (rest entry after : List ℕ) → i < length values → AllByRecursion P values
     → rest ≡ flat_map f (drop i values) → rest ≡ entry ++ after → length entry ≡ size → (entry ≡ f (get_or values i d)) × (after ≡ flat_map f (drop (i + 1) values))
 next_read f P size sized values i d rest entry after lt all is cut len =
@@ -85,7 +85,7 @@ next_read f P size sized values i d rest entry after lt all is cut len =
     same_text size entry (f x) after (flat_map f (drop (i + 1) values)) len (sized x (recursion_at P values i d lt all))
     (sym cut ∙ is ∙ ap (flat_map f) (drop_more values i d lt) ∙ flat_map-cons f x (drop (i + 1) values))
 
--- what is read of a bidder's bytes
+-- the bidder read from its bytes
 pub bidder_read : (bidder : Bidder) (entry name rest after : List ℕ) (units : ℕ) → bidders.HasEntry bidder → entry ≡ bidders.bidder_of bidder → entry ≡ name ++ rest → length name ≡ 16 → rest ≡ number 4 units ++ after → units < 2 ^ 32
     → (name ≡ filled 16 bidder.name) × (units ≡ bidder.units)
 unfolding bidders.entry_of
@@ -100,7 +100,7 @@ pub parent_small : (p : Option ℕ) → IfSome p (λ q. q < 255) → nodes.paren
 parent_small None h = omega arith
 parent_small (Some p) h = omega (arith, h)
 
--- the fields of a node's bytes, as they are read one behind the other
+-- the fields of a node's bytes, as they are read one after another
 module _ (entry name r1 r2 r3 unused r4 r5 r6 : List ℕ) (parent kind units opening : ℕ)
     (cut : entry ≡ name ++ r1) (len : length name ≡ 16) (e1 : r1 ≡ number 1 parent ++ r2) (e2 : r2 ≡ number 1 kind ++ r3) (e3 : r3 ≡ unused ++ r4) (two : length unused ≡ 2) (e4 : r4 ≡ number 4 units ++ r5) (e5 : r5 ≡ number 8 opening ++ r6)
     (small_parent : parent < 256) (small_kind : kind < 256) (small_units : units < 2 ^ 32) (small_opening : opening < 2 ^ 64) where
@@ -121,7 +121,7 @@ module _ (entry name r1 r2 r3 unused r4 r5 r6 : List ℕ) (parent kind units ope
       let s5 = same_number 8 opening o r6 _ small_opening lo (sym e5 ∙ s4.1) in
       record { name_is = s0.0; parent_is = s1.0; kind_is = s2.0; units_is = s4.0; opening_is = s5.0 }
 
-  -- what is read of them
+  -- the node read from these fields
   pub record ReadsNode (node : Node) : Type 0 where
     pub name_is : name ≡ filled 16 node.name
     pub parent_is : parent ≡ nodes.parent_byte node.parent

@@ -22,7 +22,7 @@ use Rattle.hpb_codec.proofs.Definitions.{nodes_fit}
 use Rattle.hpb_codec.proofs.Entries.{entries_sized, node_sized}
 use Rattle.hpb_codec.proofs.Fronts.{same_number, same_text}
 
--- the page with its fields one behind the other
+-- the page as its fields one after another
 pub page_is : (rules : Rules) (journal : JournalShape) (format : StateFormat)
     → head_page_of rules journal format ≡ magic ++ (number 1 (layout_byte journal.layout) ++ (number 1 (format_byte format) ++ (number 1 (length rules.nodes) ++ (number 1 (length rules.bidders) ++ (number 1 rules.percent ++ (number 1 (length rules.stages)
     ++ (filled 4 rules.stages ++ (number 1 rules.waivers ++ (number 1 0 ++ (number 4 rules.step ++ (number 4 journal.frames ++ number (4080 - length (head_fields rules journal format)) 0)))))))))))
@@ -59,7 +59,7 @@ byte_is_one Pages Cells e = absurd (omega (arith, e))
 byte_is_one Cells Pages e = absurd (omega (arith, e))
 byte_is_one Cells Cells e = refl
 
--- what is read of a page
+-- the fields read from a page
 pub record ReadsPage (rules : Rules) (journal : JournalShape) (form : StateFormat) (layout format node_count bidder_count percent stage_count waivers step frames : ℕ) (stages : List ℕ) : Type 0 where
   pub format_is : format ≡ format_byte form
   pub waivers_are : waivers ≡ rules.waivers
@@ -110,7 +110,7 @@ head_page_sized rules journal format def = filled_sized 4080 (head_fields rules 
 pub node_page_sized : (rules : Rules) → IsDefinition rules → length (node_page_of rules.nodes) ≡ 4096
 node_page_sized rules def = filled_sized 4096 (flat_map node_of rules.nodes) (omega (arith, entries_sized node_of HasEntry 32 node_sized rules.nodes (nodes_fit rules def), def.nodes.1))
 
--- the pages of a head are what its bytes are cut into
+-- the pages that a head's bytes are cut into
 pub record Cut (rules : Rules) (journal : JournalShape) (format : StateFormat) (page nodes bidders : List ℕ) : Type 0 where
   pub head : page ≡ head_page_of rules journal format
   pub node_page : nodes ≡ node_page_of rules.nodes

@@ -1,4 +1,4 @@
--- The record of a last command, at the front of what is spelled.
+-- The record of a last command, read from the start of the bytes that spell it.
 use Rattle.std.proofs.Common.{◌≡◌, ◌++◌, List, ℕ, Option}
 use Rattle.std.proofs.lemmas.List.{take_at, drop_at}
 use Rattle.hpb_rules.specs.declared.saved.Accepted.{Accepted}

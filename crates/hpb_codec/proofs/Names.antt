@@ -1,4 +1,4 @@
--- A name is read back from before its zeros.
+-- A name is read back up to its first zero byte.
 use Rattle.std.proofs.Common.{◌≡◌, ℕ, ◌-◌, ◌<◌, Bool, true, false, cond, ltb, List, ◌++◌, length, take, get_or, Option, Some, None, refl, ap, ◌∙◌, ⊎_elim, arith, length-append}
 use Rattle.std.specs.Prelude.{◌==◌}
 use Rattle.std.specs.List.{position, position_or_len}
@@ -42,7 +42,7 @@ module _ (name : List ℕ) (is : IsName name) where
         eq-eqb (get_or bytes (length name) 0) 0
         (ap (λ (x : List ℕ). get_or x (length name) 0) padded ∙ get_or-append_right name (number (16 - length name) 0) (length name) (length name) 0 refl (omega arith) ∙ get_or-number (16 - length name) (length name - length name) 0 (omega (arith, size)))
 
-    -- the first zero byte, or the end
+    -- the place of the first zero byte, or the end
     found : position_or_len (λ b. b == 0) bytes ≡ length name
     found = position_or_len_is (λ b. b == 0) bytes (length name) 0 (omega (arith, size, is.0.1)) some_before zero_at
 
@@ -52,7 +52,7 @@ module _ (name : List ℕ) (is : IsName name) where
         (λ le. ap (λ (n : ℕ). unwrap_or (cond (ltb n (length bytes)) (Some n) None) (length bytes)) found ∙ ap (λ (b : Bool). unwrap_or (cond b (Some (length name)) None) (length bytes)) (le-ltb (length name) (length bytes) le) ∙ omega (arith, size, is.0.1))
         (cases_lt (length name) (length bytes))
 
-    -- what stands before it is the name
+    -- the bytes before it are the name
     pub name_cut : (place : Option ℕ) (end : ℕ) → place ≡ position (λ b. b == 0) bytes → end ≡ unwrap_or place (length bytes) → take end bytes ≡ name
     name_cut place end at cut =
         ap (λ (n : ℕ). take n bytes) (cut ∙ ap (λ (o : Option ℕ). unwrap_or o (length bytes)) at ∙ name_end) ∙ ap (take (length name)) padded ∙ take_at name (number (16 - length name) 0) (length name) refl

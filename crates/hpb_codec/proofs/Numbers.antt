@@ -46,7 +46,7 @@ value_8 (a ∷ b ∷ c ∷ d ∷ e ∷ f ∷ g ∷ i ∷ bytes) h = omega arith
 joins : (m d p r : ℕ) → (m * 256 + d) * p + r ≡ m * (256 * p) + (d * p + r)
 joins m d p r = omega (arith, add-mul (m * 256) d p, mul_assoc m 256 p)
 
--- a number's low bytes are those of what is left of it
+-- the low bytes of a number, one byte at a time
 low_part : (n p : ℕ) → 0 < p → n % (256 * p) ≡ (n / p % 256) * p + n % p
 low_part n p h =
     let q = n / p in
@@ -71,7 +71,7 @@ value_from-number (suc k) n m =
 pub value-number : (k n : ℕ) → n < 256 ^ k → value (number k n) ≡ n
 value-number k n fits = omega (arith, value_from-number k n 0, mod-eq_of_lt fits)
 
--- the number at the front of bytes is the one that is spelled there, and the rest is what follows
+-- reading the number that bytes begin with gives that number and the bytes behind it
 pub leading-number : (k n : ℕ) (back : List ℕ) → n < 256 ^ k → leading k (number k n ++ back) ≡ n
 unfolding leading
 leading-number k n back fits = ap value (take_at (number k n) back k (length-number k n)) ∙ value-number k n fits
@@ -84,7 +84,7 @@ pub length-rest : (k : ℕ) (bytes : List ℕ) → length (rest k bytes) ≡ len
 unfolding rest
 length-rest k bytes = length-drop k bytes
 
--- the fields at the front of what is spelled
+-- the fields that bytes begin with
 pub ruleset fields = (leading-number, rest-number)
 
 pub number-zero : (k : ℕ) → number k 0 ≡ replicate k 0
@@ -98,7 +98,7 @@ number-zero (suc k) = rw (number-zero k) (ap (λ (x : ℕ). x ∷ replicate k 0)
 pub get_or-number : (n k d : ℕ) → k < n → get_or (number n 0) k d ≡ 0
 get_or-number n k d lt = ap (λ (x : List ℕ). get_or x k d) (number-zero n) ∙ get_or-replicate n k 0 d lt
 
--- what is written whole
+-- bytes that were written from the start to the end
 pub whole : (out old text : List ℕ) (n : ℕ) → before n out ≡ before 0 old ++ text → length out ≡ n → out ≡ text
 unfolding before
 whole out old text n e len = sym (take_all n out (omega arith)) ∙ e
@@ -110,7 +110,7 @@ pub before_none : (bytes : List ℕ) → before 0 bytes ≡ []
 unfolding before
 before_none bytes = refl
 
--- what is filled up with zeros
+-- bytes that were filled with zeros to the end
 pub filled_is : (out old : List ℕ) (at left : ℕ) → before (at + left) out ≡ before at old ++ number left 0 → at + left ≡ length old → length out ≡ length old → out ≡ filled (length old) (before at old)
 unfolding filled before
 filled_is out old at left e all len =
@@ -148,7 +148,7 @@ leading_16 bytes h =
     let eight : length back ≡ 8 = omega (arith, length-take 8 (drop 8 bytes), length-drop 8 bytes) in
     ap value cut ∙ value_from-append 0 front back ∙ value_from-start (value front) back ∙ ap (λ (k : ℕ). value front * 256 ^ k + value back) eight
 
--- std's bytes of a number are these
+-- the standard library's bytes of a number are these
 pub high_first : (k n : ℕ) → bytes_high_first k n ≡ number k n
 unfolding number
 high_first zero n = refl
@@ -158,7 +158,7 @@ high_first (suc (suc k)) n = ap (λ (x : List ℕ). n / 256 ^ suc k % 256 ∷ x)
 abbrev pub IsBytes : List ℕ → Type 0
 IsBytes bytes = (i : ℕ) → get_or bytes i 0 < 256
 
--- what a number was read from
+-- the bytes that a number was read from
 pub back_from : (k : ℕ) (bytes front rest : List ℕ) (n : ℕ) → front ≡ take k bytes → rest ≡ drop k bytes → bytes_high_first k n ≡ front → bytes ≡ number k n ++ rest
 back_from k bytes front rest n f r e = sym (take-append-drop k bytes) ∙ ap (λ (x : List ℕ). x ++ drop k bytes) (sym (sym (high_first k n) ∙ e ∙ f)) ∙ ap (λ (x : List ℕ). number k n ++ x) (sym r)
 

@@ -15,7 +15,7 @@ use Rattle.hpb_codec.proofs.Batches.{body_is, fields_sized, records_sized}
 use Rattle.hpb_codec.proofs.Numbers.{before_none, leading-number, rest-number, number-zero}
 use Rattle.hpb_codec.proofs.OneToOne.{one_batch}
 
--- what a cell begins with
+-- the bytes that a cell begins with
 abbrev cell_head : ℕ → ℕ → List ℕ
 cell_head index cell = number 8 index ++ (number 1 cell ++ number 7 0)
 
@@ -23,7 +23,7 @@ pub cell_is : (index cell cells : ℕ) (body : List ℕ) → further_of index ce
 unfolding further_of
 cell_is index cell cells body = simp (append_assoc, append-nil)
 
--- the parts of the body that stand in the cells behind the first
+-- the parts of the body in the cells behind the first
 in_further : (cells index cell : ℕ) (body back : List ℕ) → 496 * cells ≤ length body → further_in cells (further_of index cell cells body ++ back) ≡ take (496 * cells) body
 unfolding further_in further_of before rest
 in_further zero index cell body back long = refl
@@ -41,7 +41,7 @@ in_further (suc cells) index cell body back long =
     ap (λ (x : List ℕ). x ++ further_in cells (drop 496 (drop 16 (further_of index cell (suc cells) body ++ back)))) here ∙ ap (λ (x : List ℕ). part ++ x) rest_is
     ∙ sym (take-add 496 (496 * cells) body) ∙ ap (λ (n : ℕ). take n body) (sym all)
 
--- zero bytes one behind the other
+-- zero bytes behind zero bytes
 zeros_join : (a b : ℕ) → number a 0 ++ number b 0 ≡ number (a + b) 0
 zeros_join a b = rw (number-zero a, number-zero b, number-zero (a + b)) (replicate-append-replicate a b 0)
 
@@ -50,7 +50,7 @@ zeros_cut a c le =
     let split : c ≡ a + (c - a) = omega (arith, le) in
     ap (λ (n : ℕ). take a (number n 0)) split ∙ ap (take a) (sym (zeros_join a (c - a))) ∙ take_at (number a 0) (number (c - a) 0) a (length-number a 0)
 
--- a front of what is filled up, filled up again
+-- filling the first bytes of a filled text gives the same text
 filled_again : (size : ℕ) (text : List ℕ) (k : ℕ) → length text ≤ k → k ≤ size → filled size (take k (filled size text)) ≡ filled size text
 unfolding filled
 filled_again size text k fits le =
@@ -72,7 +72,7 @@ pub enough : (count : ℕ) → count ≤ 64 → (further_cells count ≤ 2) × (
 unfolding further_cells
 enough count most = (omega (arith, most), omega (arith, most))
 
--- and there is no room for them in fewer
+-- fewer cells have no room for them
 pub cells_are_fewest : CellsAreFewest
 unfolding further_cells
 cells_are_fewest count further = (λ less. omega (arith, less), λ fits. omega (arith, fits))
@@ -112,7 +112,7 @@ module _ (rules : Rules) (batch : Batch) (is : IsBatch rules batch) (bytes back 
       ap (drop 8) (ap (drop 488) whole ∙ drop_at (take 488 body) (number 8 0 ++ (further ++ back)) 488 first_sized)
       ∙ drop_at (number 8 0) (further ++ back) 8 (length-number 8 0)
 
-  -- What cells have of the body, with zeros behind it, is the body.
+  -- The parts of the body in the cells, with zeros behind them, are the body.
   pub gathered_is : filled 4080 (gathered (further_cells count) bytes) ≡ body
   unfolding gathered before rest
   gathered_is =
@@ -124,7 +124,7 @@ module _ (rules : Rules) (batch : Batch) (is : IsBatch rules batch) (bytes back 
       ∙ sym (take-add 488 (496 * further_cells count) body))
       ∙ filled_again 4080 fields (488 + 496 * further_cells count) (omega (arith, short, room.1)) (omega (arith, room.0))
 
-  -- The first 488 bytes are those of the body.
+  -- The first 488 bytes are the body's.
   front_is : (k n : ℕ) → k + n ≤ 488 → take n (drop k bytes) ≡ take n (drop k body)
   front_is k n inside =
       let m = 488 - k in
@@ -150,7 +150,7 @@ module _ (rules : Rules) (batch : Batch) (is : IsBatch rules batch) (bytes back 
       sym (drop-drop 8 8 body) ∙ ap (λ (l : List ℕ). drop 8 (drop 8 l)) fields_are ∙ ap (drop 8) (rest-number 8 batch.index _) ∙ rest-number 8 batch.first _ in
       ap value (front_is 16 2 (omega arith)) ∙ ap (leading 2) behind_both ∙ leading-number 2 count behind_count (omega (arith, is.most))
 
--- What bytes begin with, and what stands behind it.
+-- Bytes that begin with a batch's cells are those cells and the bytes behind them.
 pub behind_cells : (rules : Rules) (bytes : List ℕ) (batch : Batch) → BeginsCells rules bytes batch → bytes ≡ cells_of batch ++ rest (size_of_cells (length batch.commands)) bytes
 unfolding before rest
 behind_cells rules bytes batch begins =
@@ -184,7 +184,7 @@ cell_written o0 o1 o2 o3 o4 body part after all a0 a1 a2 a3 a4 index n cell next
     let one : ((((front ++ number 8 index) ++ number 1 cell) ++ number 7 0) ++ before 496 body) ++ back ≡ front ++ (cell_head index cell ++ (before 496 body ++ back)) = simp append_assoc in
     rw (e4, e3, e2, e1, here, behind_it, is_cell, is_next) (one ∙ ap (λ (x : List ℕ). front ++ x) (sym (cell_is index cell more body)) ∙ ap (λ (k : ℕ). front ++ further_of index cell k body) (sym is_left) ∙ e)
 
--- All of them were.
+-- All cells were written.
 pub cells_written : (text all body : List ℕ) (index cell left : ℕ) → left ≡ 0 → text ++ further_of index cell left body ≡ all → text ≡ all
 unfolding further_of
 cells_written text all body index cell left none e = sym (append-nil text) ∙ ap (λ (k : ℕ). text ++ further_of index cell k body) (sym none) ∙ e
@@ -194,7 +194,7 @@ pub all_written : (old o1 o2 o3 first back body : List ℕ) (a1 a2 a3 cells : �
 unfolding cells_of
 all_written old o1 o2 o3 first back body a1 a2 a3 cells batch e1 e2 e3 is_first is_back is_body is_cells = rw (e3, e2, e1, before_none old, is_first, is_back, is_body, is_cells) (simp (append_assoc, append-nil))
 
--- What a reader finds in bytes that begin with the cells of a batch.
+-- The fields that a reader finds in bytes that begin with a batch's cells.
 pub count_found : (rules : Rules) (bytes : List ℕ) (batch : Batch) → BeginsCells rules bytes batch → (n m : ℕ) (counted : List ℕ) → counted ≡ rest 16 bytes → n ≡ leading 2 counted → m ≡ n → m ≡ length batch.commands
 count_found rules bytes batch begins n m counted there value same =
     same ∙ value ∙ ap (leading 2) there ∙ count_is rules batch begins.is bytes _ (behind_cells rules bytes batch begins)

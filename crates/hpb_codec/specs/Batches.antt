@@ -18,12 +18,12 @@ batch_fields index first count records = concat (
     ∷ records
     ∷ [])
 
--- The body of a frame of one page for a batch, 4,080 bytes: its index and its first number in 8 bytes each, how many records in 2, 6 zeros, the
--- records, and zeros up to the end.
+-- The body of a frame of one page for a batch, 4,080 bytes. Its index and its first number take 8 bytes each and the
+-- count of its records 2. Then come 6 zeros, the records, and zeros up to the end.
 abbrev pub batch_of : Batch → List ℕ
 batch_of batch = filled 4080 (batch_fields batch.index batch.first (length batch.commands) (flat_map record_of batch.commands))
 
--- What may be a batch under a definition: 1 to 64 commands, with bidders and nodes of the definition.
+-- A batch has a body under a definition: it has 1 to 64 commands, with bidders and nodes of the definition.
 pub record IsBatch (rules : Rules) (batch : Batch) : Type 0 where
   pub index : batch.index < 2 ^ 64
   pub first : batch.first < 2 ^ 64

@@ -17,11 +17,11 @@ entry_of name units = concat (
 abbrev pub bidder_of : Bidder → List ℕ
 bidder_of bidder = entry_of bidder.name bidder.units
 
--- The page has 4,096 bytes: the bidders one behind the other, and what is left is zero.
+-- The page has 4,096 bytes: the bidders one after another, and zeros behind them.
 abbrev pub bidder_page_of : List Bidder → List ℕ
 bidder_page_of bidders = filled 4096 (flat_map bidder_of bidders)
 
--- A bidder whose fields fit.
+-- A bidder whose fields fit their bytes.
 pub record HasEntry (bidder : Bidder) : Type 0 where
   pub name : IsName bidder.name
   pub units : bidder.units < 2 ^ 32

@@ -1,4 +1,4 @@
--- What is read of page 0 of a head.
+-- The fields read from page 0 of a head.
 use Rattle.std.specs.Prelude.{◌≡◌, length}
 use Rattle.hpb_rules.specs.Tree.{Rules}
 use Rattle.hpb_codec.specs.Layouts.{layout_byte}
@@ -7,7 +7,7 @@ use Rattle.hpb_codec.specs.declared.head.Fields.{Fields}
 use Rattle.hpb_codec.specs.declared.state_format.StateFormat.{StateFormat}
 use Rattle.hpb_codec.specs.StateFormats.{format_byte}
 
--- What was read is what a definition, the shape of its journal and the format of states say.
+-- The fields are those of a definition, the shape of its journal and the format of states.
 pub record SaysFields (rules : Rules) (journal : JournalShape) (form : StateFormat) (fields : Fields) : Type 0 where
   pub nodes : fields.node_count ≡ length rules.nodes
   pub bidders : fields.bidder_count ≡ length rules.bidders

@@ -5,15 +5,15 @@ use Rattle.hpb_codec.specs.declared.layout.JournalLayout.TheVariants.{Pages, Cel
 use Rattle.hpb_codec.specs.declared.layout.JournalShape.{JournalShape}
 use Rattle.hpb_codec.specs.declared.layout.TheConstants.{LEAST_FRAMES, LEAST_CELL_FRAMES, CELL_FRAMES_STEP, MOST_FRAMES}
 
--- The shape of a journal is a layout and a number of frames. Each layout has a byte in the head, a least number of frames, and a number that theirs
--- is a multiple of, so that they fill whole pages.
+-- The shape of a journal is a layout and a number of frames. Each layout has a byte in the head, a least number of
+-- frames, and a number that divides theirs, so that they fill whole pages.
 --
 -- The byte that names a layout in a head.
 abbrev pub layout_byte : JournalLayout → ℕ
 layout_byte Pages = 1
 layout_byte Cells = 2
 
--- How many frames a journal has at least, and what their number is a multiple of: so they fill whole pages.
+-- The least number of frames of a journal, and the number that divides theirs, so that they fill whole pages.
 abbrev pub least_frames : JournalLayout → ℕ
 least_frames Pages = LEAST_FRAMES
 least_frames Cells = LEAST_CELL_FRAMES

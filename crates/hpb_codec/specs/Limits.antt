@@ -1,5 +1,4 @@
--- The sizes and the limits of what is written, as numbers.
--- Source: this project's own.
+-- The sizes and the limits of the written formats, as numbers. Source: this project's own.
 use Rattle.std.specs.Prelude.{◌≡◌}
 use Rattle.hpb_codec.specs.declared.batch.TheConstants.{BATCH_SIZE}
 use Rattle.hpb_codec.specs.declared.cells.TheConstants.{CELLS_SIZE}

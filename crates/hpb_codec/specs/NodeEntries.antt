@@ -7,7 +7,7 @@ use Rattle.hpb_rules.specs.declared.saved.SavedNode.{SavedNode}
 use Rattle.hpb_codec.specs.Numbers.{number, zeros}
 use Rattle.hpb_codec.specs.Sizes.{behind}
 
--- The amount and the bidder of a bid, both 0 where there is none.
+-- The amount and the bidder of a bid, both 0 if there is none.
 abbrev pub amount_or_zero : Option Offer → ℕ
 amount_or_zero None = 0
 amount_or_zero (Some offer) = offer.amount
@@ -26,14 +26,14 @@ node_entry node = concat (
     ∷ zeros 6
     ∷ [])
 
--- What has an entry, whatever the definition: no bid is of the amount 0.
+-- A bid, or a node, whose fields fit their bytes, whatever the definition: no bid has the amount 0.
 abbrev pub HasBid : Option Offer → Type 0
 HasBid bid = IfSome bid (λ offer. (0 < offer.amount) × (offer.amount < 2 ^ 64) × (offer.bidder < MOST_BIDDERS))
 
 abbrev pub HasNodeEntry : SavedNode → Type 0
 HasNodeEntry node = HasBid node.high × HasBid node.incoming
 
--- What a node needs to have an entry, besides the ranges of its type.
+-- The condition for this besides the ranges of the types: no bid has the amount 0.
 abbrev pub HasAmounts : SavedNode → Type 0
 HasAmounts node = IfSome node.high (λ offer. 0 < offer.amount) × IfSome node.incoming (λ offer. 0 < offer.amount)
 

@@ -6,7 +6,7 @@ use Rattle.hpb_rules.specs.Tree.{Node}
 use Rattle.hpb_rules.specs.Definitions.{IsName}
 use Rattle.hpb_codec.specs.Numbers.{filled, number, zeros}
 
--- The byte of a parent is its place, and 0xFF where there is none.
+-- The byte of a parent: its place, or 0xFF if there is none.
 abbrev pub parent_byte : Option ℕ → ℕ
 parent_byte None = 255
 parent_byte (Some parent) = parent
@@ -22,7 +22,8 @@ node_fields name parent kind units opening = concat (
     ∷ number 8 opening
     ∷ [])
 
--- The kind is 0 of a package and 1 of a licence. A package has no units and no opening.
+-- The bytes of a node with these fields. The kind is 0 for a package and 1 for a licence. The units and the opening of
+-- a package are 0.
 unfoldable pub entry_of : List ℕ → Option ℕ → Option Terms → List ℕ
 entry_of name parent None = node_fields name (parent_byte parent) 0 0 0
 entry_of name parent (Some terms) = node_fields name (parent_byte parent) 1 terms.units terms.opening
@@ -31,11 +32,11 @@ entry_of name parent (Some terms) = node_fields name (parent_byte parent) 1 term
 abbrev pub node_of : Node → List ℕ
 node_of node = entry_of node.name node.parent node.terms
 
--- The page has 4,096 bytes: the nodes one behind the other, and what is left is zero.
+-- The page has 4,096 bytes: the nodes one after another, and zeros behind them.
 abbrev pub node_page_of : List Node → List ℕ
 node_page_of nodes = filled 4096 (flat_map node_of nodes)
 
--- A node whose fields fit.
+-- A node whose fields fit their bytes.
 pub record HasEntry (node : Node) : Type 0 where
   pub name : IsName node.name
   pub parent : IfSome node.parent (λ parent. parent < 255)

@@ -1,4 +1,4 @@
--- How many bytes spell a number, and a number or a text with more behind it.
+-- How many bytes spell a number, and how many a number or a text has with more behind it.
 use Rattle.std.specs.Prelude.{◌≡◌, ℕ, zero, suc, ◌+◌, List, ◌++◌, length, refl}
 use Rattle.std.proofs.Common.{ap, ◌∙◌, length-append}
 use Rattle.hpb_codec.specs.Numbers.{number}

@@ -17,7 +17,7 @@ use hpb_rules::{BidderId, MOST_BIDDERS, MOST_NAME_BYTES};
 use hpb_tree::{BidderDraft, Definition};
 use std::alloc::{AllocError, Global};
 
-/// How many bytes a bidder has.
+/// How many bytes the entry of a bidder has.
 const ENTRY_SIZE: usize = 24;
 
 /// Writes the page, every byte of it.
@@ -44,7 +44,7 @@ fn put_bidder(page: &mut [u8], at: usize, definition: &Definition, bidder: Bidde
     put_zeros(page, at, 4)
 }
 
-/// The bidders of the only page that the bytes may be, if so many bidders can stand there. Its zero bytes aren't looked
+/// The bidders of the only page that the bytes may be, if the page has room for so many. Its zero bytes aren't looked
 /// at.
 pub(crate) fn bidders_in(
     alloc: Global,

@@ -26,7 +26,7 @@ pub const LEAST_FRAMES: u32 = 4;
 /// whole pages.
 pub const LEAST_CELL_FRAMES: u32 = 16;
 
-/// What the number of frames of a journal of cells is a multiple of.
+/// The number that divides the number of frames of a journal of cells.
 pub const CELL_FRAMES_STEP: u32 = 8;
 
 /// How many frames a journal has at most.
@@ -40,7 +40,7 @@ impl JournalLayout {
     ghost use Rattle.std.specs.Prelude.{◌≡◌, Some, IfSome};
     ghost use Rattle.hpb_codec.specs.Layouts.{layout_byte};
 
-    /// The byte that names it in a head.
+    /// The byte that names the layout in a head.
     pub fn byte(self) -> u8
         ensures { result ≡ layout_byte self }
     {
@@ -67,8 +67,8 @@ impl JournalShape {
     ghost use Rattle.std.specs.Prelude.{◌≡◌, ◌↔◌, IsTrue};
     ghost use Rattle.hpb_codec.specs.Layouts.{least_frames, step_of_frames, IsShape};
 
-    /// Whether a journal may have it: `LEAST_FRAMES` to `MOST_FRAMES` frames of a page each, or `LEAST_CELL_FRAMES` to
-    /// `MOST_FRAMES` of three cells each, in eights.
+    /// Whether a journal may have this shape: `LEAST_FRAMES` to `MOST_FRAMES` frames of a page each, or
+    /// `LEAST_CELL_FRAMES` to `MOST_FRAMES` frames of three cells each, in multiples of `CELL_FRAMES_STEP`.
     pub fn is_allowed(self) -> bool
         ensures { IsTrue result ↔ IsShape self }
     {

@@ -1,9 +1,9 @@
-//! The bytes of what a device keeps. Each table of the formats is a file of `specs/`, which says what its bytes are, and
-//! one of `src/`, which writes and reads them.
+//! The bytes that a device keeps. Each table of the formats has a file in `specs/`, which defines its bytes, and one in
+//! `src/`, which writes and reads them.
 //!
-//! A reader gives the value that the bytes spell, and `None` exactly where they spell none; a writer gives the one
-//! spelling of a value, the unused bytes as zero. Nothing is taken from a length that bytes claim, and no bytes make a
-//! reader fail in any other way. No call but `decode_head` takes memory.
+//! A reader returns the value that the bytes spell, and `None` exactly if they spell none. A writer writes the one
+//! spelling of a value, with unused bytes zero. A length that bytes claim isn't trusted, and no bytes make a reader
+//! fail in any other way. No call but `decode_head` takes memory.
 #![tactic(auto)]
 
 mod batch;

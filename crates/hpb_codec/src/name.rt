@@ -1,4 +1,4 @@
-//! A name in 16 bytes: its own, and zero bytes behind them.
+//! A name in 16 bytes: its own bytes, padded with zeros.
 ghost use Rattle.std.specs.Prelude.{◌≡◌, ◌≤◌, ◌+◌, ◌++◌, ◌==◌, ℕ, List, IsSomeAnd, length};
 ghost use Rattle.std.specs.List.{position};
 ghost use Rattle.hpb_rules.specs.Definitions.{IsName};
@@ -18,7 +18,7 @@ pub(crate) fn put_name(out: &mut [u8], at: usize, name: &str) -> usize
     put_zeros(out, end, MOST_NAME_BYTES - name.len())
 }
 
-/// The only name that the bytes may spell: what stands before the first zero byte.
+/// The only name that the bytes may spell: the bytes before the first zero.
 pub(crate) fn name_in(bytes: &[u8]) -> Option<&str>
     requires { length bytes.now ≡ MOST_NAME_BYTES }
     ensures { (name : List ℕ) → IsName name → bytes.now ≡ filled MOST_NAME_BYTES name → IsSomeAnd result (λ found. found.now ≡ name) }

@@ -14,7 +14,7 @@ use hpb_rules::{BidderId, MOST_BIDDERS, Offer, SavedNode};
 /// How many bytes the entry of a node has.
 pub(crate) const NODE_SIZE: usize = 24;
 
-/// The amount and the bidder of a bid, both 0 where there is none.
+/// The amount and the bidder of a bid, both 0 if there is none.
 fn said(bid: &Option<Offer>) -> (u64, u8)
     ensures amount { result.0 ≡ amount_or_zero bid.now }
     ensures bidder { result.1 ≡ bidder_or_zero bid.now }
@@ -26,7 +26,7 @@ fn said(bid: &Option<Offer>) -> (u64, u8)
     }
 }
 
-/// The only bid that an amount and a bidder may be, if there can be one: none where the amount is 0.
+/// The only bid that an amount and a bidder may spell, if there can be one. It is none if the amount is 0.
 fn bid_of(amount: u64, bidder: u8) -> Option<Option<Offer>>
     ensures is { IfSome result HasBid }
     ensures only { (bid : Option Offer) → HasBid bid → amount ≡ amount_or_zero bid → bidder ≡ bidder_or_zero bid → result ≡ Some bid }
@@ -44,7 +44,7 @@ fn bid_of(amount: u64, bidder: u8) -> Option<Option<Offer>>
     }))
 }
 
-/// The only node whose entry the bytes may be.
+/// The only node whose entry the bytes may be, if there can be one.
 #[tactic(auto, using(crate::proofs::Numbers::fields))]
 fn candidate(bytes: &[u8]) -> Option<SavedNode>
     requires { length bytes.now ≡ 24 }

@@ -16,10 +16,10 @@ use hpb_rules::{MOST_NAME_BYTES, MOST_NODES, NodeId};
 use hpb_tree::{Definition, NodeDraft, TermsDraft};
 use std::alloc::{AllocError, Global};
 
-/// How many bytes a node has.
+/// How many bytes the entry of a node has.
 const ENTRY_SIZE: usize = 32;
 
-/// What stands in a top node's place for a parent.
+/// The byte of a top node's missing parent.
 const NO_PARENT: u8 = 0xFF;
 
 const PACKAGE: u8 = 0;
@@ -87,7 +87,7 @@ fn put_fields(
     put_u64(page, at, opening)
 }
 
-/// The nodes of the only page that the bytes may be, if so many nodes can stand there. Its zero bytes aren't looked at.
+/// The nodes of the only page that the bytes may be, if the page has room for so many. Its zero bytes aren't looked at.
 pub(crate) fn nodes_in(
     alloc: Global,
     page: &[u8],
@@ -111,7 +111,7 @@ pub(crate) fn nodes_in(
     Ok(Some(nodes))
 }
 
-/// The only node that the bytes may be.
+/// The only node whose entry the bytes may be, if there can be one.
 fn node_in(alloc: Global, entry: &[u8]) -> Result<Option<NodeDraft>, AllocError>
     requires { length entry.now ≡ 32 }
     ensures { (node : Node) → HasEntry node → entry.now ≡ node_of node → IfOk result (λ found. IsSomeAnd found (λ draft. node_said draft ≡ node)) }
@@ -132,7 +132,7 @@ fn node_in(alloc: Global, entry: &[u8]) -> Result<Option<NodeDraft>, AllocError>
     }))
 }
 
-/// The place of a parent, if its byte is one.
+/// The place of a parent, or none for the byte of a top node.
 fn parent_in(byte: u8) -> Option<u64>
     ensures { (parent : Option ℕ) → byte ≡ parent_byte parent → IfSome parent (λ p. p < 255) → result ≡ parent }
 {
@@ -142,7 +142,7 @@ fn parent_in(byte: u8) -> Option<u64>
     }
 }
 
-/// The terms of a licence. A package has none.
+/// The terms of a licence, or none for a package.
 fn terms_in(kind: u8, units: u32, opening: u64) -> Option<TermsDraft>
     ensures licence { kind ≡ 1 → result ≡ Some (record { units = units; opening = opening }) }
     ensures none { kind ≡ 0 → result ≡ None }

@@ -1,8 +1,8 @@
-//! Reads the field at the front of bytes, and gives what stands behind it.
+//! Reads the field that bytes begin with, and returns the bytes behind it.
 ghost use Rattle.std.specs.Prelude.{◌≡◌, ◌≤◌, ◌+◌, ◌++◌, ◌↔◌, IsTrue, length};
 ghost use Rattle.hpb_codec.specs.Numbers.{before, leading, number, rest, zeros};
 
-/// The byte at the front, and what stands behind it.
+/// The first byte, and the bytes behind it.
 #[tactic(auto, using(crate::proofs::Numbers::value_1), unfolding(crate::specs::Numbers::rest))]
 pub fn front_u8(bytes: &[u8]) -> (u8, &[u8])
     requires { 1 ≤ length bytes.now }
@@ -14,7 +14,7 @@ pub fn front_u8(bytes: &[u8]) -> (u8, &[u8])
     (bytes[0], &bytes[1..])
 }
 
-/// The number in the first two bytes, and what stands behind them.
+/// The number in the first two bytes, and the bytes behind them.
 #[tactic(auto, using(crate::proofs::Numbers::value_2), unfolding(crate::specs::Numbers::rest))]
 pub fn front_u16(bytes: &[u8]) -> (u16, &[u8])
     requires { 2 ≤ length bytes.now }
@@ -27,7 +27,7 @@ pub fn front_u16(bytes: &[u8]) -> (u16, &[u8])
     (u16::from_be_bytes([front[0], front[1]]), rest)
 }
 
-/// The number in the first four bytes, and what stands behind them.
+/// The number in the first four bytes, and the bytes behind them.
 #[tactic(auto, using(crate::proofs::Numbers::value_4), unfolding(crate::specs::Numbers::rest))]
 pub fn front_u32(bytes: &[u8]) -> (u32, &[u8])
     requires { 4 ≤ length bytes.now }
@@ -43,7 +43,7 @@ pub fn front_u32(bytes: &[u8]) -> (u32, &[u8])
     )
 }
 
-/// The number in the first eight bytes, and what stands behind them.
+/// The number in the first eight bytes, and the bytes behind them.
 #[tactic(auto, using(crate::proofs::Numbers::value_8), unfolding(crate::specs::Numbers::rest))]
 pub fn front_u64(bytes: &[u8]) -> (u64, &[u8])
     requires { 8 ≤ length bytes.now }
@@ -57,7 +57,7 @@ pub fn front_u64(bytes: &[u8]) -> (u64, &[u8])
     (number, rest)
 }
 
-/// The number in the first sixteen bytes, and what stands behind them.
+/// The number in the first sixteen bytes, and the bytes behind them.
 #[tactic(auto, using(crate::proofs::Numbers::leading_16), unfolding(crate::specs::Numbers::rest))]
 pub fn front_u128(bytes: &[u8]) -> (u128, &[u8])
     requires { 16 ≤ length bytes.now }
@@ -70,7 +70,7 @@ pub fn front_u128(bytes: &[u8]) -> (u128, &[u8])
     (u128::from(high) * (1 << 64) + u128::from(low), rest)
 }
 
-/// The first bytes, so many, and what stands behind them.
+/// The first `count` bytes, and the bytes behind them.
 #[tactic(auto, unfolding(crate::specs::Numbers::rest, crate::specs::Numbers::before))]
 pub fn front_bytes(bytes: &[u8], count: usize) -> (&[u8], &[u8])
     requires { count ≤ length bytes.now }
@@ -88,7 +88,7 @@ pub fn front_bytes(bytes: &[u8], count: usize) -> (&[u8], &[u8])
 pub fn is_zero(bytes: &[u8]) -> bool
     ensures { IsTrue result ↔ bytes.now ≡ zeros (length bytes.now) }
 {
-    // Without a way out the loop takes many bytes at a time.
+    // Without an early exit the compiler can vectorize the loop.
     let mut greatest = 0;
     for byte in bytes {
         greatest = (*byte).max(greatest);

@@ -1,4 +1,4 @@
-//! Tables of entries that stand one behind the other, each in the same number of bytes.
+//! Tables of entries that stand one after another, each of the same size.
 ghost use Rattle.std.specs.Prelude.{◌≡◌, ◌↔◌, ◌≤◌, ◌+◌, ◌*◌, ◌++◌, ℕ, List, Some, IsTrue, length};
 ghost use Rattle.std.specs.List.{flat_map, AllByRecursion};
 ghost use Rattle.hpb_codec.specs.Numbers.{before};
@@ -13,13 +13,13 @@ pub trait Entry: Copy {
     /// The bytes that spell a value.
     ghost spelling: { Self → List ℕ };
 
-    /// What has a spelling.
+    /// The values that have a spelling.
     ghost fits: { Self → Type 0 };
 
-    /// What a value needs to have a spelling, besides the ranges of its type.
+    /// The condition for a spelling, besides the ranges of the types.
     ghost sound: { Self → Type 0 };
 
-    /// Writes the bytes, and answers the place behind them.
+    /// Writes the bytes, and returns the place behind them.
     fn put(&self, out: &mut [u8], at: usize) -> usize
         requires { at + SIZE ≤ length out.old }
         ensures written { before result out.new ≡ before at out.old ++ spelling self.now }
@@ -34,7 +34,7 @@ pub trait Entry: Copy {
     ghost sized: { (value : Self) → length (spelling value) ≡ SIZE };
 }
 
-/// Writes entries one behind the other, and answers the place behind them.
+/// Writes entries one after another, and returns the place behind them.
 pub fn put_table<T: Entry>(out: &mut [u8], at: usize, table: &[T]) -> usize
     requires { at + length table.now * T.SIZE ≤ length out.old }
     ensures written { before result out.new ≡ before at out.old ++ flat_map T.spelling table.now }
@@ -48,8 +48,8 @@ pub fn put_table<T: Entry>(out: &mut [u8], at: usize, table: &[T]) -> usize
     next
 }
 
-/// Reads entries that stand one behind the other, as many as there is room for. Answers whether the bytes spell so many;
-/// where they don't, what stands in the table is of no use.
+/// Reads entries that stand one after another, as many as the table has room for. Returns whether the bytes spell them
+/// all; if not, the contents of the table are of no use.
 pub fn read_table<T: Entry>(bytes: &[u8], table: &mut [T]) -> bool
     requires { length bytes.now ≡ length table.old * T.SIZE }
     ensures found { IsTrue result → AllByRecursion T.fits table.new × (bytes.now ≡ flat_map T.spelling table.new) }

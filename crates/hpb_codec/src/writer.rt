@@ -1,4 +1,5 @@
-//! Writes fields one behind the other. Each writer answers the place behind what it wrote, where the next field goes.
+//! Writes fields one after another. Each writer returns the place behind the bytes that it wrote, at which the next
+//! field begins.
 ghost use Rattle.std.specs.Prelude.{◌≡◌, ◌≤◌, ◌+◌, ◌++◌, length};
 ghost use Rattle.hpb_codec.specs.Numbers.{before, filled, number, zeros};
 
@@ -58,7 +59,7 @@ pub fn put_u128(out: &mut [u8], at: usize, n: u128) -> usize
     put_bytes(out, at, &n.to_be_bytes())
 }
 
-/// Writes so many zero bytes.
+/// Writes `count` zero bytes.
 pub fn put_zeros(out: &mut [u8], at: usize, count: usize) -> usize
     requires { at + count ≤ length out.old }
     ensures written { before result out.new ≡ before at out.old ++ zeros count }
@@ -79,7 +80,7 @@ pub fn fill_zeros(out: &mut [u8], at: usize)
     put_zeros(out, at, left);
 }
 
-/// Writes bytes as they are.
+/// Writes bytes unchanged.
 #[tactic(auto, unfolding(crate::specs::Numbers::before))]
 pub fn put_bytes(out: &mut [u8], at: usize, bytes: &[u8]) -> usize
     requires { at + length bytes.now ≤ length out.old }

@@ -1,4 +1,4 @@
--- One node more, by its name.
+-- Noting one node more by its name.
 use Rattle.std.proofs.Common.{◌≡◌, ℕ, ◌+◌, ◌≤◌, Bool, true, false, cond, not, eqb, nat_lt, List, [], ◌∷◌, ◌++◌, length, Some, None, Option, refl, sym, ap, ◌∙◌, arith, length-append}
 use Rattle.std.specs.Option.{option_or, is_some}
 use Rattle.std.specs.List.{position, position_or_len}

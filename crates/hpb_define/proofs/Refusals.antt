@@ -1,4 +1,4 @@
--- What a refused definition says of its bytes.
+-- What a refusal of a definition says of its bytes.
 use Rattle.std.proofs.Common.{◌≡◌, ◌≢◌, ℕ, List, Some, Err}
 use Rattle.hpb_rules.specs.Drafts.{draft_refusal}
 use Rattle.hpb_rules.specs.Tree.{Rules}
@@ -9,7 +9,7 @@ use Rattle.hpb_define.specs.Fault.{refused}
 use Rattle.hpb_define.specs.Text.{Answers, Spells}
 
 module _ (bytes : List ℕ) (rules : Rules) (spelled : Spells bytes rules) where
-  -- want of memory says nothing; each other fault is the draft's
+  -- refused memory says nothing of the bytes; each other fault is the draft's
   pub answers_refused : (fault : DefinitionFault) → (fault ≢ faults.Memory → draft_refusal rules ≡ Some (refusal_of fault)) → Answers bytes (Err (refused fault))
   answers_refused faults.Memory why = tt
   answers_refused faults.Number why = (rules, spelled, why (λ e. cc))

@@ -1,4 +1,4 @@
--- The bytes that spell a definition, and what is answered to any bytes.
+-- The bytes that spell a definition, and the answer to any bytes.
 use Rattle.std.specs.Prelude.{◌≡◌, ◌≤◌, ℕ, List, false, IsTrue, length, Some, None, Result, Ok, Err}
 use Rattle.std.specs.Str.{IsUtf8}
 use Rattle.serde_json.specs.Data.{Data}
@@ -13,12 +13,13 @@ use Rattle.hpb_define.specs.declared.fault.DefineCause.TheVariants.{Memory, Json
 use Rattle.hpb_define.specs.Shape.{has_shape}
 use Rattle.hpb_define.specs.Spelling.{rules_in}
 
--- **Reading.** What bytes are answered is a relation. They are JSON where they are UTF-8, not more than 65,536, and `serde_json` reads a value of
--- them. A value has the shape of a definition where it has its fields, no other, and each is of its type. It spells rules where besides all its
--- numbers are whole and fit 64 bits. So 60 comes before 61 and 61 before 62, wherever the faults stand; then the rules are refused as a draft is.
--- Where memory was refused nothing is said of the bytes.
+-- **Reading.** The answer to bytes is a relation. They are JSON if they are UTF-8, at most 65,536, and `serde_json`
+-- reads a value from them. A value has the shape of a definition if it has its fields, no other, and each has its type.
+-- It spells rules if, besides, all its numbers are whole and fit 64 bits. So 60 comes before 61 and 61 before 62,
+-- wherever the faults stand; then the rules are refused as a draft is. If memory was refused, the answer says nothing
+-- about the bytes.
 --
--- The bytes are the text of a JSON value, and not too many.
+-- The bytes are the text of a JSON value, and at most 65,536.
 abbrev pub IsJson : List ℕ → Data → Type 0
 IsJson bytes value = (length bytes ≤ MOST_DEFINITION_BYTES) × IsUtf8 bytes × (read bytes ≡ Some value)
 
@@ -26,19 +27,19 @@ IsJson bytes value = (length bytes ≤ MOST_DEFINITION_BYTES) × IsUtf8 bytes ×
 abbrev pub Spells : List ℕ → Rules → Type 0
 Spells bytes rules = (value : Data) × IsJson bytes value × IsTrue (has_shape value) × (rules_in value ≡ Some rules)
 
--- The bytes are no JSON, or too many.
+-- The bytes aren't JSON, or are too many.
 abbrev pub IsNoJson : List ℕ → Type 0
 IsNoJson bytes = (value : Data) → IsJson bytes value → ⊥
 
--- The bytes are JSON, but the fields are not those of a definition, or not of their types.
+-- The bytes are JSON, but some field isn't one of a definition, is missing, or has another type.
 abbrev pub HasOtherFields : List ℕ → Type 0
 HasOtherFields bytes = (value : Data) × IsJson bytes value × (has_shape value ≡ false)
 
--- The fields are those of a definition, but some number is not whole.
+-- The fields are those of a definition, but some number isn't whole.
 abbrev pub HasOtherNumbers : List ℕ → Type 0
 HasOtherNumbers bytes = (value : Data) × IsJson bytes value × IsTrue (has_shape value) × (rules_in value ≡ None)
 
--- What is answered to bytes: the first fault of their text, or else that of the rules that they spell.
+-- The answer to bytes: the first fault of their text, or else that of the rules that they spell.
 abbrev pub Answers : List ℕ → Result Rules DefineCause → Type 0
 Answers bytes (Ok rules) = Spells bytes rules × (draft_refusal rules ≡ None)
 Answers bytes (Err Memory) = Unit {0}
@@ -47,7 +48,7 @@ Answers bytes (Err Field) = HasOtherFields bytes
 Answers bytes (Err Number) = HasOtherNumbers bytes
 Answers bytes (Err (Refused fault)) = (rules : Rules) × Spells bytes rules × (draft_refusal rules ≡ Some (refusal_of fault))
 
--- What is answered, without what is said of it.
+-- The answer without the words for people.
 abbrev pub by_cause : Result Rules DefineFault → Result Rules DefineCause
 by_cause (Ok rules) = Ok rules
 by_cause (Err fault) = Err fault.cause

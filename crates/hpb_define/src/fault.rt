@@ -9,13 +9,13 @@ use serde_json::Category;
 use std::alloc::{AllocError, AllocFailed};
 use thiserror::Error;
 
-/// By which refusal bytes gave no definition. The words are those of an `ERR` line.
+/// The refusal by which bytes gave no definition: its number and its word, as in an `ERR` line.
 #[derive(Clone, Copy, Debug, PartialEq, Eq, Error)]
 pub enum DefineCause {
     /// 90: memory was refused.
     #[error("memory")]
     Memory,
-    /// 60: the bytes are no JSON, no UTF-8, or too many.
+    /// 60: the bytes aren't JSON, aren't UTF-8, or are too many.
     #[error("json")]
     Json,
     /// 61: a field is missing, unknown or of another type.
@@ -24,30 +24,30 @@ pub enum DefineCause {
     /// 62: a number isn't whole, or doesn't fit 64 bits.
     #[error("number")]
     Number,
-    /// What was written breaks a rule of definitions: 62, or one of 50 to 57.
+    /// 62, or one of 50 to 57: the written definition breaks a rule of definitions.
     #[error("{0}")]
     Refused(DefinitionFault),
 }
 
-/// Why bytes gave no definition, and what is said of it.
+/// Why bytes gave no definition, with a reason for people.
 #[derive(Debug, Drop, Error)]
 #[error("{cause}")]
 pub struct DefineFault {
     pub cause: DefineCause,
-    /// The place, and what is wrong there, for whoever wrote the definition (`hpb_reasons::reason`). Nothing is decided
-    /// by it. There is none where memory was refused for it.
+    /// The place and the fault there, for whoever wrote the definition (`hpb_reasons::reason`). Nothing is decided by
+    /// it. `None` if memory was refused for it.
     pub reason: Option<Explanation>,
 }
 
 impl DefineFault {
-    /// The refusal that it is told by.
+    /// The refusal that reports this fault.
     pub fn refusal(&self) -> Refusal
         ensures { result ≡ refusal_of self.now.cause }
     {
         self.cause.refusal()
     }
 
-    /// What is said of it: its reason, or where that is to be read.
+    /// The words for people: the reason, or if there is none, the document that says what a definition must be.
     pub fn said(&self) -> &str {
         match &self.reason {
             Some(reason) => reason.text.as_str(),
@@ -55,7 +55,7 @@ impl DefineFault {
         }
     }
 
-    /// Whether its reason is that the bytes end before the definition does, or are blanks alone.
+    /// Whether the reason is that the bytes end before the definition does, or are nothing but blanks.
     pub fn ends_early(&self) -> bool {
         match &self.reason {
             Some(reason) => reason.ends_early,
@@ -65,7 +65,7 @@ impl DefineFault {
 }
 
 impl DefineCause {
-    /// The refusal that it is told by.
+    /// The refusal that reports this cause.
     pub fn refusal(self) -> Refusal
         ensures { result ≡ refusal_of self }
     {

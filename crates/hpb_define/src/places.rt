@@ -6,10 +6,10 @@ ghost use Rattle.hpb_define.specs.Places.{Places};
 use indexmap::IndexMap;
 use std::alloc::{AllocError, Global};
 
-/// The places of the nodes that have been read, by their names. Of two nodes with one name the first counts.
+/// The places of the nodes read so far, by name. Of two nodes with the same name the first counts.
 pub(crate) type NodePlaces = IndexMap<String, u64>;
 
-/// Notes a node's place, where its name is new.
+/// Notes a node's place, if its name is new.
 pub(crate) fn note_place(
     alloc: Global,
     places: &mut NodePlaces,
@@ -26,7 +26,7 @@ pub(crate) fn note_place(
     Ok(())
 }
 
-/// The place of the node with a name, where it was noted.
+/// The place of the node with a name, if one was noted.
 pub(crate) fn place_named(places: &NodePlaces, name: &str) -> Option<u64>
     ensures { (earlier : List Node) → Places places.now earlier → result ≡ node_named earlier name.now }
 {

@@ -15,12 +15,12 @@ static REFUSED: [(&str, Refusal); 4] = [
     ("[]", Field),
 ];
 
-// A text of the worked definition, what is put in its place, and by which refusal it is refused then.
+// A text of the worked definition, its replacement, and the refusal that follows.
 static CHANGED: [(&str, &str, Refusal); 18] = [
-    // A number that JSON hasn't, and one that is too large for it inside a field that is unknown.
+    // A number that isn't JSON, and one in an unknown field that is too large for JSON.
     (r#""percent":10"#, r#""percent":010"#, Json),
     (r#""step":10"#, r#""note":[1e999]"#, Json),
-    // Fields: unknown, missing, of another type, and one of two that a licence has.
+    // Fields: unknown, missing, of another type, and one without the other of a licence's two.
     (r#""step":10"#, r#""step":10,"note":1"#, Field),
     (r#"{"name":"x","units":10}"#, r#"{"name":"x"}"#, Field),
     (r#""step":10"#, r#""step":10,"waivers":null"#, Field),
@@ -104,7 +104,7 @@ fn refused_definitions(rt: HostRuntime) {
     }
 }
 
-// Each is the worked definition with one text put in place of another.
+// Each case is the worked definition with one text replaced by another.
 #[test]
 fn refused_definitions_one_change(rt: HostRuntime) -> Result<(), Fail> {
     let alloc = rt.alloc();

@@ -1,4 +1,4 @@
--- Which devices may cross threads.
+-- The devices that may cross threads.
 use denote.Param.Send.{IsSend, sendable}
 use Rattle.std.proofs.Crossing.{crosses}
 use Rattle.hpb_disk.proofs.done.Done.TheSendSync as Done

@@ -1,4 +1,4 @@
--- What a gate can be.
+-- The values that a gate can have.
 use Rattle.std.proofs.Common.{◌≡◌, ◌≢◌, ◌⊎◌, inl, inr, ⊎_elim, ℕ, ◌+◌, ◌<◌, ◌≤◌, List, [], ◌∷◌, ◌++◌, length, get_or, take, drop, sym, ◌∙◌, ap, arith, append_assoc, take-append-drop}
 use Rattle.std.proofs.lemmas.Bool.{cases_eq}
 use Rattle.std.proofs.lemmas.List.{drop_more}
@@ -15,7 +15,7 @@ is_open_byte (byte ∷ next ∷ bytes) = inr (λ is. absurd (cc))
 pub open_or_closed : (at : ℕ) (image : List ℕ) → HasOpenGate at image ⊎ HasClosedGate at image
 open_or_closed at image = is_open_byte (part at 1 image)
 
--- A torn gate is some byte, and all else stays.
+-- A torn gate has some byte, and all other bytes stay.
 pub torn_gate : (at : ℕ) (old new : List ℕ) → at < length old → Torn at 1 old new → (byte : ℕ) × (new ≡ put at (byte ∷ []) old)
 torn_gate at old new inside torn =
     let byte = get_or new at 0 in
@@ -27,12 +27,12 @@ torn_gate at old new inside torn =
           ∙ sym (append_assoc (take at old) (byte ∷ []) (drop (at + 1) old)),
     )
 
--- A gate that is closed in all that a crash may leave stays so over a write elsewhere.
+-- If a gate is closed in every image that a crash may leave, a write elsewhere keeps it so.
 pub closed_stays : (gate at count : ℕ) (before after : List ℕ → Type 0) → (gate + 1 ≤ at) ⊎ (at + count ≤ gate)
     → Within after (TornFrom at count before) → Within before (HasClosedGate gate) → Within after (HasClosedGate gate)
 closed_stays gate at count before after apart = stays_elsewhere (λ bytes. bytes ≢ open_byte) gate 1 at count before after apart
 
--- So does one that is open in all.
+-- So with a gate that is open in every image.
 pub open_stays : (gate at count : ℕ) (before after : List ℕ → Type 0) → (gate + 1 ≤ at) ⊎ (at + count ≤ gate)
     → Within after (TornFrom at count before) → Within before (HasOpenGate gate) → Within after (HasOpenGate gate)
 open_stays gate at count before after apart = stays_elsewhere (λ bytes. bytes ≡ open_byte) gate 1 at count before after apart

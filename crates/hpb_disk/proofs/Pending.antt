@@ -1,4 +1,4 @@
--- The writes that no sync covers, as the record of a device in memory has them.
+-- The writes that no sync covers, from the record of a device in memory.
 use Rattle.std.proofs.Common.{◌≡◌, ℕ, ◌≤◌, List, [], ◌∷◌, ◌++◌, length, drop, refl, ap, ◌∙◌}
 use Rattle.std.proofs.lemmas.List.{drop-append-le}
 use Rattle.hpb_disk.specs.declared.done.Done.{Done}
@@ -11,7 +11,7 @@ writes_of-append (Read ∷ some) others = writes_of-append some others
 writes_of-append (Write at bytes ∷ some) others = ap (λ (writes : List (ℕ × List ℕ)). (at, bytes.items) ∷ writes) (writes_of-append some others)
 writes_of-append (Sync ∷ some) others = writes_of-append some others
 
--- One call more, which no sync covers.
+-- One more call that no sync covers.
 pub pending_next : (done later : List Done) (one : Done) (covered : ℕ) (pending : List (ℕ × List ℕ)) → covered ≤ length done
     → writes_of (drop covered done) ≡ pending → later ≡ done ++ one ∷ [] → writes_of (drop covered later) ≡ pending ++ writes_of (one ∷ [])
 pending_next done later one covered pending inside was is =

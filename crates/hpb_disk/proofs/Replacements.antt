@@ -1,4 +1,4 @@
--- What a crash leaves of a record and of the one that replaces it.
+-- What a crash may leave of a record and of its replacement.
 use Rattle.std.proofs.Common.{◌≡◌, inl, inr, ⊎_elim, ℕ, ◌+◌, ◌*◌, ◌≤◌, List, length, sym, ◌∙◌, subst, arith}
 use Rattle.hpb_disk.specs.Devices.{length-put, put_is_torn}
 use Rattle.hpb_disk.specs.Gates.{open_byte, HasClosedGate}
@@ -22,11 +22,11 @@ module _ (bytes old : List ℕ) (room : 1 + 2 * length bytes ≤ length old) (cl
   fits : 1 + size + size ≤ length old
   fits = omega arith
 
-  -- One record counts or the other, and behind both places all is as it was.
+  -- One of the two records counts, and the bytes behind both places are as before.
   abbrev pub Kept : List ℕ → Type 0
   Kept image = HasEither size was bytes image × HasSameRest size old image
 
-  -- It counts while the other place is torn.
+  -- The old record counts while the other place is torn.
   pub torn_behind : (image : List ℕ) → Torn (1 + size) size old image → Kept image
   torn_behind image torn =
       let gate : part 0 1 image ≡ part 0 1 old = part_elsewhere 0 1 (1 + size) size old image torn (inl (omega arith)) in
@@ -38,7 +38,7 @@ module _ (bytes old : List ℕ) (room : 1 + 2 * length bytes ≤ length old) (cl
   old_place : part 1 size written ≡ was
   old_place = part_elsewhere 1 size (1 + size) size old written (put_is_torn (1 + size) bytes old fits) (inl (omega arith))
 
-  -- While the gate is torn the one counts or the other.
+  -- While the gate is torn, one record counts or the other.
   pub torn_gate : (image : List ℕ) → Torn 0 1 written image → Kept image
   torn_gate image torn =
       let one : part 1 size image ≡ was = part_elsewhere 1 size 0 1 written image torn (inr (omega arith)) ∙ old_place in
@@ -47,19 +47,19 @@ module _ (bytes old : List ℕ) (room : 1 + 2 * length bytes ≤ length old) (cl
       rest_after (1 + 2 * size) 0 1 written image torn (omega arith) ∙ rest_after (1 + 2 * size) (1 + size) size old written (put_is_torn (1 + size) bytes old fits) (omega arith) in
       (⊎_elim (λ is_open. inr (inr (is_open, other))) (λ is_closed. inl (inl (is_closed, one))) (open_or_closed 0 image), rest)
 
-  -- Behind the open gate the new one counts.
+  -- Once the gate is open, the new record counts.
   pub opened : HasRecord size bytes (put 0 open_byte written)
   opened =
       let inside : 0 + length open_byte ≤ length written = omega (arith, length-put (1 + size) bytes old fits) in
       inr (part_put 0 open_byte written inside, part_elsewhere (1 + size) size 0 1 written (put 0 open_byte written) (put_is_torn 0 open_byte written inside) (inr (omega arith)) ∙ new_place)
 
--- The calls, one after the other, on a device on which nothing is pending.
+-- The calls, one after another, on a device without pending writes.
 module _ {D : Type 0} (seen : D → List ℕ) (may_leave : D → List ℕ → Type 0) (moment : D → ℕ) (left_since : D → ℕ → List ℕ → Type 0)
     (bytes : List ℕ) (old : D) (room : 1 + 2 * length bytes ≤ length (seen old)) (closed : HasClosedGate 0 (seen old)) (settled : Only (seen old) (may_leave old)) where
   abbrev either : List ℕ → Type 0
   either image = Kept bytes (seen old) room closed image
 
-  -- From the first device on a crash leaves only such images.
+  -- From the first device to the second, a crash leaves only such images.
   abbrev pub Leaves : D → D → Type 0
   Leaves here next = LeavesOnly (moment here) (moment next) (left_since here) (left_since next) (may_leave next) either
 
@@ -89,7 +89,7 @@ module _ {D : Type 0} (seen : D → List ℕ) (may_leave : D → List ℕ → Ty
       (call_leaves here next (TornFrom 0 1 (may_leave here)) time crash
       (λ image torn. torn_gate bytes (seen old) room closed image (subst (λ (from : List ℕ). Torn 0 1 from image) (only torn.0 torn.1) torn.2)))
 
-  -- The write behind the other place, a sync, and the gate.
+  -- The write to the other place, a sync, and the opening of the gate.
   pub after_opening : (one two three : D) → Takes old one (TornFrom (1 + length bytes) (length bytes) (may_leave old))
       → Within (may_leave one) (TornFrom (1 + length bytes) (length bytes) (may_leave old)) → seen one ≡ written bytes (seen old) room closed
       → Takes one two (may_leave one) → Within (may_leave two) (may_leave one) → Only (seen one) (may_leave two)
@@ -97,7 +97,7 @@ module _ {D : Type 0} (seen : D → List ℕ) (may_leave : D → List ℕ → Ty
   after_opening one two three time_one crash_one is time_two crash_two only time_three crash_three =
       after_gate two three (after_sync one two (after_write one time_one crash_one) time_two crash_two) (λ image may. only image may ∙ is) time_three crash_three
 
-  -- The new record counts in what a crash leaves after the last sync.
+  -- After the last sync a crash leaves only images in which the new record counts.
   pub stands_after : (here : D) (opened_image : List ℕ) → Only opened_image (may_leave here) → opened_image ≡ put 0 open_byte (written bytes (seen old) room closed)
       → Within (may_leave here) (HasRecord (length bytes) bytes)
   stands_after here opened_image only is image may = subst (HasRecord (length bytes) bytes) (sym (only image may ∙ is)) (opened bytes (seen old) room closed)

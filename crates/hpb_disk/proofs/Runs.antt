@@ -1,8 +1,8 @@
--- How a run of calls begins and goes on, of which a crash leaves only images of one set.
+-- Runs of calls during which a crash leaves only images of one set: how they begin and go on.
 use Rattle.std.proofs.Common.{inl, inr, ⊎_elim, ℕ, List, arith}
 use Rattle.hpb_disk.specs.Images.{Within, Elapses, LeavesOnly}
 
--- No call was made.
+-- A run of no calls.
 pub leaves_at_first : (before : ℕ) (past : ℕ → List ℕ → Type 0) (left images : List ℕ → Type 0) → Within left images → LeavesOnly before before past past left images
 leaves_at_first before past left images within = record {
   later = omega arith;
@@ -11,7 +11,7 @@ leaves_at_first before past left images within = record {
   after = within;
 }
 
--- A run after a run.
+-- A run followed by a run.
 pub leaves_join : (before middle now : ℕ) (past between since : ℕ → List ℕ → Type 0) (left later images : List ℕ → Type 0)
     → LeavesOnly before middle past between left images → LeavesOnly middle now between since later images → LeavesOnly before now past since later images
 leaves_join before middle now past between since left later images first second = record {
@@ -21,7 +21,7 @@ leaves_join before middle now past between since left later images first second 
   after = second.after;
 }
 
--- One call, in which and after which a crash leaves only such images.
+-- A run of one call, during and after which a crash leaves only such images.
 pub leaves_call : (before now : ℕ) (past since : ℕ → List ℕ → Type 0) (during left images : List ℕ → Type 0)
     → Elapses before now past since during → Within left during → Within during images → LeavesOnly before now past since left images
 leaves_call before now past since during left images time crash within = record {

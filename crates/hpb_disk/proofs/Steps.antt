@@ -17,13 +17,13 @@ one_elapses first calls call during within = record {
     goes_on moment image le (inl now) = inr (within image now)
     goes_on moment image le (inr earlier) = inl earlier.1
 
--- What holds of the trace with one entry more holds of the trace after a note of it.
+-- A property of the trace with one entry more is one of the trace after a note of it.
 pub noted : (first later_first : List ℕ) (events later : List Event) (event : Event) (P : List ℕ → List Call → Type 0)
     → (later_first ≡ first) × (later ≡ event ∷ events) → P first (call_of event ∷ calls_of events) → P later_first (calls_of later)
 noted first later_first events later event P note holds =
     subst (λ (l : List ℕ). P l (calls_of later)) (sym note.0) (subst (λ (l : List Event). P first (calls_of l)) (sym note.1) holds)
 
--- One call, in which and after which a crash leaves only such images.
+-- One call, during and after which a crash leaves only such images.
 pub elapses : (first later_first : List ℕ) (events later : List Event) (event : Event) (during : List ℕ → Type 0)
     → (later_first ≡ first) × (later ≡ event ∷ events) → Within (left_of first (call_of event ∷ calls_of events)) during
     → Elapses (length (calls_of events)) (length (calls_of later)) (since_of first (calls_of events)) (since_of later_first (calls_of later)) during
@@ -32,7 +32,7 @@ elapses first later_first events later event during note within =
     (λ (l : List ℕ) (calls : List Call). Elapses (length (calls_of events)) (length calls) (since_of first (calls_of events)) (since_of l calls) during)
     note (one_elapses first (calls_of events) (call_of event) during within)
 
--- A sync, after which a crash leaves what a read gives.
+-- A sync, after which a crash leaves the bytes that a read gives.
 module _ (first later_first : List ℕ) (events later : List Event) (note : (later_first ≡ first) × (later ≡ event_of (2 ∷ 0 ∷ []) [] ∷ events)) where
   pub synced_leaves : Within (left_of later_first (calls_of later)) (left_of first (calls_of events))
   synced_leaves =

@@ -1,4 +1,4 @@
--- What a stop leaves is one of the images that a crash may leave.
+-- A stop leaves one of the images that a crash may leave.
 use Rattle.std.proofs.Common.{◌≡◌, ℕ, List, [], ◌∷◌, ◌++◌, length, refl, sym, subst}
 use Rattle.std.specs.Prelude.{replicate}
 use Rattle.std.proofs.lemmas.List.{length-replicate}
@@ -10,7 +10,7 @@ use Rattle.hpb_disk.specs.Devices.{write_is_torn, torn_self}
 use Rattle.hpb_disk.specs.Fates.{struck, stopped}
 use Rattle.hpb_disk.specs.Images.{Torn, TornFrom}
 
--- The newest write takes some fate.
+-- The newest write has some fate.
 stopped_last : (writes : List (ℕ × List ℕ)) (fates : List Fate) (write : ℕ × List ℕ) (image : List ℕ)
     → (fate : Fate) × (stopped (writes ++ write ∷ []) fates image ≡ struck fate write.0 write.1 (stopped writes fates image))
 stopped_last [] [] write image = (Lost, refl)

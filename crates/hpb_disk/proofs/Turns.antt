@@ -4,11 +4,11 @@ use Rattle.std.specs.Prelude.{Result, Ok, Err, IsErrAnd, OnOk}
 use Rattle.hpb_disk.specs.Asked.{Asked, Asks, AsksInTurn}
 use Rattle.hpb_disk.specs.Asked.Asked.{fails}
 
--- What a call asks for comes before what was asked for until then.
+-- The calls of two steps, the second step's first, in front of the earlier calls.
 pub and_then : (one two old middle new : List Asked) → middle ≡ one ++ old → new ≡ two ++ middle → new ≡ (two ++ one) ++ old
 and_then one two old middle new first second = second ∙ ap (λ (l : List Asked). two ++ l) first ∙ sym (append_assoc two one old)
 
--- Calls that failed are the first ones of all that were to be made.
+-- The calls up to a failed one are the first ones of all that were to be made.
 abbrev pub Breaks : (calls old new : List Asked) → Type 0
 Breaks calls old new = (later done : List Asked) × (calls ≡ later ++ done) × (new ≡ fails ∷ done ++ old)
 
@@ -29,12 +29,12 @@ at_later one two old middle new first breaks = (
   breaks.3 ∙ ap (λ (l : List Asked). fails ∷ l) (ap (λ (l : List Asked). breaks.1 ++ l) first ∙ sym (append_assoc breaks.1 one old)),
 )
 
--- The call after these failed.
+-- The call behind these failed.
 pub fails_after : (one two old middle new : List Asked) → middle ≡ one ++ old → new ≡ fails ∷ two ++ middle → new ≡ fails ∷ (two ++ one) ++ old
 fails_after one two old middle new first second =
     second ∙ ap (λ (l : List Asked). fails ∷ l) (ap (λ (l : List Asked). two ++ l) first ∙ sym (append_assoc two one old))
 
--- So it is of the last call, whether it succeeds or not,
+-- The last call, whether it succeeds or not,
 pub asks_on : {T E : Type 0} (result : Result T E) (one two old middle new : List Asked) → middle ≡ one ++ old → Asks result two middle new → Asks result (two ++ one) old new
 asks_on (Ok value) one two old middle new first second = and_then one two old middle new first second
 asks_on (Err error) one two old middle new first second = fails_after one two old middle new first second
@@ -48,12 +48,12 @@ pub in_turn_on : {T E : Type 0} (result : Result T E) (one two old middle new : 
 in_turn_on (Ok value) one two old middle new first second = and_then one two old middle new first second
 in_turn_on (Err error) one two old middle new first second = at_later one two old middle new first second
 
--- Two things that hold where a call succeeds.
+-- Two properties of a call's success.
 pub both_ok : {T E : Type 0} (P Q : Type 0) (result : Result T E) → OnOk result P → OnOk result Q → OnOk result (P × Q)
 both_ok P Q (Ok value) one other = (one, other)
 both_ok P Q (Err error) one other = tt
 
--- A result that hands an error on tells of the call that failed.
+-- A result that hands on an error is about the call that failed.
 pub failed_with : {T E : Type 0} (P : E → Type 0) (result : Result T E) (call old new : List Asked) → IsErrAnd result P → new ≡ fails ∷ call ++ old → Asks result call old new
 failed_with P (Ok value) call old new bad is = absurd bad
 failed_with P (Err error) call old new told is = is

@@ -11,7 +11,7 @@ none_since_now (event ∷ events) =
     cond-false (nat_le (length (event ∷ events)) (length events)) (passed_on event + passed_since events (length (event ∷ events))) 0
     (lt-leb (length (event ∷ events)) (length events) (lt-suc_self (length events)))
 
--- Now is the same time for both.
+-- The present is the same for both.
 pub now_behind : (past : ℕ → List ℕ → Type 0) (now : ℕ) (events : List Event) (image : List ℕ) → past (now - passed_since events (length events)) image → past now image
 now_behind past now events image left =
     subst (λ (moment : ℕ). past moment image) (ap (λ (count : ℕ). now - count) (none_since_now events) ∙ sub-zero now) left

@@ -1,10 +1,10 @@
--- What a device is after its calls, of which the newest comes first.
+-- The state of a device after its calls, the newest of which comes first.
 use Rattle.std.specs.Prelude.{◌≡◌, ◌⊎◌, ℕ, ◌+◌, ◌≤◌, nat_le, ◌==◌, List, [], ◌∷◌, ◌++◌, length, if◌then◌else◌}
 use Rattle.hpb_disk.specs.Events.{Event}
 use Rattle.hpb_disk.specs.Images.{put, TornFrom}
 
--- A call, with whether it was done. One that failed did nothing; of a write that failed anything may have been done, where
--- it is noted with its offset and bytes.
+-- A call, and whether it was done. A call that failed did nothing. The exception is a write that failed and is noted
+-- with its offset and bytes: of that anything may have been done.
 pub data Call : Type 0 where
   read : Call
   wrote : ℕ → List ℕ → Call
@@ -12,7 +12,7 @@ pub data Call : Type 0 where
   failed : Call
   write_failed : ℕ → List ℕ → Call
 
--- The call that an entry of a trace is about.
+-- The call of an entry of a trace.
 abbrev pub call_of : Event → Call
 call_of event =
     if event.0 == 0 then read
@@ -26,21 +26,22 @@ abbrev pub calls_of : List Event → List Call
 calls_of [] = []
 calls_of (event ∷ events) = call_of event ∷ calls_of events
 
--- The image after a write. (None lies outside: a caller stays within the device.)
+-- The image after a write. (A caller stays within the device, so none reaches past its end.)
 abbrev pub after_write : ℕ → List ℕ → List ℕ → List ℕ
 after_write at bytes image = if nat_le (at + length bytes) (length image) then put at bytes image else image
 
--- What a read gives after one call more.
+-- The bytes that a read gives after one call more.
 abbrev pub seen_after : Call → List ℕ → List ℕ
 seen_after (wrote at bytes) seen = after_write at bytes seen
 seen_after _ seen = seen
 
--- What a read gives after these calls of a device that held the first image.
+-- The bytes that a read gives after these calls of a device that held the first image.
 abbrev pub seen_of : List ℕ → List Call → List ℕ
 seen_of first [] = first
 seen_of first (call ∷ calls) = seen_after call (seen_of first calls)
 
--- What a crash may leave after one call more, by what a read gave and what a crash could leave before it.
+-- The images that a crash may leave after one call more, from the bytes that a read gave before it and the images that
+-- a crash could leave then.
 abbrev pub left_after : Call → List ℕ → (List ℕ → Type 0) → List ℕ → Type 0
 left_after read seen left image = left image
 left_after (wrote at bytes) seen left image = TornFrom at (length bytes) left image
@@ -48,12 +49,12 @@ left_after synced seen left image = image ≡ seen
 left_after failed seen left image = left image
 left_after (write_failed at bytes) seen left image = TornFrom at (length bytes) left image
 
--- What a crash may leave after these calls: at first nothing was pending.
+-- The images that a crash may leave after these calls. At first no write was pending.
 abbrev pub left_of : List ℕ → List Call → List ℕ → Type 0
 left_of first [] image = image ≡ first
 left_of first (call ∷ calls) image = left_after call (seen_of first calls) (left_of first calls) image
 
--- What a crash may have left at any time since so many calls had been made.
+-- The images that a crash may have left at any time since a number of calls.
 abbrev pub since_of : List ℕ → List Call → ℕ → List ℕ → Type 0
 since_of first [] moment image = left_of first [] image
 since_of first (call ∷ calls) moment image = left_of first (call ∷ calls) image ⊎ ((moment ≤ length calls) × since_of first calls moment image)

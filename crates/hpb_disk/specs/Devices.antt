@@ -1,4 +1,4 @@
--- A device is what its calls made of it: of that the laws of a device hold.
+-- The laws of a device hold for one whose state is made by its calls.
 use Rattle.std.specs.Prelude.{if◌then◌else◌}
 use Rattle.std.proofs.Common.{◌≡◌, inl, inr, ℕ, ◌+◌, ◌≤◌, nat_le, Bool, true, false, List, [], ◌∷◌, ◌++◌, length, take, drop, refl, sym, ◌∙◌, ap, subst, append_assoc, length-append, length-drop}
 use Rattle.std.proofs.Math.Nat.{le_trans, le-add_right, add-sub_of_le, not-suc-le_self}
@@ -22,7 +22,7 @@ module _ (at : ℕ) (bytes image : List ℕ) (fits : at + length bytes ≤ lengt
       ∙ ap (λ (n : ℕ). at + length bytes + n) (length-drop (at + length bytes) image)
       ∙ add-sub_of_le fits
 
-  -- What is put somewhere tears nothing else.
+  -- A put at an offset tears the image only there.
   pub put_is_torn : Torn at (length bytes) image (put at bytes image)
   put_is_torn = record {
     before = ap (λ (l : List ℕ). take at l) (append_assoc (take at image) bytes (drop (at + length bytes) image)) ∙ take_at (take at image) (bytes ++ drop (at + length bytes) image) at front;
@@ -47,7 +47,7 @@ seen_stays_after synced seen left has = refl
 seen_stays_after failed seen left has = has
 seen_stays_after (write_failed at bytes) seen left has = (seen, has, torn_self at (length bytes) seen)
 
--- A crash may leave what a read gives.
+-- A crash may leave the bytes that a read gives.
 pub seen_may_stay : (first : List ℕ) (calls : List Call) → left_of first calls (seen_of first calls)
 seen_may_stay first [] = refl
 seen_may_stay first (call ∷ calls) = seen_stays_after call (seen_of first calls) (left_of first calls) (seen_may_stay first calls)
@@ -63,7 +63,7 @@ sized_after synced seen left same image now = ap length now
 sized_after failed seen left same image now = same image now
 sized_after (write_failed at bytes) seen left same image now = now.2.size ∙ same now.0 now.1
 
--- The length stays.
+-- The length never changes.
 pub sized : (first : List ℕ) (calls : List Call) (image : List ℕ) → left_of first calls image → length image ≡ length (seen_of first calls)
 sized first [] image now = ap length now
 sized first (call ∷ calls) image now = sized_after call (seen_of first calls) (left_of first calls) (sized first calls) image now
@@ -71,12 +71,12 @@ sized first (call ∷ calls) image now = sized_after call (seen_of first calls) 
 pub shown_sized : (first : List ℕ) (calls : List Call) (shown image : List ℕ) → shown ≡ seen_of first calls → left_of first calls image → length image ≡ length shown
 shown_sized first calls shown image is now = sized first calls image now ∙ sym (ap length is)
 
--- Now is one of the times since an earlier moment.
+-- The present is one of the times since an earlier moment.
 pub counts_now : (first : List ℕ) (calls : List Call) (moment : ℕ) (image : List ℕ) → left_of first calls image → since_of first calls moment image
 counts_now first [] moment image now = now
 counts_now first (call ∷ calls) moment image now = inl now
 
--- Since this moment there is no other time.
+-- Since the present moment there is no other time.
 pub only_now : (first : List ℕ) (calls : List Call) (image : List ℕ) → since_of first calls (length calls) image → left_of first calls image
 only_now first [] image left = left
 only_now first (call ∷ calls) image (inl now) = now

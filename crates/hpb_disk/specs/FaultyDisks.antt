@@ -1,4 +1,4 @@
--- What a device shows that is made to fail.
+-- The value of a device that is made to fail.
 use Rattle.std.specs.Prelude.{ℕ, ◌+◌, ◌-◌, List, length}
 use Rattle.hpb_disk.specs.declared.disk.Disk.{Ghosts}
 use Rattle.hpb_disk.specs.declared.faulty.FaultyDisk.{FaultyDisk}
@@ -23,19 +23,19 @@ module _ {D F : Type 0} {behind : Ghosts D} {faults : FaultsGhosts F} where
   abbrev pub moment_behind : FaultyDisk D F behind faults → ℕ
   moment_behind disk = behind.moment disk.inner
 
-  -- How many of them it let fail by itself.
+  -- How many of them it made fail by itself.
   abbrev pub own_faults : FaultyDisk D F behind faults → ℕ
   own_faults disk = faults_of disk.trace.events
 
-  -- What a read gives is what it gives of the device behind: its member `seen`.
+  -- A read gives the bytes that it gives on the device behind: its member `seen`.
   abbrev pub seen_behind : FaultyDisk D F behind faults → List ℕ
   seen_behind disk = behind.seen disk.inner
 
-  -- What a crash now may leave is what it may leave of that device: its member `may_leave`.
+  -- A crash now may leave the images that it may leave of that device: its member `may_leave`.
   abbrev pub left_behind : FaultyDisk D F behind faults → List ℕ → Type 0
   left_behind disk = behind.may_leave disk.inner
 
-  -- The moments are those of that device, but for the calls that were not passed on: its member `left_since`.
+  -- The moments are those of that device, except for the calls that weren't passed on: its member `left_since`.
   abbrev pub since_behind : FaultyDisk D F behind faults → ℕ → List ℕ → Type 0
   since_behind disk moment = behind.left_since disk.inner (behind.moment disk.inner - passed_since disk.trace.events moment)
 
@@ -47,6 +47,6 @@ module _ {D F : Type 0} {behind : Ghosts D} {faults : FaultsGhosts F} where
   abbrev pub all_failures : FaultyDisk D F behind faults → ℕ
   all_failures disk = behind.failures disk.inner + faults_of disk.trace.events
 
-  -- What it was asked for itself: its member `asked`.
+  -- The calls that it was asked for itself: its member `asked`.
   abbrev pub all_asked : FaultyDisk D F behind faults → List Asked
   all_asked disk = asked_of disk.asked.events

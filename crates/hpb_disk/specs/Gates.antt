@@ -1,8 +1,8 @@
--- A gate is a byte that says whether what stands behind it counts. It is open at one value alone.
+-- Gates: a gate is a byte that says whether the bytes behind it count.
 use Rattle.std.specs.Prelude.{◌≡◌, ◌≢◌, ℕ, List, [], ◌∷◌}
 use Rattle.hpb_disk.specs.Images.{part}
 
--- **Gate.** A byte that says whether what stands behind it counts. It is open at one value alone.
+-- **Gate.** A byte that says whether the bytes behind it count. It is open at one value alone.
 --
 -- The byte of an open gate.
 abbrev pub open_byte : List ℕ
@@ -16,6 +16,6 @@ closed_byte = 0 ∷ []
 abbrev pub HasOpenGate : ℕ → List ℕ → Type 0
 HasOpenGate at image = part at 1 image ≡ open_byte
 
--- It has any other value.
+-- The gate at this offset has any other value.
 abbrev pub HasClosedGate : ℕ → List ℕ → Type 0
 HasClosedGate at image = part at 1 image ≢ open_byte

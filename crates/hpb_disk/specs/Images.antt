@@ -1,11 +1,11 @@
--- The words that a caller of a device uses over one call and over many. An image is the list of all bytes; what a crash
--- may leave is a set of images.
+-- The terms of a device's clauses, for one call and for many. An image is the list of all bytes; a crash may leave any
+-- image of a set.
 use Rattle.std.specs.Prelude.{◌≡◌, ◌⊎◌, ℕ, ◌+◌, ◌<◌, ◌≤◌, List, ◌++◌, length, take, drop, Result, MatchResult}
 
--- **Part, put, torn.** `hpb_disk/specs`. What is put somewhere takes the place of as many bytes there. An image is torn somewhere where it is the old
--- one but for so many bytes there, which may be any.
+-- **Part, put, torn.** `hpb_disk/specs`. Bytes that are put at an offset replace as many bytes there. An image is torn
+-- at an offset if it is the old one except for a number of bytes there, which may be any.
 --
--- So many bytes from an offset on.
+-- `part at count image`: the bytes from an offset on, as many as the count.
 abbrev pub part : ℕ → ℕ → List ℕ → List ℕ
 part at count image = take count (drop at image)
 
@@ -13,7 +13,7 @@ part at count image = take count (drop at image)
 abbrev pub put : ℕ → List ℕ → List ℕ → List ℕ
 put at bytes image = take at image ++ bytes ++ drop (at + length bytes) image
 
--- The same image but for so many bytes from an offset on, which may be any.
+-- The same image except for `count` bytes from an offset on, which may be any.
 pub record Torn (at count : ℕ) (old new : List ℕ) : Type 0 where
   pub before : take at new ≡ take at old
   pub after : drop (at + count) new ≡ drop (at + count) old
@@ -23,11 +23,11 @@ pub record Torn (at count : ℕ) (old new : List ℕ) : Type 0 where
 abbrev pub SameBefore : ℕ → List ℕ → List ℕ → Type 0
 SameBefore end old new = (at count : ℕ) → at + count ≤ end → part at count new ≡ part at count old
 
--- Both have the same bytes from this offset on.
+-- Both images have the same bytes from this offset on.
 abbrev pub SameFrom : ℕ → List ℕ → List ℕ → Type 0
 SameFrom start old new = (at count : ℕ) → start ≤ at → part at count new ≡ part at count old
 
--- One of these images, torn there.
+-- One of these images, torn at an offset.
 abbrev pub TornFrom : ℕ → ℕ → (List ℕ → Type 0) → List ℕ → Type 0
 TornFrom at count images new = (old : List ℕ) × images old × Torn at count old new
 
@@ -35,25 +35,25 @@ TornFrom at count images new = (old : List ℕ) × images old × Torn at count o
 abbrev pub Only : List ℕ → (List ℕ → Type 0) → Type 0
 Only image images = (other : List ℕ) → images other → other ≡ image
 
--- Each of these images is one of those.
+-- Each of the first images is one of the second.
 abbrev pub Within : (List ℕ → Type 0) → (List ℕ → Type 0) → Type 0
 Within images those = (image : List ℕ) → images image → those image
 
--- One call. The moment moves on by one; what a crash may have left since an earlier moment is what it may have left before
--- the call, or an image of the call, and nothing that it may have left is forgotten.
+-- One call. The moment moves on by one. The images that a crash may have left since an earlier moment are those from
+-- before the call and those of the call; none of the former is forgotten.
 pub record Elapses (before now : ℕ) (past since : ℕ → List ℕ → Type 0) (during : List ℕ → Type 0) : Type 0 where
   pub next : now ≡ before + 1
   pub nothing_else : (moment : ℕ) (image : List ℕ) → moment ≤ before → since moment image → past moment image ⊎ during image
   pub keeps : (moment : ℕ) (image : List ℕ) → moment ≤ before → past moment image → since moment image
 
--- Any number of calls. What a crash may have left since an earlier moment is what it may have left before them, or an image
--- of this set; and after them a crash leaves one of this set.
+-- Any number of calls. The images that a crash may have left since an earlier moment are those from before the calls
+-- and images of this set. After the calls a crash leaves an image of this set.
 pub record LeavesOnly (before now : ℕ) (past since : ℕ → List ℕ → Type 0) (left images : List ℕ → Type 0) : Type 0 where
   pub later : before ≤ now
   pub nothing_else : (moment : ℕ) (image : List ℕ) → moment ≤ before → since moment image → past moment image ⊎ images image
   pub keeps : (moment : ℕ) (image : List ℕ) → moment ≤ before → past moment image → since moment image
   pub after : Within left images
 
--- The number of failures rises exactly in a call that fails.
+-- The number of failures rises by one exactly if the call fails.
 abbrev pub CountsFailure : {T E : Type 0} → Result T E → ℕ → ℕ → Type 0
 CountsFailure result old new = MatchResult result (λ _. new ≡ old) (λ _. old < new)

@@ -1,4 +1,4 @@
--- What a device in memory shows.
+-- The value of a device in memory.
 use Rattle.std.specs.Prelude.{ℕ, List, length}
 use Rattle.hpb_disk.specs.declared.memory.MemoryDisk.{MemoryDisk}
 use Rattle.hpb_disk.specs.Asked.{Asked, asked_of}
@@ -8,11 +8,11 @@ use Rattle.hpb_disk.specs.Calls.{Call, calls_of, left_of, since_of, failures_of,
 abbrev pub memory_calls : MemoryDisk → List Call
 memory_calls disk = calls_of disk.trace.events
 
--- What a read gives: its member `seen`.
+-- The bytes that a read gives: its member `seen`.
 abbrev pub memory_seen : MemoryDisk → List ℕ
 memory_seen disk = disk.bytes.items
 
--- What a crash now may leave: its member `may_leave`.
+-- The images that a crash now may leave: its member `may_leave`.
 abbrev pub memory_left : MemoryDisk → List ℕ → Type 0
 memory_left disk = left_of disk.trace.first (memory_calls disk)
 
@@ -20,7 +20,7 @@ memory_left disk = left_of disk.trace.first (memory_calls disk)
 abbrev pub memory_moment : MemoryDisk → ℕ
 memory_moment disk = length (memory_calls disk)
 
--- What a crash may have left since a moment: its member `left_since`.
+-- The images that a crash may have left since a moment: its member `left_since`.
 abbrev pub memory_since : MemoryDisk → ℕ → List ℕ → Type 0
 memory_since disk = since_of disk.trace.first (memory_calls disk)
 
@@ -28,11 +28,11 @@ memory_since disk = since_of disk.trace.first (memory_calls disk)
 abbrev pub memory_failures : MemoryDisk → ℕ
 memory_failures disk = failures_of (memory_calls disk)
 
--- What it was asked for: its member `asked`.
+-- The calls that it was asked for: its member `asked`.
 abbrev pub memory_asked : MemoryDisk → List Asked
 memory_asked disk = asked_of disk.trace.events
 
--- The image that its newest sync found, or the one that it was made of.
+-- The image at its newest sync, or the one that it was made with.
 abbrev pub memory_base : MemoryDisk → List ℕ
 memory_base disk = base_of disk.trace.first (memory_calls disk)
 

@@ -1,4 +1,4 @@
--- What the record of a device in memory says.
+-- The writes in the record of a device in memory.
 use Rattle.std.specs.Prelude.{ℕ, List, [], ◌∷◌}
 use Rattle.hpb_disk.specs.declared.done.Done.{Done}
 use Rattle.hpb_disk.specs.declared.done.Done.TheVariants.{Read, Write, Sync}

@@ -1,12 +1,12 @@
-//! What a stop may make of a write.
+//! The fates of a write at a stop.
 
 /// What a stop makes of a write that no sync covers.
 #[derive(Clone, Copy, Debug, PartialEq, Eq)]
 pub enum Fate {
-    /// It is there, whole.
+    /// The write is whole.
     Kept,
-    /// All is as if it had not been made.
+    /// The write is gone, as if it had not been made.
     Lost,
-    /// Where it wrote there is this byte, over and over.
+    /// The range of the write is filled with this byte.
     Filled(u8),
 }

@@ -1,4 +1,4 @@
-//! A device that is made to fail: from a call on, or at that call alone.
+//! A device that is made to fail: from one call on, or at one call alone.
 ghost use Rattle.std.specs.Prelude.{◌≡◌, ◌+◌, ◌-◌, ◌≤◌, Bool, true, false, [], ◌∷◌, length, IsErr, OnOk};
 ghost use Rattle.hpb_disk.specs.Images.{part, put, Only, TornFrom, Within, Elapses, CountsFailure};
 ghost use Rattle.hpb_disk.specs.Asked.{Asks};
@@ -10,7 +10,7 @@ use crate::trace::Trace;
 use crate::{Disk, DiskFailed};
 use std::marker::PhantomData;
 
-/// What becomes of the calls after the first that fails.
+/// What happens to the calls after the first that fails.
 pub trait Faults {
     /// Whether they fail too.
     const LATER: bool;
@@ -28,7 +28,7 @@ impl Faults for FromThenOn {
     ghost LATER = { true };
 }
 
-/// They are passed on as those before it.
+/// They are passed on, like those before it.
 #[derive(Drop)]
 pub struct ThatAlone;
 
@@ -38,22 +38,22 @@ impl Faults for ThatAlone {
     ghost LATER = { false };
 }
 
-/// A device of which all calls fail from one on.
+/// A device whose calls all fail from one on.
 pub type FuseDisk<D> = FaultyDisk<D, FromThenOn>;
 
-/// A device of which one call fails.
+/// A device of whose calls one fails.
 pub type OnceDisk<D> = FaultyDisk<D, ThatAlone>;
 
-/// It passes calls on to the device behind it, but those that fail by their numbers. Where the first of these is a write
-/// it is passed on too, and answered as failed; no other that fails by its number is.
+/// Passes calls on to the device behind it, except those that fail because of their numbers. If the first of these is a
+/// write, it is passed on too and answered as failed; no other of them is passed on.
 #[derive(Drop)]
 pub struct FaultyDisk<D: Disk + Drop, F: Faults> {
     inner: D,
-    // The number of the first call that fails, and how many calls it is away: 0 where it was.
+    // The number of the first call that fails; and how many calls are left until then, 0 once it has come.
     fault: u64,
     away: u64,
     trace: Trace,
-    // What it was asked for itself.
+    // The calls that it was asked for itself.
     asked: Trace,
     kind: PhantomData<F>,
     ghost counted: { away ≡ fault - length trace.events },
@@ -63,8 +63,8 @@ pub struct FaultyDisk<D: Disk + Drop, F: Faults> {
 impl<D: Disk + Drop, F: Faults> FaultyDisk<D, F> {
     ghost use Rattle.hpb_disk.specs.FaultyDisks.{inner as inner_of, fault as fault_of_disk, calls, own_faults};
 
-    /// The call with this number is the first that fails. The first call of all has number 1; so at 0 a `FuseDisk` fails
-    /// all, and a `OnceDisk` none.
+    /// A device on which the call with this number is the first that fails. Calls count from 1; so at 0 a `FuseDisk`
+    /// fails all calls, and a `OnceDisk` none.
     pub fn new(inner: D, fault: u64) -> FaultyDisk<D, F>
         ensures inner { inner_of result ≡ inner }
         ensures fault { fault_of_disk result ≡ fault }
@@ -87,7 +87,8 @@ impl<D: Disk + Drop, F: Faults> FaultyDisk<D, F> {
         self.inner
     }
 
-    /// The number of the first call that fails. Of its calls so many failed by themselves as have to by their numbers.
+    /// The number of the first call that fails. As many of its calls have failed by themselves as must fail because of
+    /// their numbers.
     pub fn fault(&self) -> u64
         ensures fault { result ≡ fault_of_disk self.now }
         ensures faults { own_faults self.now ≡ faults_among F.LATER result (calls self.now) }
@@ -95,14 +96,14 @@ impl<D: Disk + Drop, F: Faults> FaultyDisk<D, F> {
         self.fault
     }
 
-    /// Whether the next call comes after the first that fails, and fails too.
+    /// Whether the next call fails because it comes after the first that fails.
     fn is_next_late(&self) -> bool
         ensures { result ≡ is_late F.LATER (fault_of_disk self.now) (calls self.now + 1) }
     {
         F::LATER && self.away == 0
     }
 
-    /// Whether the next call fails by its number.
+    /// Whether the next call fails because of its number.
     fn is_next_fault(&self) -> bool
         ensures { result ≡ is_fault F.LATER (fault_of_disk self.now) (calls self.now + 1) }
     {
@@ -148,7 +149,7 @@ impl<D: Disk + Drop, F: Faults> Disk for FaultyDisk<D, F> {
             (left_behind self.old) }
         ensures cause { CountsFailure result (all_failures self.old) (all_failures self.new) }
         ensures asked { Asks result [] (all_asked self.old) (all_asked self.new) }
-        // Beyond the trait: which calls fail, and which the device behind it has.
+        // Beyond the trait: which calls fail, and which reach the device behind it.
         ensures fault { fault_of_disk self.new ≡ fault_of_disk self.old }
         ensures fails { is_fault F.LATER (fault_of_disk self.old) (calls self.old + 1) ≡ true → IsErr result }
         ensures held { is_fault F.LATER (fault_of_disk self.old) (calls self.old + 1) ≡ true → inner_of self.new ≡ inner_of self.old }
@@ -183,7 +184,7 @@ impl<D: Disk + Drop, F: Faults> Disk for FaultyDisk<D, F> {
             (TornFrom at (length bytes.now) (left_behind self.old)) }
         ensures cause { CountsFailure result (all_failures self.old) (all_failures self.new) }
         ensures asked { Asks result (writes at bytes.now ∷ []) (all_asked self.old) (all_asked self.new) }
-        // Beyond the trait: which calls fail, and which the device behind it has.
+        // Beyond the trait: which calls fail, and which reach the device behind it.
         ensures fault { fault_of_disk self.new ≡ fault_of_disk self.old }
         ensures fails { is_fault F.LATER (fault_of_disk self.old) (calls self.old + 1) ≡ true → IsErr result }
         ensures held { is_late F.LATER (fault_of_disk self.old) (calls self.old + 1) ≡ true → inner_of self.new ≡ inner_of self.old }
@@ -225,7 +226,7 @@ impl<D: Disk + Drop, F: Faults> Disk for FaultyDisk<D, F> {
             (left_behind self.old) }
         ensures cause { CountsFailure result (all_failures self.old) (all_failures self.new) }
         ensures asked { Asks result (syncs ∷ []) (all_asked self.old) (all_asked self.new) }
-        // Beyond the trait: which calls fail, and which the device behind it has.
+        // Beyond the trait: which calls fail, and which reach the device behind it.
         ensures fault { fault_of_disk self.new ≡ fault_of_disk self.old }
         ensures fails { is_fault F.LATER (fault_of_disk self.old) (calls self.old + 1) ≡ true → IsErr result }
         ensures held { is_fault F.LATER (fault_of_disk self.old) (calls self.old + 1) ≡ true → inner_of self.new ≡ inner_of self.old }

@@ -20,16 +20,16 @@ use std::io::ErrorKind;
 use std::os::unix::fs::FileExt;
 use std::path::Path;
 
-/// The most bytes that a device in a file may have: they are kept in memory too.
+/// The most bytes that a device in a file may have, since a copy of them is kept in memory.
 pub const MOST_BYTES: u64 = 1 << 26;
 
-/// A device whose bytes are those of a file. It holds a lock of the file while it lives: one that no other value shares, or
-/// where it only reads one that others that only read share.
+/// A device whose bytes are those of a file. It holds a lock of the file while it lives. The lock is exclusive; a
+/// device that only reads shares it with others that only read.
 ///
-/// What a read gives is held against a copy in memory: where they differ, the read fails. After a write or a sync that
-/// failed every later call fails. Of such a write a part may be in the file, so a sync that succeeded after it would keep
-/// bytes that the copy doesn't have; and after such a sync the system may have dropped what it could not write, and tell
-/// of it only once.
+/// A read compares the file with a copy in memory: if they differ, the read fails. After a write or a sync that failed,
+/// every later call fails. Part of such a write may be in the file, so a later sync that succeeded would keep bytes
+/// that the copy doesn't have. After a failed sync the system may have dropped bytes that it couldn't write, and report
+/// that only once.
 #[derive(Drop)]
 pub struct FileDisk {
     file: File,
@@ -43,7 +43,7 @@ pub struct FileDisk {
 impl FileDisk {
     ghost use Rattle.hpb_disk.specs.FileDisks.{file_seen, file_left, file_is_apart, file_is_broken};
 
-    // Over a file that holds these bytes, all of them on the medium.
+    // A device over a file that holds these bytes, all of them on the medium.
     pub(crate) fn over(file: File, bytes: Vec<u8>) -> FileDisk
         ensures seen { file_seen result ≡ bytes.items }
         ensures settled { Only (file_seen result) (file_left result) }
@@ -60,7 +60,7 @@ impl FileDisk {
         }
     }
 
-    // Locks the file, alone or beside others that only read, and reads what is on the medium.
+    // Locks the file, alone or beside others that only read, and reads the bytes that are on the medium.
     fn take(alloc: Global, file: File, share: Share) -> Result<FileDisk, FileFault>
         ensures settled { IfOk result (λ disk. Only (file_seen disk) (file_left disk)) }
         ensures works { IfOk result (λ disk. file_is_broken disk ≡ false) }
@@ -85,8 +85,8 @@ impl FileDisk {
         Ok(FileDisk::over(file, bytes))
     }
 
-    /// Opens a file that is there. Its length is that of the device. Nothing is pending, and its name is on the medium
-    /// too.
+    /// Opens an existing file, whose length is that of the device. No write is pending, and the file's name is on the
+    /// medium too.
     pub fn open<R: Files<File = File>>(
         rt: &R,
         alloc: Global,
@@ -104,9 +104,9 @@ impl FileDisk {
         Ok(disk)
     }
 
-    /// Opens a file that is there, to read alone: it asks for no right to write it, and a write is a failure of the
-    /// device. Others may read it so at the same time; while one does, no value that may write has it, and while such a
-    /// value has it, it isn't opened.
+    /// Opens an existing file for reading only. It needs no right to write the file, and a write is a failure of the
+    /// device. Others may read the file in this way at the same time. While one of them does, no value that may write
+    /// can open it; and while such a value has it, this call is refused.
     pub fn open_to_read<R: Files<File = File>>(
         rt: &R,
         alloc: Global,
@@ -122,16 +122,18 @@ impl FileDisk {
         FileDisk::take(alloc, file, Share::Readers)
     }
 
-    /// Makes a file of so many zero bytes where none is, and opens it. Nothing is pending, and its name is on the medium
-    /// too.
+    /// Makes a file of `len` zero bytes if there is none, and opens it. No write is pending, and the file's name is on
+    /// the medium too.
     ///
-    /// It is made beside its name, as the name with `.new` behind it, and gets its name when it is whole: whenever the
-    /// process is killed, there is no file of that name that is shorter. Nobody but its owner may read or write it, and
-    /// nobody else ever had it open: what a killed process left beside is removed first.
+    /// The file is made under its name with `.new` behind it, and gets its own name when it is whole. So there is never
+    /// a shorter file of that name, whenever the process is killed. Nobody but its owner may read or write it, and
+    /// nobody else ever had it open: a file that a killed process left under the other name is removed first.
     ///
-    /// A file that is there is never replaced. What stands beside is refused, and left alone, where it is another user's
-    /// (`BesideForeign`), where others may write it (`BesideWritable`), and where it holds more than zeros, has another
-    /// name too or is no regular file (`Beside`).
+    /// An existing file is never replaced. A file under the other name is refused and left alone in these cases:
+    ///
+    /// - it is another user's (`BesideForeign`);
+    /// - others may write it (`BesideWritable`);
+    /// - it holds more than zeros, has another name too or isn't a regular file (`Beside`).
     pub fn make<R: Files<File = File>>(
         rt: &R,
         alloc: Global,
@@ -161,8 +163,8 @@ impl FileDisk {
         Ok(FileDisk::over(file, bytes))
     }
 
-    // Opens a file that is there, unless it is another user's, and removes the name that it had while it was made, where it
-    // has that name still.
+    // Opens an existing file, unless it is another user's. If it still has the name under which it was made, that name
+    // is removed.
     fn open_own<R: Files<File = File>>(
         rt: &R,
         alloc: Global,
@@ -178,8 +180,8 @@ impl FileDisk {
         Ok(disk)
     }
 
-    /// Opens a file that is there, or makes one of so many zero bytes where none is. One of another user, who could write it
-    /// at any time, is refused (`Foreign`).
+    /// Opens an existing file, or makes one of `len` zero bytes if there is none. A file of another user, who could
+    /// write it at any time, is refused (`Foreign`).
     pub fn open_or_make<R: Files<File = File>>(
         rt: &R,
         alloc: Global,
@@ -203,12 +205,12 @@ impl FileDisk {
         }
     }
 
-    /// The system's number of the write or the sync that failed, where one did and the system told one.
+    /// The system's number for the error of the write or the sync that failed, if one did and the system gave a number.
     pub fn code(&self) -> Option<i32> {
         self.code
     }
 
-    /// Which file it is, and how long.
+    /// The identity of the file, and its length.
     pub fn stamp(&self) -> io::Result<FileStamp> {
         Ok(FileStamp::of(&self.file.metadata()?))
     }
@@ -253,7 +255,7 @@ impl Disk for FileDisk {
             (file_left self.old) }
         ensures cause { CountsFailure result (file_failures self.old) (file_failures self.new) }
         ensures asked { Asks result [] (file_asked self.old) (file_asked self.new) }
-        // Beyond the trait: the call that is noted, and that none succeeds after a write or a sync that failed.
+        // Beyond the trait: the call that is noted, and that no call succeeds after a write or a sync that failed.
         ensures called { MatchResult result
             (λ _. file_calls self.new ≡ read ∷ file_calls self.old)
             (λ _. file_calls self.new ≡ failed ∷ file_calls self.old) }
@@ -282,7 +284,7 @@ impl Disk for FileDisk {
             (TornFrom at (length bytes.now) (file_left self.old)) }
         ensures cause { CountsFailure result (file_failures self.old) (file_failures self.new) }
         ensures asked { Asks result (writes at bytes.now ∷ []) (file_asked self.old) (file_asked self.new) }
-        // Beyond the trait: the call that is noted, and that none succeeds after a write or a sync that failed.
+        // Beyond the trait: the call that is noted, and that no call succeeds after a write or a sync that failed.
         ensures called { MatchResult result
             (λ _. file_calls self.new ≡ wrote at bytes.now ∷ file_calls self.old)
             (λ _. file_is_broken self.old ≡ false → file_calls self.new ≡ write_failed at bytes.now ∷ file_calls self.old) }
@@ -317,7 +319,7 @@ impl Disk for FileDisk {
             (file_left self.old) }
         ensures cause { CountsFailure result (file_failures self.old) (file_failures self.new) }
         ensures asked { Asks result (syncs ∷ []) (file_asked self.old) (file_asked self.new) }
-        // Beyond the trait: the call that is noted, and that none succeeds after a write or a sync that failed.
+        // Beyond the trait: the call that is noted, and that no call succeeds after a write or a sync that failed.
         ensures called { MatchResult result
             (λ _. file_calls self.new ≡ synced ∷ file_calls self.old)
             (λ _. file_calls self.new ≡ failed ∷ file_calls self.old) }
@@ -348,7 +350,7 @@ impl Disk for FileDisk {
         }
         match self.file.read_exact_at(room, at as u64) {
             Ok(()) => are_same(room, &self.bytes[at..at + room.len()]),
-            // It ends before them. Why else they can't be read the next call tells.
+            // The file ends before these bytes. If they can't be read for another reason, the next call reports it.
             Err(error) => error.kind() != ErrorKind::UnexpectedEof,
         }
     }

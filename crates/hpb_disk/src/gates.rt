@@ -1,4 +1,4 @@
-//! Gates: a byte that says whether what stands behind it counts.
+//! Gates: a gate is a byte that says whether the bytes behind it count.
 ghost use Rattle.std.specs.Prelude.{◌≡◌, ◌<◌, ◌↔◌, true, false, [], ◌∷◌, length, IsTrue, IfOk, OnOk};
 ghost use Rattle.hpb_disk.specs.Asked.{Asks};
 ghost use Rattle.hpb_disk.specs.Asked.Asked.{writes};
@@ -28,8 +28,8 @@ pub fn gate_is_open<D: Disk>(disk: &mut D, at: usize) -> Result<bool, DiskFailed
     Ok(gate == [OPEN])
 }
 
-/// Opens a gate. It counts after the next sync; until then a crash may leave it open or closed, and all else as it
-/// could.
+/// Opens a gate. The opening counts after the next sync. Until then a crash may leave the gate open or closed, and all
+/// other bytes as before.
 pub fn open_gate<D: Disk>(disk: &mut D, at: usize) -> Result<(), DiskFailed>
     requires { at < length (D.seen disk.old) }
     ensures open { OnOk result (HasOpenGate at (D.seen disk.new)) }
@@ -44,8 +44,8 @@ pub fn open_gate<D: Disk>(disk: &mut D, at: usize) -> Result<(), DiskFailed>
     disk.write_at(at, &[OPEN])
 }
 
-/// Closes a gate that may be open. One that is closed in all that a crash may leave isn't written, as a torn byte could
-/// open what stands behind it: its caller says so, and the device has no call.
+/// Closes a gate, if it may be open. A gate that is closed in every image that a crash may leave isn't written, since a
+/// torn byte could open it. The caller says so by `may_be_open`; then the device gets no call.
 pub fn close_gate<D: Disk>(disk: &mut D, at: usize, may_be_open: bool) -> Result<(), DiskFailed>
     requires range { at < length (D.seen disk.old) }
     requires told { may_be_open ≡ false → Within (D.may_leave disk.old) (HasClosedGate at) }

@@ -1,17 +1,17 @@
 //! The laws of images.
 ghost use Rattle.hpb_disk.specs.Laws.{PutIsRead, PutIsTorn, ElsewhereStays, OpenOrClosed, TornGateIsAByte};
 
-/// What is put somewhere is read there.
+/// Bytes that are put at an offset are read there.
 pub fn put_is_read()
     ensures { PutIsRead }
 {}
 
-/// What is put somewhere changes nothing else, and not the length.
+/// Bytes that are put at an offset change nothing else, and not the length.
 pub fn put_is_torn()
     ensures { PutIsTorn }
 {}
 
-/// Of an image that is torn somewhere a part that lies apart from there stays.
+/// If an image is torn at an offset, a part apart from there stays.
 pub fn elsewhere_stays()
     ensures { ElsewhereStays }
 {}
@@ -21,7 +21,7 @@ pub fn open_or_closed()
     ensures { OpenOrClosed }
 {}
 
-/// A torn gate is some byte, and all else stays.
+/// A torn gate has some byte, and all other bytes stay.
 pub fn torn_gate_is_a_byte()
     ensures { TornGateIsAByte }
 {}

@@ -1,4 +1,4 @@
-//! A device, and what a crash may leave of it.
+//! Devices: reads, writes and syncs, and the images that a crash may leave.
 #![tactic(auto)]
 
 mod disk;

@@ -13,13 +13,13 @@ use crate::trace::Trace;
 use crate::{Disk, DiskFailed, Fate};
 use std::alloc::{AllocError, Global};
 
-/// A device whose bytes are in memory. A call fails only where its record can't grow; such a call does nothing else.
+/// A device whose bytes are in memory. A call fails only if its record can't grow; such a call does nothing else.
 #[derive(Drop)]
 pub struct MemoryDisk {
     alloc: Global,
-    // What a read gives.
+    // The bytes that a read gives.
     bytes: Vec<u8>,
-    // What the newest sync found.
+    // The bytes at the newest sync.
     base: Vec<u8>,
     // The calls that were done, and how many of them the newest sync covers.
     done: Vec<Done>,
@@ -65,7 +65,7 @@ fn keep_write(
 impl MemoryDisk {
     ghost use Rattle.hpb_disk.specs.MemoryDisks.{memory_calls, memory_seen, memory_left, memory_moment, memory_failures, memory_base, memory_pending};
 
-    /// A device of so many bytes, all zero, that had no call.
+    /// A device of `len` zero bytes, without a call so far.
     pub fn zeros(alloc: Global, len: usize) -> Result<MemoryDisk, AllocError>
         ensures seen { IfOk result (λ disk. memory_seen disk ≡ replicate len 0) }
         ensures settled { IfOk result (λ disk. Only (memory_seen disk) (memory_left disk)) }
@@ -75,7 +75,7 @@ impl MemoryDisk {
         MemoryDisk::of(alloc, vec![in alloc; 0; len]?)
     }
 
-    /// A device that holds these bytes. It had no call, so nothing is pending.
+    /// A device that holds these bytes, without a call so far, so that no write is pending.
     pub fn of(alloc: Global, bytes: Vec<u8>) -> Result<MemoryDisk, AllocError>
         ensures seen { IfOk result (λ disk. memory_seen disk ≡ bytes.items) }
         ensures settled { IfOk result (λ disk. Only (memory_seen disk) (memory_left disk)) }
@@ -94,8 +94,8 @@ impl MemoryDisk {
         })
     }
 
-    /// A device with what a stop may leave now. Of the writes that no sync covers, the oldest first, each takes the next
-    /// fate; where there are too few, the others are lost.
+    /// A device with an image that a stop may leave now. The writes that no sync covers, the oldest first, each take
+    /// the next fate of `pick`. If there are too few fates, the other writes are lost.
     pub fn after_stop(&self, alloc: Global, pick: &[Fate]) -> Result<MemoryDisk, AllocError>
         ensures image { IfOk result (λ disk. memory_seen disk ≡ stopped (memory_pending self.now) pick.now (memory_base self.now)) }
         ensures may_stay { IfOk result (λ disk. memory_left self.now (memory_seen disk)) }
@@ -112,7 +112,7 @@ impl MemoryDisk {
         Ok(stopped)
     }
 
-    /// How many calls are in its record: all reads, writes and syncs that didn't fail.
+    /// How many calls are in its record: all reads, writes and syncs that succeeded.
     pub fn calls(&self) -> usize
         ensures { result + memory_failures self.now ≡ memory_moment self.now }
     {
@@ -159,7 +159,7 @@ impl Disk for MemoryDisk {
             (memory_left self.old) }
         ensures cause { CountsFailure result (memory_failures self.old) (memory_failures self.new) }
         ensures asked { Asks result [] (memory_asked self.old) (memory_asked self.new) }
-        // Beyond the trait: the call that its record has.
+        // Beyond the trait: the call that is put into the record.
         ensures called { MatchResult result
             (λ _. memory_calls self.new ≡ read ∷ memory_calls self.old)
             (λ _. memory_calls self.new ≡ failed ∷ memory_calls self.old) }
@@ -186,7 +186,7 @@ impl Disk for MemoryDisk {
             (TornFrom at (length bytes.now) (memory_left self.old)) }
         ensures cause { CountsFailure result (memory_failures self.old) (memory_failures self.new) }
         ensures asked { Asks result (writes at bytes.now ∷ []) (memory_asked self.old) (memory_asked self.new) }
-        // Beyond the trait: the call that its record has.
+        // Beyond the trait: the call that is put into the record.
         ensures called { MatchResult result
             (λ _. memory_calls self.new ≡ wrote at bytes.now ∷ memory_calls self.old)
             (λ _. memory_calls self.new ≡ failed ∷ memory_calls self.old) }
@@ -213,7 +213,7 @@ impl Disk for MemoryDisk {
             (memory_left self.old) }
         ensures cause { CountsFailure result (memory_failures self.old) (memory_failures self.new) }
         ensures asked { Asks result (syncs ∷ []) (memory_asked self.old) (memory_asked self.new) }
-        // Beyond the trait: the call that its record has.
+        // Beyond the trait: the call that is put into the record.
         ensures called { MatchResult result
             (λ _. memory_calls self.new ≡ synced ∷ memory_calls self.old)
             (λ _. memory_calls self.new ≡ failed ∷ memory_calls self.old) }

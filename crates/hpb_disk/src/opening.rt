@@ -1,4 +1,4 @@
-//! How files are opened and made.
+//! Opening and making files.
 ghost use Rattle.std.specs.Prelude.{◌≡◌, ◌↔◌, IfOk, IsOk, IsTrue};
 ghost use Rattle.hpb_disk.specs.FileDisks.{IsApart};
 
@@ -12,13 +12,13 @@ use std::os::fd::AsRawFd;
 use std::os::unix::fs::{FileExt, MetadataExt, OpenOptionsExt, PermissionsExt};
 use std::path::{Path, PathBuf};
 
-/// The least descriptor that the file of a device may have: those below it are the standard streams'.
+/// The least descriptor that the file of a device may have. Those below it belong to the standard streams.
 const LEAST_DESCRIPTOR: i32 = libc::STDERR_FILENO + 1;
 
-/// Linux's name for the limit of how many bytes a file may have that a process writes: RLIMIT_FSIZE.
+/// Linux's number for RLIMIT_FSIZE, the limit on the bytes of a file that a process writes.
 const FILE_SIZE_LIMIT: i32 = 1;
 
-/// What is added to a file's name while the file is made.
+/// The ending of a file's name while the file is made.
 const BESIDE: &str = ".new";
 
 /// The permissions of a file that is made: its owner may read and write it, and nobody else may do anything.
@@ -27,32 +27,32 @@ const OWNERS_ALONE: u32 = 0o600;
 /// The bits of a mode that are permissions.
 const PERMISSIONS: u32 = 0o7777;
 
-/// Those by which others than the owner may write.
+/// The permissions by which users other than the owner may write.
 const OTHERS_WRITE: u32 = 0o022;
 
-/// What standard input, output and errors lead to, where the system tells it.
+/// The paths of standard input, output and errors, if the system has such paths.
 const INPUT: &str = "/dev/fd/0";
 
 const OUTPUT: &str = "/dev/fd/1";
 
 const ERRORS: &str = "/dev/fd/2";
 
-/// Who else may have a file at the same time.
+/// Whether others may have the file at the same time.
 #[derive(Clone, Copy, PartialEq, Eq)]
 pub(crate) enum Share {
     Nobody,
     Readers,
 }
 
-/// Whether some bytes are the others.
+/// Whether two slices have the same bytes.
 pub(crate) fn are_same(some: &[u8], others: &[u8]) -> bool
     ensures { IsTrue result ↔ (some.now ≡ others.now) }
 {
     some == others
 }
 
-/// Refuses what is no regular file, before it is opened: who opens a pipe waits for its other end. Refuses what a standard
-/// stream leads to.
+/// Refuses, before it is opened, anything that isn't a regular file: opening a pipe waits for its other end. Also
+/// refuses a file that a standard stream leads to.
 pub(crate) fn look_at<R: Files>(rt: &R, path: &str) -> Result<(), FileFault> {
     let found = fs::metadata(rt, path)?;
     if !found.is_file() {
@@ -61,7 +61,7 @@ pub(crate) fn look_at<R: Files>(rt: &R, path: &str) -> Result<(), FileFault> {
     check_streams(rt, &found)
 }
 
-/// Whether they tell of the same file.
+/// Whether both are metadata of the same file.
 fn are_of_one(some: &Metadata, other: &Metadata) -> bool {
     some.dev() == other.dev() && some.ino() == other.ino()
 }
@@ -74,7 +74,7 @@ fn leads_to<R: Files>(rt: &R, path: &str, file: &Metadata) -> bool {
     }
 }
 
-/// Refuses a file that a standard stream leads to: what is written there would be written into it.
+/// Refuses a file that a standard stream leads to: the stream's output would be written into it.
 fn check_streams<R: Files>(rt: &R, file: &Metadata) -> Result<(), FileFault> {
     if leads_to(rt, ERRORS, file) {
         return Err(FileFault::Errors);
@@ -85,7 +85,7 @@ fn check_streams<R: Files>(rt: &R, file: &Metadata) -> Result<(), FileFault> {
     Ok(())
 }
 
-/// Refuses a descriptor by which a standard stream is read or written.
+/// Refuses a descriptor that is a standard stream's.
 pub(crate) fn check_descriptor(file: &File) -> Result<(), FileFault>
     ensures apart { IsOk result → IsApart file.now }
 {
@@ -95,7 +95,7 @@ pub(crate) fn check_descriptor(file: &File) -> Result<(), FileFault>
     Ok(())
 }
 
-/// Refuses a length beyond which the system ends a process that writes.
+/// Refuses a length above the limit beyond which the system ends a process that writes.
 pub(crate) fn check_limit(len: u64) -> Result<(), FileFault> {
     let mut limit = libc::types::rlimit {
         rlim_cur: u64::MAX,
@@ -111,7 +111,7 @@ pub(crate) fn check_limit(len: u64) -> Result<(), FileFault> {
     Ok(())
 }
 
-/// Takes the lock of a file, without waiting for it.
+/// Takes the lock of a file, and doesn't wait for it.
 pub(crate) fn lock(file: &File, share: Share) -> Result<(), FileFault> {
     let locked = match share {
         Share::Nobody => file.try_lock(),
@@ -124,8 +124,8 @@ pub(crate) fn lock(file: &File, share: Share) -> Result<(), FileFault> {
     }
 }
 
-/// What was written before is on the medium after this, and what is read from then on comes from there: after a sync that
-/// failed an earlier process may have left bytes in the system's memory that the medium doesn't have.
+/// After this, earlier writes are on the medium, and later reads come from there. Otherwise, if a sync of an earlier
+/// process failed, the system's memory could hold bytes that the medium doesn't have.
 pub(crate) fn settle(file: &File) -> io::Result<()> {
     file.sync_data()?;
     match libc::posix_fadvise(file.as_raw_fd(), 0, 0, libc::POSIX_FADV_DONTNEED) {
@@ -134,7 +134,7 @@ pub(crate) fn settle(file: &File) -> io::Result<()> {
     }
 }
 
-/// Opens the folder that a path's last name stands in, to be synced.
+/// Opens the folder of a path's last name, to be synced.
 pub(crate) fn open_folder<R: Files<File = File>>(rt: &R, path: &Path) -> io::Result<File> {
     let folder = match path.parent() {
         Some(folder) if !folder.as_str().is_empty() => folder.as_str(),
@@ -143,7 +143,7 @@ pub(crate) fn open_folder<R: Files<File = File>>(rt: &R, path: &Path) -> io::Res
     File::open(rt, folder)
 }
 
-/// The path of a file with no link in it.
+/// The path of a file, without a link in it.
 fn whole_path<R: Files>(rt: &R, alloc: Global, path: &str) -> Result<PathBuf, FileFault> {
     match rt.canonicalize(alloc, path) {
         Ok(whole) => Ok(whole),
@@ -152,7 +152,7 @@ fn whole_path<R: Files>(rt: &R, alloc: Global, path: &str) -> Result<PathBuf, Fi
     }
 }
 
-/// Syncs the folder that a file's name stands in, and where a path is a link to the file that of the link.
+/// Syncs the folder of a file's name. If the path is a link to the file, syncs the link's folder too.
 pub(crate) fn sync_names<R: Files<File = File>>(
     rt: &R,
     alloc: Global,
@@ -171,7 +171,7 @@ pub(crate) fn beside(alloc: Global, path: &str) -> Result<String, AllocError> {
     format!(in alloc; "{path}{BESIDE}")
 }
 
-/// Whether a name is that of this file, and no link to it.
+/// Whether a name is this file's own, not a link to it.
 fn is_name_of<R: Files>(rt: &R, name: &str, file: &Metadata) -> bool {
     match fs::symlink_metadata(rt, name) {
         Ok(found) => are_of_one(&found, file),
@@ -179,7 +179,7 @@ fn is_name_of<R: Files>(rt: &R, name: &str, file: &Metadata) -> bool {
     }
 }
 
-/// Removes the name that a file had while it was made, where it has that name still.
+/// Removes the name that a file had while it was made, if it still has it.
 pub(crate) fn forget_beside<R: Files>(rt: &R, beside: &str, file: &File) -> io::Result<()> {
     if is_name_of(rt, beside, &file.metadata()?) {
         fs::remove_file(rt, beside)?;
@@ -187,12 +187,12 @@ pub(crate) fn forget_beside<R: Files>(rt: &R, beside: &str, file: &File) -> io::
     Ok(())
 }
 
-/// Whether a file belongs to the user as whom this process acts.
+/// Whether a file belongs to the effective user of this process.
 fn is_own(file: &Metadata) -> bool {
     file.uid() == libc::geteuid()
 }
 
-/// Refuses a file of another user, who may read and write it whenever he likes.
+/// Refuses a file of another user, who could read and write it at any time.
 pub(crate) fn check_owner(file: &File) -> Result<(), FileFault> {
     if !is_own(&file.metadata()?) {
         return Err(FileFault::Foreign);
@@ -200,9 +200,9 @@ pub(crate) fn check_owner(file: &File) -> Result<(), FileFault> {
     Ok(())
 }
 
-/// Refuses what stands at the name that a file has while it is made, where no killed process of this user left it: what is
-/// another user's; what is no regular file, or one with another name too, by which its bytes are in use; and what others
-/// may write.
+/// Refuses the file at the name that a file has while it is made, unless a killed process of this user left it. It
+/// refuses another user's file, and one that isn't regular. It refuses a file that has another name too, by which it
+/// may be in use, and a file that others may write.
 fn check_rest(found: &Metadata) -> Result<(), FileFault> {
     if !is_own(found) {
         return Err(FileFault::BesideForeign);
@@ -216,7 +216,7 @@ fn check_rest(found: &Metadata) -> Result<(), FileFault> {
     Ok(())
 }
 
-/// Refuses a file that holds more than zeros: a process that was killed left none such.
+/// Refuses a file that holds more than zeros: no killed process left it.
 fn check_blank(alloc: Global, file: &File, len: u64) -> Result<(), FileFault> {
     if len > MOST_BYTES {
         return Err(FileFault::Beside);
@@ -229,7 +229,8 @@ fn check_blank(alloc: Global, file: &File, len: u64) -> Result<(), FileFault> {
     Ok(())
 }
 
-/// What a look at a rest gives. One that was there and no longer is was another process's, which makes the file too.
+/// The result of looking at a left file. If it was there and is gone, it belonged to another process that makes the
+/// file too.
 fn found_still<T: Drop>(found: io::Result<T>) -> Result<T, FileFault> {
     match found {
         Ok(found) => Ok(found),
@@ -238,8 +239,8 @@ fn found_still<T: Drop>(found: io::Result<T>) -> Result<T, FileFault> {
     }
 }
 
-/// Removes what a killed process left at the name that a file has while it is made. It is locked until then: nobody makes
-/// the file by it. Who had it open keeps what has no name any more.
+/// Removes the file that a killed process left at the name that a file has while it is made. The file is locked until
+/// then, so nobody can make the device's file from it. Anyone who has it open keeps a file without a name.
 fn remove_rest<R: Files<File = File>>(
     rt: &R,
     alloc: Global,
@@ -248,7 +249,7 @@ fn remove_rest<R: Files<File = File>>(
     check_rest(&found_still(fs::symlink_metadata(rt, beside))?)?;
     let rest = found_still(File::options().read(true).write(true).open(rt, beside))?;
     lock(&rest, Share::Nobody)?;
-    // Another one may have come by that name since, and another process may have made the file by this one.
+    // Another file may have got that name since, or another process may have made its file from this one.
     let own = rest.metadata()?;
     check_rest(&own)?;
     check_streams(rt, &own)?;
@@ -260,7 +261,7 @@ fn remove_rest<R: Files<File = File>>(
     Ok(())
 }
 
-/// Makes the file of the name that a file has while it is made, and locks it. `Beside` where something stands there.
+/// Makes a file at the name that a file has while it is made, and locks it. `Beside` if something stands there.
 fn make_beside<R: Files<File = File>>(rt: &R, beside: &str) -> Result<File, FileFault>
     ensures apart { IfOk result IsApart }
 {
@@ -278,19 +279,19 @@ fn make_beside<R: Files<File = File>>(rt: &R, beside: &str) -> Result<File, File
     check_descriptor(&file)?;
     lock(&file, Share::Nobody)?;
     let own = file.metadata()?;
-    // Another process may have taken it for a rest before it was locked.
+    // Another process may have taken it for a left file before it was locked.
     if !is_name_of(rt, beside, &own) {
         return Err(FileFault::Busy);
     }
-    // The process's mask may have taken more from it.
+    // The process's mask may have taken further permissions away.
     if own.mode() & PERMISSIONS != OWNERS_ALONE {
         file.set_permissions(Permissions::from_mode(OWNERS_ALONE))?;
     }
     Ok(file)
 }
 
-/// Makes and locks the file of the name that a file has while it is made, in place of what a killed process left there.
-/// Nobody else ever had it, and nobody else may read or write it.
+/// Makes and locks a file at the name that a file has while it is made, in place of one that a killed process left
+/// there. Nobody else ever had it, and nobody else may read or write it.
 pub(crate) fn open_beside<R: Files<File = File>>(
     rt: &R,
     alloc: Global,
@@ -306,21 +307,21 @@ pub(crate) fn open_beside<R: Files<File = File>>(
     make_beside(rt, beside)
 }
 
-/// Makes a file hold these bytes and no others, on the medium. They are read again into as many others.
+/// Makes a file hold exactly these bytes, on the medium. They are read back into `again`.
 fn fill(file: &File, bytes: &[u8], again: &mut [u8]) -> Result<(), FileFault> {
     file.set_len(bytes.len() as u64)?;
     file.write_all_at(bytes, 0)?;
     file.sync_all()?;
     settle(file)?;
     file.read_exact_at(again, 0)?;
-    // Whoever wrote it before it was locked has it still.
+    // Anyone who wrote it before it was locked still has it open.
     if !are_same(again, bytes) {
         return Err(FileFault::Busy);
     }
     Ok(())
 }
 
-/// Makes a file hold these bytes, and then gives it its name, unless there is a file of that name.
+/// Makes a file hold these bytes, and then gives it its name, unless a file of that name exists.
 pub(crate) fn fill_and_name<R: Files>(
     rt: &R,
     file: &File,
@@ -331,7 +332,7 @@ pub(crate) fn fill_and_name<R: Files>(
 ) -> Result<(), FileFault> {
     fill(file, bytes, again)?;
     fs::hard_link(rt, beside, path)?;
-    // Where it stays, the next `open_or_make` of this file removes it.
+    // If it stays, the next `open_or_make` of this file removes it.
     let _ = fs::remove_file(rt, beside);
     Ok(())
 }

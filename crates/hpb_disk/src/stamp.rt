@@ -1,9 +1,9 @@
-//! Which file a device is in.
+//! The identity of a device's file.
 
 use std::fs::{self, Files, Metadata};
 use std::os::unix::fs::MetadataExt;
 
-/// Which file it is, and how many bytes it has.
+/// The identity of a file, and how many bytes it has.
 #[derive(Clone, Copy, Debug, PartialEq, Eq)]
 pub struct FileStamp {
     device: u64,
@@ -20,7 +20,7 @@ impl FileStamp {
         }
     }
 
-    /// Whether a path leads to this file, and it has as many bytes as it had.
+    /// Whether a path leads to this file, and it still has as many bytes.
     pub fn is_at<R: Files>(&self, rt: &R, path: &str) -> bool {
         match fs::metadata(rt, path) {
             Ok(found) => FileStamp::of(&found) == *self,

@@ -1,4 +1,4 @@
-//! What a stop leaves of writes.
+//! The effect of a stop on writes.
 ghost use Rattle.std.specs.Prelude.{◌≡◌, List, ◌∷◌, OnOk, IfOk};
 ghost use Rattle.hpb_disk.specs.Fates.{struck, stopped};
 ghost use Rattle.hpb_disk.specs.Records.{writes_of};
@@ -8,7 +8,7 @@ use crate::done::Done;
 use crate::memory::overwrite;
 use std::alloc::{AllocError, Global};
 
-// A write, by its fate.
+// Changes the image by a write, according to its fate.
 fn strike(
     alloc: Global,
     image: &mut Vec<u8>,
@@ -29,7 +29,7 @@ fn strike(
     Ok(())
 }
 
-/// One call of a record: a write takes the first of the fates. Returns those that are left.
+/// Handles one call of a record: a write takes the first of the fates. Returns the fates that are left.
 pub(crate) fn stop_one<'a>(
     alloc: Global,
     image: &mut Vec<u8>,

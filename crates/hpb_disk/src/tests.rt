@@ -1,4 +1,4 @@
-//! What no clause says of these devices, and each public function once on its happy path.
+//! Facts about these devices that no clause states, and each public function once without a failure.
 
 mod failing;
 mod files;

@@ -1,4 +1,4 @@
-//! What was done to a device, in a list that only proofs see. It takes no memory.
+//! The calls of a device, in a list that only proofs see. It takes no memory.
 ghost use Rattle.std.specs.Prelude.{◌≡◌, List, ℕ, [], ◌∷◌};
 ghost use Rattle.std.specs.Borrow.{ftrue};
 ghost use Rattle.hpb_disk.specs.Events.{Event, event_of};
@@ -27,7 +27,7 @@ const HELD: u64 = 1;
 
 const BROKEN: u64 = 2;
 
-/// A clause reads the image at the start as `first`, and the calls, the newest first, as `events`.
+/// In clauses `first` is the image at the start, and `events` has the calls, the newest first.
 #[derive(Drop)]
 pub struct Trace {
     marker: PhantomData<u8>,
@@ -48,7 +48,7 @@ impl Trace {
         }
     }
 
-    /// The numbers are a kind and an offset.
+    /// Adds an entry. The numbers are a kind and an offset.
     fn note(&mut self, _numbers: &[u64], _bytes: &[u8])
         ensures { (self.new.first ≡ self.old.first) × (self.new.events ≡ event_of _numbers.now _bytes.now ∷ self.old.events) }
     {}
@@ -88,7 +88,7 @@ impl Trace {
         self.note(&[READ_FAILED, 0], &[]);
     }
 
-    /// A write failed that did nothing.
+    /// A write failed, and did nothing.
     pub(crate) fn write_refused(&mut self, at: usize, bytes: &[u8])
         ensures { (self.new.first ≡ self.old.first) × (self.new.events ≡ event_of (5 ∷ at ∷ []) bytes.now ∷ self.old.events) }
     {
@@ -109,7 +109,7 @@ impl Trace {
         self.note(&[PASSED, 0], &[]);
     }
 
-    /// A call failed by its number, and wasn't passed on.
+    /// A call failed because of its number, and wasn't passed on.
     pub(crate) fn held(&mut self)
         ensures { (self.new.first ≡ self.old.first) × (self.new.events ≡ event_of (1 ∷ 0 ∷ []) [] ∷ self.old.events) }
     {

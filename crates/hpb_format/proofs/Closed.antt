@@ -1,4 +1,4 @@
--- What the closing of gates leaves.
+-- The images after gates were closed.
 use Rattle.std.proofs.Common.{◌≡◌, ◌≢◌, ◌⊎◌, inl, inr, ⊎_elim, ℕ, ◌+◌, ◌%◌, ◌<◌, ◌≤◌, List, sym, ◌∙◌, subst, arith}
 use Rattle.std.proofs.lemmas.Bool.{cases_eq, cases_lt}
 use Rattle.std.proofs.Math.Nat.{mod-lt, mod-eq_of_lt}
@@ -24,28 +24,28 @@ head_stays stays first at count old new behind torn was = record {
   gate = λ closed is_open. was.gate closed (sym (stays HEAD_GATE 1 at count old new torn (inl (omega (arith, behind)))) ∙ is_open);
 }
 
--- One whose frame's gate changed too.
+-- So has an image whose frame's gate changed too.
 pub head_stays_at_frame : (layout : Layout) (first : List ℕ) (b : ℕ) (old new : List ℕ) → ChangesGate layout b old new → HasHeadOf first old → HasHeadOf first new
 head_stays_at_frame layout first b old new changes was = record {
   magic = changes.before HEAD_AT MAGIC_BYTES (omega arith) ∙ was.magic;
   gate = λ closed is_open. was.gate closed (sym (changes.before HEAD_GATE 1 (omega arith)) ∙ is_open);
 }
 
--- One whose head's gate is torn, where the gate was open in one that had the head of the first.
+-- So has an image whose head's gate is torn, if that gate was open in an image with the same head as the first.
 pub head_is_torn : ElsewhereStays → (first seen old new : List ℕ) → HasHeadOf first seen → HasOpenGate HEAD_GATE seen → Torn HEAD_GATE 1 old new → HasHeadOf first old → HasHeadOf first new
 head_is_torn stays first seen old new shown is_open torn was = record {
   magic = stays HEAD_AT MAGIC_BYTES HEAD_GATE 1 old new torn (inr (omega arith)) ∙ was.magic;
   gate = λ closed. absurd (shown.gate closed is_open);
 }
 
--- Gates that stand apart from what is torn stay closed.
+-- Gates apart from the torn bytes stay closed.
 pub closed_elsewhere : ElsewhereStays → (gate at count : ℕ) (old new : List ℕ) → Torn at count old new → (gate + 1 ≤ at) ⊎ (at + count ≤ gate) → HasClosedGate gate old → HasClosedGate gate new
 closed_elsewhere stays gate at count old new torn apart closed is_open = closed (sym (stays gate 1 at count old new torn apart) ∙ is_open)
 
 by_order : (gate at : ℕ) → gate ≢ at → (gate + 1 ≤ at) ⊎ (at + 1 ≤ gate)
 by_order gate at other = elim (cases_lt gate at) [ inl below ↦ inl (omega (arith, below)) | inr above ↦ inr (omega (arith, above, other)) ]
 
--- The frames that were closed stay so where one is closed.
+-- The frames that are closed stay so when one more is closed.
 pub frames_stay : (layout : Layout) → IsLayout layout → (b : ℕ) (old new : List ℕ) → ChangesGate layout b old new → IsClosed layout b new
     → (other : ℕ) → IsClosed layout other old → IsClosed layout other new
 frames_stay layout laws b old new changes now other closed is_open = elim (cases_eq (b % layout.count) (other % layout.count)) [
@@ -53,7 +53,7 @@ frames_stay layout laws b old new changes now other closed is_open = elim (cases
   | inr apart ↦ closed (sym (changes.gates other apart) ∙ is_open)
 ]
 
--- With one more they are so many more.
+-- Closing one more frame makes one more closed.
 pub one_more : (layout : Layout) → IsLayout layout → (b : ℕ) (old new : List ℕ) → ChangesGate layout b old new → IsClosed layout b new
     → ((other : ℕ) → other < b → IsClosed layout other old) → (other : ℕ) → other < b + 1 → IsClosed layout other new
 one_more layout laws b old new changes now before other below = elim (cases_lt other b) [
@@ -61,23 +61,24 @@ one_more layout laws b old new changes now before other below = elim (cases_lt o
   | inr last ↦ let same : b ≡ other = omega (arith, below, last) in subst (λ (n : ℕ). IsClosed layout n new) same now
 ]
 
--- Where nothing changed before the journal, in two steps.
+-- Two steps that change nothing before the journal together change nothing there.
 pub same_before : (end : ℕ) (old middle new : List ℕ) → SameBefore end old middle → SameBefore end middle new → SameBefore end old new
 same_before end old middle new first second at many inside = second at many inside ∙ first at many inside
 
--- So many frames are all, as later batches have them again.
+-- If the frames of the first batches are closed, as many as there are frames, all are: later batches have the same
+-- frames again.
 pub all_frames : (layout : Layout) → IsLayout layout → (image : List ℕ) → ((b : ℕ) → b < layout.count → IsClosed layout b image) → (b : ℕ) → IsClosed layout b image
 all_frames layout laws image closed b is_open =
     let some : 0 < layout.count = omega (arith, laws.least) in
     let inside : b % layout.count < layout.count = mod-lt b some in
     closed (b % layout.count) inside ((laws.shared (b % layout.count) b image (mod-eq_of_lt inside)).0 ∙ is_open)
 
--- The gates of the slots are closed, after the one and then the other was.
+-- Once the first gate and then the second was closed, both slots are closed.
 pub both_slots : ElsewhereStays → (middle new : List ℕ) → HasClosedGate FIRST_GATE middle → Torn SECOND_GATE 1 middle new → HasClosedGate SECOND_GATE new → (slot : Slot) → slots.IsClosed slot new
 both_slots stays middle new first torn second First = closed_elsewhere stays FIRST_GATE SECOND_GATE 1 middle new torn (inl (omega arith)) first
 both_slots stays middle new first torn second Second = second
 
--- The gates before the journal are closed, and then all frames.
+-- Once the gates before the journal and all frames are closed, all gates are.
 pub all_closed : (layout : Layout) (old new : List ℕ) → HasClosedGate HEAD_GATE old → ((slot : Slot) → slots.IsClosed slot old) → SameBefore JOURNAL_AT old new → ((b : ℕ) → IsClosed layout b new)
     → AreClosed layout new
 all_closed layout old new head closed same frames = record {

@@ -18,7 +18,7 @@ use Rattle.hpb_recover.specs.declared.limits.TheConstants.{HEAD_AT}
 use Rattle.hpb_format.specs.declared.place.TheConstants.{HEAD_GATE}
 use Rattle.hpb_format.proofs.Runs.{after_call}
 
--- What a read gives after a write of the head.
+-- The bytes that a read gives after the head was written.
 module _ (layout : Layout) (laws : IsLayout layout) (stays : ElsewhereStays) (head : List ℕ) (old new : List ℕ) (torn : Torn HEAD_AT HEAD_SIZE old new) where
   pub closed_behind_head : AreClosed layout old → AreClosed layout new
   closed_behind_head was = record {
@@ -31,7 +31,7 @@ module _ (layout : Layout) (laws : IsLayout layout) (stays : ElsewhereStays) (he
       slot_stays First is_open = was.slots First (sym (stays (slots.gate_at First) 1 HEAD_AT HEAD_SIZE old new torn (inr (omega arith))) ∙ is_open)
       slot_stays Second is_open = was.slots Second (sym (stays (slots.gate_at Second) 1 HEAD_AT HEAD_SIZE old new torn (inr (omega arith))) ∙ is_open)
 
--- After a write of one chunk more.
+-- The bytes after one more chunk was written.
 pub body_same : (image : List ℕ) → ChangesBody image image
 body_same image = record { before = λ at many inside. refl; behind = λ at many behind. refl; size = refl; gates = λ slot. refl }
 
@@ -77,7 +77,7 @@ first_opened layout laws head state old new was changes is_open = record {
   frames = λ b frame. was.closed.frames b (sym (laws.behind b old new changes.behind).gate ∙ frame);
 }
 
--- Nothing but the head's gate is torn.
+-- Tearing only the head's gate keeps all the rest.
 pub made_stays : (layout : Layout) → IsLayout layout → ElsewhereStays → (head state old new : List ℕ) → IsMade layout head state old → Torn HEAD_GATE 1 old new → IsMade layout head state new
 made_stays layout laws stays head state old new was torn =
     let same : (at many : ℕ) → 1 ≤ at → part at many new ≡ part at many old = λ at many behind. stays at many HEAD_GATE 1 old new torn (inr (omega (arith, behind))) in

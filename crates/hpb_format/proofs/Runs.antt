@@ -1,4 +1,4 @@
--- Calls of a device, of which a crash leaves only images of one set.
+-- Calls of a device during which a crash leaves only images of one set.
 use Rattle.std.proofs.Common.{inl, inr, ⊎_elim, ℕ, List, arith}
 use Rattle.hpb_disk.specs.Images.{Within, Elapses, LeavesOnly}
 use Rattle.hpb_format.specs.Stages.{Keeps}
@@ -7,7 +7,7 @@ module _ {D : Type 0} (may_leave : D → List ℕ → Type 0) (moment : D → �
   abbrev pub Leaves : D → D → (List ℕ → Type 0) → Type 0
   Leaves here next images = LeavesOnly (moment here) (moment next) (left_since here) (left_since next) (may_leave next) images
 
-  -- One call, in which and after which a crash leaves only such images.
+  -- One call, during and after which a crash leaves only such images.
   pub after_call : (here next : D) (during images : List ℕ → Type 0) → Elapses (moment here) (moment next) (left_since here) (left_since next) during
       → Within (may_leave next) during → Within during images → Leaves here next images
   after_call here next during images time crash within = record {
@@ -17,7 +17,7 @@ module _ {D : Type 0} (may_leave : D → List ℕ → Type 0) (moment : D → �
     after = λ image may. within image (crash image may);
   }
 
-  -- A run after a run.
+  -- A run followed by a run.
   pub after_run : (here middle next : D) (images : List ℕ → Type 0) → Leaves here middle images → Leaves middle next images → Leaves here next images
   after_run here middle next images first second = record {
     later = omega (arith, first.later, second.later);
@@ -26,7 +26,7 @@ module _ {D : Type 0} (may_leave : D → List ℕ → Type 0) (moment : D → �
     after = second.after;
   }
 
-  -- No call.
+  -- A run of no calls.
   pub after_none : (here : D) (images : List ℕ → Type 0) → Within (may_leave here) images → Leaves here here images
   after_none here images within = record {
     later = omega arith;
@@ -35,7 +35,7 @@ module _ {D : Type 0} (may_leave : D → List ℕ → Type 0) (moment : D → �
     after = within;
   }
 
-  -- Only images of a set are only images of a larger one.
+  -- If a crash leaves only images of a set, it leaves only images of a larger one.
   pub of_more : (here next : D) (images those : List ℕ → Type 0) → Within images those → Leaves here next images → Leaves here next those
   of_more here next images those within only = record {
     later = only.later;

@@ -15,14 +15,14 @@ all_append : (journal : JournalShape) (one two : List Asked) → AllByRecursion 
 all_append journal [] two first second = second
 all_append journal (call ∷ one) two first second = (first.0, all_append journal one two first.1 second)
 
--- Closings after closings.
+-- Closing writes followed by closing writes.
 pub more_closings : (journal : JournalShape) (few more most : ℕ) (one two : List Asked) → few + more ≤ most → AreClosings journal few one → AreClosings journal more two → AreClosings journal most (two ++ one)
 more_closings journal few more most one two fits first second = record {
   each = all_append journal two one second.each first.each;
   few = omega (arith, fits, first.few, second.few, length-append two one);
 }
 
--- None, and one.
+-- No closing write, and one.
 pub no_closings : (journal : JournalShape) (most : ℕ) → AreClosings journal most []
 no_closings journal most = record { each = tt; few = omega arith }
 
@@ -38,7 +38,7 @@ first_chunks (suc more) count body =
     let chunk = writes_chunk First (more + count) body in
     (chunk ∷ rest.0, ap (λ (n : ℕ). writes_chunks n body) next ∙ ap (λ (l : List Asked). chunk ∷ l) rest.1)
 
--- What may close a gate are closings.
+-- Writes that may close a gate are closing writes.
 pub may_close : (journal : JournalShape) (at : ℕ) (calls : List Asked) → IsClosing journal (writes at closed_byte) → MayClose at calls → AreClosings journal 1 calls
 may_close journal at calls is (inl none) = subst (AreClosings journal 1) (sym none) (no_closings journal 1)
 may_close journal at calls is (inr one) = subst (AreClosings journal 1) (sym one) (one_closing journal (writes at closed_byte) is)
@@ -58,7 +58,7 @@ chunk_breaks i count body old middle new below first second =
       second ∙ ap (λ (l : List Asked). fails ∷ writes_chunk First i body ∷ l) first,
     )
 
--- A call that is not done failed.
+-- A call that wasn't done failed.
 pub did_fail : {T E : Type 0} (result : Result T E) (call old new : List Asked) → ((value : T) → result ≡ Ok value → ⊥) → Asks result call old new → new ≡ fails ∷ call ++ old
 did_fail (Ok value) call old new undone asks = absurd (undone value refl)
 did_fail (Err error) call old new undone asks = asks

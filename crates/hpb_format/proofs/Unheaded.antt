@@ -1,4 +1,4 @@
--- While a device is formatted, each image isn't headed or has all.
+-- While a device is formatted, each image is either not headed or complete.
 use Rattle.std.proofs.Common.{inl, inr, ⊎_elim, ℕ, List, refl, sym, ◌∙◌, subst}
 use Rattle.hpb_disk.specs.Gates.{HasClosedGate}
 use Rattle.hpb_disk.specs.Images.{Only, LeavesOnly}
@@ -9,7 +9,7 @@ use Rattle.hpb_format.specs.Stages.{HasHeadOf, IsClosedOrMade, IsUnheadedOrMade,
 use Rattle.hpb_format.specs.declared.place.TheConstants.{HEAD_GATE}
 use Rattle.hpb_format.proofs.Runs.{after_run, of_more}
 
--- Where the first image isn't headed, none is that has its head.
+-- If the first image isn't headed, no image with the same head is.
 unheaded : OpenOrClosed → (first image : List ℕ) → (IsHeaded first → ⊥) → HasHeadOf first image → IsHeaded image → ⊥
 unheaded either first image not has headed = ⊎_elim
     (λ is_open. not (record { gate = is_open; known = sym has.magic ∙ headed.known }))
@@ -36,7 +36,7 @@ module _ {D : Type 0} (seen : D → List ℕ) (may_leave : D → List ℕ → Ty
       of_more may_leave moment left_since here next (IsClosedOrMade layout head state) (IsUnheadedOrMade layout head state)
       (λ image is. ⊎_elim (λ closed. inl (λ headed. closed headed.gate)) (λ made. inr made) is) leaves
 
--- First gates are closed, and then what stands behind the head's gate is written.
+-- First gates are closed, and then the bytes behind the head's gate are written.
 module _ {D : Type 0} (seen : D → List ℕ) (may_leave : D → List ℕ → Type 0) (moment : D → ℕ) (left_since : D → ℕ → List ℕ → Type 0)
     (layout : Layout) (head state : List ℕ) (either : OpenOrClosed) (here middle next : D) where
   pub behind_closing : OnlyCloses may_leave moment left_since here middle → Only (seen here) (may_leave here) → (IsHeaded (seen here) → ⊥)

@@ -1,4 +1,4 @@
--- What a device is asked for while it is formatted. Of writes and syncs the newest comes first.
+-- The calls of a device while it is formatted. Of writes and syncs the newest comes first.
 use Rattle.std.specs.Prelude.{◌≡◌, ◌⊎◌, ℕ, zero, suc, ◌+◌, ◌≤◌, List, [], ◌∷◌, ◌++◌, length, Result, Ok, Err}
 use Rattle.std.specs.List.{AllByRecursion}
 use Rattle.hpb_rules.specs.Tree.{Rules}
@@ -21,16 +21,16 @@ use Rattle.hpb_format.specs.declared.place.TheConstants.{HEAD_GATE}
 abbrev pub IsClosing : JournalShape → Asked → Type 0
 IsClosing journal call = (call ≡ writes HEAD_GATE closed_byte) ⊎ ((slot : Slot) × (call ≡ closes_slot slot)) ⊎ ((b : ℕ) × (call ≡ closes_frame journal b))
 
--- At most so many of them, and nothing else.
+-- At most `most` writes that close gates, and nothing else.
 pub record AreClosings (journal : JournalShape) (most : ℕ) (calls : List Asked) : Type 0 where
   pub each : AllByRecursion (IsClosing journal) calls
   pub few : length calls ≤ most
 
--- Nothing, or the write that closes the gate at this offset.
+-- No call, or the write that closes the gate at this offset.
 abbrev pub MayClose : ℕ → List Asked → Type 0
 MayClose at calls = (calls ≡ []) ⊎ (calls ≡ writes at closed_byte ∷ [])
 
--- At most so many gates were closed.
+-- At most `most` gates were closed.
 abbrev pub Closes : {T E : Type 0} → JournalShape → ℕ → Result T E → (old new : List Asked) → Type 0
 Closes journal most result old new = (calls : List Asked) × AreClosings journal most calls × Asks result calls old new
 
@@ -39,15 +39,17 @@ abbrev pub writes_chunks : ℕ → List ℕ → List Asked
 writes_chunks zero body = []
 writes_chunks (suc count) body = writes_chunk First count body ∷ writes_chunks count body
 
--- Head and state behind their gates, then a sync, then the gate of the slot, and a sync.
+-- The head and the state are written behind their gates; then come a sync, the opening of the slot's gate, and a sync.
 abbrev pub writing : (head state : List ℕ) → List Asked
 writing head state = syncs ∷ opens_slot First ∷ syncs ∷ writes_chunks CHUNKS state ++ writes HEAD_AT head ∷ []
 
--- At first a sync, so that what is read stays; then the gates are closed that read open, and a sync; head and state; the gate of the head, and a sync.
+-- First a sync, so that the bytes that are read stay. Then the gates that read open are closed, and a sync follows.
+-- Then come head and state, the gate of the head, and a sync.
 abbrev pub formatting : (head state : List ℕ) → (closings : List Asked) → List Asked
 formatting head state closings = (syncs ∷ writes HEAD_GATE open_byte ∷ []) ++ writing head state ++ (syncs ∷ closings) ++ syncs ∷ []
 
--- All that a device is asked for which is formatted for a journal of this shape: there is one gate of the head, two of the slots, and one of each frame.
+-- All calls of a device that is formatted for a journal of this shape. There is one gate of the head, two gates of the
+-- slots, and one of each frame.
 pub record IsFormatting (rules : Rules) (journal : JournalShape) (calls : List Asked) : Type 0 where
   pub head : List ℕ
   pub state : List ℕ
@@ -57,7 +59,8 @@ pub record IsFormatting (rules : Rules) (journal : JournalShape) (calls : List A
   pub closes : AreClosings journal (3 + journal.frames) closings
   pub all : calls ≡ formatting head state closings
 
--- It was asked for all of that; for the sync alone where it is formatted already; for nothing before the length and memory are known; and for none after a call that failed.
+-- The device was asked for all of that, or for the sync alone if it is formatted already. It was asked for nothing
+-- before the length and memory are known, and for nothing after a call that failed.
 abbrev pub AsksToFormat : {T : Type 0} → Rules → JournalShape → Result T FormatCause → (old new : List Asked) → Type 0
 AsksToFormat rules journal (Ok _) old new = (calls : List Asked) × IsFormatting rules journal calls × (new ≡ calls ++ old)
 AsksToFormat rules journal (Err causes.Device) old new =

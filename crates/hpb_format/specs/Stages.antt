@@ -1,4 +1,4 @@
--- What holds of the images of a device while it is formatted.
+-- The images of a device while it is formatted.
 use Rattle.std.specs.Prelude.{◌≡◌, ◌⊎◌, ℕ, List, length}
 use Rattle.hpb_disk.specs.Gates.{HasOpenGate, HasClosedGate}
 use Rattle.hpb_disk.specs.Images.{part, SameBefore, SameFrom, Within, LeavesOnly}
@@ -19,17 +19,18 @@ pub record AreClosed (layout : Layout) (image : List ℕ) : Type 0 where
   pub slots : (slot : Slot) → slots.IsClosed slot image
   pub frames : (b : ℕ) → IsClosed layout b image
 
--- What a device that isn't formatted keeps while gates are closed: the bytes where the magic stands, and a closed gate of the head.
+-- The bytes that a device that isn't formatted keeps while gates are closed: those at the place of the magic, and the
+-- head's gate, if that is closed.
 pub record HasHeadOf (first image : List ℕ) : Type 0 where
   pub magic : part HEAD_AT MAGIC_BYTES image ≡ part HEAD_AT MAGIC_BYTES first
   pub gate : HasClosedGate HEAD_GATE first → HasClosedGate HEAD_GATE image
 
--- Where all that a crash may leave of a device is of this set, a crash from then on, up to the next device, leaves only such images.
+-- If a crash could leave only images of this set, then from then on, up to the next device, it leaves only such images.
 abbrev pub Keeps : {D : Type 0} → (D → List ℕ → Type 0) → (D → ℕ) → (D → ℕ → List ℕ → Type 0) → (List ℕ → Type 0) → D → D → Type 0
 Keeps may_leave moment left_since images here next =
     Within (may_leave here) images → LeavesOnly (moment here) (moment next) (left_since here) (left_since next) (may_leave next) images
 
--- Gates are closed at most.
+-- At most, gates are closed.
 abbrev pub OnlyCloses : {D : Type 0} → (D → List ℕ → Type 0) → (D → ℕ) → (D → ℕ → List ℕ → Type 0) → D → D → Type 0
 OnlyCloses may_leave moment left_since here next = (first : List ℕ) → Keeps may_leave moment left_since (HasHeadOf first) here next
 
@@ -51,7 +52,7 @@ pub record IsWritten (layout : Layout) (head_bytes state_bytes image : List ℕ)
   pub state : slots.body_of First image ≡ state_bytes
   pub closed : AreClosed layout image
 
--- They are written, and of all gates but the head's only the first slot's is open.
+-- Head and state are written, and of all gates but the head's only the first slot's is open.
 pub record IsMade (layout : Layout) (head_bytes state_bytes image : List ℕ) : Type 0 where
   pub size : length image ≡ layout.size
   pub head : part HEAD_AT HEAD_SIZE image ≡ head_bytes
@@ -60,15 +61,15 @@ pub record IsMade (layout : Layout) (head_bytes state_bytes image : List ℕ) : 
   pub second : slots.IsClosed Second image
   pub frames : (b : ℕ) → IsClosed layout b image
 
--- And the head's gate is open.
+-- The same, with the head's gate open.
 pub record IsOpenAndMade (layout : Layout) (head_bytes state_bytes image : List ℕ) : Type 0 where
   pub gate : HasOpenGate HEAD_GATE image
   pub made : IsMade layout head_bytes state_bytes image
 
--- The head's gate is closed, or all is there.
+-- The head's gate is closed, or the image is complete.
 abbrev pub IsClosedOrMade : Layout → (head state image : List ℕ) → Type 0
 IsClosedOrMade layout head state image = HasClosedGate HEAD_GATE image ⊎ IsOpenAndMade layout head state image
 
--- The device isn't headed, or all is there.
+-- The device isn't headed, or the image is complete.
 abbrev pub IsUnheadedOrMade : Layout → (head state image : List ℕ) → Type 0
 IsUnheadedOrMade layout head state image = (IsHeaded image → ⊥) ⊎ IsOpenAndMade layout head state image

@@ -1,4 +1,4 @@
-//! Closing the gates of a device that is not formatted, before anything is written behind them.
+//! Closes the gates of a device that isn't formatted, before anything is written behind them.
 ghost use Rattle.std.specs.Prelude.{◌≡◌, ◌⊎◌, ◌+◌, ◌<◌, ◌≤◌, ℕ, List, ◌∷◌, length, OnOk};
 ghost use Rattle.hpb_codec.specs.declared.layout.JournalShape.{JournalShape};
 ghost use Rattle.hpb_disk.specs.Asked.{Asked, Asks, AsksInTurn};

@@ -4,11 +4,11 @@ ghost use Rattle.hpb_format.specs.Outcomes.{refusal_of};
 use hpb_rules::Refusal;
 use thiserror::Error;
 
-/// Why a device was not formatted. The words are those of an `ERR` line.
+/// Why a device wasn't formatted: the number and the word of its refusal, as in an `ERR` line.
 #[derive(Clone, Copy, Debug, PartialEq, Eq, Error)]
 pub enum FormatCause {
-    /// 43: the number names no layout, the number of frames isn't one of that layout, or the device isn't as long as they
-    /// want it.
+    /// 43: the number names no layout, the number of frames isn't allowed in that layout, or the device doesn't have
+    /// the length for them.
     #[error("length")]
     Length,
     /// 41: the device is formatted already.
@@ -23,7 +23,7 @@ pub enum FormatCause {
 }
 
 impl FormatCause {
-    /// The refusal that it is told by.
+    /// The refusal that reports this cause.
     pub fn refusal(self) -> Refusal
         ensures { result ≡ refusal_of self }
     {
@@ -36,7 +36,7 @@ impl FormatCause {
     }
 }
 
-/// A device that was not formatted is handed back.
+/// A device that wasn't formatted, handed back with the cause.
 #[derive(Debug, Drop, Error)]
 #[error("{cause}")]
 pub struct FormatFault<D> {

@@ -44,7 +44,7 @@ fn is_headed<D: Disk>(disk: &mut D) -> Result<bool, DiskFailed>
     Ok(has_magic(&magic))
 }
 
-/// The frames of a journal of this shape, if it may have it and a device of this length has room for just these.
+/// The frames of a journal of this shape, if it is allowed and a device of this length has room for exactly these.
 fn frames_of(journal: JournalShape, len: usize) -> Option<AnyFrames>
     ensures found { IfSome result (λ found. (shape_of found ≡ journal) × ((image : List ℕ) → length image ≡ len → HasLength journal image)) }
     ensures none { IsNone result → (image : List ℕ) → length image ≡ len → HasLength journal image → ⊥ }
@@ -75,7 +75,7 @@ fn settle_and_read<D: Disk>(disk: &mut D) -> Result<bool, DiskFailed>
     is_headed(disk)
 }
 
-/// Formats a device of the length that these frames want.
+/// Formats a device that has the length for these frames.
 fn format_fitting<D: Disk>(
     disk: &mut D,
     frames: &AnyFrames,
@@ -159,15 +159,17 @@ fn format_shape<D: Disk + Drop>(
     }
 }
 
-/// Makes a device that stands for the auction of a definition before its first command, with so many frames, from 4 to
-/// 1,024, for its journal. A device that was not formatted is handed back with the cause.
+/// Makes a device that stands for the auction of a definition before its first command. Its journal has `frames` frames
+/// of a page each, 4 to 1,024. A device that wasn't formatted is handed back with the cause:
 ///
-/// 43 comes where the number of frames is out of range, or the device isn't as long as they want it: 13 pages and one for
-/// each frame. 90 comes where memory is refused; all of it is taken before the first call of the device. 41 comes where
-/// the device is formatted already, after a sync: nothing was written. 91 comes where a call of the device fails.
+/// - 43: the number of frames is out of range, or the device doesn't have the length for them, 13 pages and one for
+///   each frame;
+/// - 90: memory is refused; all of it is taken before the first call of the device;
+/// - 41: the device is formatted already, which is known after a sync; nothing was written;
+/// - 91: a call of the device failed.
 ///
-/// It syncs, closes all gates that read open, syncs, writes head and first slot, syncs, opens the slot, syncs, opens the
-/// head, and syncs. A crash at any moment of that leaves a device that isn't formatted, or the new one.
+/// It syncs, closes all gates that read open, syncs, writes head and first slot, syncs, opens the slot, syncs, opens
+/// the head, and syncs. A crash at any moment of that leaves a device that isn't formatted, or the new one.
 pub fn format<D: Disk + Drop>(
     alloc: Global,
     disk: D,
@@ -180,9 +182,9 @@ pub fn format<D: Disk + Drop>(
     format_shape(alloc, disk, definition, JournalShape { layout, frames })
 }
 
-/// Makes a device as `format` does, in the layout that a number names: 1 of a page for each frame, from 4 to 1,024 of them,
-/// or 2 of three cells for each, from 16 to 1,024 in eights. 43 comes for any other number, too, or where the number of frames
-/// isn't one of its layout, or the device isn't as long as that wants it.
+/// Makes a device as `format` does, in the layout with this number. Layout 1 has a page for each frame, 4 to 1,024 of
+/// them. Layout 2 has three cells for each frame, 16 to 1,024 of them, a multiple of 8. 43 is also reported for any
+/// other number of a layout.
 pub fn format_layout<D: Disk + Drop>(
     alloc: Global,
     disk: D,
@@ -190,9 +192,9 @@ pub fn format_layout<D: Disk + Drop>(
     frames: u32,
     layout: u8,
 ) -> Result<D, FormatFault<D>>
-    // A number that names no layout is told by 43, before any call of the device,
+    // A number that names no layout is refused with 43, before any call of the device;
     ensures unnamed { ((journal : JournalShape) → Names layout frames journal → ⊥) → FailsBy (answer_of result) Length × (given result ≡ disk) }
-    // and by any other the device is formatted in that layout.
+    // with any other the device is formatted in that layout.
     ensures formats { (journal : JournalShape) → Names layout frames journal
         → FormatsAs D.seen D.may_leave D.moment D.left_since D.failures D.asked definition.now journal disk (given result) (answer_of result) }
 {

@@ -1,4 +1,4 @@
-//! What is so of the numbers that clauses name.
+//! The law of the numbers that clauses name.
 ghost use Rattle.hpb_format.specs.Limits.{LimitsAre};
 
 /// Each number that the clauses of this crate name is that of the written format.

@@ -1,4 +1,4 @@
-//! What stands on a new device behind its gates.
+//! The bytes of a new device behind its gates.
 ghost use Rattle.std.specs.Prelude.{◌≡◌, length, IfOk};
 ghost use Rattle.hpb_codec.specs.declared.state.TheConstants.{STATE_SIZE};
 ghost use Rattle.hpb_codec.specs.declared.head.TheConstants.{HEAD_SIZE};
@@ -34,7 +34,8 @@ pub(crate) struct NewDevice {
 }
 
 impl NewDevice {
-    /// Those of a device with a journal of this shape, with the auction before its first command. Fails only where memory is refused.
+    /// The bytes of a device with a journal of this shape and the auction before its first command. Fails only if
+    /// memory is refused.
     pub(crate) fn new(
         alloc: Global,
         definition: &Definition,

@@ -1,4 +1,4 @@
-//! The bytes of a new device, what is refused, and what a stop leaves.
+//! The bytes of a new device, refusals, and the images that a stop leaves.
 
 use crate::{FormatCause, FormatFault, format, format_layout};
 use hpb_disk::{Disk, Fate, FuseDisk, MemoryDisk};
@@ -8,7 +8,8 @@ use std::alloc::{AllocError, Global};
 use std::process::Abort;
 use std::test::*;
 
-/// A device to make: the number of its layout, its frames, its bytes, and from one gate of a frame to the next.
+/// A device to make: the number of its layout, its frames, its bytes, and the distance from one frame's gate to the
+/// next.
 #[derive(Clone, Copy)]
 struct Kind {
     layout: u8,
@@ -34,10 +35,11 @@ const CELLS: Kind = Kind {
 
 const OPEN: u8 = 0xa5;
 
-/// What is written whole: the head from behind its gate, and the body of the first slot.
+/// The ranges that are written as a whole: the head behind its gate, and the body of the first slot.
 const WRITTEN: [(usize, usize); 2] = [(16, 12_272), (16_384, 16_384)];
 
-/// What of that isn't zero, for three nodes and two bidders, beside the layout and the number of frames.
+/// The bytes of these ranges that aren't zero, for three nodes and two bidders, except the layout and the number of
+/// frames.
 const PARTS: [(usize, &[u8]); 18] = [
     (16, b"HPBAUCT1"),
     (25, &[2, 3, 2, 10, 2, 80, 95]),
@@ -56,21 +58,21 @@ const PARTS: [(usize, &[u8]); 18] = [
     (8_208, &[0, 0, 0, 10]),
     (8_216, b"y"),
     (8_232, &[0, 0, 0, 10]),
-    // The state: its format, the stage and the round, and of each bidder what it may still be active with.
+    // The state: its format, the stage and the round, and each bidder's eligibility.
     (16_384, &[2, 1, 0, 0, 0, 0, 0, 1]),
     (19_480, &[0, 0, 0, 10]),
     (19_528, &[0, 0, 0, 10]),
 ];
 
-/// The gates that are open: of the head, and of the first slot.
+/// The gates that are open: the head's, and the first slot's.
 const OPENED: [usize; 2] = [0, 12_288];
 
-/// The gate of the second slot, which isn't open, and the first one of a frame, of which none is.
+/// The gate of the second slot, which is closed, and that of the first frame; all frames are closed.
 const SECOND_SLOT: usize = 32_768;
 
 const FIRST_FRAME: usize = 53_248;
 
-/// The package `p` 0 with the licences `a` 1 and `b` 2.
+/// The package `p` (0) with the licences `a` (1) and `b` (2).
 fn nodes(alloc: Global) -> Result<Vec<NodeDraft>, AllocError> {
     let mut nodes = Vec::new(alloc);
     for (name, parent, units) in [
@@ -123,14 +125,14 @@ fn three_nodes(alloc: Global) -> Result<Box<Definition>, Fail> {
     Ok(Box::new(alloc, definition?)?)
 }
 
-/// Puts bytes at a place, if they fit there.
+/// Puts bytes at an offset, if they fit there.
 fn put(bytes: &mut [u8], at: usize, part: &[u8]) {
     if at <= bytes.len() && part.len() <= bytes.len() - at {
         bytes[at..at + part.len()].copy_from_slice(part);
     }
 }
 
-/// Puts what is written whole.
+/// Puts the ranges that are written as a whole.
 fn put_written(bytes: &mut [u8], kind: Kind) {
     for (at, count) in WRITTEN {
         if at <= bytes.len() && count <= bytes.len() - at {
@@ -144,7 +146,7 @@ fn put_written(bytes: &mut [u8], kind: Kind) {
     put(bytes, 40, &kind.frames.to_be_bytes());
 }
 
-/// Opens two gates and closes all others: where one isn't as an open gate is, it stays as it was.
+/// Opens two gates and closes all others. A gate that didn't read open stays as it was.
 fn put_gates(bytes: &mut [u8], kind: Kind, byte: u8) {
     for at in OPENED {
         put(bytes, at, &[OPEN]);
@@ -158,7 +160,8 @@ fn put_gates(bytes: &mut [u8], kind: Kind, byte: u8) {
     }
 }
 
-/// The device that is made of one with this byte everywhere. What isn't written is as it was; an open gate is closed.
+/// The bytes of the device that is made from one with this byte everywhere. Unwritten bytes stay; an open gate is
+/// closed.
 fn new_bytes(alloc: Global, kind: Kind, byte: u8) -> Result<Vec<u8>, AllocError> {
     let mut bytes = vec![in alloc; byte; kind.device_bytes]?;
     put_written(&mut bytes, kind);
@@ -166,10 +169,10 @@ fn new_bytes(alloc: Global, kind: Kind, byte: u8) -> Result<Vec<u8>, AllocError>
     Ok(bytes)
 }
 
-/// What came of formatting a device.
+/// The result of formatting a device.
 type Answer = Result<MemoryDisk, FormatFault<MemoryDisk>>;
 
-/// The cause for which a device is not formatted.
+/// The cause why a device wasn't formatted.
 fn cause(answer: Answer) -> Option<FormatCause> {
     match &answer {
         Ok(_) => None,
@@ -177,7 +180,7 @@ fn cause(answer: Answer) -> Option<FormatCause> {
     }
 }
 
-/// Whether a device was formatted, and has these bytes. They are read into as many others.
+/// Whether a device was formatted, and has these bytes. They are read into `found`.
 fn is_new(answer: Answer, wanted: &[u8], found: &mut [u8]) -> bool {
     let mut answer = answer;
     match &mut answer {
@@ -188,7 +191,7 @@ fn is_new(answer: Answer, wanted: &[u8], found: &mut [u8]) -> bool {
     }
 }
 
-/// A device with this byte everywhere becomes the new one, which is not formatted again.
+/// Checks that a device with this byte everywhere becomes the new one, and isn't formatted again.
 fn check_new(
     rt: &impl Abort,
     alloc: Global,
@@ -231,17 +234,17 @@ fn format_makes_pages(rt: HostRuntime) -> Result<(), Fail> {
     Ok(())
 }
 
-/// Devices of so many bytes, frames and layout, and whether each is as long as they want it.
+/// Devices by bytes, frames and layout, and whether each has the right length.
 const LENGTHS: [(usize, u32, u8, bool); 8] = [
-    // As long as 4 and 1,024 pages want it, and a byte more.
+    // The length for 4 and for 1,024 pages, and a byte more.
     (69_632, 4, 1, true),
     (69_633, 4, 1, false),
     (4_247_552, 1_024, 1, true),
-    // As long as 16, 20 and 1,024 frames of three cells want it.
+    // The length for 16, 20 and 1,024 frames of three cells.
     (77_824, 16, 2, true),
     (83_968, 20, 2, false),
     (1_626_112, 1_024, 2, true),
-    // Layouts that there aren't.
+    // Unknown layouts.
     (69_632, 4, 0, false),
     (77_824, 16, 3, false),
 ];
@@ -263,10 +266,10 @@ fn refused_lengths(rt: HostRuntime) -> Result<(), Fail> {
     Ok(())
 }
 
-/// What is tried of all writes that no sync covers.
+/// The fates that are tried for all writes that no sync covers.
 const PICKS: [Fate; 3] = [Fate::Kept, Fate::Lost, Fate::Filled(OPEN)];
 
-/// Opens a device, and hands it back: how many commands there are, or why it isn't opened.
+/// Opens a device, and hands it back with the number of its commands, or with the cause why it isn't opened.
 fn opened(alloc: Global, disk: MemoryDisk) -> (MemoryDisk, Result<u32, Cause>) {
     match open(alloc, disk) {
         Ok(opened) => {
@@ -277,7 +280,7 @@ fn opened(alloc: Global, disk: MemoryDisk) -> (MemoryDisk, Result<u32, Cause>) {
     }
 }
 
-/// Whether a device is opened with no command, or isn't formatted.
+/// Whether a device opens without a command, or isn't formatted.
 fn is_new_or_unformatted(alloc: Global, disk: MemoryDisk) -> bool {
     let (_, found) = opened(alloc, disk);
     match found {
@@ -286,8 +289,8 @@ fn is_new_or_unformatted(alloc: Global, disk: MemoryDisk) -> bool {
     }
 }
 
-/// Whether a stop at call `k`, and each of what it may leave, leaves a device that is opened so; and whether the device
-/// was formatted.
+/// Whether each image that a stop at call `k` may leave is such a device; and whether the device was formatted before
+/// the stop.
 fn stopped_at(
     alloc: Global,
     definition: &Definition,
@@ -308,7 +311,7 @@ fn stopped_at(
     Ok((right, false))
 }
 
-/// How many calls of formatting were stopped at, each of which left what it may.
+/// Stops formatting at each call and checks the images. Returns how many calls there were.
 fn stops(rt: &impl Abort, alloc: Global, definition: &Definition, kind: Kind) -> Result<u64, Fail> {
     let mut stops = 0;
     for k in 1..100 {

@@ -1,4 +1,4 @@
-//! Writing a new device behind its closed gates, and opening it.
+//! Writes a new device behind its closed gates, and opens it.
 ghost use Rattle.std.specs.Prelude.{◌≡◌, ◌≤◌, ◌+◌, ℕ, List, [], ◌∷◌, ◌++◌, length, OnOk};
 ghost use Rattle.hpb_codec.specs.declared.state.TheConstants.{CHUNKS, STATE_SIZE};
 ghost use Rattle.hpb_disk.specs.Asked.{Asked, Asks, AsksInTurn};
@@ -125,7 +125,7 @@ fn write_behind<D: Disk, F: Frames>(
     open_first(disk, frames)
 }
 
-/// Opens the head of a device on which all else stands, and syncs.
+/// Opens the head of a device on which all else is written, and syncs.
 fn open_head<D: Disk, F: Frames>(disk: &mut D, frames: &F) -> Result<(), DiskFailed>
     requires room { SLOTS_END ≤ length (D.seen disk.old) }
     requires settled { Only (D.seen disk.old) (D.may_leave disk.old) }
@@ -145,8 +145,8 @@ fn open_head<D: Disk, F: Frames>(disk: &mut D, frames: &F) -> Result<(), DiskFai
     disk.sync()
 }
 
-/// Makes a new device of one that isn't headed and has nothing pending: closes all gates that read open, writes what stands
-/// behind them, and opens the first slot's gate and then the head's, with a sync after each of these four.
+/// Makes a new device from one that isn't headed and has no pending write. It closes all gates that read open, writes
+/// the bytes behind them, opens the first slot's gate and then the head's. A sync follows each of these four steps.
 pub(crate) fn write_new<D: Disk, F: Frames>(
     disk: &mut D,
     frames: &F,

@@ -1,4 +1,4 @@
--- The cells of a batch, written at the front of the body of a frame.
+-- The cells of a batch, written at the start of the body of a frame.
 use Rattle.std.proofs.Common.{◌≡◌, ℕ, ◌+◌, ◌≤◌, List, length, take, drop, sym, ◌∙◌, ap, subst, arith}
 use Rattle.std.proofs.lemmas.List.{take-take, length-take-le}
 use Rattle.hpb_rules.specs.Tree.{Rules}
@@ -8,7 +8,7 @@ use Rattle.hpb_codec.specs.Cells.{cells_of, size_of_cells, BeginsCells, SpellsCe
 use Rattle.hpb_disk.specs.Images.{part, put}
 use Rattle.hpb_disk.specs.Laws.{PutIsRead}
 
--- What encoding answers and writes.
+-- The bytes that encoding writes, and their number.
 module _ (batch : Batch) (size : ℕ) (out : List ℕ) (sized : size ≡ size_of_cells (length batch.commands)) (few : size ≤ 1520) (all : length out ≡ 1520)
     (written : before size out ≡ cells_of batch) where
   pub cells_are : take size out ≡ cells_of batch

@@ -1,4 +1,4 @@
--- What a journal contains, whatever its layout.
+-- The contents of a journal, whatever its layout.
 use Rattle.std.proofs.Common.{◌≡◌, ◌≢◌, ◌⊎◌, inl, inr, ℕ, suc, ◌+◌, ◌*◌, ◌/◌, ◌%◌, ◌<◌, ◌≤◌, ◌↔◌, List, [], ◌∷◌, ◌++◌, length, refl, sym, ◌∙◌, ap, subst, arith, length-append}
 use Rattle.std.proofs.lemmas.Bool.{cases_lt, cases_eq}
 use Rattle.std.proofs.Math.Nat.{mul-le-mul_left, add-mod_right}
@@ -12,7 +12,7 @@ use Rattle.hpb_disk.proofs.GateBytes.{is_open_byte}
 use Rattle.hpb_journal.specs.Changes.{ChangesBody}
 use Rattle.hpb_journal.specs.Laws.{ShowsTheSame}
 
--- Two indexes that are less than the modulus apart differ modulo it.
+-- Two different indexes that are less than the modulus apart differ modulo it.
 differ : (count b other : ℕ) → 0 < count → b < other → other < b + count → b % count ≢ other % count
 differ count b other some before near same = elim (cases_lt (b / count) (other / count)) [
   | inl below ↦
@@ -72,7 +72,7 @@ module _ (layout : Layout) (is : IsLayout layout) where
       let apart = differ layout.count b other (omega (arith, is.least)) before near in
       (apart, λ same. apart (sym same))
 
-  -- A closed frame of the same place is closed.
+  -- If one batch's frame is closed, so is that of any batch with the same frame.
   not_own : (b other : ℕ) (image : List ℕ) → b % layout.count ≡ other % layout.count → IsClosed layout b image → IsOwn layout other image → ⊥
   not_own b other image same closed own = closed ((is.shared b other image same).0 ∙ own.0)
 
@@ -131,7 +131,7 @@ module _ (layout : Layout) (is : IsLayout layout) where
       | inr apart ↦ (own_stays other old new (elsewhere other apart), own_stays other new old (same_back other old new (elsewhere other apart)))
     ]
 
-    -- A batch that is kept lies elsewhere.
+    -- A batch that is kept has another frame.
     kept_elsewhere : (image : List ℕ) → IsClosed layout b image → (rules : Rules) (index first : ℕ) (batches : List (List Command)) → Kept layout rules index first batches image
         → (other : ℕ) → index ≤ other → other < index + length batches → SameFrame layout other old new
     kept_elsewhere image shut rules index first batches kept other from below =

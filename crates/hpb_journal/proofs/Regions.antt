@@ -1,4 +1,4 @@
--- What a write in a frame leaves as it was, where frames of one size stand one behind the other.
+-- Frames of one size stand one after another. A write in one leaves the others as they were.
 use Rattle.std.proofs.Common.{◌≡◌, ◌⊎◌, inl, inr, ℕ, ◌+◌, ◌*◌, ◌%◌, ◌<◌, ◌≤◌, List, [], ◌∷◌, length, sym, ◌∙◌, ap, subst, arith}
 use Rattle.std.proofs.Math.Nat.{mul-le-mul_left}
 use Rattle.std.proofs.lemmas.Bool.{cases_lt}
@@ -11,7 +11,7 @@ use Rattle.hpb_journal.specs.Changes.{ChangesBody, ChangesGate, TornBody, TornGa
 use Rattle.hpb_journal.specs.Layouts.{Layout}
 use Rattle.hpb_journal.specs.Strides.{frame_at, strided}
 
--- A frame before another ends where that begins, or before it.
+-- A frame before another ends at or before the other's start.
 ends_before : (stride m n : ℕ) → m < n → stride * m + stride ≤ stride * n
 ends_before stride m n less = let le : stride * (m + 1) ≤ stride * n = mul-le-mul_left stride (omega (arith, less)) in omega arith
 
@@ -62,7 +62,7 @@ module _ (stride body : ℕ) (fits : body + 16 ≤ stride) (spells : Rules → L
   torn_gate : (images : List ℕ → Type 0) → Within (TornFrom here 1 images) (TornGate layout b images)
   torn_gate images new torn = (torn.0, torn.1, gate_changes torn.0 new torn.2)
 
-  -- A write at this offset, of which a call tells.
+  -- A write at this offset, as a call reports it.
   module _ (tears : PutIsTorn) (at : ℕ) where
     module _ (there : at ≡ here) where
       gate_within : (images : List ℕ → Type 0) → Within (TornFrom at 1 images) (TornGate layout b images)

@@ -16,7 +16,7 @@ pub record ShowsTheSame (layout : Layout) (old new : List ℕ) : Type 0 where
 abbrev pub OpenOrClosed : Layout → Type 0
 OpenOrClosed layout = (b : ℕ) (image : List ℕ) → IsOpen layout b image ⊎ IsClosed layout b image
 
--- Batches that are fewer apart than there are frames have frames of their own.
+-- Batches whose indexes differ by less than the number of frames have different frames.
 abbrev pub NearAreApart : Layout → Type 0
 NearAreApart layout = (b other : ℕ) → b < other → other < b + layout.count → AreApart layout b other × AreApart layout other b
 
@@ -24,31 +24,32 @@ NearAreApart layout = (b other : ℕ) → b < other → other < b + layout.count
 abbrev pub ClosedShowsNothing : Layout → Type 0
 ClosedShowsNothing layout = (b : ℕ) (old new : List ℕ) → IsClosed layout b old → ChangesBody layout b old new → ShowsTheSame layout old new
 
--- Batches stay where their frames do.
+-- If the frames of kept batches stay, the batches stay kept.
 abbrev pub KeptStays : Layout → Type 0
 KeptStays layout = (rules : Rules) (index first : ℕ) (batches : List (List Command)) (old new : List ℕ)
     → ((b : ℕ) → index ≤ b → b < index + length batches → SameFrame layout b old new)
     → Kept layout rules index first batches old → Kept layout rules index first batches new
 
--- A frame that goes on with what a journal contains is contained too.
+-- A frame that continues the contents of a journal belongs to the contents.
 abbrev pub KeptGoesOn : Layout → Type 0
 KeptGoesOn layout = (rules : Rules) (index first : ℕ) (batches : List (List Command)) (commands : List Command) (image : List ℕ)
     → Kept layout rules index first batches image → IsFrame layout rules (index + length batches) (first + length (joined batches)) commands image
     → Kept layout rules index first (batches ++ commands ∷ []) image
 
--- What is contained after the first batches is contained from their end on.
+-- The contents behind the first batches are the contents from their end on.
 abbrev pub KeptIsCut : Layout → Type 0
 KeptIsCut layout = (rules : Rules) (index first : ℕ) (batches others : List (List Command)) (image : List ℕ)
     → Kept layout rules index first (batches ++ others) image
     → Kept layout rules index first batches image × Kept layout rules (index + length batches) (first + length (joined batches)) others image
 
--- Of two lists of batches from one index on, numbered from one number, the shorter is a front of the longer.
+-- If a journal contains two lists of batches from the same index and number on, the shorter is the beginning of the
+-- longer.
 abbrev pub KeptIsOne : Layout → Type 0
 KeptIsOne layout = (rules : Rules) (index first : ℕ) (batches others : List (List Command)) (image : List ℕ)
     → Kept layout rules index first batches image → Kept layout rules index first others image → length others ≤ length batches
     → (rest : List (List Command)) × (batches ≡ others ++ rest)
 
--- Each of the batches has a frame that is open with its index; so there are no more than frames.
+-- Each of the batches has a frame that is open with its index, so there are no more batches than frames.
 abbrev pub KeptIsOwn : Layout → Type 0
 KeptIsOwn layout = (rules : Rules) (index first : ℕ) (batches : List (List Command)) (image : List ℕ) → Kept layout rules index first batches image
     → ((b : ℕ) → index ≤ b → b < index + length batches → IsOwn layout b image) × (length batches ≤ layout.count)

@@ -1,4 +1,4 @@
--- What a device is asked for where a frame is written.
+-- The writes that a device is asked for when a frame is written.
 use Rattle.std.specs.Prelude.{ℕ, ◌+◌, List}
 use Rattle.hpb_codec.specs.Batches.{batch_of}
 use Rattle.hpb_codec.specs.Cells.{cells_of}
@@ -13,7 +13,7 @@ use Rattle.hpb_journal.specs.Shapes.{frame_bytes}
 use Rattle.hpb_journal.specs.Strides.{frame_at}
 use Rattle.hpb_journal.specs.declared.limits.TheConstants.{BODY_AT}
 
--- The bytes that are written of a batch.
+-- The bytes that are written for a batch.
 abbrev pub bytes_in : JournalLayout → Batch → List ℕ
 bytes_in layouts.Pages = batch_of
 bytes_in layouts.Cells = cells_of

@@ -19,11 +19,11 @@ use hpb_disk::{
 };
 use hpb_tree::Definition;
 
-/// Frame b begins at byte 53,248 + 1,536 * (b mod count): its gate is its first byte, its body all from byte 16 on, of which a
-/// batch takes as many cells as it needs.
+/// Frame b begins at byte 53,248 + 1,536 * (b mod count). Its gate is its first byte, and its body is all bytes from
+/// byte 16 on. A batch takes as many cells of it as it needs.
 #[derive(Clone, Copy, Debug)]
 pub struct CellFrames {
-    /// How many frames there are, from `LEAST_CELL_FRAMES` to `MOST_FRAMES`, in eights.
+    /// How many frames there are: `LEAST_CELL_FRAMES` to `MOST_FRAMES`, a multiple of `CELL_FRAMES_STEP`.
     pub count: u32,
     pub ghost least: { LEAST_CELL_FRAMES ≤ count },
     pub ghost most: { count ≤ MOST_FRAMES },
@@ -33,7 +33,7 @@ pub struct CellFrames {
 impl CellFrames {
     ghost use Rattle.hpb_journal.specs.Strides.{frame_at};
 
-    /// A journal of so many frames.
+    /// A journal of `count` frames.
     pub fn new(count: u32) -> CellFrames
         requires least { LEAST_CELL_FRAMES ≤ count }
         requires most { count ≤ MOST_FRAMES }
@@ -43,7 +43,7 @@ impl CellFrames {
         CellFrames { count }
     }
 
-    // The first byte of the cells of a batch.
+    // The offset of the first byte of a batch's cells.
     fn place(&self, index: u64) -> usize
         ensures value { result ≡ frame_at CELL_FRAME_BYTES self.now.count index }
         ensures inside { result + CELL_FRAME_BYTES ≤ JOURNAL_AT + CELL_FRAME_BYTES * self.now.count }
@@ -52,16 +52,17 @@ impl CellFrames {
     }
 }
 
-/// Writes the cells of a batch from an offset of a device on, by one write: 496, 1,008 or 1,520 bytes, never more than the
-/// batch takes.
+/// Writes the cells of a batch from an offset of a device on, in one write: 496, 1,008 or 1,520 bytes, never more than
+/// the batch takes.
 pub fn write_cells<D: Disk>(disk: &mut D, at: usize, batch: &Batch) -> Result<(), DiskFailed>
     requires room { at + CELLS_SIZE ≤ length (D.seen disk.old) }
     ensures written { OnOk result (D.seen disk.new ≡ put at (cells_of batch.now) (D.seen disk.old)) }
-    // Then a frame's body that begins there begins with the batch, under each definition under which it may be kept.
+    // A frame's body that begins there then begins with the batch, under each definition under which it may be kept.
     ensures says { (rules : Rules) → MayBeKept rules batch.now → OnOk result (BeginsCells rules (part at CELLS_SIZE (D.seen disk.new)) batch.now) }
     ensures size { length (D.seen disk.new) ≡ length (D.seen disk.old) }
     ensures few { length (cells_of batch.now) ≤ CELLS_SIZE }
-    // A crash from then on, or within the call, may leave any bytes in the cells that the batch takes, and elsewhere what it could.
+    // A crash from then on, or within the call, may leave any bytes in the cells that the batch takes, and elsewhere
+    // the same as before.
     ensures crash { Within (D.may_leave disk.new) (TornFrom at (length (cells_of batch.now)) (D.may_leave disk.old)) }
     ensures time { Elapses (D.moment disk.old) (D.moment disk.new) (D.left_since disk.old) (D.left_since disk.new)
         (TornFrom at (length (cells_of batch.now)) (D.may_leave disk.old)) }

@@ -14,14 +14,14 @@ use hpb_codec::Batch;
 use hpb_disk::{Disk, DiskFailed};
 use hpb_tree::Definition;
 
-/// The frames of a journal on a device. What they contain is the list of batches from an index on (`Kept`): a batch
+/// The frames of a journal on a device. Their contents are the list of batches from an index on (`Kept`): a batch
 /// counts while its frame is open and spells it.
 ///
-/// A batch is put there in four steps: `write_body` while the frame's gate is closed in all that a crash may leave, a
-/// sync, `open_frame`, and a sync. A frame that isn't needed any more is closed by `close_frame`, which counts after a
-/// sync. Each call makes at most one call of the device, and takes no memory.
+/// A batch is written in four steps: `write_body` while the frame's gate is closed in every image that a crash may
+/// leave, a sync, `open_frame`, and a sync. A frame that isn't needed any more is closed by `close_frame`, which counts
+/// after a sync. Each call makes at most one call of the device, and takes no memory.
 pub trait Frames {
-    /// Where the frames stand, and what their bytes say.
+    /// The places of the frames, and the meaning of their bytes.
     ghost layout: { Self → Layout };
 
     /// The kind of layout, and how many frames there are.
@@ -35,16 +35,16 @@ pub trait Frames {
     fn device_len(&self) -> usize
         ensures { result ≡ (layout self.now).size };
 
-    /// Writes the body of a batch into the batch's frame. Where the gate is closed in all that a crash may leave, it shows
-    /// nothing, whole or torn.
+    /// Writes the body of a batch into the batch's frame. If the gate is closed in every image that a crash may leave,
+    /// the body doesn't count, whether whole or torn.
     fn write_body<D: Disk>(&self, disk: &mut D, batch: &Batch) -> Result<(), DiskFailed>
         requires room { (layout self.now).size ≤ length (D.seen disk.old) }
-        // After a write that succeeds a read gives the batch, under each definition under which it may be kept, and all
-        // else as it was.
+        // After a write that succeeds a read gives the batch, under each definition under which it may be kept. All
+        // else is as it was.
         ensures written { (rules : Rules) → MayBeKept rules batch.now → OnOk result (Says (layout self.now) rules batch.now (D.seen disk.new)) }
         ensures rest { OnOk result (ChangesBody (layout self.now) batch.now.index (D.seen disk.old) (D.seen disk.new)) }
         ensures size { length (D.seen disk.new) ≡ length (D.seen disk.old) }
-        // A crash from then on, or within the call, may leave any bytes in this body, and elsewhere what it could.
+        // A crash from then on, or within the call, may leave any bytes in this body, and elsewhere the same as before.
         ensures crash { Within (D.may_leave disk.new) (TornBody (layout self.now) batch.now.index (D.may_leave disk.old)) }
         ensures time { Elapses (D.moment disk.old) (D.moment disk.new) (D.left_since disk.old) (D.left_since disk.new)
             (TornBody (layout self.now) batch.now.index (D.may_leave disk.old)) }
@@ -52,7 +52,8 @@ pub trait Frames {
         // The device was asked for this write alone, whether it succeeds or not.
         ensures asked { Asks result (writes_body (shape self.now) batch.now ∷ []) (D.asked disk.old) (D.asked disk.new) };
 
-    /// Opens the gate of a batch's frame. It counts after the next sync; until then a crash may leave it open or closed.
+    /// Opens the gate of a batch's frame. The opening counts after the next sync. Until then a crash may leave the gate
+    /// open or closed.
     fn open_frame<D: Disk>(&self, disk: &mut D, index: u64) -> Result<(), DiskFailed>
         requires room { (layout self.now).size ≤ length (D.seen disk.old) }
         ensures open { OnOk result (IsOpen (layout self.now) index (D.seen disk.new)) }
@@ -64,8 +65,9 @@ pub trait Frames {
         ensures cause { CountsFailure result (D.failures disk.old) (D.failures disk.new) }
         ensures asked { Asks result (opens_frame (shape self.now) index ∷ []) (D.asked disk.old) (D.asked disk.new) };
 
-    /// Closes the gate of a batch's frame, if it may be open. One that is closed in all that a crash may leave isn't written,
-    /// as a torn byte could open what stands behind it: its caller says so, and the device has no call.
+    /// Closes the gate of a batch's frame, if it may be open. A gate that is closed in every image that a crash may
+    /// leave isn't written, since a torn byte could open it. The caller says so by `may_be_open`; then the device gets
+    /// no call.
     fn close_frame<D: Disk>(
         &self,
         disk: &mut D,
@@ -84,7 +86,7 @@ pub trait Frames {
         ensures cause { CountsFailure result (D.failures disk.old) (D.failures disk.new) }
         ensures asked { may_be_open ≡ true → Asks result (closes_frame (shape self.now) index ∷ []) (D.asked disk.old) (D.asked disk.new) };
 
-    /// Reads the frame of a batch, whatever its bytes are. The device has one read.
+    /// Reads the frame of a batch, whatever its bytes are. The device gets one read.
     fn read_frame<D: Disk>(
         &self,
         disk: &mut D,
@@ -101,7 +103,7 @@ pub trait Frames {
         ensures cause { CountsFailure result (D.failures disk.old) (D.failures disk.new) }
         ensures asked { Asks result [] (D.asked disk.old) (D.asked disk.new) };
 
-    /// What is so of each layout. It does nothing.
+    /// Proves the properties of each layout. It does nothing.
     fn laws(&self)
         ensures { IsLayout (layout self.now) };
 }

@@ -1,7 +1,7 @@
 //! The journal of a device: batches of commands in frames, each behind a gate of its own.
 //!
-//! `Frames` is what the layers above know of it; they name no page, no cell and no offset. `PageFrames` keeps each frame in
-//! a page of its own, `CellFrames` in three cells of 512 bytes. `AnyFrames` is one of both, as a head names it.
+//! The layers above know only `Frames`, and name no page, no cell and no offset. `PageFrames` keeps each frame in a
+//! page of its own, `CellFrames` in three cells of 512 bytes. `AnyFrames` is one of the two, as a head names it.
 #![tactic(auto)]
 
 mod any;

@@ -4,5 +4,5 @@ pub const JOURNAL_AT: usize = 53_248;
 /// The bytes of a frame of three cells.
 pub const CELL_FRAME_BYTES: usize = 1_536;
 
-/// Where the body of a frame begins in it.
+/// The offset of the body of a frame within the frame.
 pub(crate) const BODY_AT: usize = 16;

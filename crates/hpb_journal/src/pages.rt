@@ -12,7 +12,8 @@ use hpb_disk::{
 };
 use hpb_tree::Definition;
 
-/// Frame b stands in page 13 + b mod count: its gate is the page's first byte, its body the page from byte 16 on.
+/// Frame b stands in page 13 + b mod count. Its gate is the page's first byte, and its body is the page from byte 16
+/// on.
 #[derive(Clone, Copy, Debug)]
 pub struct PageFrames {
     /// How many frames there are, from `LEAST_FRAMES` to `MOST_FRAMES`.
@@ -24,7 +25,7 @@ pub struct PageFrames {
 impl PageFrames {
     ghost use Rattle.hpb_journal.specs.Strides.{frame_at};
 
-    /// A journal of so many frames.
+    /// A journal of `count` frames.
     pub fn new(count: u32) -> PageFrames
         requires least { LEAST_FRAMES ≤ count }
         requires most { count ≤ MOST_FRAMES }
@@ -33,7 +34,7 @@ impl PageFrames {
         PageFrames { count }
     }
 
-    // The first byte of the page of a batch.
+    // The offset of the first byte of a batch's page.
     fn page(&self, index: u64) -> usize
         ensures value { result ≡ frame_at PAGE_BYTES self.now.count index }
         ensures inside { result + PAGE_BYTES ≤ JOURNAL_AT + PAGE_BYTES * self.now.count }

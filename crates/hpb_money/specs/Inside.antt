@@ -7,10 +7,10 @@ use Rattle.hpb_money.specs.declared.shares.Shares.TheInside.{Inside}
 abbrev pub shares_view : Inside → SharesView
 shares_view s = record { each = s.each; more = s.more }
 
--- And back.
+-- The shares of the code that stand for these numbers.
 abbrev pub shares_inside : SharesView → Inside
 shares_inside s = record { each = s.each; more = s.more }
 
--- Where some get one more, what they get is a number of 64 bits.
+-- If some get one dollar more, that greater share fits 64 bits.
 abbrev pub HasRoom : Inside → Type 0
 HasRoom s = 0 < s.more → s.each + 1 < 2 ^ 64

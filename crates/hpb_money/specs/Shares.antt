@@ -6,10 +6,10 @@ pub record SharesView : Type 0 where
   pub each : ℕ
   pub more : ℕ
 
--- Dollars shared out among so many.
+-- Dollars shared out among a count: the quotient for each, and the remainder as the number that get one dollar more.
 abbrev pub shared : ℕ → ℕ → SharesView
 shared dollars count = record { each = dollars / count; more = dollars % count }
 
--- What falls to the one at a place: the first get one more.
+-- The dollars that fall to a place, from 0: the first places get one dollar more.
 abbrev pub part : SharesView → ℕ → ℕ
 part shares place = shares.each + cond (nat_lt place shares.more) 1 0

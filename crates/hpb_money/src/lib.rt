@@ -14,20 +14,19 @@ pub type Dollars = u64;
 /// The greatest amount that an auction deals in.
 pub const MOST_DOLLARS: Dollars = 1_000_000_000_000_000;
 
-/// A percentage, 0 to 100, of an amount, rounded up to whole dollars.
+/// `percent` percent of an amount, rounded up to whole dollars. The percentage is 0 to 100.
 pub fn ceil_percent(amount: Dollars, percent: u64) -> Dollars
     requires { percent ≤ 100 }
     ensures enough { amount * percent ≤ 100 * result }
     ensures least { (x : ℕ) → amount * percent ≤ 100 * x → result ≤ x }
     ensures most { result ≤ amount }
 {
-    // In two parts, so that no product is too large.
+    // The hundreds and the rest apart, so that no product exceeds 64 bits.
     amount / 100 * percent + (amount % 100 * percent).div_ceil(100)
 }
 
-/// An amount rounded up to a multiple of the step, which is at least 1. Amount and step together have to be
-/// below 2^64: so they are for every amount up to `MOST_DOLLARS` with every step that a definition can have,
-/// 1 to 1,000,000.
+/// An amount rounded up to a multiple of the step, which is at least 1. Amount and step together must be below 2^64.
+/// Every amount up to `MOST_DOLLARS` with every step of a definition, 1 to 1,000,000, is.
 pub fn round_up(amount: Dollars, step: u64) -> Dollars
     requires step { 0 < step }
     requires fits { amount + step < 2 ^ 64 }
@@ -43,8 +42,8 @@ pub fn round_up(amount: Dollars, step: u64) -> Dollars
     }
 }
 
-/// What falls to one of `count` when dollars are shared out as evenly as whole dollars allow: the first
-/// `dollars % count` get one more than the others. Places count from 0.
+/// The dollars that fall to one of `count` places when an amount is shared out as evenly as whole dollars allow. The
+/// first `dollars % count` places get one dollar more than the others. Places count from 0.
 pub fn share(dollars: Dollars, count: u64, place: u64) -> Dollars
     requires { place < count }
     ensures value { result ≡ share dollars count place }

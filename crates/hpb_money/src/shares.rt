@@ -4,11 +4,11 @@ ghost use Rattle.hpb_money.specs.Shares.{part, shared};
 use crate::Dollars;
 use std::marker::Model;
 
-/// Dollars that are shared out: each gets so much, and the first few get one dollar more.
+/// Dollars shared out among places: each place gets the same, and the first few get one dollar more.
 #[derive(Clone, Copy, Debug)]
 pub struct Shares {
     each: Dollars,
-    /// How many get one more.
+    /// How many places, from the first on, get one dollar more.
     more: u64,
 }
 
@@ -27,15 +27,15 @@ impl Model for Shares {
 }
 
 impl Shares {
-    /// Nothing is shared out.
+    /// Shares of 0 dollars: every place gets nothing.
     pub fn none() -> Shares
         ensures { result ≡ record { each = 0; more = 0 } }
     {
         Shares { each: 0, more: 0 }
     }
 
-    /// Dollars shared out among so many as evenly as whole dollars allow. Fewer dollars than that, and two that share,
-    /// need no division.
+    /// Dollars shared out among `count` places as evenly as whole dollars allow. If there are fewer dollars than
+    /// places, or two places, this takes no division by a variable.
     pub fn of(dollars: Dollars, count: u64) -> Shares
         requires { 0 < count }
         ensures { result ≡ shared dollars count }
@@ -58,7 +58,7 @@ impl Shares {
         }
     }
 
-    /// What falls to the one at a place, from 0.
+    /// The dollars that fall to a place, from 0.
     pub fn at(self, place: u64) -> Dollars
         ensures { result ≡ part self place }
     {

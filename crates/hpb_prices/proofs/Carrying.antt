@@ -1,4 +1,4 @@
--- What is carried down, from the first node to the last.
+-- The dollars carried down, from the first node to the last.
 use Rattle.std.proofs.Common.{◌≡◌, ℕ, ◌+◌, ◌-◌, ◌<◌, ◌≤◌, List, Some, None, length, get_or, set, max, sym, ap, ◌∙◌, ⊎_elim, arith}
 use Rattle.std.specs.List.{range_with_len}
 use Rattle.std.proofs.lemmas.Bool.{cases_lt}
@@ -16,7 +16,7 @@ use Rattle.hpb_winners.specs.declared.outcome.TheConstants.{MOST_VALUE}
 
 module _ (nodes : List Node) (bid : ℕ → ℕ) where
   module _ (tree : IsTree nodes) where
-    -- what a parent passes on
+    -- the share that a parent passes on
     module _ {node parent p : ℕ} {shares : List SharesView} (other : SharesView) (so_far : IsPassedDown nodes bid node shares) (up : Some parent ≡ parent_of nodes node) (same : p ≡ parent) where
       before : parent < node
       before = tree.parents node parent (sym up)
@@ -36,7 +36,7 @@ module _ (nodes : List Node) (bid : ℕ → ℕ) where
     pub carried_small : (node : ℕ) → ((n : ℕ) → bid n ≤ MOST_AMOUNT) → node < length nodes → length nodes ≤ MOST_NODES → carried_of nodes bid node ≤ MOST_VALUE
     carried_small node amounts within most = omega (arith, passed_bound nodes bid tree MOST_AMOUNT node amounts within)
 
-    -- a node with children passes on what it must
+    -- a node with children passes on the dollars that it must
     parts_are : {node inside value p children : ℕ} → inside ≡ best nodes bid node → value ≡ max (bid node) (best nodes bid node) → p ≡ value + carried_of nodes bid node → children ≡ children_among nodes node (places nodes)
         → ArePassedOn nodes bid node (shared (p - inside) children)
     parts_are {node = node} {inside = inside} {p = p} {children = children} i v e k child up =

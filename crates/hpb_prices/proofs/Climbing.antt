@@ -1,4 +1,4 @@
--- Going up from a node in search of a winner.
+-- Going up from a node to look for a winner.
 use Rattle.std.proofs.Common.{◌≡◌, ℕ, suc, ◌<◌, ◌/◌, ◌^◌, List, Option, Some, None, refl, sym, ap, ◌∙◌, subst, arith, bit_and}
 use Rattle.std.specs.Prelude.{IfSome}
 use Rattle.std.specs.Int.{bit_at}
@@ -6,7 +6,7 @@ use Rattle.std.proofs.lemmas.Nat.Bits.{shr_and_one}
 use Rattle.hpb_rules.specs.Tree.{Node, parent_of, IsAtOrUnder, itself, child, IsInside}
 use Rattle.hpb_rules.proofs.Above.{under_trans}
 
--- how far it is to the top at most
+-- the greatest number of steps to the top
 abbrev pub steps_up : Option ℕ → ℕ
 steps_up None = 0
 steps_up (Some p) = suc p
@@ -17,7 +17,7 @@ module _ (nodes : List Node) where
   up (child {parent = p} e u) other = (p, e, u)
 
 module _ (nodes : List Node) (winners node : ℕ) where
-  -- no winner was met up to here, and each that stands above the node stands here or higher
+  -- no winner was met up to here, and each winner above the node stands here or higher
   pub record Climbed (above : Option ℕ) : Type 0 where
     pub reached : (p : ℕ) → above ≡ Some p → IsAtOrUnder nodes p node × (p < node)
     pub left : (m : ℕ) → bit_at winners m ≡ 1 → IsInside nodes m node → (p : ℕ) × (above ≡ Some p) × IsAtOrUnder nodes m p

@@ -18,7 +18,7 @@ use Rattle.hpb_prices.specs.Certificate.{sum_where, bid_listed, price_listed, se
 use Rattle.hpb_prices.proofs.MaskedSums.{sum_next}
 
 module _ (nodes : List Node) where
-  -- one place more
+  -- the number of a licence, one place later
   pub number_more : (i : ℕ) → licence_number nodes (i + 1) ≡ licence_number nodes i + cond (is_some (terms_of nodes i)) 1 0
   number_more i = sum_more (λ n. cond (is_some (terms_of nodes n)) 1 0) i
 
@@ -36,11 +36,11 @@ module _ (nodes : List Node) where
   number_within i t e h = let j : (i + 1) + (length nodes - (i + 1)) ≡ length nodes = omega arith in
       omega (arith, number_some i t e, number_grows (i + 1) (length nodes - (i + 1)), ap (licence_number nodes) j)
 
-  -- the count by what the code reads of the node
+  -- the count, from the fields that the code reads of the node
   pub number_at : {i node count : ℕ} {t : Option Terms} {b : Bool} → node ≡ i → t ≡ terms_of nodes node → b ≡ is_some t → count ≡ licence_number nodes i → count + cond b 1 0 ≡ licence_number nodes (i + 1)
   number_at {i = i} {b = b} at e f c = ap (λ k. k + cond b 1 0) c ∙ ap (λ x. licence_number nodes i + cond x 1 0) (f ∙ ap is_some (e ∙ ap (terms_of nodes) at)) ∙ sym (number_more i)
 
-  -- no more licences than nodes
+  -- there are no more licences than nodes
   pub number_most : (i : ℕ) → licence_number nodes i ≤ i
   number_most zero = omega arith
   number_most (suc i) = let e : i + 1 ≡ suc i = omega arith in omega (arith, number_most i, number_more i, ap (licence_number nodes) e, one (is_some (terms_of nodes i)))

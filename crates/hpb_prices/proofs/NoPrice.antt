@@ -14,7 +14,7 @@ module _ (nodes : List Node) (tree : IsTree nodes) where
   pub prices_none : {prices : List ℕ} → prices ≡ replicate MOST_NODES 0 → (n : ℕ) → n < length nodes → get_or prices n 0 ≡ price nodes no_bid n
   prices_none zeros n h = ap (λ xs. get_or xs n 0) zeros ∙ get_or-replicate_same MOST_NODES n 0 ∙ sym (price_none nodes n tree)
 
-  -- the least bids were written at a price of 0
+  -- the least bids at a price of 0
   pub minima_none : (step percent : ℕ) {written minima : List ℕ} → minima ≡ written
       → ((n : ℕ) → n < length nodes → get_or written n 0 ≡ minimum_of step percent (opening nodes n) 0)
       → (n : ℕ) → n < length nodes → get_or minima n 0 ≡ minimum_of step percent (opening nodes n) (price nodes no_bid n)

@@ -1,4 +1,4 @@
--- The pass that sets what changed.
+-- The pass that updates the prices that changed.
 use Rattle.std.specs.Prelude.{◌≡◌, ℕ, ◌<◌, List, length, slice_index}
 use Rattle.hpb_rules.specs.Tree.{TreeRules, opening}
 use Rattle.hpb_rules.specs.Prices.{minimum_of}
@@ -10,6 +10,6 @@ pub record WasPriced (tree : TreeRules) (kept : PricesView) : Type 0 where
   pub prices : HasPrices tree.nodes was kept
   pub minima : HasMinima tree was kept
 
--- Each least bid is the one at the price that stands.
+-- Each least bid is the one at the present price.
 abbrev pub AreMinima : TreeRules → List ℕ → List ℕ → Type 0
 AreMinima tree prices minima = (node : ℕ) → node < length tree.nodes → slice_index minima node ≡ minimum_of tree.step tree.percent (opening tree.nodes node) (slice_index prices node)

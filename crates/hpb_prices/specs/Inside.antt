@@ -4,7 +4,7 @@ use Rattle.hpb_rules.specs.declared.limits.TheConstants.{MOST_NODES}
 use Rattle.hpb_prices.specs.View.{PricesView}
 use Rattle.hpb_prices.specs.declared.prices.Prices.TheInside.{Inside}
 
--- The tables of the code, but the one that finding the prices needs.
+-- The code's tables, except the one that is used only while prices are found.
 abbrev pub prices_view : Inside → PricesView
 prices_view p = record { prices = p.prices.items; minima = p.minima.items }
 

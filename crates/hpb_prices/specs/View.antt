@@ -1,9 +1,9 @@
--- What prices stand for: the price of each node and the least bid on it.
+-- What prices are: the price of each node and the least bid on it.
 use Rattle.std.specs.Prelude.{◌≡◌, ℕ, ◌<◌, List, length, slice_index}
 use Rattle.hpb_rules.specs.Tree.{Node, TreeRules, opening}
 use Rattle.hpb_rules.specs.Prices.{price, minimum_of}
 
--- Of each node the price and the least bid.
+-- The price of each node, and the least bid on it.
 pub record PricesView : Type 0 where
   pub prices : List ℕ
   pub minima : List ℕ

@@ -8,11 +8,20 @@ use hpb_money::Dollars;
 use hpb_rules::{MOST_NODES, NodeId};
 use hpb_tree::Tree;
 
-/// Whether prices prove that winners are a choice of greatest revenue. `highs` has the high bid of each
-/// node and 0 where it has none, `prices` the price of each licence in the licences' order, and
-/// bit n of `winners` is for node n. Yes where each winner is a node with a high bid, no two winners have a
-/// licence in common, no high bid is more than the prices of its licences together, and the prices sum to
-/// the winners' high bids. No for lists of another length, and for a bit that no node has.
+/// Whether prices prove that the winners are a choice of greatest revenue.
+///
+/// - `highs` has the high bid of each node, or 0 if it has none.
+/// - `prices` has the price of each licence, in the licences' order.
+/// - Bit n of `winners` is for node n.
+///
+/// Yes if all of this holds:
+///
+/// - each winner is a node with a high bid;
+/// - no two winners have a licence in common;
+/// - no high bid exceeds the sum of its licences' prices;
+/// - the prices sum to the winners' high bids.
+///
+/// No for lists of another length, and for a bit that no node has.
 pub fn check_certificate(tree: &Tree, highs: &[Dollars], prices: &[Dollars], winners: u128) -> bool
     ensures yes { IsTrue result ↔ Certifies tree.now.nodes highs.now prices.now winners }
     ensures best { IsTrue result → (c : List Bool) → IsChoice tree.now.nodes (bid_listed highs.now) c → revenue (bid_listed highs.now) c ≤ revenue (bid_listed highs.now) (set_of tree.now.nodes winners) }
@@ -24,7 +33,7 @@ pub fn check_certificate(tree: &Tree, highs: &[Dollars], prices: &[Dollars], win
     is_certificate(tree, highs, prices, winners)
 }
 
-/// The same for lists of the right lengths.
+/// The same, for lists of the right lengths.
 fn is_certificate(tree: &Tree, highs: &[Dollars], prices: &[Dollars], winners: u128) -> bool
     requires highs { length highs.now ≡ length tree.now.nodes }
     requires prices { length prices.now ≡ count_of_licences tree.now.nodes }
@@ -53,7 +62,7 @@ fn licence_count(tree: &Tree) -> usize
     count
 }
 
-/// Whether each winner has a high bid, and none stands below another.
+/// Whether each winner has a high bid, and no winner stands below another.
 fn is_choice(tree: &Tree, highs: &[Dollars], winners: u128) -> bool
     requires { length highs.now ≡ length tree.now.nodes }
     ensures { IsTrue result ↔ IsChoice tree.now.nodes (bid_listed highs.now) (set_of tree.now.nodes winners) }
@@ -85,7 +94,7 @@ fn is_below_winner(tree: &Tree, winners: u128, node: NodeId) -> bool
     false
 }
 
-/// Whether no high bid is more than the prices of its licences together.
+/// Whether no high bid exceeds the sum of its licences' prices.
 fn are_covered(tree: &Tree, highs: &[Dollars], prices: &[Dollars]) -> bool
     requires highs { length highs.now ≡ length tree.now.nodes }
     requires prices { length prices.now ≡ count_of_licences tree.now.nodes }

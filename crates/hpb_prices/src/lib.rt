@@ -1,5 +1,5 @@
-//! Prices of the nodes and the least bids on them, and certificates: prices that prove a choice of high
-//! bids to be the best one.
+//! Prices of the nodes, the least bids on them, and certificates: prices that prove a choice of high bids to be the
+//! best.
 #![tactic(auto)]
 
 mod certificate;

@@ -6,7 +6,7 @@ use hpb_money::{Dollars, MOST_DOLLARS, ceil_percent, round_up};
 use hpb_rules::{MOST_NODES, MOST_STEP, NodeId};
 use hpb_tree::Tree;
 
-/// Sets the least bid on each node of a tree without a bid: at a price of 0.
+/// Sets the least bid on each node of a tree without a bid, whose prices are 0.
 pub(crate) fn set_first_minima(tree: &Tree, minima: &mut [Dollars])
     requires { length minima.old ≡ MOST_NODES }
     ensures { (n : ℕ) → n < length tree.now.nodes → slice_index minima.new n ≡ minimum_of tree.now.step tree.now.percent (opening_of tree.now.nodes n) 0 }
@@ -17,7 +17,7 @@ pub(crate) fn set_first_minima(tree: &Tree, minima: &mut [Dollars])
     }
 }
 
-/// The least bid on a node at a price.
+/// The least bid on a node at this price.
 pub(crate) fn least_bid(tree: &Tree, node: NodeId, price: Dollars) -> Dollars
     requires node { node < length tree.now.nodes }
     requires price { price ≤ MOST_DOLLARS }
@@ -28,8 +28,7 @@ pub(crate) fn least_bid(tree: &Tree, node: NodeId, price: Dollars) -> Dollars
     minimum_bid(step, percent, tree.opening(node), price)
 }
 
-/// The least bid: the least multiple of the step that is at least the opening, and at least the price
-/// with its percentage.
+/// The least multiple of the step that is at least the opening, and at least the price raised by the percentage.
 fn minimum_bid(step: u64, percent: u64, opening: Dollars, price: Dollars) -> Dollars
     requires some { 0 < step }
     requires step { step ≤ MOST_STEP }

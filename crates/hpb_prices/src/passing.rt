@@ -15,9 +15,9 @@ use hpb_rules::{MOST_NODES, NodeId};
 use hpb_tree::Tree;
 use hpb_winners::{MOST_VALUE, Outcome};
 
-/// Sets the prices and the least bids, from the top down: what a package's high bid is more than the best
-/// inside it is shared among its children. The prices prove the winners: they cover each high bid and sum to
-/// the winners' revenue.
+/// Sets the prices and the least bids, from the top down. The part of a package's high bid above the best revenue
+/// inside it is shared among its children. The prices prove the winners: they cover each high bid and sum to the
+/// winners' revenue.
 pub fn downward(tree: &Tree, books: &Books, outcome: &Outcome, prices: &mut Prices)
     requires { IsOutcome tree.now.nodes (bid_of books.now) outcome.now }
     ensures prices { HasPrices tree.now.nodes (bid_of books.now) prices.new }
@@ -28,8 +28,8 @@ pub fn downward(tree: &Tree, books: &Books, outcome: &Outcome, prices: &mut Pric
     downward_along(tree, books, outcome, prices);
 }
 
-/// Sets the prices and the least bids from those of earlier high bids. Only where the price of a node changes is
-/// its least bid found anew.
+/// Sets the prices and the least bids, given those of earlier high bids. The least bid on a node is found anew only if
+/// the node's price changes.
 pub fn downward_along(tree: &Tree, books: &Books, outcome: &Outcome, prices: &mut Prices)
     requires outcome { IsOutcome tree.now.nodes (bid_of books.now) outcome.now }
     requires prices { WasPriced tree.now prices.old }
@@ -48,8 +48,7 @@ pub fn downward_along(tree: &Tree, books: &Books, outcome: &Outcome, prices: &mu
     );
 }
 
-/// Finds from the first node to the last what is carried down to each node, and sets its price: its value and
-/// what is carried down to it.
+/// Sets the price of each node, from the first to the last: its value and the dollars carried down to it.
 fn pass_down(
     tree: &Tree,
     books: &Books,
@@ -75,7 +74,7 @@ fn pass_down(
     }
 }
 
-/// What is carried down to a node: its share of what its parent passes on, and nothing at the top.
+/// The dollars carried down to a node: its share of those that its parent passes on, and 0 for a top node.
 fn carried_to(tree: &Tree, books: &Books, shares: &[Shares], node: NodeId) -> Dollars
     requires shares { IsPassedDown tree.now.nodes (bid_of books.now) node shares.now }
     requires node { node < length tree.now.nodes }
@@ -90,8 +89,8 @@ fn carried_to(tree: &Tree, books: &Books, shares: &[Shares], node: NodeId) -> Do
     }
 }
 
-/// Notes what a package passes on to its children: what is carried down to it and its surplus, together what its
-/// price is more than the best inside it. A licence passes nothing on.
+/// Notes the dollars that a package passes on to its children: those carried down to it and its surplus. Together they
+/// are the part of its price above the best revenue inside it. A licence passes nothing on.
 fn pass_on(tree: &Tree, outcome: &Outcome, node: NodeId, price: Dollars, shares: &mut [Shares])
     requires node { node < length tree.now.nodes }
     requires price { slice_index outcome.now.inside node ≤ price }
@@ -107,7 +106,7 @@ fn pass_on(tree: &Tree, outcome: &Outcome, node: NodeId, price: Dollars, shares:
     shares[node.place()] = Shares::of(price - outcome.inside(node), children);
 }
 
-/// Sets the price of a node, and its least bid where the price changes.
+/// Sets the price of a node, and if it changes, the least bid on it.
 fn set_price(
     tree: &Tree,
     node: NodeId,

@@ -11,13 +11,13 @@ use hpb_tree::Tree;
 use std::alloc::{AllocError, Global};
 use std::marker::Model;
 
-/// The price of each node, and the least bid on it. All in whole dollars. There is room for `MOST_NODES`
-/// nodes; only the places of the tree's nodes count.
+/// The price of each node, and the least bid on it, all in whole dollars. There is room for `MOST_NODES` nodes; only
+/// the places of the tree's nodes count.
 #[derive(Debug, Drop)]
 pub struct Prices {
     pub(crate) prices: Vec<Dollars>,
     pub(crate) minima: Vec<Dollars>,
-    /// What each package passes on to its children, while prices are found.
+    /// The shares that each package passes on to its children, while prices are found.
     pub(crate) shares: Vec<Shares>,
 }
 
@@ -30,7 +30,7 @@ impl Model for Prices {
 }
 
 impl Prices {
-    /// The prices of a tree without a bid: 0, so the least bids are the openings. Fails only where memory is
+    /// The prices of a tree without a bid: all are 0, so the least bids are the openings. Fails only if memory is
     /// refused.
     pub fn new(alloc: Global, tree: &Tree) -> Result<Prices, AllocError>
         ensures prices { IfOk result (HasPrices tree.now.nodes no_bid) }
@@ -47,7 +47,7 @@ impl Prices {
         })
     }
 
-    /// Becomes the prices of a tree without a bid.
+    /// Makes these the prices of a tree without a bid.
     pub(crate) fn restart(&mut self, tree: &Tree)
         ensures { WasPriced tree.now self.new }
     {
@@ -56,7 +56,7 @@ impl Prices {
         set_first_minima(tree, &mut self.minima);
     }
 
-    /// The price of a node: of a package the sum over its licences.
+    /// The price of a node. For a package it is the sum over its licences.
     pub fn price(&self, node: NodeId) -> Dollars
         ensures { result ≡ slice_index self.now.prices node }
     {
@@ -72,7 +72,7 @@ impl Prices {
         self.minima[index]
     }
 
-    /// Become the same as other prices. Takes no memory.
+    /// Makes these prices equal to others. Takes no memory.
     pub fn copy_from(&mut self, other: &Prices)
         ensures { self.new ≡ other.now }
     {
@@ -80,7 +80,7 @@ impl Prices {
         self.minima.copy_from_slice(other.minima.as_slice());
     }
 
-    /// The same prices once more. Fails only where memory is refused.
+    /// A copy of the prices. Fails only if memory is refused.
     pub fn copy(&self, alloc: Global) -> Result<Prices, AllocError>
         ensures { IfOk result (λ prices. prices ≡ self.now) }
     {

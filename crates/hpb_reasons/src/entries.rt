@@ -1,8 +1,8 @@
-//! What stands in a definition.
+//! Reads fields and items of a definition.
 use crate::place::List;
 use serde_json::Value;
 
-/// The items of a list, and none where it isn't one.
+/// The items of a list, or none if the field isn't a list.
 pub(crate) fn items(definition: &Value, list: List) -> &[Value] {
     match definition.get(list.field()).and_then(Value::as_array) {
         Some(items) => items.as_slice(),
@@ -10,12 +10,12 @@ pub(crate) fn items(definition: &Value, list: List) -> &[Value] {
     }
 }
 
-/// The text in a field.
+/// The text in a field, if there is one.
 pub(crate) fn text<'v>(object: &'v Value, key: &str) -> Option<&'v str> {
     object.get(key).and_then(Value::as_str)
 }
 
-/// The whole number in a field.
+/// The whole number in a field, if there is one.
 pub(crate) fn number(object: &Value, key: &str) -> Option<u64> {
     object.get(key).and_then(Value::as_u64)
 }
@@ -25,7 +25,7 @@ pub(crate) fn is_licence(node: &Value) -> bool {
     node.get("units").is_some()
 }
 
-/// Whether a text stands in a field.
+/// Whether a field holds this text.
 pub(crate) fn has_text(object: &Value, key: &str, wanted: &str) -> bool {
     match text(object, key) {
         Some(found) => found == wanted,

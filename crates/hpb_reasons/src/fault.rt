@@ -1,4 +1,4 @@
-//! What is wrong with a definition, and where.
+//! A fault of a definition, and its place.
 use crate::fields::FieldMisfit;
 use crate::limits::LimitMisfit;
 use crate::names::NameMisfit;
@@ -8,7 +8,7 @@ use crate::terms::TermsMisfit;
 use crate::tree::TreeMisfit;
 use std::fmt;
 
-/// What is wrong at a place of a definition.
+/// A fault at a place of a definition.
 #[derive(Clone, Copy)]
 pub(crate) enum Misfit<'v> {
     Field(FieldMisfit<'v>),
@@ -22,7 +22,7 @@ pub(crate) enum Misfit<'v> {
 }
 
 impl<'v> Misfit<'v> {
-    /// This, at a place.
+    /// This fault, at a place.
     pub(crate) fn at(self, place: Place<'v>) -> Finding<'v> {
         Finding {
             place,
@@ -52,7 +52,7 @@ impl fmt::Display for Misfit<'_> {
     }
 }
 
-/// The first thing that is wrong with a definition under one rule.
+/// The first fault of a definition under one rule.
 #[derive(Clone, Copy)]
 pub(crate) struct Finding<'v> {
     place: Place<'v>,

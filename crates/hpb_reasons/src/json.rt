@@ -1,4 +1,4 @@
-//! Why a text is no JSON.
+//! Why a text isn't JSON.
 ghost use Rattle.std.specs.Prelude.{◌≡◌, ◌<◌, ◌↔◌, length, Ok, Some};
 ghost use Rattle.hpb_reasons.specs.declared.json.TextFault.TheVariants.{TooLong};
 
@@ -11,19 +11,19 @@ use std::fmt;
 /// How deep the lists and objects of a text may nest.
 const MOST_DEPTH: usize = 127;
 
-/// Why a text is no JSON.
+/// Why a text isn't JSON.
 #[derive(Clone, Copy)]
 pub(crate) enum TextFault {
     /// It has too many bytes.
     TooLong,
-    /// It has blanks alone.
+    /// It has nothing but blanks.
     Blank,
     /// It can't be read from this spot on.
     At(Spot, TextMisfit),
 }
 
 impl TextFault {
-    /// Whether more text could mend it.
+    /// Whether more text behind it could make it right.
     pub(crate) fn ends_early(self) -> bool {
         matches!(self, TextFault::Blank | TextFault::At(_, TextMisfit::End))
     }
@@ -42,7 +42,7 @@ impl fmt::Display for TextFault {
     }
 }
 
-/// What is wrong at a spot.
+/// The fault at a spot of a text.
 #[derive(Clone, Copy)]
 pub(crate) enum TextMisfit {
     NotUtf8,
@@ -51,7 +51,7 @@ pub(crate) enum TextMisfit {
     TooLarge,
     /// The text ends too early.
     End,
-    /// Reading stopped at this character, or at the end. What is wrong stands there, or right before.
+    /// Reading stopped at this character, or at the end. The fault is there, or right before.
     Stopped(Option<char>),
 }
 
@@ -73,7 +73,7 @@ impl fmt::Display for TextMisfit {
     }
 }
 
-/// A spot in a text: its lines and the bytes of a line are counted from 1.
+/// A spot in a text: its line, and its byte of that line, both from 1.
 #[derive(Clone, Copy)]
 pub(crate) struct Spot {
     line: usize,
@@ -101,7 +101,7 @@ impl Spot {
         line.get(self.column.checked_sub(1)?..)?.chars().next()
     }
 
-    /// How many bytes a text has up to this spot, the one there included.
+    /// How many bytes of a text there are up to this spot, its own included.
     fn length(self, text: &str) -> usize {
         let mut length = self.column;
         for line in text.split('\n').take(self.line.saturating_sub(1)) {
@@ -111,7 +111,7 @@ impl Spot {
     }
 }
 
-/// Why a text is no definition's JSON, if it isn't.
+/// Why a text isn't the JSON of a definition, if it isn't.
 pub(crate) fn text_fault(alloc: Global, text: &[u8]) -> Result<Option<TextFault>, AllocError>
     ensures { (result ≡ Ok (Some TooLong)) ↔ (MOST_DEFINITION_BYTES < length text.now) }
 {
@@ -135,7 +135,7 @@ fn is_blank(byte: u8) -> bool {
     matches!(byte, b' ' | b'\t' | b'\r' | b'\n')
 }
 
-/// What is wrong where a text can't be read any further.
+/// The fault at the spot at which reading a text stopped.
 fn misfit_at(alloc: Global, text: &[u8], error: Error) -> Result<TextMisfit, AllocError> {
     let Ok(text) = std::str::from_utf8(text) else {
         return Ok(TextMisfit::NotUtf8);
@@ -161,7 +161,7 @@ fn misfit_at(alloc: Global, text: &[u8], error: Error) -> Result<TextMisfit, All
     Ok(TextMisfit::Stopped(spot.character(text)))
 }
 
-/// Where a byte of a text stands.
+/// Whether a byte of a text is outside strings, in one, or behind a backslash.
 #[derive(Clone, Copy)]
 enum Within {
     Structure,
@@ -170,7 +170,7 @@ enum Within {
     Escape,
 }
 
-/// How deep lists and objects nest in the front of a text.
+/// How deep lists and objects nest at the end of these first bytes of a text.
 fn depth_of(front: &[u8]) -> usize {
     let mut within = Within::Structure;
     let (mut depth, mut deepest) = (0usize, 0usize);

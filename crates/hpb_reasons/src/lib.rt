@@ -1,4 +1,4 @@
-//! Why a definition is refused: what is wrong there, and where, in words for people. Nothing is decided here.
+//! Why a definition is refused: the fault and its place, in words for people. Nothing is decided here.
 #![tactic(auto)]
 
 mod entries;

@@ -1,4 +1,4 @@
-//! How much of everything a definition may have.
+//! The limits on how much a definition may have.
 ghost use Rattle.std.specs.Prelude.{◌≡◌, is_ok, length, nat_le};
 
 use crate::entries::{is_licence, items, place_named, text};
@@ -9,7 +9,7 @@ use hpb_rules::{MOST_BIDDERS, MOST_LEVELS, MOST_LICENCES, MOST_NODES, MOST_STAGE
 use serde_json::Value;
 use std::fmt;
 
-/// What is too much.
+/// The limit that is passed.
 #[derive(Clone, Copy)]
 pub(crate) enum LimitMisfit {
     /// A list has too many items.
@@ -38,7 +38,7 @@ impl fmt::Display for LimitMisfit {
     }
 }
 
-/// Whether no limit is passed, and else which is the first.
+/// Checks that no limit is passed. Otherwise reports the first that is.
 pub(crate) fn check_limits(definition: &Value) -> Result<(), Finding<'_>> {
     let nodes = items(definition, List::Nodes);
     check_count(List::Nodes, nodes, MOST_NODES)?;
@@ -82,7 +82,7 @@ fn check_levels<'v>(nodes: &[Value]) -> Result<(), Finding<'v>> {
     Ok(())
 }
 
-/// The level of a node, by the levels of those before it. A top node is on level 1.
+/// The level of a node, from the levels of the nodes before it. A top node is on level 1.
 fn level_of(node: &Value, nodes: &[Value], levels: &[usize]) -> usize {
     let Some(parent) = text(node, "parent") else {
         return 1;

@@ -10,7 +10,7 @@ use hpb_rules::MOST_NAME_BYTES;
 use serde_json::Value;
 use std::fmt;
 
-/// What is wrong with a name.
+/// A fault of a name.
 #[derive(Clone, Copy)]
 pub(crate) enum NameMisfit<'v> {
     /// It is empty or too long.
@@ -41,7 +41,7 @@ impl fmt::Display for NameMisfit<'_> {
     }
 }
 
-/// Whether each name is one, and else what is wrong with the first that isn't.
+/// Checks that each name is valid. Otherwise reports the first that isn't.
 pub(crate) fn check_names(definition: &Value) -> Result<(), Finding<'_>> {
     for list in [List::Nodes, List::Bidders] {
         for (index, item) in items(definition, list).iter().enumerate() {
@@ -67,7 +67,7 @@ fn may_be_in_name(character: char) -> bool
     matches!(character, 'a'..='z' | '0'..='9' | '_')
 }
 
-/// Whether each name is its item's alone, and else which is the first that isn't.
+/// Checks that no two nodes and no two bidders have the same name. Otherwise reports the first name that stands twice.
 pub(crate) fn check_duplicates(definition: &Value) -> Result<(), Finding<'_>> {
     for list in [List::Nodes, List::Bidders] {
         let items = items(definition, list);

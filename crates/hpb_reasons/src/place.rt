@@ -11,7 +11,7 @@ pub(crate) enum List {
 }
 
 impl List {
-    /// The field that it is.
+    /// The field that holds the list.
     pub(crate) fn field(self) -> &'static str {
         match self {
             List::Stages => "stages",
@@ -20,7 +20,7 @@ impl List {
         }
     }
 
-    /// An item of it.
+    /// The item of the list at an index, from 0.
     pub(crate) fn item(self, index: usize) -> Item {
         Item { list: self, index }
     }
@@ -34,12 +34,12 @@ pub(crate) struct Item {
 }
 
 impl Item {
-    /// A field of it.
+    /// A field of the item.
     pub(crate) fn field(self, key: &str) -> Place<'_> {
         Place::FieldOf(self, key)
     }
 
-    /// Whether it is the item of this index, from 0 on, of the list in this field.
+    /// Whether this is the item at an index, from 0, of the list in this field.
     pub(crate) fn is(self, field: &[u8], index: usize) -> bool {
         self.list.field().as_bytes() == field && self.index == index
     }

@@ -4,7 +4,7 @@ use std::fmt;
 /// How many characters of a text are shown at most.
 const MOST_SHOWN: usize = 32;
 
-/// A text of the user's, in double quotes: its control characters are escaped, and it is cut where it is long.
+/// A text of the user's, in double quotes, with control characters escaped. A long text is cut.
 #[derive(Clone, Copy)]
 pub(crate) struct Quoted<'v>(pub(crate) &'v str);
 
@@ -22,7 +22,7 @@ impl fmt::Display for Quoted<'_> {
     }
 }
 
-/// A character of the user's, in double quotes, and escaped as in a text.
+/// A character of the user's, in double quotes, escaped as in a text.
 #[derive(Clone, Copy)]
 pub(crate) struct QuotedCharacter(pub(crate) char);
 
@@ -34,7 +34,7 @@ impl fmt::Display for QuotedCharacter {
     }
 }
 
-/// Writes a character as it stands in a text that `{:?}` shows.
+/// Writes a character as `{:?}` writes it within a text.
 fn write_escaped<W: fmt::Write>(f: &mut fmt::Formatter<W>, character: char) -> fmt::Result {
     match character {
         '\'' => f.write_str("'"),
@@ -42,7 +42,7 @@ fn write_escaped<W: fmt::Write>(f: &mut fmt::Formatter<W>, character: char) -> f
     }
 }
 
-/// A key in a path: as it is where it is a short word, and else in quotes.
+/// A key in a path: as it is if it is a short word, otherwise in quotes.
 #[derive(Clone, Copy)]
 pub(crate) struct Key<'v>(pub(crate) &'v str);
 
@@ -65,11 +65,11 @@ fn is_word_byte(byte: u8) -> bool {
     byte.is_ascii_alphanumeric() || byte == b'_'
 }
 
-/// A limit, its digits in groups of three.
+/// A limit, with its digits in groups of three.
 #[derive(Clone, Copy)]
 pub(crate) struct Limit(pub(crate) u64);
 
-/// What the groups of three digits count, from the greatest that 64 bits have.
+/// The units of the groups of three digits, from the highest of a number of 64 bits.
 const GROUPS: [u64; 7] = [
     1_000_000_000_000_000_000,
     1_000_000_000_000_000,

@@ -12,15 +12,15 @@ use hpb_rules::Refusal;
 use serde_json::Value;
 use std::alloc::{AllocError, Global};
 
-/// What is said where no reason is found, or memory is refused for it.
+/// The text that stands in for a reason if none is found, or if memory is refused for it.
 pub const NOTHING_FOUND: &str = "docs/PROTOCOL.md says what a definition must be";
 
 /// Why the text of a definition is refused.
 #[derive(Debug, Drop, PartialEq)]
 pub struct Explanation {
-    /// The place, and what is wrong there. It is for people, beside the refusal's own number and word.
+    /// The place and the fault there. It is for people, beside the refusal's own number and word.
     pub text: String,
-    /// Whether the text of the definition ends before the definition does, or has blanks alone.
+    /// Whether the text ends before the definition does, or has nothing but blanks.
     pub ends_early: bool,
 }
 
@@ -33,8 +33,9 @@ impl Explanation {
     }
 }
 
-/// Why the text of a definition is refused by this refusal. Nothing is decided by it. Where this refusal isn't found in the
-/// text, it names the document that says what a definition must be. Memory may be refused.
+/// Why the text of a definition is refused with this refusal, in words for people. Nothing is decided by it. If no such
+/// fault is found in the text, the reason names the document that says what a definition must be. Fails only if memory
+/// is refused.
 pub fn reason(alloc: Global, text: &[u8], refusal: Refusal) -> Result<Explanation, AllocError> {
     if refusal == Refusal::Json {
         return reason_of_text(alloc, text);
@@ -60,7 +61,7 @@ fn reason_of_text(alloc: Global, text: &[u8]) -> Result<Explanation, AllocError>
     }
 }
 
-/// Whether a definition keeps the rule of a refusal, and else what is wrong at the first place where it doesn't.
+/// Checks that a definition keeps the rule of a refusal. Otherwise reports the first place that doesn't.
 fn check<'v>(definition: &'v Value, text: &'v [u8], refusal: Refusal) -> Result<(), Finding<'v>> {
     match refusal {
         Refusal::Empty => check_lists(definition),

@@ -7,7 +7,7 @@ use hpb_rules::{MOST_LICENCE_OPENING, MOST_LICENCE_UNITS};
 use serde_json::Value;
 use std::fmt;
 
-/// What is wrong with a licence's opening, where it is in range.
+/// The fault of a licence's opening that is in range.
 #[derive(Clone, Copy)]
 pub(crate) struct TermsMisfit {
     opening: u64,
@@ -21,7 +21,7 @@ impl fmt::Display for TermsMisfit {
     }
 }
 
-/// Whether each licence's units and opening may be so, and else what is wrong with the first that mayn't.
+/// Checks that each licence's units and opening are allowed. Otherwise reports the first that aren't.
 pub(crate) fn check_terms(definition: &Value) -> Result<(), Finding<'_>> {
     let step = number(definition, "step").unwrap_or(1);
     let most = u64::from(MOST_LICENCE_UNITS);
@@ -37,7 +37,7 @@ pub(crate) fn check_terms(definition: &Value) -> Result<(), Finding<'_>> {
     Ok(())
 }
 
-/// The least opening that there can be is the step.
+/// Checks an opening. The step is the least that there can be.
 fn check_opening<'v>(opening: u64, place: Place<'v>, step: u64) -> Result<(), Finding<'v>> {
     let most = MOST_LICENCE_OPENING;
     if opening == 0 || opening > most {

@@ -9,7 +9,7 @@ const FALLBACK: &str = "docs/PROTOCOL.md says what a definition must be";
 const WORKED: &str =
     r#"{"step":10,"percent":10,"stages":[80,95],"nodes":[{"name":"all","parent":null},{"name":"east","parent":"all"},{"name":"a","parent":"east","units":10,"opening":100},{"name":"b","parent":"east","units":10,"opening":100},{"name":"c","parent":"all","units":20,"opening":100},{"name":"d","parent":null,"units":5,"opening":100}],"bidders":[{"name":"x","units":10},{"name":"y","units":10},{"name":"z","units":40},{"name":"w","units":25}]}"#;
 
-// Texts, and why they are no JSON.
+// Texts, and why they aren't JSON.
 static TEXTS: [(&str, &str); 20] = [
     ("", "the definition is empty"),
     (" \t\r\n", "the definition is empty"),
@@ -60,14 +60,14 @@ static TEXTS: [(&str, &str); 20] = [
     ("{\"a\":1]", "line 1 column 7: reading stopped at \"]\""),
 ];
 
-// Bytes that are no UTF-8.
+// Bytes that aren't UTF-8.
 static BYTES: [(&[u8], &str); 3] = [
     (b"{\"step\":\"\xff\"}", "line 1 column 10: not UTF-8"),
     (b"{\n\n \xc3", "line 3 column 2: not UTF-8"),
     (b"{\"\xc3\xa9\xff", "line 1 column 5: not UTF-8"),
 ];
 
-// Changes of the worked definition: what stands there instead, by which refusal it is refused, and why.
+// Changes of the worked definition: the text that is replaced, its replacement, the refusal and the reason.
 static CHANGED: [(&str, &str, Refusal, &str); 75] = [
     (
         r#""percent":10"#,
@@ -81,7 +81,7 @@ static CHANGED: [(&str, &str, Refusal, &str); 75] = [
         Number,
         "percent: 1e-1 is no whole number in plain digits",
     ),
-    // A number behind a text with an escaped quote, which doesn't end there.
+    // A number behind a text with an escaped quote, which doesn't end the text.
     (
         r#""name":"x","units":10"#,
         r#""name":"x\"","units":18446744073709551616"#,
@@ -244,7 +244,7 @@ static CHANGED: [(&str, &str, Refusal, &str); 75] = [
         Field,
         "waivers: null, and has to be a number",
     ),
-    // An unknown field comes before all others, and what comes first otherwise.
+    // An unknown field comes before all other faults, and then whatever comes first.
     (
         r#""step":10,"percent":10"#,
         r#""step":null,"procent":10"#,
@@ -294,14 +294,14 @@ static CHANGED: [(&str, &str, Refusal, &str); 75] = [
         Number,
         "stages[2]: 1000.0 is no whole number in plain digits",
     ),
-    // Of a number that is written twice the last one counts.
+    // If a number is written twice, the last one counts.
     (
         r#""step":10"#,
         r#""step":10,"waivers":1.50,"waivers":2.50"#,
         Number,
         "waivers: 2.50 is no whole number in plain digits",
     ),
-    // Where a field's name has an escape its number is shown as it was understood.
+    // If a field's name has an escape, its number is shown as it was understood.
     (
         r#""step":10"#,
         r#""st\u0065p":1e1"#,
@@ -535,7 +535,7 @@ static NOTHING_FOUND: [(&str, Refusal); 8] = [
     (r#""step":10,"#, Field),
 ];
 
-// Whole definitions as far as the reason needs them.
+// Whole definitions, written as far as the reason needs them.
 static WHOLE: [(&str, Refusal, &str); 5] = [
     (
         "[]",
@@ -649,7 +649,7 @@ fn long_and_deep_texts(rt: HostRuntime) -> Result<(), Fail> {
     Ok(())
 }
 
-// The worked definition with these licences before its first node.
+// The worked definition with `count` licences before its first node.
 fn with_licences(alloc: Global, count: usize) -> Result<String, AllocError> {
     let mut text = String::from_str(alloc, "\"nodes\":[")?;
     for number in 0..count {
@@ -661,7 +661,7 @@ fn with_licences(alloc: Global, count: usize) -> Result<String, AllocError> {
     WORKED.replacen(alloc, "\"nodes\":[", text.as_str(), 1)
 }
 
-// The worked definition with these bidders before its first bidder.
+// The worked definition with `count` bidders before its first bidder.
 fn with_bidders(alloc: Global, count: usize) -> Result<String, AllocError> {
     let mut text = String::from_str(alloc, "\"bidders\":[")?;
     for number in 0..count {
@@ -671,7 +671,8 @@ fn with_bidders(alloc: Global, count: usize) -> Result<String, AllocError> {
     WORKED.replacen(alloc, "\"bidders\":[", text.as_str(), 1)
 }
 
-// The worked definition behind a tower of packages: each has a licence and the next package, the last two licences.
+// The worked definition behind a tower of packages. Each has a licence and the next package; the last one has two
+// licences.
 fn with_tower(alloc: Global, count: usize) -> Result<String, AllocError> {
     let mut text = String::from_str(alloc, "\"nodes\":[{\"name\":\"p1\",\"parent\":null},")?;
     for number in 1..count {

@@ -7,12 +7,12 @@ use hpb_rules::LEAST_CHILDREN;
 use serde_json::Value;
 use std::fmt;
 
-/// What is wrong with a node's parent or its children.
+/// A fault of a node's parent or of its children.
 #[derive(Clone, Copy)]
 pub(crate) enum TreeMisfit<'v> {
     /// No node has the parent's name.
     NoNode(&'v str),
-    /// No node has the parent's name, and a node without parent seems to be meant.
+    /// No node has the parent's name, and the writer seems to mean a node without parent.
     NoNull(&'v str),
     /// The parent is the node itself.
     Itself(&'v str),
@@ -21,7 +21,7 @@ pub(crate) enum TreeMisfit<'v> {
         parent: &'v str,
         at: Item,
     },
-    /// A node has no child, and lacks what a licence has.
+    /// A node has no child, and lacks the terms of a licence.
     Bare(&'v str),
     /// A package has one child.
     Thin(&'v str),
@@ -66,7 +66,7 @@ impl fmt::Display for TreeMisfit<'_> {
     }
 }
 
-/// Whether each parent stands before its node, and else what is wrong with the first that doesn't.
+/// Checks that each parent stands before its node. Otherwise reports the first that doesn't.
 pub(crate) fn check_parents(definition: &Value) -> Result<(), Finding<'_>> {
     let nodes = items(definition, List::Nodes);
     for (index, node) in nodes.iter().enumerate() {
@@ -94,7 +94,7 @@ fn misfit_of_parent<'v>(nodes: &[Value], index: usize, parent: &'v str) -> Optio
     }
 }
 
-/// Whether each package has two children, and else what is wrong with the first that hasn't.
+/// Checks that each package has two children or more. Otherwise reports the first that doesn't.
 pub(crate) fn check_packages(definition: &Value) -> Result<(), Finding<'_>> {
     let nodes = items(definition, List::Nodes);
     for (index, node) in nodes.iter().enumerate() {
@@ -118,7 +118,7 @@ pub(crate) fn check_packages(definition: &Value) -> Result<(), Finding<'_>> {
     Ok(())
 }
 
-/// Whether no licence has a child, and else which is the first that has, and its first child.
+/// Checks that no licence has a child. Otherwise reports the first that has, and its first child.
 pub(crate) fn check_licences(definition: &Value) -> Result<(), Finding<'_>> {
     let nodes = items(definition, List::Nodes);
     for (index, node) in nodes.iter().enumerate() {

@@ -6,7 +6,7 @@ use std::fmt;
 /// How many digits of a number are shown at most.
 const MOST_SHOWN: usize = 32;
 
-/// A number as it was written, or as it was understood where it isn't found in the text.
+/// A number as it was written, or as it was understood if it isn't found in the text.
 #[derive(Clone, Copy)]
 pub(crate) enum Written<'v> {
     As(&'v str),
@@ -14,7 +14,7 @@ pub(crate) enum Written<'v> {
 }
 
 impl<'v> Written<'v> {
-    /// The number at a place of a text that was read.
+    /// The number at a place, from the text and the value that was read from it.
     pub(crate) fn at(text: &'v [u8], value: &'v Value, place: Place<'_>) -> Written<'v> {
         match number_at(text, place).and_then(as_text) {
             Some(number) => Written::As(number),
@@ -22,7 +22,7 @@ impl<'v> Written<'v> {
         }
     }
 
-    /// Whether it is written in digits alone. One that then isn't taken is too large.
+    /// Whether it is written as digits alone. If such a number isn't accepted, it is too large.
     pub(crate) fn is_in_digits(self) -> bool {
         match self {
             Written::As(number) => number.bytes().all(|byte| byte.is_ascii_digit()),
@@ -47,7 +47,7 @@ impl fmt::Display for Written<'_> {
     }
 }
 
-/// The bytes of the number at a place of a text that is JSON. Of a place that is written twice the last one counts.
+/// The bytes of the number at a place of a JSON text. If the place is written twice, the last one counts.
 fn number_at<'t>(text: &'t [u8], place: Place<'_>) -> Option<&'t [u8]> {
     let mut walk = Walk::new(text);
     let mut found = None;
@@ -62,7 +62,7 @@ fn number_at<'t>(text: &'t [u8], place: Place<'_>) -> Option<&'t [u8]> {
     found
 }
 
-/// What a byte of a text is part of.
+/// Which part of a text a byte belongs to.
 #[derive(Clone, Copy)]
 enum Within {
     Structure,
@@ -72,17 +72,17 @@ enum Within {
     Escape,
 }
 
-/// A way through a text, and where in the definition it is.
+/// A position on the way through a text, and its place in the definition.
 #[derive(Clone, Copy)]
 struct Walk<'t> {
     text: &'t [u8],
     within: Within,
-    /// Where the string or the number begins that it is in.
+    /// The start of the string or the number that the position is in.
     begun: usize,
-    /// The string before.
+    /// The last string before the position.
     string: &'t [u8],
     depth: usize,
-    /// The field of the definition, the item of the list there, and the field of that.
+    /// The field of the definition, the index in its list, and the field of that item.
     field: &'t [u8],
     index: usize,
     field_of_item: &'t [u8],
@@ -106,7 +106,7 @@ impl<'t> Walk<'t> {
         matches!(self.within, Within::Number)
     }
 
-    /// Whether it is at a place.
+    /// Whether the position is at a place of the definition.
     fn is_at(&self, place: Place<'_>) -> bool {
         match place {
             Place::Whole => false,
@@ -120,7 +120,7 @@ impl<'t> Walk<'t> {
         }
     }
 
-    /// Goes on by the byte that stands there.
+    /// Moves on over the byte at `at`.
     fn step(&mut self, at: usize, byte: u8) {
         match (self.within, byte) {
             (Within::Escape, _) => self.within = Within::String,

@@ -1,4 +1,4 @@
--- What is read in one image agrees, however far it went.
+-- Two readings of one image agree as far as both went.
 use Rattle.std.proofs.Common.{◌≡◌, inl, inr, ℕ, suc, ◌≤◌, List, ◌++◌, length, sym, ◌∙◌, ap, subst, arith}
 use Rattle.std.proofs.lemmas.Bool.{cases_lt}
 use Rattle.hpb_rules.specs.declared.command.Command.{Command}
@@ -17,7 +17,7 @@ use Rattle.hpb_codec.specs.Laws.{HeadsAreOne}
 use Rattle.hpb_recover.specs.Heads.{layout_of}
 use Rattle.hpb_recover.specs.Readings.{Found, Reaches, HasLater, layout_in, checkpoint, next_index}
 
--- Two readings agree on all but how far they went.
+-- Two readings agree on everything except how far they went.
 module _ (heads : HeadsAreOne) (newest : NewestIsOne) (shapes : ShapesAreJournal) (f g : Found) (image : List ℕ) (one : Reaches f image) (other : Reaches g image) where
   pub heads_agree : f.head ≡ g.head
   heads_agree = heads.1 (part 16 12272 image) f.head g.head one.laid.spelled other.laid.spelled
@@ -43,7 +43,7 @@ module _ (heads : HeadsAreOne) (newest : NewestIsOne) (shapes : ShapesAreJournal
   pub counts_agree : (layout_in f).count ≡ (layout_in g).count
   counts_agree = ap (λ (head : Head). (layout_of head).count) heads_agree
 
-  -- what the other kept, in terms of this one
+  -- the batches of the other reading, in terms of this one
   pub kept_here : Kept (layout_in f) f.head.definition f.covered (suc f.saved.count) g.batches image
   kept_here =
       subst (λ (head : Head). Kept (layout_of head) head.definition f.covered (suc f.saved.count) g.batches image) (sym heads_agree)
@@ -56,7 +56,7 @@ module _ (heads : HeadsAreOne) (newest : NewestIsOne) (shapes : ShapesAreJournal
   journal : IsJournal (layout_in f)
   journal = shapes f.head.journal one.laid.spelled.1.is.journal
 
-  -- nothing goes past all that there is to be read
+  -- no reading goes further than a complete one
   module _ (ends : HasLater f image → ⊥) where
     pub no_longer : length g.batches ≤ length f.batches
     no_longer = elim (cases_lt (length f.batches) (length g.batches)) [

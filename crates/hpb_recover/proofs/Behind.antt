@@ -1,4 +1,4 @@
--- What is behind the last batch.
+-- The frames behind the last batch.
 use Rattle.std.proofs.Common.{◌≡◌, inl, inr, Bool, true, false, ℕ, suc, ◌+◌, ◌-◌, ◌<◌, ◌≤◌, List, length, sym, subst, arith}
 use Rattle.std.specs.Prelude.{slice_index_or}
 use Rattle.std.proofs.lemmas.Bool.{cases_eq, cases_lt}
@@ -24,7 +24,7 @@ module _ (layout : Layout) (covered next : ℕ) (value reached : AuctionValue) (
     }
   ]
 
-  -- none is
+  -- no later frame is
   module _ (gates : List Bool) (are : AreGates layout covered gates image) (all : length gates ≡ layout.count)
       (none : NoneIsOwn layout (covered + length known) (covered + layout.count) image)
       (place : ℕ) (from : next - covered ≤ place) (to : place ≤ length gates)

@@ -1,4 +1,4 @@
--- The last of the frames that are open with an index past the room of a checkpoint, one frame after another.
+-- The last frame that is open with an index past the room of a checkpoint, found frame by frame.
 use Rattle.std.proofs.Common.{◌≡◌, inl, inr, ℕ, suc, ◌+◌, ◌≤◌, List, Option, Some, None, subst, arith}
 use Rattle.std.proofs.lemmas.Bool.{cases_lt}
 use Rattle.hpb_journal.specs.Frames.{IsOwn, IsRead}

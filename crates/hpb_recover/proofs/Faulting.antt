@@ -22,7 +22,7 @@ exact_cause one flaw image has failures later (Flawed other) is = one other flaw
 exact_cause one flaw image has failures later Memory is = tt
 exact_cause one flaw image has failures later Device is = tt
 
--- a failed device tells that it failed, where it counted that
+-- if the device failed and counted it, the cause is the device
 pub device_failed : {T : Type 0} (result : Result T Cause) (rules : Rules) (image : List ℕ) (failures later : ℕ) → IsErrAnd result (λ cause. cause ≡ Device) → failures < later → IfErr result (IsUnlessWithout rules image failures later)
 device_failed (Ok done) rules image failures later bad counted = absurd bad
 device_failed (Err cause) rules image failures later is counted = subst (IsUnlessWithout rules image failures later) (sym is) counted

@@ -1,4 +1,4 @@
--- An image has one flaw at most, and none where it can be read.
+-- An image has at most one flaw, and none if it can be read.
 use Rattle.std.proofs.Common.{◌≡◌, ℕ, suc, ◌+◌, List, [], ◌∷◌, ◌++◌, length, refl, sym, ◌∙◌, ap, subst, arith}
 use Rattle.std.proofs.lemmas.List.{append-nil}
 use Rattle.hpb_rules.specs.declared.command.Command.{Command}
@@ -66,7 +66,7 @@ module _ (heads : HeadsAreOne) (newest : NewestIsOne) (shapes : ShapesAreJournal
       by (commands ∷ rest) is = further commands rest is
 
 module _ (heads : HeadsAreOne) (f : Found) (image : List ℕ) (reaches : Reaches f image) where
-  -- what is read has a state in a slot, under the one head that there is
+  -- an image that was read has a state in a slot, under the one head that it has
   has_state : (head : Head) → IsLaidOut head image → IsWithout head.definition image → ⊥
   has_state head laid none =
       let same : f.head ≡ head = heads.1 (part 16 12272 image) f.head head reaches.laid.spelled laid.spelled in

@@ -1,4 +1,4 @@
--- The head of an image by its bytes.
+-- The head of an image, from its bytes.
 use Rattle.std.proofs.Common.{◌≡◌, ℕ, ◌%◌, ◌++◌, List, take, drop, length, sym, ◌∙◌, ap, subst, arith}
 use Rattle.std.proofs.lemmas.List.{take-take, take_at}
 use Rattle.std.specs.Prelude.{Result, Ok, Err, IfErr}
@@ -36,13 +36,13 @@ module _ (bytes : List ℕ) (len : ℕ) (image : List ℕ) (begins : Begins byte
   pub spelled_here : (head : Head) → IsLaidOut head image → SpellsHead bytes head
   spelled_here head laid = subst (λ (l : List ℕ). SpellsHead l head) (sym begins.head) laid.spelled
 
--- No device is spoken of where no call can fail.
+-- If no call can fail, the device isn't the cause.
 pub cause_at : {T : Type 0} (image : List ℕ) (failures later : ℕ) (result : Result T Cause) → IfErr result (IsCauseAt image 0 0) → IfErr result (IsCauseAt image failures later)
 cause_at image failures later (Ok value) is = tt
 cause_at image failures later (Err (Flawed flaw)) is = is
 cause_at image failures later (Err Memory) is = tt
 cause_at image failures later (Err Device) is = absurd (omega (arith, is))
 
--- What was read into all of a buffer is what the buffer then has.
+-- A read into all of a buffer leaves the bytes that were read.
 pub buffer_read : (out items image : List ℕ) (len n : ℕ) → length out ≡ len → n ≡ 12272 → out ≡ part 16 n image → take len (out ++ drop (length out) items) ≡ part 16 12272 image
 buffer_read out items image len n size all read = take_at out (drop (length out) items) len size ∙ read ∙ ap (λ (k : ℕ). part 16 k image) all

@@ -1,4 +1,4 @@
--- One thing at most is to be read in an image.
+-- An image has at most one complete reading.
 use Rattle.std.proofs.Common.{◌≡◌, ℕ, ◌≤◌, List, [], ◌∷◌, ◌++◌, length, ◌∙◌, ap, arith, length-append}
 use Rattle.std.proofs.lemmas.List.{append-nil}
 use Rattle.hpb_rules.specs.declared.command.Command.{Command}

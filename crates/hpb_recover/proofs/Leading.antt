@@ -18,7 +18,7 @@ joined_more : (batches : List (List Command)) (commands : List Command) → join
 joined_more [] commands = append-nil commands
 joined_more (first ∷ batches) commands = ap (λ (l : List Command). first ++ l) (joined_more batches commands) ∙ sym (append_assoc first (joined batches) commands)
 
--- What is led to has the same definition, and counts the commands.
+-- The value that the batches lead to has the same definition, and counts their commands.
 module _ (layout : Layout) (covered : ℕ) (value : AuctionValue) (image : List ℕ) (next : ℕ) (reached : AuctionValue) (leads : Leads layout covered value image next reached) where
   pub led_rules : reached.rules ≡ value.rules
   led_rules = ap (λ (v : AuctionValue). v.rules) leads.after ∙ (accepted_are_counted value (joined leads.batches) leads.accepted).1
@@ -54,7 +54,7 @@ module _ (layout : Layout) (covered : ℕ) (value : AuctionValue) (image : List 
 pub own_of_frame : (layout : Layout) (is : IsLayout layout) (rules : Rules) (b first : ℕ) (commands : List Command) (image : List ℕ) → IsFrame layout rules b first commands image → IsOwn layout b image
 own_of_frame layout is rules b first commands image frame = (frame.0, is.indexed rules (layout.body b image) (batch_at b first commands) frame.1)
 
--- A batch that doesn't go on.
+-- A batch that doesn't continue stops the reading.
 pub has_stopped : (layout : Layout) (is : IsLayout layout) (b first : ℕ) (reached : AuctionValue) (commands : List Command) (image : List ℕ)
     → IsFrame layout reached.rules b first commands image → (GoesOn reached first commands → ⊥) → HasStopped layout reached.rules b reached image
 has_stopped layout is b first reached commands image frame unfit others there accepted =

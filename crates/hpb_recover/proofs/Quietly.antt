@@ -15,7 +15,7 @@ use Rattle.hpb_codec.specs.declared.layout.JournalShape.{JournalShape}
 use Rattle.hpb_journal.specs.Shapes.{frame_bytes, shaped}
 use Rattle.hpb_recover.specs.Quiet.{IsQuiet, frame_bytes_in, frames_in, layout_byte_in, reads_in}
 
--- What a head names stands in its image behind the text that the head begins with.
+-- A head names its layout by the byte behind the magic.
 byte_there : (image : List ℕ) → leading 1 (rest (length magic) (part 16 12272 image)) ≡ layout_byte_in image
 unfolding leading rest
 byte_there image =
@@ -25,7 +25,7 @@ byte_there image =
 pub named_here : LayoutIsNamed → (head : Head) (image : List ℕ) → SpellsHead (part 16 12272 image) head → layout_byte_in image ≡ layout_byte head.journal.layout
 named_here law head image spelled = sym (byte_there image) ∙ law (part 16 12272 image) head spelled
 
--- In an image as long as a journal of the shape that its head names wants it, all its frames have room, and no more.
+-- If an image has the length for the journal of its head, it has room for all of the journal's frames and no more.
 room_for : (layout : JournalLayout) (frames : ℕ) → (53248 + frame_bytes layout * frames - 53248) / (if layout_byte layout == 2 then 1536 else 4096) ≡ frames
 room_for layouts.Pages frames = ap (λ (k : ℕ). k / 4096) (omega arith) ∙ mul-div_cancel_left frames (omega arith)
 room_for layouts.Cells frames = ap (λ (k : ℕ). k / 1536) (omega arith) ∙ mul-div_cancel_left frames (omega arith)
@@ -63,7 +63,7 @@ module _ {D : Type 0} (seen : D → List ℕ) (may_leave : D → List ℕ → Ty
     few = omega (arith, fits, one.few, two.few);
   }
 
-  -- As many calls as are made are at most more.
+  -- A bound on the calls may be raised.
   pub at_most : (few calls : ℕ) (old new : D) → few ≤ calls → Quiet few old new → Quiet calls old new
   at_most few calls old new le quiet = more_calls few 0 calls old new new (omega (arith, le)) quiet (no_calls 0 new)
 
@@ -81,7 +81,7 @@ module _ {D : Type 0} (seen : D → List ℕ) (may_leave : D → List ℕ → Ty
   opened_calls old synced new sync reads = more_calls 1 (reads_in (seen synced)) (1 + reads_in (seen old)) old synced new (omega (arith, ap reads_in sync.same)) sync reads
 
   module _ (counts_now : (disk : D) (since : ℕ) (image : List ℕ) → since ≤ moment disk → may_leave disk image → left_since disk since image) where
-    -- Calls that leave only what could be left before.
+    -- Calls after which a crash leaves only images that it could leave before.
     pub of_calls : (calls : ℕ) (old new : D) → seen new ≡ seen old → LeavesOnly (moment old) (moment new) (left_since old) (left_since new) (may_leave new) (may_leave old)
         → moment new ≤ moment old + calls → Quiet calls old new
     of_calls calls old new same time few = record {

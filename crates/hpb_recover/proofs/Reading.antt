@@ -1,4 +1,4 @@
--- What a device was asked for, where it is only read.
+-- The calls of a device that is only read.
 use Rattle.std.proofs.Common.{◌≡◌, ◌∙◌, ℕ, List, ◌∷◌, sym, ap, arith}
 use Rattle.std.specs.Prelude.{Result, Ok, Err, IfErr, IsErrAnd}
 use Rattle.hpb_disk.specs.Asked.{Asked}
@@ -17,7 +17,7 @@ pub memory_refused : {T : Type 0} (result : Result T Cause) (old new : List Aske
 memory_refused (Ok value) old new bad is = absurd bad
 memory_refused (Err cause) old new told is = is ∙ ap (λ (c : Cause). ended_by c old) (sym told)
 
--- What bytes say of themselves is no failure of the device.
+-- A flaw in the bytes that were read is no failure of the device.
 pub read_as : {T : Type 0} (image : List ℕ) (result : Result T Cause) (old new : List Asked) → IfErr result (IsCauseAt image 0 0) → new ≡ old → OnlyReads result old new
 read_as image (Ok value) old new is same = same
 read_as image (Err (Flawed flaw)) old new is same = same

@@ -1,4 +1,4 @@
--- What is read of an image before its head is looked at.
+-- The parts of an image that are read before its head is decoded.
 use Rattle.std.specs.Prelude.{◌≡◌, ℕ, ◌*◌, ◌%◌, ◌≤◌, List, length}
 use Rattle.hpb_codec.specs.declared.head.TheConstants.{HEAD_SIZE}
 use Rattle.hpb_disk.specs.Gates.{HasOpenGate}
@@ -6,7 +6,7 @@ use Rattle.hpb_disk.specs.Images.{part}
 use Rattle.hpb_codec.specs.declared.layout.TheConstants.{PAGE_BYTES}
 use Rattle.hpb_recover.specs.declared.limits.TheConstants.{HEAD_AT, LEAST_PAGES}
 
--- The image has this length, whole pages, enough of them, an open gate, and these bytes behind it.
+-- The image has this length, whole pages, at least 17, an open gate, and these bytes behind it.
 pub record Begins (bytes : List ℕ) (len : ℕ) (image : List ℕ) : Type 0 where
   pub size : length image ≡ len
   pub whole : len % PAGE_BYTES ≡ 0

@@ -13,19 +13,20 @@ use Rattle.hpb_rules.specs.declared.refusal.Refusal.TheVariants as refusals
 use Rattle.hpb_recover.specs.declared.cause.Cause.{Cause}
 use Rattle.hpb_recover.specs.declared.cause.Cause.TheVariants as causes
 
--- The refusal that a cause is told by.
+-- The refusal that reports a cause.
 abbrev pub refusal_of : Cause → Refusal
 refusal_of (causes.Flawed flaw) = flaws.refusal_of flaw
 refusal_of causes.Memory = refusals.Memory
 refusal_of causes.Device = refusals.Device
 
--- An image looks as that of a formatted device before any memory is asked for: it has whole pages, enough of them, and an open gate.
+-- An image looks like that of a formatted device, before any memory is asked for: it has whole pages, at least 17, and
+-- an open gate.
 pub record LooksFormatted (image : List ℕ) : Type 0 where
   pub whole : length image % PAGE_BYTES ≡ 0
   pub least : PAGE_BYTES * LEAST_PAGES ≤ length image
   pub gate : HasOpenGate 0 image
 
--- Memory is refused only where it is asked for.
+-- Memory is refused only if it was asked for.
 abbrev pub AsksMemory : List ℕ → Cause → Type 0
 AsksMemory image cause = cause ≡ causes.Memory → LooksFormatted image
 
@@ -35,25 +36,25 @@ HasCause failures later (causes.Flawed flaw) = ⊥
 HasCause failures later causes.Memory = Unit {0}
 HasCause failures later causes.Device = failures < later
 
--- What a call that met a flaw says of the image: the flaw is there. Of the machine it says that it failed.
+-- The cause is right about the image: if it is a flaw, the image has it; if it is the machine, the machine failed.
 abbrev pub IsCauseAt : (image : List ℕ) (failures later : ℕ) → Cause → Type 0
 IsCauseAt image failures later (causes.Flawed flaw) = HasFlaw flaw image
 IsCauseAt image failures later causes.Memory = Unit {0}
 IsCauseAt image failures later causes.Device = failures < later
 
--- The machine failed.
+-- The cause is the machine: the device or memory.
 abbrev pub IsMachine : Cause → Type 0
 IsMachine (causes.Flawed flaw) = ⊥
 IsMachine causes.Memory = Unit {0}
 IsMachine causes.Device = Unit {0}
 
--- This flaw, but for a fault of the machine.
+-- The cause is this flaw, unless the machine failed.
 abbrev pub IsUnlessMachine : Flaw → Cause → Type 0
 IsUnlessMachine flaw (causes.Flawed other) = other ≡ flaw
 IsUnlessMachine flaw causes.Memory = Unit {0}
 IsUnlessMachine flaw causes.Device = Unit {0}
 
--- What a device was asked for in all, where a call ended for this cause: then the note of a failure, where it was the device's.
+-- All calls of a device if a call ended for this cause: a note of a failure is added if the cause was the device.
 abbrev pub ended_by : Cause → List Asked → List Asked
 ended_by (causes.Flawed flaw) asked = asked
 ended_by causes.Memory asked = asked

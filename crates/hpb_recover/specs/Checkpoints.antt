@@ -12,7 +12,8 @@ use Rattle.hpb_slots.specs.Newest.{IsNewest, IsWithout}
 use Rattle.hpb_recover.specs.declared.cause.Cause.{Cause}
 use Rattle.hpb_recover.specs.declared.cause.Cause.TheVariants as causes
 
--- It is the newest, the auction is the one that it saves, and the gate of the other slot is known.
+-- The slot is the newest, the auction is the one that it saves, and whether the gate of the other slot is open is
+-- known.
 pub record IsCheckpoint (rules : Rules) (found : Newest) (auction : AuctionValue) (image : List ℕ) : Type 0 where
   pub saved : Saved
   pub newest : IsNewest rules found.slot found.index saved image
@@ -20,7 +21,7 @@ pub record IsCheckpoint (rules : Rules) (found : Newest) (auction : AuctionValue
   pub covered : found.index ≤ MOST_COMMANDS
   pub other : IsTrue found.other_open ↔ IsOpen (other_of found.slot) image
 
--- There is none, or the machine failed.
+-- There is no checkpoint, or the machine failed.
 abbrev pub IsUnlessWithout : (rules : Rules) (image : List ℕ) (failures later : ℕ) → Cause → Type 0
 IsUnlessWithout rules image failures later (causes.Flawed flaw) = (flaw ≡ flaws.Checkpoint) × IsWithout rules image
 IsUnlessWithout rules image failures later causes.Memory = Unit {0}

@@ -1,4 +1,4 @@
--- What no honest device has, though it opens.
+-- Findings that no honest device has, though it opens.
 use Rattle.std.specs.Prelude.{◌≡◌, ℕ, suc, ◌+◌, ◌<◌, ◌≤◌, List, Option, None, Some, MatchOption}
 use Rattle.hpb_rules.specs.Tree.{Rules}
 use Rattle.hpb_codec.specs.States.{count_in}
@@ -10,24 +10,26 @@ use Rattle.hpb_recover.specs.Replaying.{NoneIsOwn}
 use Rattle.hpb_recover.specs.declared.doubts.Later.{Later}
 use Rattle.hpb_recover.specs.declared.plan.Plan.{Plan}
 
--- What is told of a slot: where it is open and says nothing, the count in its bytes.
+-- The finding about a slot is right: if the slot is open and its body spells no state, the count in the body's bytes.
 abbrev pub IsToldOf : Rules → Slot → List ℕ → Option ℕ → Type 0
 IsToldOf rules slot image told =
     MatchOption told (IsBroken rules slot image → ⊥) (λ count. IsBroken rules slot image × (count ≡ count_in (body_of slot image)))
 
--- It is told of the slot beside that of the checkpoint that was opened.
+-- The finding is about the slot beside the one whose checkpoint was opened.
 abbrev pub IsSlotTold : Plan → List ℕ → Option ℕ → Type 0
 IsSlotTold plan image told = IsToldOf plan.auction.rules (other_of plan.slot) image told
 
--- The checkpoint that was opened makes room for batches up to this index: a later one takes the frame of a batch that the checkpoint doesn't cover.
+-- The opened checkpoint has room for batches up to this index. A later batch takes the frame of one that the checkpoint
+-- doesn't cover.
 abbrev pub end_of_room : Plan → ℕ
 end_of_room plan = plan.covered + (layout_in plan).count
 
--- The end of the indexes that a checkpoint of one round of the journal later makes room for.
+-- The end of the indexes for which a checkpoint has room that is one round of the journal later.
 abbrev pub end_of_later : Plan → ℕ
 end_of_later plan = end_of_room plan + (layout_in plan).count
 
--- Of the frames that are open with an index past that room, and before an end, it is the last; and what a reader of its batch is told.
+-- The frame is the last of those that are open with an index past that room and before an end. Its contents are those
+-- that a reader of its batch finds.
 pub record IsLatest (plan : Plan) (image : List ℕ) (end : ℕ) (later : Later) : Type 0 where
   pub past : end_of_room plan ≤ later.index
   pub before : later.index < end
@@ -35,7 +37,7 @@ pub record IsLatest (plan : Plan) (image : List ℕ) (end : ℕ) (later : Later)
   pub told : IsRead (layout_in plan) plan.auction.rules later.index image later.frame
   pub last : NoneIsOwn (layout_in plan) (suc later.index) end image
 
--- It is told which is the last of these frames, or that there is none.
+-- The finding is the last of these frames, or none if there is none.
 abbrev pub IsToldTo : Plan → List ℕ → ℕ → Option Later → Type 0
 IsToldTo plan image end None = NoneIsOwn (layout_in plan) (end_of_room plan) end image
 IsToldTo plan image end (Some later) = IsLatest plan image end later

@@ -10,15 +10,16 @@ use Rattle.hpb_codec.specs.Heads.{SpellsHead, magic}
 use Rattle.hpb_codec.specs.declared.head.Head.{Head}
 use Rattle.hpb_codec.specs.declared.head.TheConstants.{HEAD_SIZE}
 
--- **Formatted, laid out.** An image is that of a formatted device where it has whole pages, 17 at least, and its first gate is open with the magic
--- behind it. It is laid out by a head where its first three pages spell the head and it is as long as the head's journal wants.
+-- **Formatted, laid out.** An image is that of a formatted device if it has whole pages, at least 17, and its first
+-- gate is open with the magic behind it. It is laid out by a head if its first three pages spell the head and it has
+-- the length for the head's journal.
 --
--- The head's gate is open, and behind it is the text that a head begins with.
+-- The head's gate is open, and behind it stands the magic.
 pub record IsHeaded (image : List ℕ) : Type 0 where
   pub gate : HasOpenGate 0 image
   pub known : part HEAD_AT MAGIC_BYTES image ≡ magic
 
--- An image is that of a formatted device where it has whole pages, 17 at least, and is headed.
+-- An image is that of a formatted device if it has whole pages, at least 17, and is headed.
 pub record IsFormatted (image : List ℕ) : Type 0 where
   pub whole : length image % PAGE_BYTES ≡ 0
   pub least : PAGE_BYTES * LEAST_PAGES ≤ length image
@@ -28,7 +29,7 @@ pub record IsFormatted (image : List ℕ) : Type 0 where
 abbrev pub layout_of : Head → Layout
 layout_of head = shaped head.journal
 
--- The first three pages spell this head, and the image is as long as its layout wants.
+-- The first three pages spell this head, and the image has the length for its layout.
 pub record IsLaidOut (head : Head) (image : List ℕ) : Type 0 where
   pub spelled : SpellsHead (part HEAD_AT HEAD_SIZE image) head
   pub size : length image ≡ (layout_of head).size

@@ -1,4 +1,4 @@
--- How far the batches of a journal lead.
+-- How far the batches of a journal lead from a value.
 use Rattle.std.specs.Prelude.{◌≡◌, ◌↔◌, ℕ, suc, ◌+◌, ◌<◌, ◌≤◌, Bool, false, IsTrue, List, length, slice_index_or}
 use Rattle.hpb_rules.specs.declared.command.Command.{Command}
 use Rattle.hpb_rules.specs.Tree.{Rules}
@@ -9,11 +9,12 @@ use Rattle.hpb_journal.specs.Layouts.{Layout}
 use Rattle.hpb_journal.specs.Frames.{IsFrame, IsOpen, IsOwn, Kept}
 use Rattle.hpb_rules.specs.Fronts.{joined}
 
--- A batch goes on with a value where it is numbered on and each of its commands is newly accepted.
+-- A batch continues from a value if it is numbered on and each of its commands is newly accepted.
 abbrev pub GoesOn : AuctionValue → ℕ → List Command → Type 0
 GoesOn value first commands = (first ≡ suc value.count) × AllAccepted value commands
 
--- From an index on the frames spell batches up to the next index, numbered on and each command newly accepted. They lead from one value to another.
+-- From an index up to the next one the frames spell batches, numbered on, and each command is newly accepted. They lead
+-- from one value to another.
 pub record Leads (layout : Layout) (covered : ℕ) (value : AuctionValue) (image : List ℕ) (next : ℕ) (reached : AuctionValue) : Type 0 where
   pub batches : List (List Command)
   pub count : next ≡ covered + length batches
@@ -21,24 +22,24 @@ pub record Leads (layout : Layout) (covered : ℕ) (value : AuctionValue) (image
   pub accepted : AllAccepted value (joined batches)
   pub after : reached ≡ value_after value (joined batches)
 
--- The frame spells no batch that goes on.
+-- The frame spells no batch that continues.
 abbrev pub HasStopped : Layout → Rules → ℕ → AuctionValue → List ℕ → Type 0
 HasStopped layout rules next reached image =
     (commands : List Command) → IsFrame layout rules next (suc reached.count) commands image → AllAccepted reached commands → ⊥
 
--- The frames from an index on have these gates: true where one is open.
+-- The frames from an index on have these gates: true means open.
 abbrev pub AreGates : Layout → ℕ → List Bool → List ℕ → Type 0
 AreGates layout covered gates image = (k : ℕ) → k < length gates → IsTrue (slice_index_or gates k false) ↔ IsOpen layout (covered + k) image
 
--- Of the frames from one index up to another none is open with its own index.
+-- No frame from one index up to another is open with its own index.
 abbrev pub NoneIsOwn : Layout → ℕ → ℕ → List ℕ → Type 0
 NoneIsOwn layout start end image = (b : ℕ) → start ≤ b → b < end → IsOwn layout b image → ⊥
 
--- One of them is.
+-- Some frame from one index up to another is open with its own index.
 abbrev pub OneIsOwn : Layout → ℕ → ℕ → List ℕ → Type 0
 OneIsOwn layout start end image = (b : ℕ) × (start ≤ b) × (b < end) × IsOwn layout b image
 
--- The batches lead to a frame that is open with its own index, and spells none that goes on.
+-- The batches lead to a frame that is open with its own index, and spells no batch that continues.
 pub record HasBrokenOff (layout : Layout) (covered : ℕ) (value : AuctionValue) (image : List ℕ) : Type 0 where
   pub next : ℕ
   pub reached : AuctionValue
@@ -47,7 +48,8 @@ pub record HasBrokenOff (layout : Layout) (covered : ℕ) (value : AuctionValue)
   pub own : IsOwn layout next image
   pub stopped : HasStopped layout value.rules next reached image
 
--- The gates of the frames before an index are known, and perhaps those of some after it, none of which is open with its own index.
+-- The gates of the frames before an index are known. Those of some frames behind it may be known too; none of these is
+-- open with its own index.
 pub record IsReplayed (layout : Layout) (covered next : ℕ) (known : List Bool) (image : List ℕ) : Type 0 where
   pub least : next ≤ covered + length known
   pub most : length known ≤ layout.count
@@ -70,7 +72,7 @@ pub record IsBroken (layout : Layout) (covered : ℕ) (value : AuctionValue) (im
   pub stopped : HasStopped layout value.rules next reached image
   pub later : OneIsOwn layout next (covered + layout.count) image
 
--- All batches were read, and what is behind them.
+-- All batches were read, and the frames behind them.
 pub record IsWhole (layout : Layout) (covered : ℕ) (value : AuctionValue) (image : List ℕ) (next clean : ℕ) (known : List Bool) (reached : AuctionValue) : Type 0 where
   pub leads : Leads layout covered value image next reached
   pub ended : NoneIsOwn layout next (covered + layout.count) image

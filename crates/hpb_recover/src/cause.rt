@@ -9,10 +9,10 @@ use hpb_rules::Refusal;
 use std::alloc::{AllocError, AllocFailed};
 use thiserror::Error;
 
-/// Why a device isn't opened. The words are those of an `ERR` line.
+/// Why a device isn't opened: the number and the word of its refusal, as in an `ERR` line.
 #[derive(Clone, Copy, Debug, PartialEq, Eq, Error)]
 pub enum Cause {
-    /// 40, 42, 44 or 45: what is wrong with its bytes.
+    /// 40, 42, 44 or 45: its bytes have this flaw.
     #[error(transparent)]
     Flawed(Flaw),
     /// 90: memory was refused.
@@ -24,7 +24,7 @@ pub enum Cause {
 }
 
 impl Cause {
-    /// The refusal that it is told by.
+    /// The refusal that reports this cause.
     pub fn refusal(self) -> Refusal
         ensures { result ≡ refusal_of self }
     {

@@ -1,4 +1,4 @@
-//! What no honest device has, though it opens: what shows that its newest checkpoint was damaged.
+//! Findings that no honest device has, though it opens: they show that its newest checkpoint was damaged.
 ghost use Rattle.std.specs.Prelude.{◌≡◌, ℕ, List, [], MatchBool, ◌+◌, ◌≤◌, IfErr, IfOk, OnOk};
 ghost use Rattle.hpb_disk.specs.Asked.{Asks};
 ghost use Rattle.hpb_disk.specs.Images.{CountsFailure};
@@ -21,23 +21,24 @@ use std::alloc::Global;
 pub struct Later {
     /// The index of its batch.
     pub index: u64,
-    /// What a reader of that batch is told: the batch, or that it is damaged.
+    /// What a reader of that batch finds: the batch, or that it is damaged.
     pub frame: Frame,
 }
 
-/// What was found on a device that no honest device has: a checkpoint that is newer than the one that was opened was
-/// damaged after it counted, so commands that were acknowledged may be missing.
+/// Findings on a device that no honest device has. A checkpoint newer than the opened one was damaged after it counted,
+/// so acknowledged commands may be missing.
 #[derive(Drop)]
 pub struct Doubts {
-    /// Where the other slot is open and says nothing: the count of accepted commands in its bytes, true or not.
+    /// If the other slot is open and its body spells no state: the count of accepted commands in its bytes, which may
+    /// be wrong.
     pub slot: Option<u32>,
-    /// Of the frames that are open with a batch past the room of the opened checkpoint the last.
+    /// The last of the frames that are open with a batch past the room of the opened checkpoint.
     pub frame: Option<Later>,
 }
 
-/// Looks whether a device that was opened has what no honest device has: a slot that is open and says nothing, or a frame
-/// that is open with an index past the room of the checkpoint that was opened. It reads alone, each of the frames and the
-/// other slot once.
+/// Looks for findings on an opened device that no honest device has. They are a slot that is open and spells no state,
+/// and a frame that is open with an index past the room of the opened checkpoint. It only reads, each of the frames and
+/// the other slot once.
 pub fn find_doubts<D: Disk>(alloc: Global, disk: &mut D, plan: &Plan) -> Result<Doubts, Cause>
     requires { IsPlan plan.now (D.seen disk.old) }
     ensures slot { IfOk result (λ doubts. IsSlotTold plan.now (D.seen disk.old) doubts.slot) }
@@ -61,7 +62,7 @@ pub fn find_doubts<D: Disk>(alloc: Global, disk: &mut D, plan: &Plan) -> Result<
     Ok(Doubts { slot, frame })
 }
 
-/// Whether a frame is open with the index that it was read for.
+/// Whether a frame is open with the index that it was read with.
 fn is_own(plan: &Plan, frame: &Frame) -> bool
     ensures { (index : ℕ) (image : List ℕ) → IsRead (layout_in plan.now) plan.now.auction.rules index image frame.now
         → MatchBool result (IsOwn (layout_in plan.now) index image) (IsOwn (layout_in plan.now) index image → ⊥) }

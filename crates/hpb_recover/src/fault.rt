@@ -1,7 +1,7 @@
 use crate::Cause;
 use thiserror::Error;
 
-/// A device that isn't opened is handed back, with the reason. Nothing was written.
+/// Returns a device that isn't opened, with the cause. Nothing was written.
 #[derive(Debug, Drop, Error)]
 #[error("{cause}")]
 pub struct OpenFault<D> {

@@ -4,25 +4,26 @@ ghost use Rattle.hpb_recover.specs.Flaws.{refusal_of};
 use hpb_rules::Refusal;
 use thiserror::Error;
 
-/// Why the image of a device is refused. Of any image one at most is so. The words are those of an `ERR` line.
+/// Why the image of a device is refused: the number and the word of the refusal, as in an `ERR` line. An image has at
+/// most one flaw.
 #[derive(Clone, Copy, Debug, PartialEq, Eq, Error)]
 pub enum Flaw {
-    /// 40: it hasn't whole pages, 17 at least, or its head's gate isn't open, or the magic isn't there.
+    /// 40: it doesn't have whole pages, at least 17, or its head's gate isn't open, or the magic isn't there.
     #[error("unformatted")]
     Unformatted,
-    /// 42: its head, nodes or bidders are not of the grammar, or its length isn't that of its layout.
+    /// 42: its head, nodes or bidders aren't in the format, or it doesn't have the length for its layout.
     #[error("layout")]
     Layout,
     /// 44: no slot is open with a body that spells a state.
     #[error("checkpoint")]
     Checkpoint,
-    /// 45: a frame after the checkpoint is open with its own index and doesn't go on with what was read.
+    /// 45: a frame behind the checkpoint is open with its own index and doesn't continue the batches before it.
     #[error("frame")]
     Frame,
 }
 
 impl Flaw {
-    /// The refusal that it is told by.
+    /// The refusal that reports this flaw.
     pub fn refusal(self) -> Refusal
         ensures { result ≡ refusal_of self }
     {

@@ -13,19 +13,19 @@ use hpb_disk::Disk;
 use hpb_journal::Frames;
 use std::alloc::Global;
 
-/// What a journal says behind a checkpoint.
+/// The contents of a journal behind a checkpoint.
 #[derive(Drop)]
 pub(crate) struct Journal {
     /// The index after the last batch.
     pub(crate) next: u64,
     /// The end of the clean frames.
     pub(crate) clean_end: u64,
-    /// Of each frame from that of the checkpoint's index on, whether its gate is open.
+    /// Whether the gate is open, for each frame from that of the checkpoint's index on.
     pub(crate) gates: Vec<bool>,
 }
 
-/// Takes the batches of a journal into the auction of a checkpoint, and reads the frames behind them. `None` where a
-/// frame is damaged.
+/// Takes the batches of a journal into the auction of a checkpoint, and reads the frames behind them. `None` if a frame
+/// is damaged.
 pub(crate) fn read_journal<D: Disk, F: Frames>(
     alloc: Global,
     disk: &mut D,

@@ -5,13 +5,13 @@ use hpb_codec::heads_are_one;
 use hpb_journal::shapes_are_journal;
 use hpb_slots::newest_is_one;
 
-/// An image stands for a list of commands exactly where it can be read, its checkpoint shows a front of the list, and the
-/// batches are the rest.
+/// An image stands for a list of commands exactly if it can be read, its checkpoint shows a beginning of the list, and
+/// the batches are the rest.
 pub fn stands_is_read()
     ensures { StandsIsRead }
 {}
 
-/// One thing at most is to be read in an image.
+/// An image has at most one complete reading.
 pub fn reading_is_one()
     ensures { ReadingIsOne }
 {
@@ -29,7 +29,7 @@ pub fn read_is_shown()
     shapes_are_journal();
 }
 
-/// An image stands for one value at most.
+/// An image stands for at most one value.
 pub fn stands_for_one()
     ensures { StandsForOne }
 {
@@ -38,14 +38,14 @@ pub fn stands_for_one()
     shapes_are_journal();
 }
 
-/// An image has one flaw at most.
+/// An image has at most one flaw.
 pub fn flaw_is_one()
     ensures { FlawIsOne }
 {
     heads_are_one();
 }
 
-/// What can be read has no flaw, and so has none what stands for a list of commands.
+/// An image that can be read has no flaw. So an image that stands for a list of commands has none.
 pub fn read_is_flawless()
     ensures { ReadIsFlawless }
 {

@@ -1,7 +1,8 @@
-//! What the image of a device stands for, and the opening of a device by it: the newest checkpoint, and the batches after it.
+//! The meaning of a device's image, and the opening of a device by it: the newest checkpoint, and the batches behind
+//! it.
 //!
-//! `specs/Standing` says of histories what an image stands for, `specs/Readings` says it of values alone, `specs/Flaws` says
-//! of an image why nothing is read in it. The laws of images tie the three together.
+//! `specs/Standing` says in histories what an image stands for. `specs/Readings` says the same in values alone.
+//! `specs/Flaws` says why an image can't be read. The laws of images tie the three together.
 #![tactic(auto)]
 
 mod cause;

@@ -1,8 +1,8 @@
-/// A formatted device has at least so many pages.
+/// How many pages a formatted device has at least.
 pub const LEAST_PAGES: usize = 17;
 
-/// Where the head begins, behind its gate.
+/// The offset of the head, behind its gate.
 pub const HEAD_AT: usize = 16;
 
-/// The bytes of the text that a head begins with.
+/// The bytes of a head's magic.
 pub const MAGIC_BYTES: usize = 8;

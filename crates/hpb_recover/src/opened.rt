@@ -7,7 +7,7 @@ use crate::Plan;
 use hpb_auction::Auction;
 use hpb_disk::Disk;
 
-/// A device with what was read of it. Nothing of it is pending.
+/// A device with the plan that was read from it. No write of it is pending.
 #[derive(Drop)]
 pub struct Opened<D: Disk + Drop> {
     pub disk: D,
@@ -24,7 +24,7 @@ impl<D: Disk + Drop> Opened<D> {
         &self.plan.auction
     }
 
-    /// The number of clean frames: so many batches can be committed before frames have to be retired.
+    /// The number of clean frames: how many batches can be committed before frames must be retired.
     pub fn clean(&self) -> u64
         ensures { self.now.plan.next + result ≡ self.now.plan.clean_end }
     {

@@ -25,7 +25,7 @@ use hpb_disk::{Disk, DiskFailed};
 use hpb_journal::AnyFrames;
 use std::alloc::Global;
 
-/// Syncs, so that a crash leaves what is then read.
+/// Syncs, so that a crash leaves the bytes that are read next.
 fn settle<D: Disk>(disk: &mut D) -> Result<(), DiskFailed>
     ensures settled { OnOk result (Only (D.seen disk.new) (D.may_leave disk.new)) }
     ensures quiet { IsQuiet D.seen D.may_leave D.moment D.left_since 1 disk.old disk.new }
@@ -35,7 +35,7 @@ fn settle<D: Disk>(disk: &mut D) -> Result<(), DiskFailed>
     disk.sync()
 }
 
-/// What all of a device says.
+/// Reads all of a device.
 fn read_plan<D: Disk>(alloc: Global, disk: &mut D) -> Result<Plan, Cause>
     ensures found { IfOk result (λ plan. (found : Found) × Reads found (D.seen disk.old) × IsPlanOf plan found) }
     ensures plan { IfOk result (λ plan. IsPlan plan (D.seen disk.old)) }
@@ -72,35 +72,36 @@ fn read_plan<D: Disk>(alloc: Global, disk: &mut D) -> Result<Plan, Cause>
     }
 }
 
-/// Opens a device: the newest checkpoint, and the batches after it. It syncs first, and writes nothing. A fault hands the
-/// device back.
+/// Opens a device: reads the newest checkpoint, and the batches behind it. It syncs first, and writes nothing. If it
+/// fails, it hands the device back with the cause: 40, 42, 44 or 45 for a flaw, 90 or 91 for the machine.
 pub fn open<D: Disk + Drop>(alloc: Global, disk: D) -> Result<Opened<D>, OpenFault<D>>
-    // Where what a read gives stands for a history, the auction shows it, unless the device or memory fails.
+    // If the bytes that a read gives stand for a history, the auction shows it, unless the device or memory fails.
     ensures shows { (history : List Command) → Stands history (D.seen disk) → IfOk result (λ opened. Shows opened.plan.auction history) }
     ensures stands { (history : List Command) → Stands history (D.seen disk) → IfErr result (λ fault. IsMachine fault.cause) }
-    // What is opened is all that is to be read, whether it stands for a history or not.
+    // The opened plan is that of the complete reading, whether the bytes stand for a history or not.
     ensures read { IfOk result (λ opened. (found : Found) × Reads found (D.seen disk) × IsPlanOf opened.plan found) }
-    // A flaw is told only where it is, and where it is, unless the device or memory fails; a failed device has counted it.
+    // A flaw is reported if and only if the bytes have it, unless the device or memory fails. A failed device has
+    // counted the failure.
     ensures refused { IfErr result (λ fault. IsCauseAt (D.seen disk) (D.failures disk) (D.failures fault.disk) fault.cause) }
     ensures exact { (flaw : Flaw) → HasFlaw flaw (D.seen disk) → IsErrAnd result (λ fault. IsUnlessMachine flaw fault.cause) }
-    // What is opened was read at the first try: no call has failed.
+    // An opened device was read at the first try: no call has failed.
     ensures works { IfOk result (λ opened. D.failures opened.disk ≡ D.failures disk) }
-    // No memory is asked for before the length and the head's gate were looked at.
+    // No memory is asked for before the length and the head's gate were checked.
     ensures memory { IfErr result (λ fault. AsksMemory (D.seen disk) fault.cause) }
     ensures clean { IfOk result (λ opened. HasClean opened.plan (D.seen disk)) }
     // Nothing is written.
     ensures same { IfOk result (λ opened. D.seen opened.disk ≡ D.seen disk) }
     ensures handed_back { IfErr result (λ fault. D.seen fault.disk ≡ D.seen disk) }
     ensures crash { IfErr result (λ fault. Within (D.may_leave fault.disk) (D.may_leave disk)) }
-    // Since each earlier moment, too, a crash may leave what it could have left before the call.
+    // Since each earlier moment, too, a crash may leave the same images as before the call.
     ensures since { MatchResult result
         (λ opened. LeavesNothingNew (D.moment disk) (D.moment opened.disk) (D.left_since disk) (D.left_since opened.disk))
         (λ fault. LeavesNothingNew (D.moment disk) (D.moment fault.disk) (D.left_since disk) (D.left_since fault.disk)) }
-    // There is one sync, and each byte is read once at most.
+    // There is one sync, and each byte is read at most once.
     ensures calls { MatchResult result
         (λ opened. D.moment opened.disk ≤ D.moment disk + 1 + reads_in (D.seen disk))
         (λ fault. D.moment fault.disk ≤ D.moment disk + 1 + reads_in (D.seen disk)) }
-    // Besides reads there is that sync alone, and of all calls one failed where the device is the cause, and else none.
+    // Besides reads there is that sync alone. One call failed if the device is the cause, and none otherwise.
     ensures asked { MatchResult result
         (λ opened. D.asked opened.disk ≡ syncs ∷ D.asked disk)
         (λ fault. D.asked fault.disk ≡ ended_by fault.cause (syncs ∷ D.asked disk)) }

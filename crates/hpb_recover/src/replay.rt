@@ -15,7 +15,7 @@ use hpb_journal::{Frame, Frames, kept_goes_on};
 use hpb_rules::{Command, Reply};
 use hpb_tree::Definition;
 
-// Whether a command is newly accepted. The auction has taken it in then.
+// Takes in a command. Returns whether it is newly accepted.
 fn is_taken(auction: &mut Auction, command: &Command) -> bool
     ensures { MatchBool result
         (AllAccepted auction.old (command.now ∷ []) × (auction.new ≡ value_after auction.old (command.now ∷ [])))
@@ -28,7 +28,7 @@ fn is_taken(auction: &mut Auction, command: &Command) -> bool
     }
 }
 
-// Whether all commands are newly accepted. The auction has taken them in then.
+// Takes in commands one after another. Returns whether all are newly accepted.
 fn are_taken(auction: &mut Auction, commands: &[Command]) -> bool
     ensures { MatchBool result
         (AllAccepted auction.old commands.now × (auction.new ≡ value_after auction.old commands.now))
@@ -42,7 +42,7 @@ fn are_taken(auction: &mut Auction, commands: &[Command]) -> bool
     true
 }
 
-// Whether a batch goes on with the auction, which has taken it in then.
+// Whether a batch continues the auction. If so, the auction has taken it in.
 fn goes_on(auction: &mut Auction, batch: &Batch) -> bool
     ensures { MatchBool result
         (GoesOn auction.old batch.now.first batch.now.commands × (auction.new ≡ value_after auction.old batch.now.commands))
@@ -54,8 +54,8 @@ fn goes_on(auction: &mut Auction, batch: &Batch) -> bool
     are_taken(auction, batch.commands.as_slice())
 }
 
-/// Takes in batch after batch from the frames of a journal, and gives the index after the last one. `None` where a frame
-/// is open with its own index and doesn't go on. The gates of the frames that were read are put behind one another.
+/// Takes in batch after batch from the frames of a journal, and returns the index behind the last one. `None` if a
+/// frame is open with its own index and doesn't continue. The gates of the frames that were read are added to `gates`.
 pub(crate) fn replay<D: Disk, F: Frames>(
     disk: &mut D,
     frames: &F,
@@ -71,7 +71,7 @@ pub(crate) fn replay<D: Disk, F: Frames>(
         (λ next. Leads (F.layout frames.now) covered auction.old (D.seen disk.old) next auction.new
         × IsReplayed (F.layout frames.now) covered next gates.new.items (D.seen disk.old))) }
     ensures quiet { IsQuiet D.seen D.may_leave D.moment D.left_since (F.layout frames.now).count disk.old disk.new }
-    // Each read of which a gate is known.
+    // One read for each gate that is known.
     ensures each { IfOk result (λ next. OnSome next (D.moment disk.new ≤ D.moment disk.old + length gates.new.items)) }
     ensures works { OnOk result (D.failures disk.new ≡ D.failures disk.old) }
     ensures asked { OnlyReads result (D.asked disk.old) (D.asked disk.new) }

@@ -10,8 +10,8 @@ use hpb_disk::Disk;
 use hpb_journal::{Frame, Frames};
 use hpb_tree::Definition;
 
-/// Reads the frames behind those whose gates are known, and puts their gates behind those. `false` where one is open with
-/// its own index.
+/// Reads the frames behind those whose gates are known, and adds their gates. `false` if one of them is open with its
+/// own index.
 pub(crate) fn read_rest<D: Disk, F: Frames>(
     disk: &mut D,
     frames: &F,

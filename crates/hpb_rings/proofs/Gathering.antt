@@ -1,4 +1,4 @@
--- What the intake gathers.
+-- The letters that the intake gathers.
 use Rattle.std.proofs.Common.{[], ◌≡◌, ◌≢◌, ℕ, zero, suc, ◌<◌, ◌≤◌, ◌==◌, Bool, true, false, if◌then◌else◌, List, ◌∷◌, ◌++◌, length, map, take, drop, slice_set, slice_index_or, refl, ap, sym, ◌∙◌, arith, append_assoc, All, subst}
 use Rattle.std.proofs.lemmas.List.{map-append, append-nil, take_all}
 use Rattle.std.proofs.lemmas.List.Elements.{All-append, All-map}
@@ -47,7 +47,7 @@ drained-one seat p q q' ks ls ls' c h e f = (
 pub drained-same : (seat : ℕ) (p q q' : List Command) (ks ls : List Letter) → Drained seat p q ks ls → q' ≡ q → Drained seat p q' ks ls
 drained-same seat p q q' ks ls h e = (h.0, e ∙ h.1, h.2)
 
--- the letters of a seat, in a batch that got this seat's letters
+-- the letters of a seat in a batch to which letters of one seat were added
 seat-append : (s : ℕ) (xs ys : List Letter) (x : Letter) (b : Bool) → (x.seat == s) ≡ b → of_seat s (xs ++ ys) ≡ of_seat s xs ++ of_seat s ys → of_seat s (x ∷ (xs ++ ys)) ≡ of_seat s (x ∷ xs) ++ of_seat s ys
 seat-append s xs ys x true e h = rw e (ap (λ (cs : List Command). x.command ∷ cs) h)
 seat-append s xs ys x false e h = rw e h
@@ -64,7 +64,7 @@ of_seat-else : (k s : ℕ) (cs : List Command) → (k == s) ≡ false → of_sea
 of_seat-else k s [] e = refl
 of_seat-else k s (c ∷ cs) e = rw e (of_seat-else k s cs e)
 
--- the letters of a seat below n are letters of a seat below n
+-- the letters of a seat below n are of seats below n
 drained_seats : (k n : ℕ) (cs : List Command) → k < n → All (λ x. x.seat < n) (map (letter_of k) cs)
 drained_seats k n cs h = All-map (λ x. x.seat < n) (letter_of k) cs (λ i d lt. h)
 
@@ -86,7 +86,7 @@ mapped-next f h (suc i) (r ∷ rs) (o ∷ olds) y d lt was left told =
     let n = mapped-next f h i rs olds y d (omega arith) (cc was) left told in
     (ap (λ l. l ∷ map f (take (suc i) (slice_set rs i y))) one ∙ ap (λ l. h o ∷ l) n.0, n.1)
 
--- the same, by what stood at the place
+-- the same, by the item that was at the place
 pub mapped-on : {A B : Type 0} (f h : A → B) (i : ℕ) (rs olds : List A) (y d : A) → i < length rs → map f (take i rs) ≡ map h (take i olds) → drop i rs ≡ drop i olds
     → f y ≡ h d → d ≡ slice_index_or rs i d → (map f (take (suc i) (slice_set rs i y)) ≡ map h (take (suc i) olds)) × (drop (suc i) (slice_set rs i y) ≡ drop (suc i) olds)
 mapped-on f h i rs olds y d lt was left told at = mapped-next f h i rs olds y d lt was left (told ∙ ap h at)
@@ -114,7 +114,7 @@ module _ {M : Type 0} where
   halts-same (r ∷ rs) zero y d e = ap (λ m. sent m ∷ halts rs) e
   halts-same (r ∷ rs) (suc k) y d e = ap (λ (l : List (List M)). sent r.halts ∷ l) (halts-same rs k y d e)
 
-  -- what every ring gave is in the batch, also after one more was drained
+  -- the batch has the letters of every ring, also after one more ring was drained
   poured_at : (rs : List (Ring M)) (olds : List (List Command)) (k : ℕ) (y d : Ring M) (ls ls' : List Letter) → k < length rs
       → Drained k (commands (received (slice_index_or rs k d).letters)) (commands (received y.letters)) ls ls'
       → (s : ℕ) → at_seat (gathered rs) s ≡ at_seat olds s ++ of_seat s ls
@@ -144,7 +144,7 @@ module _ {M : Type 0} where
   gathered-same (r ∷ rs) zero y d e = ap (λ (slips : List Slip). commands slips ∷ gathered rs) e
   gathered-same (r ∷ rs) (suc k) y d e = ap (λ (l : List (List Command)). commands (received r.letters) ∷ l) (gathered-same rs k y d e)
 
-  -- letters stay as they were gathered where a ring keeps its own
+  -- if a ring keeps its own letters, the gathered ones stay
   pub gathered-on : (rs : List (Ring M)) (k : ℕ) (y d : Ring M) (all : List (List Command)) → received y.letters ≡ received (slice_index_or rs k d).letters → gathered rs ≡ all → gathered (slice_set rs k y) ≡ all
   gathered-on rs k y d all e was = gathered-same rs k y d e ∙ was
 
@@ -153,7 +153,7 @@ module _ {M : Type 0} where
   once_or m [] false e = refl
   once_or m (x ∷ xs) false e = absurd (omega arith)
 
-  -- whoever was told was told once
+  -- a seat that was sent a halt was sent it once
   pub told-once : (m : M) (rs olds : List (Ring M)) → halts rs ≡ map (told_of m) olds → (k : ℕ) (d : Ring M) → k < length rs → length (sent (slice_index_or rs k d).halts) ≡ 1
   told-once m [] olds e k d h = absurd (omega arith)
   told-once m (r ∷ rs) [] e k d h = absurd (cc e)

@@ -1,4 +1,4 @@
--- What a later view keeps.
+-- The facts that a later view keeps.
 use Rattle.std.proofs.Common.{◌≡◌, ℕ, zero, suc, ◌≤◌, ◌==◌, take, length, arith, List, [], ◌∷◌, ◌++◌, refl, ap, sym, ◌∙◌, append_assoc}
 use Rattle.std.specs.Prelude.{filter}
 use Rattle.std.proofs.lemmas.List.Elements.{filter-append}
@@ -18,7 +18,7 @@ answers-append seat value xs ys =
     ∙ (ap (filter (λ (a : Answer). a.letter.seat == seat)) (judged_join value (joined xs) (joined ys))
     ∙ filter-append (λ (a : Answer). a.letter.seat == seat) (judged_in value (joined xs)) (judged_in (value_by value (joined xs)) (joined ys)))
 
--- a seat's answers begin those of a later view
+-- a seat's answers begin its answers in a later view
 pub answers-later : (v w : Viewing) → w.opened ≡ v.opened → IsPrefix v.list w.list → (seat : ℕ) → IsPrefix (answers_of seat v) (answers_of seat w)
 answers-later v w same later seat = (
   answers_to seat (value_by v.opened (joined v.list)) (joined later.0),
@@ -27,7 +27,7 @@ answers-later v w same later seat = (
 
 pub ruleset later = (answers-later)
 
--- what was taken of a list stands in a longer one
+-- the answers taken from a list are the same in a longer one
 pub taken-later : (n : ℕ) (xs ys : List Answer) → IsPrefix xs ys → n ≤ length xs → take n ys ≡ take n xs
 taken-later zero xs ys p le = refl
 taken-later (suc n) [] ys p le = absurd (omega arith)

@@ -1,4 +1,4 @@
--- What a client takes.
+-- The answers that a client takes.
 use Rattle.std.proofs.Common.{inl, inr, ◌≡◌, ℕ, zero, suc, ◌+◌, ◌<◌, ◌≤◌, Bool, true, false, nat_lt, if◌then◌else◌, List, [], ◌∷◌, ◌++◌, length, take, Some, None, slice_get, slice_index_or, refl, ap, sym, ◌∙◌, arith, add-one, append_assoc}
 use Rattle.std.specs.Prelude.{◌⊎◌}
 use Rattle.std.specs.List.{remove}
@@ -65,12 +65,12 @@ taken_first zero ans ws le = refl
 taken_first (suc n) [] ws le = absurd (omega arith)
 taken_first (suc n) (x ∷ xs) ws le = ap (λ (l : List Slip). Post x.letter ∷ l) (taken_first n xs ws (omega arith))
 
--- with the end mark behind it, what was sent begins with the letters of the answers taken
+-- the letters sent, with the end mark behind them, begin with the letters of the answers taken
 pub in-order : (n : ℕ) (ans : List Answer) (ws : List Waiting) (xs ys : List Slip) → xs ≡ slips (letters_of (take n ans) ++ posted ws) → n ≤ length ans
     → ys ≡ xs ++ End ∷ [] → take n ys ≡ slips (letters_of (take n ans))
 in-order n ans ws xs ys is le end = ap (take n) (end ∙ ap (λ (l : List Slip). l ++ End ∷ []) is) ∙ taken_first n ans ws le
 
--- and it is these, where none waits
+-- and if no letter waits, they are exactly these
 pub whole : (n : ℕ) (ans : List Answer) (ws : List Waiting) (xs ys : List Slip) (halted : Bool) → xs ≡ slips (letters_of (take n ans) ++ posted ws)
     → (ws ≡ []) ⊎ (halted ≡ true) → ys ≡ xs ++ End ∷ [] → halted ≡ false → ys ≡ slips (letters_of (take n ans)) ++ End ∷ []
 whole n ans ws xs ys halted is (inl none) end not =

@@ -1,5 +1,4 @@
--- What the intake gathers and tells.
--- Source: this project's own.
+-- The letters that the intake gathers, and the halts that it sends. Source: this project's own.
 use Rattle.std.specs.Prelude.{◌≡◌, ℕ, zero, suc, ◌==◌, if◌then◌else◌, List, [], ◌∷◌, ◌++◌, map}
 use Rattle.rtrb.specs.Ring.{sent, received}
 use Rattle.hpb_rules.specs.declared.command.Command.{Command}
@@ -7,8 +6,8 @@ use Rattle.hpb_rules.specs.declared.letter.Letter.{Letter}
 use Rattle.hpb_rings.specs.Slips.{commands}
 use Rattle.hpb_rings.specs.declared.ring.Ring.{Ring}
 
--- **Gathering.** The committer takes letters out of the rings of all seats. What came out of each ring is what was gathered of its seat, in order; a
--- letter gets the seat of the ring that it came out of.
+-- **Gathering.** The committer takes letters out of the rings of all seats. The letters that came out of each ring are
+-- those gathered of its seat, in order; a letter gets the seat of the ring that it came out of.
 --
 -- A command as a letter of a seat.
 abbrev pub letter_of : ℕ → Command → Letter
@@ -19,7 +18,8 @@ abbrev pub of_seat : ℕ → List Letter → List Command
 of_seat seat [] = []
 of_seat seat (letter ∷ letters) = if letter.seat == seat then letter.command ∷ of_seat seat letters else of_seat seat letters
 
--- Commands were taken out of a ring, from those that came before to those that came after, and put to the letters that were had, as its seat's.
+-- Commands were taken out of a ring, and added to the letters gathered before, as letters of its seat. Given are the
+-- commands taken out before and after.
 abbrev pub Drained : ℕ → List Command → List Command → List Letter → List Letter → Type 0
 Drained seat before after had has = (moved : List Command) × (after ≡ before ++ moved) × (has ≡ had ++ map (letter_of seat) moved)
 
@@ -27,7 +27,7 @@ Drained seat before after had has = (moved : List Command) × (after ≡ before 
 abbrev pub gathered : {M : Type 0} → List (Ring M) → List (List Command)
 gathered rings = map (λ ring. commands (received ring.letters)) rings
 
--- One seat's of them: none for a seat that there isn't.
+-- The commands of one seat among them: none for an unknown seat.
 abbrev pub at_seat : List (List Command) → ℕ → List Command
 at_seat [] seat = []
 at_seat (first ∷ others) zero = first
@@ -39,6 +39,6 @@ at_seat (first ∷ others) (suc seat) = at_seat others seat
 abbrev pub halts : {M : Type 0} → List (Ring M) → List (List M)
 halts rings = map (λ ring. sent ring.halts) rings
 
--- What a seat has been sent once it is told of a halt: that halt too, unless it had one.
+-- The halts sent to a seat after one more halt: that halt is added, unless the seat had one.
 abbrev pub told_of : {M : Type 0} → M → Ring M → List M
 told_of halt ring = if ring.is_told then sent ring.halts else sent ring.halts ++ halt ∷ []

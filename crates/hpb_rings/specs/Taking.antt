@@ -1,5 +1,4 @@
--- What a client posts and takes.
--- Source: this project's own.
+-- The letters that a client posts, and the answers that it takes. Source: this project's own.
 use Rattle.std.specs.Prelude.{◌≡◌, ℕ, ◌≤◌, List, [], ◌∷◌, length, map}
 use Rattle.hpb_rules.specs.declared.letter.Letter.{Letter}
 use Rattle.hpb_rules.specs.declared.letter.Answer.{Answer}
@@ -8,8 +7,9 @@ use Rattle.hpb_rings.specs.declared.waiting.Waiting.{Waiting}
 use Rattle.hpb_rings.specs.declared.slip.Slip.{Slip}
 use Rattle.hpb_rings.specs.declared.slip.Slip.TheVariants.{Letter as Post}
 
--- **Posting and taking.** A client has letters that wait, the oldest first, each with the mark that the client had at its post. An answer may be
--- taken where it is for the oldest of them, and no fewer commands were accepted before it than that mark says.
+-- **Posting and taking.** A client has letters that wait, the oldest first, each with the client's mark at its post. An
+-- answer may be taken if it is for the oldest of them, and at least as many commands were accepted before it as that
+-- mark says.
 --
 -- The letters that wait.
 abbrev pub posted : List Waiting → List Letter
@@ -23,7 +23,8 @@ slips letters = map Post letters
 abbrev pub newly : List Answer → ℕ
 newly answers = length (new_commands answers)
 
--- The answer is for the oldest letter that waits, and was given when no fewer commands were accepted than were known at its post.
+-- The answer is for the oldest letter that waits. When it was given, at least as many commands were accepted as the
+-- client knew of at the letter's post.
 abbrev pub IsForOldest : List Waiting → Answer → Type 0
 IsForOldest [] answered = ⊥
 IsForOldest (oldest ∷ others) answered = (oldest.letter ≡ answered.letter) × (oldest.mark ≤ answered.at)

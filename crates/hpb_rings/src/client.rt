@@ -25,7 +25,7 @@ use std::thread::Parker;
 
 /// A client of a house. It posts letters of its seat, and takes their answers in order.
 ///
-/// What it has sent is the letters of the answers that it took, and then the letters that wait.
+/// It has sent the letters of the answers that it took, followed by the letters that wait.
 #[derive(Drop)]
 pub struct Client<M: Copy> {
     pub seat: u8,
@@ -34,11 +34,11 @@ pub struct Client<M: Copy> {
     pub viewer: Viewer,
     /// The letters that have no answer yet, oldest first.
     pub waiting: ArrayVec<Waiting, MOST_WAITING>,
-    /// How many answers were taken.
+    /// How many answers it took.
     pub taken: u64,
     /// How many of these newly accepted a command.
     pub accepted: u64,
-    /// The greatest number of accepted commands that was seen: at the opening, in a view, or in an answer taken.
+    /// The greatest number of accepted commands that it knows of: from the opening, a view, or an answer that it took.
     pub mark: u32,
     /// Whether a halt came.
     pub is_halted: bool,
@@ -54,7 +54,7 @@ pub struct Client<M: Copy> {
     ghost marked: { (auction_of viewer).count ≤ mark },
 }
 
-/// 1 for an answer that newly accepts a command, and else 0.
+/// 1 for an answer that newly accepts a command, else 0.
 fn news_in(answer: &Answer) -> u64
     ensures value { result ≡ newly (answer.now ∷ []) }
     ensures most { result ≤ 1 }
@@ -94,8 +94,8 @@ impl<M: Copy> Client<M> {
         }
     }
 
-    /// Posts a letter of its seat, and rings the committer's bell. It hands the letter back where 16 are outstanding,
-    /// or no place in the ring is known to be free.
+    /// Posts a letter of its seat, and rings the committer's bell. Hands the letter back if 16 letters are outstanding,
+    /// or if it knows of no free place in the ring.
     pub fn post(&mut self, letter: Letter) -> Result<(), Letter>
         requires { letter.seat ≡ self.old.seat }
         ensures waiting { MatchResult result (λ _. self.new.waiting.items ≡ self.old.waiting.items ++ record { letter = letter; mark = self.old.mark } ∷ []) (λ back. (back ≡ letter) × (self.new.waiting.items ≡ self.old.waiting.items)) }
@@ -123,14 +123,14 @@ impl<M: Copy> Client<M> {
         Ok(())
     }
 
-    /// Rings the committer's bell behind a letter: one more waits than before it was posted.
+    /// Rings the committer's bell if a letter was posted: one more waits than before.
     fn ring_behind(&self, before: usize)
         requires { length self.now.waiting.items ≡ before + 1 }
     {
         self.bell.unpark();
     }
 
-    /// The next answer that was not taken, by what it sees.
+    /// The next answer to take, in the list that it last viewed.
     fn next_answer(&self) -> Option<Answer>
         ensures next { result ≡ recent (answers_of self.now.seat self.now.viewer) (self.now.taken + 1) }
         ensures few { length (answers_of self.now.seat self.now.viewer) < 2 ^ 64 }
@@ -138,11 +138,12 @@ impl<M: Copy> Client<M> {
         self.viewer.answer(self.seat, self.taken.wrapping_add(1))
     }
 
-    /// Takes the next answer, by the last view. `None` where there is none yet, or it isn't among the last 16 of the
+    /// Takes the next answer, from the last view. `None` if there is none yet, or if it isn't among the last 16 of the
     /// seat.
     ///
-    /// Refused where the answer isn't for the oldest letter that waits, or was given when fewer commands were accepted
-    /// than were known at that letter's post (95 `order`): `Err` tells the answer, and nothing changes.
+    /// An answer is refused (95 `order`) if it isn't for the oldest letter that waits. It is refused too if fewer
+    /// commands were accepted when it was given than the client knew of at that letter's post. Then `Err` has the
+    /// answer, and nothing changes.
     pub fn take(&mut self) -> Result<Option<Answer>, Answer>
         ensures same { (self.new.seat ≡ self.old.seat) × (self.new.letters ≡ self.old.letters) × (self.new.halts ≡ self.old.halts) × (self.new.viewer ≡ self.old.viewer) × (self.new.is_halted ≡ self.old.is_halted) }
         ensures answer { MatchResult result (λ o. o ≡ recent (answers_of self.old.seat self.old.viewer) (self.old.taken + 1)) (λ a. (recent (answers_of self.old.seat self.old.viewer) (self.old.taken + 1) ≡ Some a) × (IsForOldest self.old.waiting.items a → ⊥)) }
@@ -166,7 +167,7 @@ impl<M: Copy> Client<M> {
         Ok(Some(answer))
     }
 
-    /// Views: `viewer` then has what is published. `false` where the publisher has ended.
+    /// Views: brings `viewer` up to the published list. `false` if the publisher has ended.
     pub fn refresh(&mut self) -> bool
         ensures same { (self.new.seat ≡ self.old.seat) × (self.new.letters ≡ self.old.letters) × (self.new.halts ≡ self.old.halts) × (self.new.waiting ≡ self.old.waiting) × (self.new.taken ≡ self.old.taken) × (self.new.accepted ≡ self.old.accepted) × (self.new.is_halted ≡ self.old.is_halted) }
         ensures viewer { (self.new.viewer.book ≡ self.old.viewer.book) × (self.new.viewer.opened ≡ self.old.viewer.opened) × (self.new.viewer.seats ≡ self.old.viewer.seats) }
@@ -178,7 +179,7 @@ impl<M: Copy> Client<M> {
         is_there
     }
 
-    /// Views, and tells the seat's next answer that wasn't taken, where there is one among the last 16.
+    /// Views, and returns the seat's next answer to take, if there is one among the last 16.
     pub fn poll(&mut self) -> Option<Answer>
         ensures same { (self.new.seat ≡ self.old.seat) × (self.new.letters ≡ self.old.letters) × (self.new.halts ≡ self.old.halts) × (self.new.waiting ≡ self.old.waiting) × (self.new.taken ≡ self.old.taken) × (self.new.accepted ≡ self.old.accepted) × (self.new.is_halted ≡ self.old.is_halted) }
         ensures viewer { (self.new.viewer.book ≡ self.old.viewer.book) × (self.new.viewer.opened ≡ self.old.viewer.opened) × (self.new.viewer.seats ≡ self.old.viewer.seats) }
@@ -211,17 +212,17 @@ impl<M: Copy> Client<M> {
         self.is_halted
     }
 
-    /// Waits until the bell of its seat rings, or at once where it rang since the last wait. The bell rings where
-    /// letters of the seat are answered, at a halt, and after a halt where letters of the seat were taken out of its
-    /// ring. A caller polls, takes and asks `halted` before it waits; a wait may also end for nothing.
+    /// Waits until the bell of its seat rings; returns at once if it rang since the last wait. The bell rings when
+    /// letters of the seat are answered, at a halt, and, after a halt, when letters of the seat were taken out of its
+    /// ring. A caller polls, takes and checks `halted` before it waits. A wait may also end without a reason.
     pub fn wait<R: Wait>(&mut self, rt: &R)
         ensures same { (self.new.seat ≡ self.old.seat) × (self.new.letters ≡ self.old.letters) × (self.new.halts ≡ self.old.halts) × (self.new.viewer ≡ self.old.viewer) × (self.new.waiting ≡ self.old.waiting) × (self.new.taken ≡ self.old.taken) × (self.new.accepted ≡ self.old.accepted) × (self.new.mark ≡ self.old.mark) × (self.new.is_halted ≡ self.old.is_halted) }
     {
         self.answered.park(rt);
     }
 
-    /// Sends the end mark, and rings the committer's bell. It hands the client back where no place in the ring is known
-    /// to be free.
+    /// Sends the end mark, and rings the committer's bell. Hands the client back if it knows of no free place in the
+    /// ring.
     #[tactic(auto, using(crate::proofs::Gathering::slip_lemmas))]
     pub fn finish(mut self) -> Result<Report, Client<M>>
         requires { (self.waiting.items ≡ []) ⊎ (self.is_halted ≡ true) }
@@ -267,7 +268,7 @@ impl<M: Copy> Client<M> {
     ghost use Rattle.hpb_board.specs.Publication.{auction_of};
     ghost use Rattle.hpb_rings.specs.contracts.client.Client.{the_row};
 
-    /// Views, and gives the auction that is published. `None` where the publisher has ended.
+    /// Views, and returns the published auction. `None` if the publisher has ended.
     pub fn view(&mut self) -> Option<&Auction>
         ensures* after { sem 𝓛 (follows_so (the_row M.row) (the_row M.row) self.entry.ghost_name none (λ _ _. ⊤) (λ n. (n.seat ≡ self.old.seat) × (n.letters ≡ self.old.letters) × (n.halts ≡ self.old.halts) × (n.waiting ≡ self.old.waiting) × (n.taken ≡ self.old.taken) × (n.accepted ≡ self.old.accepted) × (n.is_halted ≡ self.old.is_halted) × (n.viewer.book ≡ self.old.viewer.book) × (n.viewer.opened ≡ self.old.viewer.opened) × (n.viewer.seats ≡ self.old.viewer.seats) × IsPrefix self.old.viewer.list n.viewer.list × (n.mark ≡ max self.old.mark (auction_of n.viewer).count) × IfSome result (λ a. a.now ≡ auction_of n.viewer))) }
     {

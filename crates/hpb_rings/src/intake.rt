@@ -13,13 +13,13 @@ use hpb_rules::{Letter, Letters, MOST_LETTERS, MOST_WAITING};
 pub struct Intake<M: Copy> {
     /// The ring of each seat, by its number.
     pub rings: Vec<Ring<M>>,
-    /// The seat at which the next gathering begins.
+    /// The number of the seat at which the next gathering begins.
     first: usize,
     ghost few: { vec_len rings ≤ MOST_SEATS },
 }
 
 impl<M: Copy> Intake<M> {
-    /// The intake over the rings of seats 0, 1, .., at most 32.
+    /// The intake over the rings of the seats 0, 1 and so on, at most 32.
     pub fn new(rings: Vec<Ring<M>>) -> Intake<M>
         requires { vec_len rings ≤ MOST_SEATS }
         ensures { result.rings ≡ rings }
@@ -27,9 +27,10 @@ impl<M: Copy> Intake<M> {
         Intake { rings, first: 0 }
     }
 
-    /// Takes up to 64 letters that came, each with the seat of its ring, in the order in which they were posted there.
+    /// Takes up to 64 letters out of the rings, each with the seat of its ring, in the order of their posts there.
     ///
-    /// A call begins at the seat at which the last one was full, or else one seat further than the last one began.
+    /// If the last call was full, this one begins at the seat at which that happened. Otherwise it begins one seat
+    /// further than the last one began.
     pub fn gather(&mut self) -> Letters
         ensures each { (seat : ℕ) → at_seat (gathered self.new.rings.items) seat ≡ at_seat (gathered self.old.rings.items) seat ++ of_seat seat result }
         ensures seats { All (λ l. l.seat < vec_len self.old.rings) result }
@@ -51,7 +52,7 @@ impl<M: Copy> Intake<M> {
         letters
     }
 
-    /// How many letters are seen to wait in the rings; more may come at any time. Nothing is taken.
+    /// How many letters it sees waiting in the rings; more may come at any time. Nothing is taken.
     pub fn waiting(&mut self) -> usize
         ensures same { (gathered self.new.rings.items ≡ gathered self.old.rings.items) × (halts self.new.rings.items ≡ halts self.old.rings.items) × (vec_len self.new.rings ≡ vec_len self.old.rings) }
     {
@@ -62,7 +63,7 @@ impl<M: Copy> Intake<M> {
         count
     }
 
-    /// Sends a halt to each seat that has none yet, and rings the bell of each.
+    /// Sends a halt to each seat that has none yet, and rings each of their bells.
     pub fn halt(&mut self, halt: M)
         ensures told { halts self.new.rings.items ≡ map (told_of halt) self.old.rings.items }
         ensures once { All (λ r. length (sent r.halts) ≡ 1) self.new.rings.items }
@@ -88,7 +89,7 @@ impl<M: Copy> Intake<M> {
     }
 }
 
-/// Moves letters out of a ring, as far as there is room.
+/// Moves letters out of a ring, as long as there is room for them.
 fn drain<M: Copy>(ring: &mut Ring<M>, seat: u8, letters: &mut Letters)
     ensures drained { Drained seat (commands (received ring.old.letters)) (commands (received ring.new.letters)) letters.old letters.new }
     ensures same { (ring.new.halts ≡ ring.old.halts) × (ring.new.is_told ≡ ring.old.is_told) }

@@ -1,4 +1,4 @@
-//! What a client leaves that has finished.
+//! The report of a client that has finished.
 ghost use Rattle.std.specs.Prelude.{◌≡◌, ◌≤◌, [], ◌∷◌, ◌++◌, length, take, true, false};
 ghost use mathlib.Core.List.{IsPrefix};
 ghost use Rattle.rtrb.specs.Ring.{sent};
@@ -16,16 +16,16 @@ use std::alloc::Global;
 use std::sync::Arc;
 use std::thread::Parker;
 
-/// What a client leaves that has finished: what it sent, what it saw, and how many of its answers newly accepted a
-/// command.
+/// The report of a client that has finished: the letters that it sent, the list that it saw, and how many of its
+/// answers newly accepted a command.
 ///
-/// What it sent is the letters of the answers that it took, in order, and then the end mark; after a halt letters may
-/// stand between them that it took no answer for.
+/// It sent the letters of the answers that it took, in order, and then the end mark. After a halt, letters that it took
+/// no answer for may stand between them.
 #[derive(Drop)]
 pub struct Report {
     /// The seat of its letters, from 0.
     pub seat: u8,
-    /// What it saw last.
+    /// Its viewer, as it last saw the list.
     pub viewer: Viewer,
     /// The client's end of its letter ring.
     pub letters: Producer<Slip>,
@@ -42,14 +42,14 @@ pub struct Report {
 }
 
 impl Report {
-    /// Rings the committer's bell behind the end mark.
+    /// Rings the committer's bell, after the end mark was sent.
     pub(crate) fn ring(&self, bell: &Arc<Parker, Global>)
         requires { ends (sent self.now.letters) ≡ true }
     {
         bell.unpark();
     }
 
-    /// Views once more: `false` where the publisher has ended. What it says of the answers taken stays.
+    /// Views once more. `false` if the publisher has ended. The facts about the answers taken stay.
     pub fn view_again(&mut self) -> bool
         ensures same { (self.new.seat ≡ self.old.seat) × (self.new.letters ≡ self.old.letters) × (self.new.taken ≡ self.old.taken) × (self.new.accepted ≡ self.old.accepted) × (self.new.is_halted ≡ self.old.is_halted) }
         ensures viewer { (self.new.viewer.book ≡ self.old.viewer.book) × (self.new.viewer.opened ≡ self.old.viewer.opened) × (self.new.viewer.seats ≡ self.old.viewer.seats) }

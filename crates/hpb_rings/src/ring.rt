@@ -1,4 +1,4 @@
-//! The rings of one seat, by both of their ends.
+//! The rings of one seat, with both of their ends.
 ghost use Rattle.std.specs.Prelude.{◌≡◌, ◌<◌, [], ◌∷◌, ◌++◌, length, true, false, if◌then◌else◌, MatchOption, IfOk};
 ghost use Rattle.rtrb.specs.Ring.{sent, received, known_free, known_items, IsPair};
 ghost use Rattle.hpb_rings.specs.Slips.{commands, ends};
@@ -28,7 +28,7 @@ pub struct Ring<M: Copy> {
     pub halts: Producer<M>,
     /// Whether the end mark came.
     pub has_ended: bool,
-    /// Whether the seat has its halt.
+    /// Whether the seat has been sent its halt.
     pub is_told: bool,
     /// The bell of the seat.
     pub answered: Arc<Parker, Global>,
@@ -37,8 +37,8 @@ pub struct Ring<M: Copy> {
     ghost free: { is_told ≡ false → 0 < known_free halts },
 }
 
-/// Makes the rings of one seat, with room for 16 letters and for one halt, and the seat's bell. Fails only where memory
-/// is refused (90 `memory`).
+/// Makes the rings of one seat, with room for 16 letters and for one halt, and the seat's bell. Fails only if memory is
+/// refused (90 `memory`).
 pub fn seat_rings<M: Copy>(alloc: Global) -> Result<(Ends<M>, Ring<M>), AllocError>
     ensures letters { IfOk result (λ r. IsPair r.0.letters r.1.letters × (known_free r.0.letters ≡ MOST_WAITING) × (received r.1.letters ≡ [])) }
     ensures halts { IfOk result (λ r. IsPair r.1.halts r.0.halts × (sent r.1.halts ≡ []) × (received r.0.halts ≡ [])) }
@@ -65,7 +65,7 @@ pub fn seat_rings<M: Copy>(alloc: Global) -> Result<(Ends<M>, Ring<M>), AllocErr
 }
 
 impl<M: Copy> Ring<M> {
-    /// The next command. `None` at the end mark, or where none is seen.
+    /// The next command. `None` at the end mark, or if none is seen.
     #[tactic(auto, using(crate::proofs::Gathering::slip_lemmas))]
     pub(crate) fn next(&mut self) -> Option<Command>
         ensures same { (self.new.halts ≡ self.old.halts) × (self.new.is_told ≡ self.old.is_told) }
@@ -81,14 +81,14 @@ impl<M: Copy> Ring<M> {
         }
     }
 
-    /// How many letters are seen to wait, the end mark too.
+    /// How many letters it sees waiting, the end mark included.
     pub(crate) fn waiting(&mut self) -> usize
         ensures same { (received self.new.letters ≡ received self.old.letters) × (self.new.halts ≡ self.old.halts) × (self.new.has_ended ≡ self.old.has_ended) × (self.new.is_told ≡ self.old.is_told) }
     {
         self.letters.slots()
     }
 
-    /// Sends a halt, where none was sent yet, and rings the bell of the seat.
+    /// Sends a halt, if none was sent yet, and rings the bell of the seat.
     pub(crate) fn tell(&mut self, halt: M)
         ensures same { (self.new.letters ≡ self.old.letters) × (self.new.has_ended ≡ self.old.has_ended) }
         ensures told { (self.new.is_told ≡ true) × (sent self.new.halts ≡ (if self.old.is_told then sent self.old.halts else sent self.old.halts ++ halt ∷ [])) }
@@ -100,7 +100,7 @@ impl<M: Copy> Ring<M> {
         self.ring_told();
     }
 
-    /// Rings the bell of a seat that has its halt.
+    /// Rings the bell of a seat that has been sent its halt.
     fn ring_told(&self)
         requires { self.now.is_told ≡ true }
     {

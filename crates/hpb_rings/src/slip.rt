@@ -1,15 +1,15 @@
-//! What a ring of letters carries.
+//! The contents of a ring of letters.
 ghost use Rattle.std.specs.Prelude.{◌≡◌};
 ghost use Rattle.hpb_rings.specs.declared.slip.Slip.TheVariants.{Letter as Post};
 
 use hpb_rules::Letter;
 
-/// What a letter ring carries.
+/// A letter, or the end mark, in a letter ring.
 #[derive(Clone, Copy)]
 pub enum Slip {
     /// A letter of the client.
     Letter(Letter),
-    /// The client's last word: no letter comes after it.
+    /// The end mark: no letter of the client comes after it.
     End,
 }
 

@@ -5,7 +5,7 @@ use std::alloc::{AllocError, Global};
 use std::process::Abort;
 use std::test::Fail;
 
-/// Where the clients of seats post letters, by their numbers.
+/// The ends at which the clients of seats post letters, by seat number.
 type Seats = Vec<Producer<Slip>>;
 
 /// Makes one more seat.
@@ -17,7 +17,7 @@ fn add_seat(alloc: Global, seats: &mut Seats, rings: &mut Vec<Ring<u8>>) -> Resu
     Ok(())
 }
 
-/// So many seats, 32 at most, and the intake over their rings.
+/// Makes `count` seats, 32 at most, and the intake over their rings.
 fn make_seats(
     rt: &impl Abort,
     alloc: Global,
@@ -32,7 +32,7 @@ fn make_seats(
     Ok((seats, Intake::new(rings)))
 }
 
-/// Posts so many letters, as the client of a seat does. Those for which there is no room are lost.
+/// Posts `count` letters, as the client of a seat does. Letters without room are lost.
 fn post(seats: &mut Seats, seat: u8, count: usize) {
     let letter = Letter {
         seat,
@@ -45,7 +45,7 @@ fn post(seats: &mut Seats, seat: u8, count: usize) {
     }
 }
 
-/// Whose letter stands at a place.
+/// The seat of the letter at a place.
 fn seat_at(letters: &Letters, place: usize) -> Option<u8> {
     match letters.get(place) {
         Some(letter) => Some(letter.seat),
@@ -53,7 +53,7 @@ fn seat_at(letters: &Letters, place: usize) -> Option<u8> {
     }
 }
 
-/// Whether letters are those of these seats, in their order.
+/// Whether letters are of these seats, in their order.
 fn are_of(letters: &Letters, seats: &[u8]) -> bool {
     let mut same = letters.len() == seats.len();
     for (place, seat) in seats.iter().enumerate() {
@@ -62,7 +62,7 @@ fn are_of(letters: &Letters, seats: &[u8]) -> bool {
     same
 }
 
-/// Three seats with a letter each: another one comes first from call to call, so that none is always the last.
+/// Three seats with a letter each: from call to call another seat comes first, so none is always the last.
 #[test]
 fn each_gathering_begins_at_another_seat(rt: HostRuntime) -> Result<(), Fail> {
     let (mut seats, mut intake) = make_seats(&rt, rt.alloc(), 3)?;
@@ -85,8 +85,8 @@ fn one_gathering_takes_all_that_wait(rt: HostRuntime) -> Result<(), Fail> {
     Ok(())
 }
 
-/// Five seats with 16 letters each are more than one gathering holds: the next one goes on at the seat where it was full,
-/// and comes last to those just served.
+/// Five seats with 16 letters each are more than one gathering holds. The next one continues at the seat at which it
+/// was full, and reaches the seats just served last.
 #[test]
 fn a_gathering_goes_on_where_the_last_was_full(rt: HostRuntime) -> Result<(), Fail> {
     let (mut seats, mut intake) = make_seats(&rt, rt.alloc(), 5)?;
@@ -103,8 +103,8 @@ fn a_gathering_goes_on_where_the_last_was_full(rt: HostRuntime) -> Result<(), Fa
     Ok(())
 }
 
-/// Every one of 32 seats has its ring full before each gathering, which takes what four of them have: three seats further
-/// each time, so that eleven reach all.
+/// Each of 32 seats has a full ring before each gathering, which takes the letters of four of them. Each begins three
+/// seats further, so eleven gatherings reach all.
 #[test]
 fn a_flood_starves_no_seat(rt: HostRuntime) -> Result<(), Fail> {
     let (mut seats, mut intake) = make_seats(&rt, rt.alloc(), 32)?;

@@ -7,7 +7,7 @@ use hpb_rules::{Answer, Blank, Letter, Reply};
 /// A letter that waits for its answer.
 #[derive(Clone, Copy)]
 pub struct Waiting {
-    /// As it was posted.
+    /// The letter as it was posted.
     pub letter: Letter,
     /// The client's mark when the letter was posted, at most `MOST_COMMANDS`.
     pub mark: u32,
@@ -23,7 +23,7 @@ impl Default for Waiting {
 }
 
 impl Waiting {
-    /// Whether an answer is for the letter, and not older than what was known at its post.
+    /// Whether an answer is for the letter, and not older than the client's knowledge at its post.
     pub(crate) fn is_for(&self, answer: &Answer) -> bool
         ensures { IsTrue result ↔ ((self.now.letter ≡ answer.now.letter) × (self.now.mark ≤ answer.now.at)) }
     {
@@ -31,7 +31,7 @@ impl Waiting {
     }
 }
 
-/// The greatest of a mark and what an answer shows.
+/// The greater of a mark and the numbers that an answer shows.
 pub(crate) fn raised(mark: u32, answer: &Answer) -> u32
     ensures { result ≡ greatest mark answer.now }
 {

@@ -24,7 +24,7 @@ use Rattle.hpb_server.proofs.Sessions.{session_begins, session_more, session_sen
 use Rattle.hpb_server.proofs.WholeLines.{lines_answered, last_answered, rest_answered}
 use Rattle.hpb_server.proofs.Definitions.{vain_within}
 
--- a line is empty where its kept bytes are none
+-- a line is empty if none of its bytes is kept
 same_empty : (line bytes : List ℕ) → line ≡ take KEPT_BYTES bytes → eqb (length line) 0 ≡ eqb (length bytes) 0
 same_empty line [] e = ap (λ (xs : List ℕ). eqb (length xs) 0) e
 same_empty line (x ∷ bytes) e =
@@ -32,7 +32,7 @@ same_empty line (x ∷ bytes) e =
     ∙ sym (ne_eqb (length (x ∷ bytes)) 0 (λ z. absurd (omega (arith, z))))
 
 module _ {State : Type 0} (rules : State → Rules) (over : State → Bool) (asks : State → Command → Reply → State → Type 0) (looks : State → Option AuctionValue → State → Type 0) (most : ℕ) (takes_memory : Bool) where
-  -- so much was taken of the reader within the budget, and the session stands there
+  -- bytes were taken from the reader within the budget, and the session stands behind them
   pub record Comes (first : Pending) (before : Streams) (old : State) (now : Streams) (desk : State) (input : Pending) (line output : List ℕ) : Type 0 where
     pub taken : List ℕ
     pub read : Consumes before.remaining now.remaining taken
@@ -51,7 +51,7 @@ module _ {State : Type 0} {rules : State → Rules} {over : State → Bool} {ask
   }
 
   module _ {now : Streams} {desk : State} {input : Pending} {line output : List ℕ} (c : Comes rules over asks looks most takes_memory first before old now desk input line output) where
-    -- it is broken off once more was read in vain
+    -- it is broken off after more was read in vain
     pub comes_broken : (after : Streams) (new : State) (fault : SessionFault) (vain : ReadsWithin now.remaining after.remaining input.budget)
         (b : Broken rules over asks looks most takes_memory (first.unread ++ c.taken) old new before.contents after.contents [] fault)
         → (fault ≡ Reader → length (c.taken ++ vain.0) ≤ first.budget → HasNoEnd (b.rest ++ vain.0)) → Serves rules over asks looks most takes_memory first.unread first.budget before after old new (Err fault)
@@ -72,19 +72,19 @@ module _ {State : Type 0} {rules : State → Rules} {over : State → Bool} {ask
       no_line = no_line;
     })
 
-    -- it is broken off and nothing more was read
+    -- it is broken off, and nothing more was read
     pub comes_stopped : (writer_new : Option (List ℕ)) (new : State) (fault : SessionFault) (r : Result ⊤ SessionFault) → IsErrAnd r (λ e. e ≡ fault) → fault ≢ Reader
         → Broken rules over asks looks most takes_memory (first.unread ++ c.taken) old new before.contents writer_new [] fault → Serves rules over asks looks most takes_memory first.unread first.budget before (streams now.remaining writer_new) old new r
     comes_stopped writer_new new fault r bad other b = err_case (Serves rules over asks looks most takes_memory first.unread first.budget before (streams now.remaining writer_new) old new) r bad
         (λ e is. subst (λ (f : SessionFault). Serves rules over asks looks most takes_memory first.unread first.budget before (streams now.remaining writer_new) old new (Err f)) (sym is)
         (comes_broken (streams now.remaining writer_new) new fault ([], Consumes-nil now.remaining, omega arith) b (λ read. absurd (other read))))
 
-    -- the desk is refused memory once all was answered and written
+    -- the desk is refused memory after all was answered and written
     pub comes_refused : (writer_new : Option (List ℕ)) (new : State) {line_next unread_next output_next : List ℕ} (r : Result ⊤ SessionFault) → IsErrAnd r (λ e. e ≡ Memory) → takes_memory ≡ true → output_next ≡ []
         → Session rules over asks looks most takes_memory (first.unread ++ c.taken) old new before.contents writer_new [] line_next unread_next output_next → Serves rules over asks looks most takes_memory first.unread first.budget before (streams now.remaining writer_new) old new r
     comes_refused writer_new new r bad takes empty s = comes_stopped writer_new new Memory r bad memory_read (session_stopped s Memory ([], omega arith, (λ none. takes), empty))
 
-    -- the reader failed once all was answered and written, and nothing is unread
+    -- the reader failed after all was answered and written, and no byte is unread
     pub comes_unread : (reader_new : Option (List ℕ)) (fault : SessionFault) (r : Result ⊤ SessionFault) → IsErrAnd r (λ e. e ≡ fault) → fault ≡ Reader → input.unread ≡ [] → output ≡ [] → ReadsInVain now.remaining reader_new input.budget
         → Serves rules over asks looks most takes_memory first.unread first.budget before (streams reader_new now.contents) old desk r
     comes_unread reader_new fault r bad read none empty vain = err_case (Serves rules over asks looks most takes_memory first.unread first.budget before (streams reader_new now.contents) old desk) r bad
@@ -96,7 +96,7 @@ module _ {State : Type 0} {rules : State → Rules} {over : State → Bool} {ask
         (λ more. absurd (omega (arith, within, c.within, more.0, more.1, length-append c.taken vain.0)))
         vain.2)))
 
-    -- what is unread is answered, and all that was answered is written
+    -- the unread bytes are answered, and all answers are written
     module _ {next : State} {writer_next : Option (List ℕ)} {line_next unread_next output_next output_sent : List ℕ}
         (t : Session rules over asks looks most takes_memory (c.session.rest ++ input.unread) desk next now.contents writer_next output line_next unread_next output_next)
         (writer_sent : Option (List ℕ)) (w : Appends writer_next writer_sent output_next) (empty : output_sent ≡ []) where
@@ -114,7 +114,7 @@ module _ {State : Type 0} {rules : State → Rules} {over : State → Bool} {ask
             (session_read comes_session chunk.unread none);
       }
 
-      -- the session stands after that
+      -- the session behind that chunk
       pub comes_sent : (input_next : Pending) → unread_next ≡ input_next.unread → input_next.budget ≡ input.budget → Comes rules over asks looks most takes_memory first before old (streams now.remaining writer_sent) next input_next line_next output_sent
       comes_sent input_next same kept = record {
         taken = c.taken;

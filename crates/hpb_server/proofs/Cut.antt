@@ -1,4 +1,4 @@
--- A line cut off what was read.
+-- A line cut off the bytes that were read.
 use Rattle.std.proofs.Common.{◌≡◌, ℕ, suc, ◌+◌, ◌-◌, ◌<◌, ◌≤◌, List, ◌∷◌, ◌++◌, length, get_or, take, drop, refl, sym, ap, ◌∙◌, subst, arith, add-one, take-append-drop}
 use Rattle.std.specs.Prelude.{slice_range, Some}
 use Rattle.std.proofs.lemmas.List.{drop-drop, drop-take, length-take}
@@ -7,7 +7,7 @@ use Rattle.hpb_server.specs.declared.input.TheConstants.{LINE_FEED}
 use Rattle.hpb_server.specs.declared.line.TheConstants.{KEPT_BYTES}
 use Rattle.hpb_server.specs.Reading.{Pending, FindsEnd, HasNoEnd, SkipsLine, TakesToEnd}
 
--- what is left of a part once its front is gone
+-- the rest of a part behind its first bytes
 drop-slice_range : (xs : List ℕ) (i j n : ℕ) → n ≤ j - i → drop n (slice_range xs i j) ≡ slice_range xs (i + n) j
 drop-slice_range xs i j n within =
     let whole : j - i ≡ n + (j - (i + n)) = omega arith in
@@ -22,9 +22,9 @@ around xs n x within is =
     ∙ ap (λ ys. take n xs ++ ys) (drop-cons xs n 0 within ∙ ap (λ y. y ∷ drop (suc n) xs) is)
     ∙ ap (λ k. take n xs ++ x ∷ drop k xs) (sym (add-one n))
 
--- a line whose end is found, with what was kept of its start
+-- a line whose end was found, with the kept bytes of its start
 module _ {before : Pending} {size : ℕ} {front line : List ℕ} (found : FindsEnd before.unread (Some size)) (lies : front ≡ take size before.unread) where
-  -- it is not yet taken
+  -- the line isn't taken yet
   pub line_found : TakesToEnd KEPT_BYTES before (record { unread = drop (size + 1) before.unread; budget = before.budget }) line (take KEPT_BYTES (line ++ front))
   line_found = record {
     bytes = front;
@@ -34,7 +34,7 @@ module _ {before : Pending} {size : ℕ} {front line : List ℕ} (found : FindsE
     nothing_read = refl;
   }
 
-  -- it is
+  -- the line is taken
   pub line_taken : {after : Pending} → SkipsLine size before after → TakesToEnd KEPT_BYTES before after line (take KEPT_BYTES (line ++ front))
   line_taken {after = after} skips = record {
     bytes = front;
@@ -44,7 +44,7 @@ module _ {before : Pending} {size : ℕ} {front line : List ℕ} (found : FindsE
     nothing_read = skips.nothing_read;
   }
 
--- a part around one place, and what is left of it behind that place
+-- a part around one place, and the rest of it behind that place
 pub cut_part : (chunk xs part : List ℕ) (i j n x : ℕ) → xs ≡ chunk → slice_range chunk i j ≡ part → n < length (slice_range xs i j) → get_or (slice_range xs i j) n 0 ≡ x
     → part ≡ take n (slice_range xs i j) ++ x ∷ slice_range chunk (i + (n + 1)) j
 cut_part chunk xs part i j n x same seen within is =

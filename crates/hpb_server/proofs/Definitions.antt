@@ -11,7 +11,7 @@ use Rattle.hpb_server.specs.declared.input.TheConstants.{LINE_FEED, KEPT_DEFINIT
 use Rattle.hpb_rules.specs.Lines.{is_line_feed}
 use Rattle.hpb_server.specs.Reading.{Pending, HasNoEnd, TakesToEnd, TakesAll, TakesWithin, EndsDefinition, GivesDefinition, ReadsInVain, ReadsWithin}
 
--- so many bytes were taken and have no end, and so many of them are kept; the rest is unread
+-- bytes without a line's end were taken, and the first of them are kept; the rest is unread
 pub record Taken (old new : Option (List ℕ)) (budget : ℕ) (input : Pending) (text : List ℕ) : Type 0 where
   pub bytes : List ℕ
   pub no_end : HasNoEnd bytes
@@ -29,11 +29,11 @@ none_taken old input text none empty = record {
   consumed = subst (TakesWithin old old input.budget input.budget) (sym none) (Consumes-nil old, omega arith);
 }
 
--- some bytes were taken, and no more than may be
+-- bytes were taken, and no more than may be
 pub taken_within : {old new : Option (List ℕ)} {budget : ℕ} {input : Pending} {text : List ℕ} → Taken old new budget input text → ReadsWithin old new budget
 taken_within {input = input} t = (t.bytes ++ input.unread, t.consumed.0, omega (arith, t.consumed.1))
 
--- what is read in vain is within what may be taken
+-- bytes read in vain are within those that may be taken
 abbrev pub vain_within : (old new : Option (List ℕ)) (budget : ℕ) → ReadsInVain old new budget → ReadsWithin old new budget
 vain_within old new budget vain = (vain.0, vain.1, ⊎_elim (λ none. omega (arith, ap length none)) (λ some. omega (arith, some.1)) vain.2)
 
@@ -41,14 +41,14 @@ vain_within old new budget vain = (vain.0, vain.1, ⊎_elim (λ none. omega (ari
 same_taken : (old new : Option (List ℕ)) (budget before after : ℕ) (xs ys : List ℕ) → before ≡ after → xs ≡ ys → TakesWithin old new budget before xs → TakesWithin old new budget after ys
 same_taken old new budget before after xs ys e f t = (subst (Consumes old new) f t.0, omega (arith, t.1, e, ap length f))
 
--- to keep what is kept and more is to keep of all
+-- keeping the first of kept bytes and more is the same as keeping the first of all
 pub take-take-append : (n : ℕ) (xs ys : List ℕ) → take n (take n xs ++ ys) ≡ take n (xs ++ ys)
 take-take-append n xs ys = ⊎_elim
     (λ short. ap (λ zs. take n (zs ++ ys)) (take_all n xs (omega arith)))
     (λ long. take-append-le n (take n xs) ys (omega (arith, length-take n xs)) ∙ take_all n (take n xs) (omega (arith, length-take n xs)) ∙ sym (take-append-le n xs ys long))
     (cases_lt (length xs) n)
 
--- where an end was met, the definition is whole
+-- if an end was met, the definition is whole
 pub taken_line : {old new : Option (List ℕ)} {budget : ℕ} {before after : Pending} {kept : List ℕ} {text : DefinitionText} → Taken old new budget before kept → TakesToEnd KEPT_DEFINITION_BYTES before after kept text.bytes.items → text.has_end ≡ true
     → GivesDefinition old new budget after text
 taken_line {old = old} {new = new} {budget = budget} {before = before} {after = after} {text = text} t part end = record {
@@ -59,7 +59,7 @@ taken_line {old = old} {new = new} {budget = budget} {before = before} {after = 
       (same_taken old new budget before.budget after.budget (t.bytes ++ before.unread) ((t.bytes ++ part.bytes) ++ LINE_FEED ∷ after.unread) (sym part.nothing_read) (ap (λ zs. t.bytes ++ zs) part.parts ∙ sym (append_assoc t.bytes part.bytes (LINE_FEED ∷ after.unread))) t.consumed);
 }
 
--- where no end was met
+-- if no end was met
 module _ {old new : Option (List ℕ)} {budget : ℕ} {before between : Pending} {kept more : List ℕ} (t : Taken old new budget before kept) (part : TakesAll KEPT_DEFINITION_BYTES before between kept more) where
   all_bytes : List ℕ
   all_bytes = t.bytes ++ before.unread
@@ -85,11 +85,11 @@ module _ {old new : Option (List ℕ)} {budget : ℕ} {before between : Pending}
     consumed = (Consumes-trans old new now all_bytes after.unread all_consumed.0 next, omega (arith, all_consumed.1, less, length-append all_bytes after.unread));
   }
 
-  -- some bytes more were read in vain
+  -- more bytes were read in vain
   pub taken_in_vain : (now : Option (List ℕ)) → ReadsWithin new now between.budget → ReadsWithin old now budget
   taken_in_vain now vain = (all_bytes ++ vain.0, Consumes-trans old new now all_bytes vain.0 all_consumed.0 vain.1, omega (arith, all_consumed.1, vain.2, length-append all_bytes vain.0))
 
-  -- so much was read that it is no definition
+  -- so many bytes were read that they can't be a definition
   pub taken_too_much : {text : DefinitionText} → more ≡ text.bytes.items → text.has_end ≡ false → MOST_DEFINITION_BYTES < length more → GivesDefinition old new budget between text
   taken_too_much {text = text} is end long = record {
     bytes = all_bytes;

@@ -1,4 +1,4 @@
--- What people are told behind the answers of refused commands.
+-- The reasons for people behind the answers to refused commands.
 use Rattle.std.proofs.Common.{ℕ, Bool, true, false, List, [], ◌∷◌, ◌++◌, Option, refl, sym, subst, append-nil}
 use Rattle.std.specs.Io.KnownBytes.{Appends}
 use Rattle.std.specs.List.{concat}
@@ -11,15 +11,15 @@ use Rattle.hpb_rules.specs.AuctionValue.{AuctionValue}
 use Rattle.hpb_server.specs.Desk.{LooksStay, ShowsItself}
 use Rattle.hpb_server.specs.Telling.{accepted_text, sentence, Explains, ExplainsAt, IsOfSentence, Says, SaysAccepted}
 
--- nothing is the front of each text
+-- the empty text is a front of each text
 pub said_none : (a : Option (List ℕ)) (text : List ℕ) → Says a a text
 said_none a text = ([], Appends-nil a, (text, refl))
 
--- nothing was told
+-- no reason was written
 pub explained_none : (a : Option (List ℕ)) → Explains a a
 explained_none a = ([], All-nil IsOfSentence, Appends-nil a)
 
--- of one command it was
+-- a reason for one command was written
 pub explained_one : (a b : Option (List ℕ)) (value : AuctionValue) (command : Command) (refusal : Refusal) → Says a b (sentence value command refusal) → Explains a b
 explained_one a b value command refusal says = (
   says.0 ∷ [],
@@ -27,7 +27,7 @@ explained_one a b value command refusal says = (
   subst (λ (sent : List ℕ). Appends a b sent) (sym (append-nil says.0)) says.1,
 )
 
--- more was told
+-- reasons after reasons
 explained_more : (a b c : Option (List ℕ)) → Explains a b → Explains b c → Explains a c
 explained_more a b c first second = (
   first.0 ++ second.0,
@@ -35,25 +35,25 @@ explained_more a b c first second = (
   subst (λ (sent : List ℕ). Appends a c sent) (sym (concat-append first.0 second.0)) (Appends-trans a b c (concat first.0) (concat second.0) first.2 second.2),
 )
 
--- nothing was told, at a terminal or elsewhere
+-- no reason was written, at a terminal or elsewhere
 pub explained_at_none : (is_terminal : Bool) (a : Option (List ℕ)) → ExplainsAt is_terminal a a
 explained_at_none true a = explained_none a
 explained_at_none false a = Keeps-refl a
 
--- more was told
+-- reasons after reasons, at a terminal or elsewhere
 pub explained_at_more : (is_terminal : Bool) (a b c : Option (List ℕ)) → ExplainsAt is_terminal a b → ExplainsAt is_terminal b c → ExplainsAt is_terminal a c
 explained_at_more true a b c first second = explained_more a b c first second
 explained_at_more false a b c first second = Keeps-trans a b c first second
 
--- a definition was accepted, and nothing else is said
+-- a definition was accepted, and nothing else was written
 pub accepted_only : (is_terminal : Bool) (a b : Option (List ℕ)) → Says a b (accepted_text is_terminal) → SaysAccepted is_terminal a b
 accepted_only is_terminal a b says = (b, says, explained_at_none is_terminal b)
 
--- nor is that said
+-- not even that was written
 pub accepted_none : (is_terminal : Bool) (a : Option (List ℕ)) → SaysAccepted is_terminal a a
 accepted_none is_terminal a = accepted_only is_terminal a a (said_none a (accepted_text is_terminal))
 
--- a look that leaves a desk at some state has left it at the one that it stood at
+-- a look that leaves a desk at some state leaves it at its state before
 module _ {Desk State : Type 0} (is_at : Desk → State → Type 0) (looks : State → Option AuctionValue → State → Type 0) (stays : LooksStay looks) (state : State) (shown : Option AuctionValue) {desk : Desk} (looked : (next : State) × looks state shown next × is_at desk next) where
   pub look_keeps : is_at desk state
   look_keeps = subst (λ (next : State). is_at desk next) (stays state looked.0 shown looked.1) looked.2
@@ -61,6 +61,6 @@ module _ {Desk State : Type 0} (is_at : Desk → State → Type 0) (looks : Stat
   pub look_shows : looks state shown state
   look_shows = subst (λ (next : State). looks state shown next) (stays state looked.0 shown looked.1) looked.1
 
--- a look at an auction in memory leaves it as it is
+-- a look at an auction in memory doesn't change it
 pub itself_stays : LooksStay ShowsItself
 itself_stays old new shown looks = looks.1

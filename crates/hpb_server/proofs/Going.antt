@@ -1,4 +1,4 @@
--- What a session tells of goes on from what its desk told of before.
+-- The history that a session shows continues the one that its desk showed before.
 use Rattle.std.proofs.Common.{ℕ, Bool, true, false, List, [], ◌∷◌, ◌++◌, reverse, length, Option, sym, subst, append-nil, ⊎_elim, inl, inr}
 use Rattle.std.specs.Prelude.{Result, Ok, Err, Some, None, if◌then◌else◌, ⊤}
 use Rattle.std.specs.List.{slice_split}
@@ -23,7 +23,7 @@ after_front : (b : Bool) (past : List Command) (asked : Command) → IsFront (re
 after_front true past asked = (reverse (asked ∷ []), reverse-append (asked ∷ []) past)
 after_front false past asked = ([], sym (append-nil (reverse past)))
 
--- the history after a command goes on from the one before it
+-- the history after a command continues the one before it
 command_goes : (rules : Rules) (history : List Command) (asked : Command) → IsFront history (history_after rules history asked)
 command_goes rules history asked =
     subst (λ (front : List Command). IsFront front (history_after rules history asked)) (reverse-reverse history)
@@ -63,7 +63,7 @@ module _ {State : Type 0} (rules : State → Rules) (over : State → Bool) (ask
       let first : GoesOn told (tells h.3) = request_goes (request_of (rules old) line) old h.3 h.1 told h.4 is in
       goes_trans told h.3 new first (lines_go (following ∷ more) h.3 new h.2 first.0 h.5 first.2)
 
-  -- whatever ends a session
+  -- whatever the end of a session is
   pub session_goes : (most : ℕ) (takes_memory : Bool) (unread : List ℕ) (budget : ℕ) (before after : Streams) (old new : State) (told : List Command) (result : Result ⊤ SessionFault)
       → Serves rules over asks looks most takes_memory unread budget before after old new result → tells old told → GoesOn told (tells new)
   session_goes most takes_memory unread budget before after old new told (Ok done) s is = lines_go (slice_split is_line_feed (unread ++ s.taken)) old new s.text told s.answers is

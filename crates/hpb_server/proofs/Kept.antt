@@ -1,4 +1,4 @@
--- The bytes of a line that are kept.
+-- The kept bytes of a line.
 use Rattle.std.proofs.Common.{◌≡◌, ℕ, ◌+◌, ◌-◌, ◌≤◌, ◌==◌, true, List, [], ◌∷◌, ◌++◌, refl, length, take, sym, ap, ◌∙◌, arith}
 use Rattle.std.proofs.lemmas.Bool.{eqb-true}
 use Rattle.std.proofs.lemmas.List.{length-take-le}
@@ -7,7 +7,7 @@ use Rattle.std.proofs.Math.Seq.{take-append-add}
 use borrow.Rule.Slice.PartMut.{put_mid}
 use Rattle.hpb_server.specs.declared.line.TheConstants.{KEPT_BYTES}
 
--- what stands in the buffer once a part is added
+-- the bytes of the buffer after a part was added
 pub kept_more : (bytes now part added : List ℕ) (used n k : ℕ) → take used bytes ≡ now → used ≤ KEPT_BYTES → length bytes ≡ KEPT_BYTES
     → added ≡ take (KEPT_BYTES - used) part → n ≡ used + length added → take n (put_mid used k bytes added) ≡ take KEPT_BYTES (now ++ part)
 kept_more bytes now part added used n k seen within size is grown =
@@ -25,7 +25,7 @@ kept_within most old part within =
     let whole : length old + (most - length old) ≡ most = omega arith in
     ap (λ i. take i (old ++ part)) (sym whole) ∙ take-append-add old part (most - length old)
 
--- of no bytes none are kept
+-- no bytes are kept of an empty line
 pub none_kept : (xs : List ℕ) → (length xs == 0) ≡ true → xs ≡ []
 none_kept [] h = refl
 none_kept (x ∷ xs) h = absurd (omega (arith, eqb-true (length (x ∷ xs)) 0 h))

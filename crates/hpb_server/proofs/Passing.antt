@@ -23,11 +23,11 @@ memory_read e = absurd (let no : Memory ≡ Reader = e in cc)
 pub writer_read : Writer ≢ Reader
 writer_read e = absurd (let no : Writer ≡ Reader = e in cc)
 
--- ---- what is left
+-- ---- the lines that are left
 pub some_lines : {A : Type 0} → false ≡ true → A
 some_lines e = absurd (let no : false ≡ true = e in cc)
 
--- what is left of few answers is left of more
+-- a bound on the answers left unwritten may be raised
 pub left_weaker : {few most : ℕ} (takes_memory : Bool) (fault : SessionFault) (left : List ℕ) → few ≤ most → IsLeft few false fault left → IsLeft most takes_memory fault left
 left_weaker takes_memory Memory left fewer h = (h.0, omega (arith, fewer, h.1), λ none. some_lines (h.2 none), h.3)
 left_weaker takes_memory Reader left fewer h = h
@@ -48,13 +48,13 @@ passes_first most takes_memory old now new bytes output text left r first p = pa
     passed (Ok done) p = (first.0 ++ p.0, Appends-trans old now new first.0 p.0 first.1 p.1, joined p.0 left p.2)
     passed (Err fault) p = (p.0, first.0 ++ p.1, Appends-trans old now new first.0 p.1 first.1 p.2, (p.3.0, joined p.1 p.3.0 p.3.1), p.4)
 
--- the writer failed before anything came after it
+-- the writer failed before anything else was written
 pub first_fails : (most : ℕ) (takes_memory : Bool) (old new : Option (List ℕ)) (bytes output left : List ℕ) (fault : SessionFault) (r : Result ⊤ SessionFault) → IsErrAnd r (λ e. e ≡ fault) → Passes 0 false old new bytes output (Err fault) → Passes most takes_memory old new (bytes ++ []) left r
 first_fails most takes_memory old new bytes output left fault r bad p = err_case (Passes most takes_memory old new (bytes ++ []) left) r bad
     (λ other is. subst (λ (f : SessionFault). Passes most takes_memory old new (bytes ++ []) left (Err f)) (sym is)
     (subst (λ (xs : List ℕ). Passes most takes_memory old new xs left (Err fault)) (sym (append-nil bytes)) (passes_weaker takes_memory old new bytes left (Err fault) (omega arith) p)))
 
--- what a fault of the writer leaves
+-- the bytes that a fault of the writer leaves unwritten
 front_left : (most : ℕ) (takes_memory : Bool) (old new : Option (List ℕ)) (bytes sent rest : List ℕ) (fault : SessionFault) → fault ≡ Writer → Appends old new sent → bytes ≡ sent ++ rest
     → (fault ≢ Reader) × (sent : List ℕ) × Appends old new sent × (front : IsFront sent bytes) × IsLeft most takes_memory fault front.0
 front_left most takes_memory old new bytes sent rest fault is written parts =
@@ -91,7 +91,7 @@ line_cut old new {bytes = bytes} answer left r e p =
 pub line_refused : (old new : Option (List ℕ)) {bytes output : List ℕ} (answer left : List ℕ) (r : Result ⊤ SessionFault) → IsErrAnd r (λ e. e ≡ Memory) → output ≡ bytes → Appends old new output → PassesLine old new (bytes ++ line_of answer) left r
 line_refused old new answer left r bad e s = line_cut old new answer left r e (lines_refused 1 false old new (answer ∷ []) left r bad (omega arith) (λ none. absurd (cc)) refl s)
 
--- ---- answers that came together
+-- ---- answers added together
 pub lines_append : (xs ys : List (List ℕ)) → lines_of (xs ++ ys) ≡ lines_of xs ++ lines_of ys
 lines_append [] ys = refl
 lines_append (x ∷ xs) ys = ap (λ zs. line_of x ++ zs) (lines_append xs ys) ∙ sym (append_assoc (line_of x) (lines_of xs) (lines_of ys))
@@ -100,7 +100,7 @@ pub texts_append : (xs ys : List Reply) → replies_text (xs ++ ys) ≡ replies_
 texts_append [] ys = refl
 texts_append (x ∷ xs) ys = ap (λ zs. line_of (reply_text x) ++ zs) (texts_append xs ys) ∙ sym (append_assoc (line_of (reply_text x)) (replies_text xs) (replies_text ys))
 
--- in a loop over replies, so far and one more
+-- a loop over replies: those so far, and one more
 module _ (items replies : List Reply) (same : items ≡ replies) (at : ℕ) (other : Reply) (inside : at < length items) where
   abbrev reply : Reply
   reply = get_or items at other
@@ -143,7 +143,7 @@ module _ (items replies : List Reply) (same : items ≡ replies) (at : ℕ) (oth
     left_more Reader left other h = absurd (other refl)
     left_more Writer left other h = tt
 
-    -- it is not, and so are those behind it
+    -- it isn't added, and neither are those behind it
     pub reply_broken : (output_new : List ℕ) (fault : SessionFault) (r : Result ⊤ SessionFault) → IsErrAnd r (λ e. e ≡ fault) → Passes 1 false writer_now writer_new (output ++ line_of (reply_text reply)) output_new (Err fault)
         → Passes (length replies) false writer_old writer_new (output_old ++ replies_text replies) output_new r
     reply_broken output_new fault r bad p = err_case (Passes (length replies) false writer_old writer_new (output_old ++ replies_text replies) output_new) r bad

@@ -1,4 +1,4 @@
--- Questions, whichever they are.
+-- Questions of any kind.
 use Rattle.std.proofs.Common.{ℕ, ◌<◌, Bool, List, Option, sym, subst}
 use Rattle.std.specs.Prelude.{Ok}
 use Rattle.hpb_rules.specs.declared.command.Command.{Command}
@@ -12,14 +12,14 @@ use Rattle.hpb_server.specs.Desk.{HasPlaces}
 use Rattle.hpb_server.specs.Serving.{AnswersLook, AnswersRequest}
 use Rattle.hpb_server.specs.Session.{view_in, IsQuestion}
 
--- an auction has a place for what is asked of its definition
+-- an auction has a place for each thing that a question of its definition names
 pub question_known : (definition shown : Rules) (request : Request) → IsQuestion (Ok request) → HasPlaces definition shown → IsRequestOf definition request → IsRequestOf shown request
 question_known definition shown (requests.Command command) question places known = absurd question
 question_known definition shown requests.Show question places known = tt
 question_known definition shown (requests.Node place) question places known = subst (λ (count : ℕ). place < count) (sym places.0) known
 question_known definition shown (requests.Who from) question places known = subst (λ (count : ℕ). from < count) (sym places.1) known
 
--- what the desk shows of it is its answer
+-- the auction that the desk shows gives its answer
 pub question_answered : {State : Type 0} (rules : State → Rules) (over : State → Bool) (asks : State → Command → Reply → State → Type 0) (looks : State → Option AuctionValue → State → Type 0) {old new : State} {answer : List ℕ} (request : Request) → IsQuestion (Ok request)
     → AnswersLook looks (view_in request) old answer new → AnswersRequest rules over asks looks old (Ok request) answer new
 question_answered rules over asks looks (requests.Command command) question looked = absurd question

@@ -1,4 +1,4 @@
--- Lines whose commands wait to be asked, and what is answered to them line by line.
+-- Lines whose commands wait to be asked, and their answers, line by line.
 use Rattle.std.proofs.Common.{◌≡◌, ℕ, ◌<◌, ◌≤◌, Bool, true, false, List, [], ◌∷◌, ◌++◌, length, take, Option, refl, sym, ap, ◌∙◌, subst, arith, append_assoc, append-nil, inl, inr}
 use Rattle.std.specs.Prelude.{Result, Ok, Err, OnOk, ⊤}
 use Rattle.std.specs.Result.{IsErrAnd, IsOk}
@@ -57,14 +57,14 @@ pub waits_more_in : (old new : List Command) (command : Command) {E : Type 0} (r
 waits_more_in old new command (Ok done) room pushed = sym (ap asked_for pushed ∙ map-append _ old (command ∷ []))
 waits_more_in old new command (Err error) room pushed = absurd (let no : false ≡ true = room in cc)
 
--- ---- what is written before requests are asked
+-- ---- the bytes written before requests are asked
 module _ {State : Type 0} (rules : State → Rules) (over : State → Bool) (asks : State → Command → Reply → State → Type 0) (looks : State → Option AuctionValue → State → Type 0) (most : ℕ) (takes_memory : Bool) {state : State} {asked : List (Result Request Refusal)} {old now : Option (List ℕ)} {bytes : List ℕ} where
   -- nothing is asked
   pub none_asked : {left : List ℕ} {queue : List Command} (r : Result ⊤ SessionFault) → Passes most takes_memory old now (bytes ++ []) left r → OnOk r (asked ≡ asked_for queue)
       → PassesRequests rules over asks looks most takes_memory state asked state old now bytes left queue r
   none_asked r p waits = record { answered = []; waiting = asked; text = []; parts = refl; answers = (refl, refl); passes = p; queued = waits }
 
-  -- since the writer failed
+  -- nothing is asked because the writer failed
   pub not_asked : (output : List ℕ) {left : List ℕ} {queue : List Command} (fault : SessionFault) (r : Result ⊤ SessionFault) → IsErrAnd r (λ e. e ≡ fault) → Passes 0 false old now bytes output (Err fault)
       → PassesRequests rules over asks looks most takes_memory state asked state old now bytes left queue r
   not_asked output {left = left} fault r bad p = none_asked r (first_fails most takes_memory old now bytes output left fault r bad p) (err_only _ _ r bad)
@@ -81,7 +81,7 @@ module _ {State : Type 0} (rules : State → Rules) (over : State → Bool) (ask
     queued = p.queued;
   }
 
--- ---- requests that are answered one after another
+-- ---- requests answered one after another
 module _ {State : Type 0} (rules : State → Rules) (over : State → Bool) (asks : State → Command → Reply → State → Type 0) (looks : State → Option AuctionValue → State → Type 0) where
   abbrev Answers : State → List (Result Request Refusal) → List ℕ → State → Type 0
   Answers = AnswersRequests rules over asks looks
@@ -114,7 +114,7 @@ module _ {State : Type 0} (rules : State → Rules) (over : State → Bool) (ask
   pub request_answered : (a b : State) (request : Result Request Refusal) (answer : List ℕ) → over a ≡ false → rules b ≡ rules a → AnswersRequest rules over asks looks a request answer b → Answers a (request ∷ []) (line_of answer) b
   request_answered a b request answer goes stays h = inr (goes, answer, [], b, stays, h, (refl, refl), sym (append-nil (line_of answer)))
 
-  -- a command that is asked by itself is passed
+  -- a command asked by itself is passed
   pub command_passed : (most : ℕ) (takes_memory : Bool) (a b : State) (command : Command) (reply : Reply) → 0 < most → over a ≡ false → rules b ≡ rules a → asks a command reply b
       → {writer_old writer_new : Option (List ℕ)} (output left : List ℕ) (r : Result ⊤ SessionFault) → PassesLine writer_old writer_new (output ++ line_of (reply_text reply)) left r
       → PassesRequests rules over asks looks most takes_memory a (Ok (requests.Command command) ∷ []) b writer_old writer_new output left [] r
@@ -128,7 +128,7 @@ module _ {State : Type 0} (rules : State → Rules) (over : State → Bool) (ask
     queued = ok_case r refl;
   }
 
-  -- commands that are asked together are answered one after another
+  -- commands asked together are answered one after another
   pub queue_answered : ((old new : State) (command : Command) (reply : Reply) → asks old command reply new → rules new ≡ rules old)
       → (old new : State) (commands : List Command) (replies : List Reply) → AsksAll asks over old commands replies new → Answers old (asked_for commands) (replies_text replies) new
   queue_answered stay old new [] replies h = (h.0, ap replies_text h.1)
@@ -136,7 +136,7 @@ module _ {State : Type 0} (rules : State → Rules) (over : State → Bool) (ask
   queue_answered stay old new (command ∷ more) replies (inr goes) =
       inr (goes.0, reply_text goes.1, replies_text goes.2, goes.3, stay old goes.3 command goes.1 goes.4, (goes.1, goes.4, refl), queue_answered stay goes.3 new more goes.2 goes.5, ap replies_text goes.6)
 
-  -- there is a reply for each at most
+  -- there is at most one reply for each
   pub fewer_replies : (old new : State) (commands : List Command) (replies : List Reply) → AsksAll asks over old commands replies new → length replies ≤ length commands
   fewer_replies old new [] replies h = omega (arith, ap length h.1)
   fewer_replies old new (command ∷ more) replies (inl ended) = omega (arith, ap length ended.2)
@@ -160,7 +160,7 @@ module _ {State : Type 0} (rules : State → Rules) (over : State → Bool) (ask
 
   -- ---- a front of requests is passed
   module _ (most : ℕ) (takes_memory : Bool) {old next : State} {asked : List (Result Request Refusal)} {writer_old writer_now : Option (List ℕ)} {output_old output_now : List ℕ} {queue : List Command} where
-    -- what stands behind them waits where it is broken off
+    -- if the session is broken off, the requests behind them are left
     pub passes_fewer : (more : List (Result Request Refusal)) (fault : SessionFault) (r : Result ⊤ SessionFault) → IsErrAnd r (λ e. e ≡ fault) → PassesRequests rules over asks looks most takes_memory old asked next writer_old writer_now output_old output_now queue (Err fault)
         → PassesRequests rules over asks looks most takes_memory old (asked ++ more) next writer_old writer_now output_old output_now queue r
     passes_fewer more fault r bad p = err_case (PassesRequests rules over asks looks most takes_memory old (asked ++ more) next writer_old writer_now output_old output_now queue) r bad
@@ -195,9 +195,9 @@ module _ {State : Type 0} (rules : State → Rules) (over : State → Bool) (ask
         both (Ok done) q = (p.passes.0 ++ q.0, Appends-trans writer_old writer_now writer_new p.passes.0 q.0 p.passes.1 q.1, owed q.0 output_new q.2)
         both (Err fault) q = (q.0, p.passes.0 ++ q.1, Appends-trans writer_old writer_now writer_new p.passes.0 q.1 p.passes.1 q.2, (q.3.0, owed q.1 q.3.0 q.3.1), q.4)
 
-  -- ---- where a session stands while lines wait
+  -- ---- the state of a session while lines wait
   module _ (most : ℕ) (takes_memory : Bool) (start : List ℕ) (old now : State) (writer_old writer_now : Option (List ℕ)) (output_old : List ℕ) where
-    -- whole lines are answered, and lines after them spell these requests; what is not yet written is in the output
+    -- whole lines are answered, and the lines after them spell these requests; the unwritten answers are in the output
     pub record Waits (requests : List (Result Request Refusal)) (behind output_now : List ℕ) : Type 0 where
       pub done : List ℕ
       pub lines : List (List ℕ)
@@ -209,7 +209,7 @@ module _ {State : Type 0} (rules : State → Rules) (over : State → Bool) (ask
       pub written : Appends writer_old writer_now sent
       pub owed : output_old ++ text ≡ sent ++ output_now
 
-    -- so it does in the midst of one more line
+    -- the same in the middle of one more line
     pub record Queues (line : List ℕ) (queue : List Command) (unread output_now : List ℕ) : Type 0 where
       pub rest : List ℕ
       pub no_end : HasNoEnd rest
@@ -298,7 +298,7 @@ module _ {State : Type 0} {rules : State → Rules} {over : State → Bool} {ask
             left = p.passes.4;
           }
 
-  -- ---- in the midst of a line
+  -- ---- in the middle of a line
   module _ {start : List ℕ} {old now : State} {writer_old writer_now : Option (List ℕ)} {output_old output line : List ℕ} {queue : List Command} where
     -- nothing waits
     pub queues_session : {unread : List ℕ} → Queues rules over asks looks most takes_memory start old now writer_old writer_now output_old line queue unread output → queue ≡ []
@@ -349,7 +349,7 @@ module _ {State : Type 0} {rules : State → Rules} {over : State → Bool} {ask
     queues_asked (Ok done) q p stays none = queues_session (record { rest = q.rest; no_end = q.no_end; kept = q.kept; waits = waits_on q.waits p stays }) none
     queues_asked (Err fault) q p stays none = (p.passes.0, waits_broken q.waits fault p)
 
-    -- nothing of a line is taken
+    -- no byte of a line is taken
     pub queues_between : {unread : List ℕ} → Waits rules over asks looks most takes_memory start old now writer_old writer_now output_old (asked_for queue) unread output → line ≡ []
         → Queues rules over asks looks most takes_memory start old now writer_old writer_now output_old line queue unread output
     queues_between w none = record { rest = []; no_end = λ k d h. absurd (omega arith); kept = none; waits = w }

@@ -1,4 +1,4 @@
--- The line of a refused definition, and what people are told of it.
+-- The line of a refused definition, and the reason for people.
 use Rattle.std.proofs.Common.{◌≡◌, ℕ, Bool, List, take, drop, Option, refl, sym, ◌∙◌, subst, take-append-drop, inl, inr}
 use Rattle.std.specs.Prelude.{Result, Ok, Err}
 use Rattle.std.specs.Result.{IsErrAnd}
@@ -32,7 +32,7 @@ refusal_told old new fault refusal (Ok (Refused other)) told w = (subst (IsTold 
 refusal_told old new fault refusal (Err broken) told (inl none) = inl none
 refusal_told old new fault refusal (Err broken) told (inr some) = inr (some.0, refusal, some.1, told, some.2, some.3)
 
--- what is no want of memory is told by its number
+-- a refusal other than of memory is reported by its number
 pub told_by : (fault : DefineCause) (refusal : Refusal) → (fault ≡ defining.Memory → ⊥) → refusal ≡ refusal_of fault → IsTold fault refusal
 told_by defining.Memory refusal other is = absurd (other refl)
 told_by defining.Json refusal other is = is
@@ -47,14 +47,14 @@ told_as defining.Field refusal told = sym told
 told_as defining.Number refusal told = sym told
 told_as (defining.Refused fault) refusal told = sym told
 
--- people are told of the refusal that is written
+-- people get the reason for the refusal that is written
 pub said_of_refused : (is_terminal : Bool) (old new errors_old errors_new : Option (List ℕ)) (cause : DefineCause) (r : Result ScriptEnd SessionFault) → Refuses old new cause r
     → TellsOf errors_old errors_new (refusal_of cause) → SaysOfScript is_terminal errors_old errors_new r
 said_of_refused is_terminal old new errors_old errors_new cause (Ok Answered) w told = absurd w
 said_of_refused is_terminal old new errors_old errors_new cause (Ok (Refused refusal)) w told = subst (TellsOf errors_old errors_new) (told_as cause refusal w.0) told
 said_of_refused is_terminal old new errors_old errors_new cause (Err fault) w told = inr (refusal_of cause, told)
 
--- where a fault comes later, what was said stands
+-- a later fault doesn't take back a reason that was written
 pub said_before : (is_terminal : Bool) (errors_old errors_new : Option (List ℕ)) (fault : SessionFault) (r : Result ScriptEnd SessionFault) → IsErrAnd r (λ e. e ≡ fault)
     → SaysAccepted is_terminal errors_old errors_new → SaysOfScript is_terminal errors_old errors_new r
 said_before is_terminal errors_old errors_new fault r bad says = err_case (SaysOfScript is_terminal errors_old errors_new) r bad (λ other is. inl says)

@@ -1,4 +1,4 @@
--- A run of a script: the definition, and what comes after it.
+-- A run of a script: the definition, and the lines after it.
 use Rattle.std.proofs.Common.{◌≡◌, ◌≢◌, ℕ, ◌+◌, ◌<◌, ◌≤◌, Bool, true, false, List, [], ◌∷◌, ◌++◌, length, take, Option, refl, sym, ap, ◌∙◌, subst, arith, append_assoc, length-append, take_all, ⊎_elim, inl, inr}
 use Rattle.std.specs.Prelude.{Result, Ok, Err, ◌⊎◌}
 use Rattle.std.specs.Result.{IsErrAnd}
@@ -34,7 +34,7 @@ use Rattle.hpb_server.specs.Serving.{AreLines, Serves}
 use Rattle.hpb_server.specs.Desk.{rules_in, never_over, one_asked, no_memory, RepliesIn, ShowsItself}
 use Rattle.hpb_rules.specs.AuctionValue.{AuctionValue}
 
--- ---- the kept bytes of the first line tell what it is
+-- ---- the kept bytes of the first line decide whether it is JSON
 json_short : (bytes : List ℕ) → KEPT_DEFINITION_BYTES < length bytes → length (take KEPT_DEFINITION_BYTES bytes) ≤ MOST_DEFINITION_BYTES → ⊥
 json_short bytes long short = absurd (omega (arith, long, short, length-take KEPT_DEFINITION_BYTES bytes))
 
@@ -55,7 +55,7 @@ kept_answers kept bytes r is h = ⊎_elim
 pub given_answers : {old new : Option (List ℕ)} {budget : ℕ} {after : Pending} {text : DefinitionText} (given : GivesDefinition old new budget after text) {kept : List ℕ} (r : Result Rules DefineCause) → kept ≡ text.bytes.items → Answers kept r → Answers given.bytes r
 given_answers given {kept = kept} r same h = kept_answers kept given.bytes r (same ∙ given.kept) h
 
--- ---- the first line is read within what may be read
+-- ---- the first line is read within the bytes that may be read
 module _ {before : Pending} (is : before ≡ record { unread = []; budget = MOST_READ_BYTES }) where
   pub given_script : {old new : Option (List ℕ)} {after : Pending} {text : DefinitionText} → GivesDefinition old new before.budget after text → GivesDefinition old new MOST_READ_BYTES after text
   given_script {old = old} {new = new} {after = after} {text = text} = subst (λ (budget : ℕ). GivesDefinition old new budget after text) (ap (λ (p : Pending). p.budget) is)
@@ -183,7 +183,7 @@ module _ {reader_old reader_now : Option (List ℕ)} {input : Pending} {text : D
         written = subst (Appends writer_old writer_new) (text_is rules s.0 (input.unread ++ s.1.taken) s.1.text s.1.answers) s.1.written;
       }
 
-      -- where it is broken off
+      -- if the session is broken off
       answered_by : (fault : SessionFault) → AnswersScriptFront (streams reader_old writer_old) (streams reader_new writer_new) fault → RunsScript (streams reader_old writer_old) (streams reader_new writer_new) (Err fault)
       answered_by errors.Memory front = inr front
       answered_by errors.Reader front = inr front

@@ -19,7 +19,7 @@ use Rattle.hpb_server.specs.Script.{IsScriptText}
 use Rattle.hpb_server.specs.Serving.{AnswersInput, AreLines}
 use Rattle.hpb_server.proofs.Scripts.{lines_written, lines_front}
 
--- what an auction in memory answers to lines from the beginning is their text
+-- the answers of an auction in memory to lines from the beginning are their text
 pub text_is : (rules : Rules) (new : AuctionValue) (lines text : List ℕ) → AnswersInput rules_in never_over RepliesIn ShowsItself (first_value rules) lines text new → text ≡ lines_text rules [] lines
 text_is rules new lines text h = lines_written (slice_split is_line_feed lines) (first_value rules) new text h ∙ text_is_shown (first_value rules) [] lines (tt, refl)
 
@@ -29,7 +29,7 @@ text_grows rules done rest (inl lines) = lines_front rules [] done rest lines
 text_grows rules done rest (inr none) =
     subst (λ (all : List ℕ). IsFront (lines_text rules [] done) (lines_text rules [] all)) (sym (append-nil done) ∙ ap (λ xs. done ++ xs) (sym none)) (front_self (lines_text rules [] done))
 
--- a script of a definition's line and lines after it
+-- a script with a definition's line and lines after it
 abbrev pub script_is : (first : List ℕ) (rules : Rules) (lines : List ℕ) → HasNoEnd first → Answers first (Ok rules) → IsScriptText (first ++ LINE_FEED ∷ lines) (lines_text rules [] lines)
 script_is first rules lines no_end accepted = record {
   first = first;

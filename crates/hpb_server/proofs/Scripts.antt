@@ -1,4 +1,4 @@
--- The auction in memory: what it answers is the text by its history.
+-- The auction in memory: its answers are the text by its history.
 use Rattle.std.proofs.Common.{◌≡◌, ℕ, ◌≤◌, Bool, true, false, List, [], ◌∷◌, ◌++◌, reverse, length, ◌==◌, sym, ap, ◌∙◌, subst, arith, append_assoc, append-nil, ⊎_elim, inl, inr, refl}
 use Rattle.std.specs.Prelude.{Result, Ok, Err, if◌then◌else◌, ⊤}
 use Rattle.std.specs.Io.KnownBytes.{Appends}
@@ -32,7 +32,7 @@ use Rattle.hpb_server.specs.ScriptLaws.{InputIsText, ServesText, SessionIsText}
 abbrev Asked : AuctionValue → Result Request Refusal → List ℕ → AuctionValue → Type 0
 Asked = AnswersRequest rules_in never_over RepliesIn ShowsItself
 
--- a request is answered by the value, which becomes what follows from it
+-- a request is answered by the value, which becomes the next value
 answered : (request : Result Request Refusal) (old new : AuctionValue) (answer : List ℕ) → Asked old request answer new → (answer ≡ response_in old request) × (new ≡ value_after_request old request)
 answered (Err refusal) old new answer h = (h.1, h.0)
 answered (Ok (requests.Command asked)) old new answer h = (h.2 ∙ ap reply_text h.1.0, h.1.1)
@@ -58,7 +58,7 @@ lines_written (line ∷ following ∷ more) old new text (inr goes) =
     ∙ ap (λ xs. line_of xs ++ goes.2) a.0
     ∙ ap (λ xs. line_of (response_in old (request_of old.rules line)) ++ xs) (lines_written (following ∷ more) goes.3 new goes.2 goes.5 ∙ ap (λ (v : AuctionValue). lines_in v (following ∷ more)) a.1)
 
--- ---- what it then shows
+-- ---- the definition and the history that it then shows
 request_rules : (value : AuctionValue) (request : Result Request Refusal) → (value_after_request value request).rules ≡ value.rules
 request_rules value (Err refusal) = refl
 request_rules value (Ok requests.Show) = refl
@@ -100,7 +100,7 @@ lines_front rules history done rest whole = ⊎_elim
     (subst (λ (xs : List ℕ). IsFront (lines_text rules history (some.0 ++ LINE_FEED ∷ [])) (lines_text rules history xs)) (sym (append_assoc some.0 (LINE_FEED ∷ []) rest)) (lines_text_grows rules history some.0 rest)))
     whole
 
--- what is left of a session is no more than the last line
+-- a session leaves at most the last line unwritten
 pub last_left : (fault : SessionFault) (left : List ℕ) → IsLeft one_asked no_memory fault left → IsLeftOfScript fault left
 last_left Reader left h = h
 last_left Writer left h = h
@@ -148,7 +148,7 @@ session_is_text budget before after old new history (Err fault) shows (inr s) =
       shows = is.1;
     })
 
--- so does one that is told by the states of its desk
+-- so does a session that is described by the states of its desk
 pub moved_is_text : (budget : ℕ) (before after : Streams) (old new : AuctionValue) (history : List Command) (result : Result ⊤ SessionFault)
     → Shows old history → Moves IsItself old new (λ state next. Serves rules_in never_over RepliesIn ShowsItself one_asked no_memory [] budget before after state next result)
     → ServesText old.rules history budget before after new result

@@ -1,4 +1,4 @@
--- Where a session stands, line by line.
+-- The state of a session, line by line.
 use Rattle.std.proofs.Common.{◌≡◌, ℕ, Bool, List, [], ◌++◌, take, drop, Option, refl, sym, ap, ◌∙◌, append_assoc, append-nil, take-append-drop}
 use Rattle.std.specs.Io.KnownBytes.{Appends}
 use Rattle.std.proofs.KnownBytes.{Appends-nil, Appends-trans}
@@ -15,7 +15,7 @@ use Rattle.hpb_server.specs.Session.{Session, Broken}
 use Rattle.hpb_server.proofs.WholeLines.{leads_none, leads_append}
 
 module _ {State : Type 0} {rules : State → Rules} {over : State → Bool} {asks : State → Command → Reply → State → Type 0} {looks : State → Option AuctionValue → State → Type 0} {most : ℕ} {takes_memory : Bool} where
-  -- where a session begins
+  -- the state at the start of a session
   pub session_begins : (partial : List ℕ) {line unread output : List ℕ} {desk : State} {writer : Option (List ℕ)} → HasNoEnd partial → line ≡ take KEPT_BYTES partial
       → Session rules over asks looks most takes_memory (partial ++ unread) desk desk writer writer output line unread output
   session_begins partial {output = output} {desk = desk} {writer = writer} no_end kept = record {
@@ -31,7 +31,7 @@ module _ {State : Type 0} {rules : State → Rules} {over : State → Bool} {ask
     owed = append-nil output;
   }
 
-  -- ---- a session and what comes after it
+  -- ---- a session and its continuation
   module _ {start : List ℕ} {old now : State} {writer_old writer_now : Option (List ℕ)} {output_old line unread output : List ℕ} (s : Session rules over asks looks most takes_memory start old now writer_old writer_now output_old line unread output) where
     parts_after : (done rest : List ℕ) → s.rest ++ unread ≡ done ++ rest → start ≡ (s.done ++ done) ++ rest
     parts_after done rest e = s.parts ∙ ap (λ xs. s.done ++ xs) e ∙ sym (append_assoc s.done done rest)
@@ -98,7 +98,7 @@ module _ {State : Type 0} {rules : State → Rules} {over : State → Bool} {ask
       left = tt;
     }
 
-    -- it is broken off where it stands
+    -- it is broken off at this point
     abbrev pub session_stopped : (fault : SessionFault) → IsLeft most takes_memory fault output → Broken rules over asks looks most takes_memory start old now writer_old writer_now output_old fault
     session_stopped fault left = record {
       done = s.done;
@@ -112,7 +112,7 @@ module _ {State : Type 0} {rules : State → Rules} {over : State → Bool} {ask
       left = left;
     }
 
-    -- more is read where nothing is unread
+    -- more is read if no byte is unread
     pub session_read : (more : List ℕ) → unread ≡ [] → Session rules over asks looks most takes_memory (start ++ more) old now writer_old writer_now output_old line more output
     session_read more none = record {
       done = s.done;

@@ -1,4 +1,4 @@
--- Whole lines, and what a desk answers to them and to what comes after them.
+-- Whole lines, and the answers to them and to the bytes behind them.
 use Rattle.std.proofs.Common.{◌≡◌, ℕ, Bool, true, false, ◌||◌, eqb, List, [], ◌∷◌, ◌++◌, length, Option, refl, sym, ap, ◌∙◌, subst, append_assoc, append-nil, ⊎_elim, inl, inr}
 use Rattle.std.specs.Prelude.{if◌then◌else◌}
 use Rattle.std.specs.List.{slice_split}
@@ -50,7 +50,7 @@ module _ {State : Type 0} (rules : State → Rules) (over : State → Bool) (ask
   pub over_answered : (d : State) (input : List ℕ) → over d ≡ true → AnswersInput rules over asks looks d input [] d
   over_answered d input is = over_lines d (slice_split is_line_feed input) is
 
-  -- what is answered then is nothing
+  -- the answer is empty then
   nothing_over : (d e : State) (lines : List (List ℕ)) (text : List ℕ) → over d ≡ true → AnswersLines rules over asks looks d lines text e → (e ≡ d) × (text ≡ [])
   nothing_over d e [] text is h = h
   nothing_over d e (last ∷ []) text is h = (h.0, h.1 ∙ ap (λ b. if b then [] else unfinished_text) (ap (λ b. eqb (length last) 0 || b) is ∙ or_true (eqb (length last) 0)))
@@ -82,7 +82,7 @@ module _ {State : Type 0} {rules : State → Rules} {over : State → Bool} {ask
         (before_parts rules over asks looks a b end line answer rest (slice_split is_line_feed more) (split_filled is_line_feed more) h goes k);
   }
 
-  -- lines after which the session was over already get no answer
+  -- lines get no answer if the session was over before them
   pub leads_over : (d : State) (lines : List (List ℕ)) → over d ≡ true → Leads rules over asks looks d (lines_of lines) [] d
   leads_over d lines is = record {
     whole = lines_whole lines;
@@ -99,12 +99,12 @@ module _ {State : Type 0} {rules : State → Rules} {over : State → Bool} {ask
         subst (λ (input : List ℕ). AnswersInput rules over asks looks a input text b) (append-nil done)
         (subst (λ (out : List ℕ). AnswersInput rules over asks looks a (done ++ []) out b) (append-nil text) (p.goes_on [] [] b (refl, refl)))
 
-    -- the text of whole lines and of a last one without its end
+    -- the text of whole lines and of a last line without an end
     pub last_answered : (last : List ℕ) → HasNoEnd last → over b ≡ false → AnswersInput rules over asks looks a (done ++ last) (text ++ (if eqb (length last) 0 then [] else unfinished_text)) b
     last_answered last no_end goes = p.goes_on last (if eqb (length last) 0 then [] else unfinished_text) b
         (subst (λ (lines : List (List ℕ)). AnswersLines rules over asks looks b lines (if eqb (length last) 0 then [] else unfinished_text) b) (sym (slice_split_none is_line_feed last no_end))
         (refl, ap (λ (x : Bool). if x then [] else unfinished_text) (sym (ap (λ (x : Bool). eqb (length last) 0 || x) goes ∙ or_false (eqb (length last) 0)))))
 
-    -- the text of whole lines, where the session is over after them, whatever comes then
+    -- the text of whole lines if the session is over after them, whatever stands behind
     pub rest_answered : (rest : List ℕ) → over b ≡ true → AnswersInput rules over asks looks a (done ++ rest) text b
     rest_answered rest is = subst (λ (out : List ℕ). AnswersInput rules over asks looks a (done ++ rest) out b) (append-nil text) (p.goes_on rest [] b (over_answered rules over asks looks b rest is))

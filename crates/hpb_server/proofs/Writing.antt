@@ -1,4 +1,4 @@
--- What is written, in turn.
+-- Bytes written in turn.
 use Rattle.std.proofs.Common.{◌≡◌, ℕ, ◌+◌, List, [], length, take, drop, Option, Result, Ok, Err, sym, subst, arith, take_all}
 use Rattle.std.specs.Bool.{⊤}
 use Rattle.std.specs.Io.KnownBytes.{Appends, Keeps}
@@ -10,7 +10,7 @@ pub sent : {E : Type 0} (a b c : Option (List ℕ)) (bytes : List ℕ) (r : Resu
 sent a b c bytes (Ok done) p k = Appends-kept a b c bytes p k
 sent a b c bytes (Err e) p k = (length bytes, subst (Appends a c) (sym (take_all (length bytes) bytes (omega arith))) (Appends-kept a b c bytes p k))
 
--- nothing is written of nothing
+-- sending no bytes writes nothing
 pub none_sent : (a : Option (List ℕ)) (bytes : List ℕ) → bytes ≡ [] → Appends a a bytes
 none_sent a bytes none = subst (Appends a a) (sym none) (Appends-nil a)
 

@@ -1,4 +1,5 @@
--- What a desk that is asked for commands together replies, what a look at it gives, and the desk of an auction in memory.
+-- The replies of a desk to commands that are asked together, the result of a look at it, and the desk of an auction in
+-- memory.
 use Rattle.std.specs.Prelude.{◌≡◌, ◌⊎◌, ℕ, Bool, true, false, List, [], ◌∷◌, length, Option, Some, None}
 use Rattle.std.specs.Borrow.{Bor}
 use Rattle.hpb_rules.specs.declared.command.Command.{Command}
@@ -7,14 +8,14 @@ use Rattle.hpb_rules.specs.Tree.{Rules}
 use Rattle.hpb_rules.specs.AuctionValue.{AuctionValue}
 use Rattle.hpb_rules.specs.Values.{reply_in, next_value}
 
--- Commands are asked one after another, and none once the session is over: then the rest gets no reply.
+-- Commands are asked one after another. Once the session is over none is asked, and the rest gets no reply.
 abbrev pub AsksAll : {State : Type 0} (asks : State → Command → Reply → State → Type 0) (over : State → Bool) → State → List Command → List Reply → State → Type 0
 AsksAll {State} asks over old [] replies new = (new ≡ old) × (replies ≡ [])
 AsksAll {State} asks over old (command ∷ more) replies new =
     ((over old ≡ true) × (new ≡ old) × (replies ≡ []))
     ⊎ ((over old ≡ false) × (reply : Reply) × (rest : List Reply) × (next : State) × asks old command reply next × AsksAll asks over next more rest new × (replies ≡ reply ∷ rest))
 
--- What is known of the auction that is shown, if one is.
+-- The value of the auction that is shown, if one is.
 abbrev pub seen : Option (Bor AuctionValue) → Option AuctionValue
 seen None = None
 seen (Some auction) = Some auction.now
@@ -23,11 +24,11 @@ seen (Some auction) = Some auction.now
 abbrev pub HasPlaces : Rules → Rules → Type 0
 HasPlaces definition shown = (length shown.nodes ≡ length definition.nodes) × (length shown.bidders ≡ length definition.bidders)
 
--- From each state that a desk stood at it came, in this way, to a state that it stands at now.
+-- From each state that the desk had, it went in this way to a state that it has now.
 abbrev pub Moves : {Desk State : Type 0} (is_at : Desk → State → Type 0) (old new : Desk) (way : State → State → Type 0) → Type 0
 Moves {Desk} {State} is_at old new way = (state : State) → is_at old state → (next : State) × way state next × is_at new next
 
--- A look leaves the state as it is.
+-- A look doesn't change the state.
 abbrev pub LooksStay : {State : Type 0} (looks : State → Option AuctionValue → State → Type 0) → Type 0
 LooksStay {State} looks = (old new : State) (shown : Option AuctionValue) → looks old shown new → new ≡ old
 
@@ -35,7 +36,7 @@ LooksStay {State} looks = (old new : State) (shown : Option AuctionValue) → lo
 abbrev pub IsItself : AuctionValue → AuctionValue → Type 0
 IsItself desk state = state ≡ desk
 
--- **The desk of an auction in memory.** Its states are values. It replies by what a value shows, and shows the value itself.
+-- **The desk of an auction in memory.** Its states are values. It replies as a value does, and shows the value itself.
 --
 -- The rules of an auction in memory.
 abbrev pub rules_in : AuctionValue → Rules
@@ -49,11 +50,11 @@ never_over value = false
 abbrev pub one_asked : ℕ
 one_asked = 1
 
--- To be asked takes no memory.
+-- Being asked takes no memory.
 abbrev pub no_memory : Bool
 no_memory = false
 
--- An auction in memory replies by what it shows, and becomes what follows from that.
+-- An auction in memory gives the reply of its value, and becomes the next value.
 abbrev pub RepliesIn : AuctionValue → Command → Reply → AuctionValue → Type 0
 RepliesIn old command reply new = (reply ≡ reply_in old command) × (new ≡ next_value old command)
 

@@ -1,4 +1,4 @@
--- What is taken of a reader.
+-- The bytes taken from a reader.
 use Rattle.std.specs.Prelude.{◌≡◌, ◌≢◌, ℕ, ◌+◌, ◌<◌, ◌≤◌, Bool, true, false, List, [], ◌∷◌, ◌++◌, length, take, slice_index, Option, Some, None, Result, Ok, Err, ◌⊎◌}
 use Rattle.std.specs.List.{All}
 use Rattle.std.specs.Io.KnownBytes.{Consumes, IsAtEnd}
@@ -10,7 +10,7 @@ use Rattle.hpb_server.specs.declared.fault.SessionFault.TheVariants.{Reader, Wri
 use Rattle.hpb_server.specs.declared.input.TheConstants.{LINE_FEED, KEPT_DEFINITION_BYTES}
 use Rattle.hpb_server.specs.declared.input.DefinitionText.{DefinitionText}
 
--- What has been read and not been taken, and how much may still be read.
+-- The bytes that were read and not yet taken, and how many more may be read.
 pub record Pending : Type 0 where
   pub unread : List ℕ
   pub budget : ℕ
@@ -34,7 +34,7 @@ pub record SkipsLine (count : ℕ) (before after : Pending) : Type 0 where
   pub parts : before.unread ≡ take count before.unread ++ LINE_FEED ∷ after.unread
   pub nothing_read : after.budget ≡ before.budget
 
--- How many bytes are taken of a reader at most where so many may be read: one more shows that there is more.
+-- How many bytes are taken from a reader at most, by how many may be read. One byte more shows that there is more.
 abbrev pub most_taken : ℕ → ℕ
 most_taken budget = budget + 1
 
@@ -42,17 +42,17 @@ most_taken budget = budget + 1
 abbrev pub ReadsWithin : (old new : Option (List ℕ)) (budget : ℕ) → Type 0
 ReadsWithin old new budget = (bytes : List ℕ) × Consumes old new bytes × (length bytes ≤ most_taken budget)
 
--- Nothing was read, or one byte where none may be read any more.
+-- No byte was read, or one byte if none may be read any more.
 abbrev pub ReadsInVain : (old new : Option (List ℕ)) (budget : ℕ) → Type 0
 ReadsInVain old new budget = (bytes : List ℕ) × Consumes old new bytes × ((bytes ≡ []) ⊎ ((budget ≡ 0) × (length bytes ≡ 1)))
 
--- More was read, or the reader has ended, or it is told to have failed.
+-- More was read, or the reader has ended, or the fault is that the reader failed.
 abbrev pub Fills : (old new : Option (List ℕ)) (before after : Pending) → Result Bool SessionFault → Type 0
 Fills old new before after (Ok true) = Consumes old new after.unread × (0 < length after.unread) × (after.budget + length after.unread ≡ before.budget)
 Fills old new before after (Ok false) = Consumes old new [] × IsAtEnd new × (after ≡ before)
 Fills old new before after (Err fault) = (fault ≡ Reader) × ReadsInVain old new before.budget
 
--- What was unread was added up to the end of a line, and of all that was added so much is kept.
+-- The unread bytes were added up to the end of a line. Of all bytes added, the first `most` are kept.
 pub record TakesToEnd (most : ℕ) (before after : Pending) (old new : List ℕ) : Type 0 where
   pub bytes : List ℕ
   pub no_end : HasNoEnd bytes
@@ -60,32 +60,32 @@ pub record TakesToEnd (most : ℕ) (before after : Pending) (old new : List ℕ)
   pub kept : new ≡ take most (old ++ bytes)
   pub nothing_read : after.budget ≡ before.budget
 
--- All that was unread was added, and no line ends in it.
+-- All unread bytes were added, and no line ends in them.
 pub record TakesAll (most : ℕ) (before after : Pending) (old new : List ℕ) : Type 0 where
   pub no_end : HasNoEnd before.unread
   pub taken : after.unread ≡ []
   pub kept : new ≡ take most (old ++ before.unread)
   pub nothing_read : after.budget ≡ before.budget
 
--- What was unread was added, up to the end of a line or all of it.
+-- The unread bytes were added, up to the end of a line or all of them.
 abbrev pub TakesPart : (most : ℕ) (before after : Pending) (old new : List ℕ) → Bool → Type 0
 TakesPart most before after old new true = TakesToEnd most before after old new
 TakesPart most before after old new false = TakesAll most before after old new
 
--- These bytes were taken, and so much less may be read.
+-- These bytes were taken, and that many fewer may be read.
 abbrev pub TakesWithin : (old new : Option (List ℕ)) (before after : ℕ) → List ℕ → Type 0
 TakesWithin old new before after bytes = Consumes old new bytes × (length bytes + after ≡ before)
 
--- What stands behind the bytes of a definition: its end, or nothing more that is of use.
+-- Behind the bytes of a definition stands its end; or nothing more is used.
 abbrev pub EndsDefinition : (old new : Option (List ℕ)) (budget : ℕ) (after : Pending) (bytes : List ℕ) → Bool → Type 0
 EndsDefinition old new budget after bytes true = TakesWithin old new budget after.budget (bytes ++ LINE_FEED ∷ after.unread)
 EndsDefinition old new budget after bytes false = TakesWithin old new budget after.budget bytes × ((MOST_DEFINITION_BYTES < length bytes) ⊎ IsAtEnd new)
 
--- Some bytes were read, and no writer is told to have failed.
+-- Some bytes were read, and the fault isn't the writer's.
 abbrev pub StopsReading : (old new : Option (List ℕ)) (budget : ℕ) → SessionFault → Type 0
 StopsReading old new budget fault = (fault ≢ Writer) × ReadsWithin old new budget
 
--- The first line was read, and so much of it is kept.
+-- The first line was read, and its bytes are kept as far as they may be a definition.
 pub record GivesDefinition (old new : Option (List ℕ)) (budget : ℕ) (after : Pending) (text : DefinitionText) : Type 0 where
   pub bytes : List ℕ
   pub no_end : HasNoEnd bytes

@@ -1,4 +1,4 @@
--- What a script reads and writes: its first line is a definition, and each line after it gets its answer.
+-- The bytes that a script reads and writes: its first line is a definition, and each line after it gets its answer.
 use Rattle.std.specs.Prelude.{◌≡◌, ℕ, ◌<◌, ◌≤◌, List, [], ◌∷◌, ◌++◌, length, Option, Result, Ok, Err, ⊤, ◌⊎◌}
 use Rattle.std.specs.Io.KnownBytes.{Appends, Consumes, IsAtEnd}
 use Rattle.hpb_rules.specs.declared.limits.TheConstants.{MOST_DEFINITION_BYTES, MOST_READ_BYTES}
@@ -24,17 +24,17 @@ use Rattle.hpb_server.specs.Reading.{HasNoEnd, Pending, most_taken, ReadsWithin}
 use Rattle.hpb_server.specs.Streams.{Streams}
 use Rattle.hpb_server.specs.Serving.{AreLines, Serves}
 
--- The refusal that a fault of a definition is told by. Want of memory is told by none.
+-- The refusal that reports a fault of a definition. Refused memory is reported by none.
 abbrev pub IsTold : DefineCause → Refusal → Type 0
 IsTold Memory refusal = ⊥
 IsTold fault refusal = refusal ≡ refusal_of fault
 
--- What a first line is read as: the definition that it spells, or refused. Want of memory is no reading.
+-- The reading of a first line: the definition that it spells, or its refusal. Refused memory is no reading.
 abbrev pub ReadsFirst : List ℕ → Result Rules Refusal → Type 0
 ReadsFirst line (Ok rules) = Answers line (Ok rules)
 ReadsFirst line (Err refusal) = (fault : DefineCause) × Answers line (Err fault) × IsTold fault refusal
 
--- The text of a script, by this reading of its first line.
+-- The text of a script, by the reading of its first line.
 abbrev pub IsScriptText : (input text : List ℕ) → Type 0
 IsScriptText input text = IsText ReadsFirst input text
 
@@ -51,7 +51,8 @@ module _ (before after : Streams) where
     pub within : length input ≤ MOST_READ_BYTES
     pub written : Appends before.contents after.contents text
 
-  -- The first line is refused as a definition, so that its text is the line of that refusal. It was read to its end, or to the end of the reader, or so far that it is too long.
+  -- The first line is refused as a definition, so the text is the line of that refusal. It was read to its end, to the
+  -- end of the reader, or so far that it is too long.
   pub record RefusesScript (refusal : Refusal) : Type 0 where
     pub taken : List ℕ
     pub is_text : IsScriptText taken (line_of (refusal_text refusal))
@@ -68,7 +69,9 @@ module _ (before after : Streams) where
     pub written : Appends before.contents after.contents sent
     pub front : IsFront sent (line_of (refusal_text refusal))
 
-  -- The first line is a definition. Whole lines of what was read were answered, or all that the reader had, and a front of their text was written, as much as the fault leaves. It is a front of the text of all that was read, too. Where the reader failed, no line was left unanswered.
+  -- The first line is a definition. Whole lines that were read were answered, or all that the reader had. A front of
+  -- their text was written, as much as the fault leaves. It is a front of the text of all bytes read, too. If the
+  -- reader failed, no line was left unanswered.
   pub record AnswersScriptFront (fault : SessionFault) : Type 0 where
     pub taken : List ℕ
     pub answered : List ℕ
@@ -94,7 +97,7 @@ module _ (before after : Streams) where
   abbrev pub WritesNothing : Type 0
   WritesNothing = ReadsWithin before.remaining after.remaining MOST_READ_BYTES × Appends before.contents after.contents []
 
-  -- What a run of a script reads and writes.
+  -- The bytes that a run of a script reads and writes.
   abbrev pub RunsScript : Result ScriptEnd SessionFault → Type 0
   RunsScript (Ok Answered) = AnswersScript
   RunsScript (Ok (Refused refusal)) = RefusesScript refusal × Appends before.contents after.contents (line_of (refusal_text refusal))
@@ -106,14 +109,14 @@ module _ (before after : Streams) where
   abbrev pub ServesScript : Pending → AuctionValue → Result ⊤ SessionFault → Type 0
   ServesScript input value result = (new : AuctionValue) × Serves rules_in never_over RepliesIn ShowsItself one_asked no_memory input.unread input.budget before after value new result
 
--- The line of a refusal was written; or nothing where memory was refused, or a front of it where the writer failed.
+-- The line of a refusal was written. If memory was refused, nothing was; if the writer failed, a front of it was.
 abbrev pub WritesRefusal : (writer_old writer_new : Option (List ℕ)) (refusal : Refusal) → Result ScriptEnd SessionFault → Type 0
 WritesRefusal writer_old writer_new refusal (Ok Answered) = ⊥
 WritesRefusal writer_old writer_new refusal (Ok (Refused told)) = (told ≡ refusal) × Appends writer_old writer_new (line_of (refusal_text refusal))
 WritesRefusal writer_old writer_new refusal (Err fault) =
     ((fault ≡ faults.Memory) × Appends writer_old writer_new []) ⊎ ((fault ≡ faults.Writer) × (sent : List ℕ) × Appends writer_old writer_new sent × IsFront sent (line_of (refusal_text refusal)))
 
--- The same by the fault of a definition, which is told by no line where memory was refused.
+-- The same, by the fault of a definition. If memory was refused, no line reports it.
 abbrev pub Refuses : (writer_old writer_new : Option (List ℕ)) → DefineCause → Result ScriptEnd SessionFault → Type 0
 Refuses writer_old writer_new fault (Ok Answered) = ⊥
 Refuses writer_old writer_new fault (Ok (Refused refusal)) = IsTold fault refusal × Appends writer_old writer_new (line_of (refusal_text refusal))

@@ -1,4 +1,4 @@
--- The laws of the auction in memory: what it answers is the text by its history.
+-- The laws of the auction in memory: its answers are the text by its history.
 use Rattle.std.specs.Prelude.{◌≡◌, ℕ, ◌≤◌, ◌⊎◌, List, [], ◌++◌, length, Result, Ok, Err, ⊤}
 use Rattle.std.specs.Io.KnownBytes.{Appends, Consumes, IsAtEnd}
 use Rattle.hpb_rules.specs.declared.command.Command.{Command}
@@ -14,17 +14,19 @@ use Rattle.hpb_server.specs.Desk.{rules_in, never_over, one_asked, no_memory, Re
 use Rattle.hpb_server.specs.Streams.{Streams, AreKept}
 use Rattle.hpb_server.specs.Serving.{AreLines, AnswersInput, Serves}
 
--- An auction in memory that shows a history answers an input by the text of lines after this history, and then shows the history that the input leads to.
+-- An auction in memory that shows a history answers an input with the text of lines after this history. It then shows
+-- the history that the input leads to.
 abbrev pub InputIsText : Type 0
 InputIsText = (old new : AuctionValue) (history : List Command) (input text : List ℕ)
     → Shows old history → AnswersInput rules_in never_over RepliesIn ShowsItself old input text new
     → (text ≡ lines_text old.rules history input) × Shows new (history_after_lines old.rules history input)
 
 module _ (rules : Rules) (history : List Command) (budget : ℕ) (before after : Streams) (new : AuctionValue) where
-  -- The first three definitions stand in a section over the rules, the history, what may be read, the streams before and after, and the value at the
-  -- end.
+  -- The first three definitions stand in a section over the rules, the history, the bytes that may be read, the streams
+  -- before and after, and the value at the end.
   --
-  -- All was read, to the end of the reader, and its text after a history was written; the auction shows the history that it leads to.
+  -- All was read, to the end of the reader, and its text after a history was written. The auction shows the history
+  -- that the input leads to.
   pub record WritesText : Type 0 where
     pub input : List ℕ
     pub read : Consumes before.remaining after.remaining input
@@ -33,8 +35,9 @@ module _ (rules : Rules) (history : List Command) (budget : ℕ) (before after :
     pub written : Appends before.contents after.contents (lines_text rules history input)
     pub shows : Shows new (history_after_lines rules history input)
 
-  -- Of whole lines of what was read, or of all that the reader had, a front of the text was written, as much as the fault leaves, and the auction shows the history that they lead to.
-  -- It is a front of the text of all that was read, too. Where the reader failed, no line was left unanswered.
+  -- Whole lines that were read were answered, or all that the reader had. A front of their text was written, as much as
+  -- the fault leaves, and the auction shows the history that they lead to. It is a front of the text of all bytes read,
+  -- too. If the reader failed, no line was left unanswered.
   pub record WritesFront (fault : SessionFault) : Type 0 where
     pub taken : List ℕ
     pub done : List ℕ
@@ -51,13 +54,14 @@ module _ (rules : Rules) (history : List Command) (budget : ℕ) (before after :
     pub front : IsFront sent (lines_text rules history taken)
     pub shows : Shows new (history_after_lines rules history done)
 
-  -- What a session with an auction in memory writes that showed a history, and what the auction shows then. Memory may be refused at the start.
+  -- The text that a session writes for an auction in memory that showed a history, and the history that the auction
+  -- shows then. Memory may be refused at the start.
   abbrev pub ServesText : Result ⊤ SessionFault → Type 0
   ServesText (Ok done) = WritesText
   ServesText (Err fault) = ((fault ≡ Memory) × AreKept before after × Shows new history) ⊎ WritesFront fault
 
--- A session with an auction in memory that shows a history answers all that it reads by the text of lines after this history; at a fault a front of
--- that text is written, as much as the fault leaves.
+-- A session with an auction in memory that shows a history answers all that it reads, with the text of lines after this
+-- history. At a fault a front of that text is written, as much as the fault leaves.
 abbrev pub SessionIsText : Type 0
 SessionIsText = (budget : ℕ) (before after : Streams) (old new : AuctionValue) (history : List Command) (result : Result ⊤ SessionFault)
     → Shows old history → Serves rules_in never_over RepliesIn ShowsItself one_asked no_memory [] budget before after old new result

@@ -1,4 +1,4 @@
--- What a session reads and writes, by what its desk is asked and how it is left.
+-- The bytes that a session reads and writes, by the requests to its desk and the desk's states.
 use Rattle.std.specs.Prelude.{◌≡◌, ℕ, ◌≤◌, Bool, true, false, ◌||◌, ◌==◌, List, [], ◌∷◌, ◌++◌, length, Option, Some, None, Result, Ok, Err, if◌then◌else◌, ⊤, ◌⊎◌}
 use Rattle.std.specs.List.{slice_split}
 use Rattle.std.specs.Io.KnownBytes.{Appends, Consumes, IsAtEnd}
@@ -22,13 +22,14 @@ use Rattle.hpb_server.specs.Streams.{Streams, AreKept}
 use Rattle.hpb_server.specs.declared.input.TheConstants.{LINE_FEED}
 use Rattle.hpb_rules.specs.declared.refusal.Refusal.TheVariants as refusals
 
--- **Desk.** What a session asks. It stands at states, and is described by four things: `rules` has the rules of a state, by which lines are read;
--- `over` says whether the session is over there; `asks` has which reply a command may get, and which state comes then; `looks` has which auction may
--- be shown, or that none can be shown any more. Definitions stand in a section over these four, and the last ones over what is given at the start
--- too: the most commands that are asked for together, whether the desk takes memory, what was read before and is unread, how much may be read, the
--- streams, and the states before and after.
+-- **Desk.** A session asks its desk. A desk has states, and is described by four parts. `rules` has the rules of a
+-- state, by which lines are read. `over` says whether the session is over at a state. `asks` has the replies that a
+-- command may get, and the states that follow. `looks` has the auctions that may be shown, or says that none can be
+-- shown any more. Definitions stand in a section over these four. The last ones also stand in a section over the start
+-- of a session: the most commands that are asked for together, whether the desk takes memory, the bytes that are
+-- unread, and how many may be read. Beside these it is over the streams, and over the states before and after.
 --
--- What is shown of a desk's auction, or that it can show none any more.
+-- The view of a desk's auction, or the reply that it can show none any more.
 abbrev pub shown_by : (AuctionValue → List ℕ) → Option AuctionValue → List ℕ
 shown_by how None = refusal_text refusals.Failed
 shown_by how (Some value) = how value
@@ -37,13 +38,14 @@ shown_by how (Some value) = how value
 abbrev pub AreLines : List ℕ → Type 0
 AreLines bytes = (bytes ≡ []) ⊎ ((front : List ℕ) × (bytes ≡ front ++ LINE_FEED ∷ []))
 
--- A question is answered by what the desk shows.
+-- A question is answered from the auction that the desk shows.
 abbrev pub AnswersLook : {State : Type 0} (looks : State → Option AuctionValue → State → Type 0) → (AuctionValue → List ℕ) → State → List ℕ → State → Type 0
 AnswersLook looks how old answer new = (shown : Option AuctionValue) × looks old shown new × (answer ≡ shown_by how shown)
 
--- A state that a desk stands at has the rules that lines are read by. Asked for a command, the desk replies and comes to another state; a look shows what it has, and may bring it to another, too.
+-- Each state of a desk has the rules that lines are read by. When asked for a command, the desk replies and goes to
+-- another state. A look shows its auction, and may bring it to another state, too.
 module _ {State : Type 0} (rules : State → Rules) (over : State → Bool) (asks : State → Command → Reply → State → Type 0) (looks : State → Option AuctionValue → State → Type 0) where
-  -- A request, or a line that is refused, gets this answer.
+  -- A request, or a refused line, gets this answer.
   abbrev pub AnswersRequest : State → Result Request Refusal → List ℕ → State → Type 0
   AnswersRequest old (Err refusal) answer new = (new ≡ old) × (answer ≡ refusal_text refusal)
   AnswersRequest old (Ok (requests.Command asked)) answer new = (reply : Reply) × asks old asked reply new × (answer ≡ reply_text reply)
@@ -55,7 +57,8 @@ module _ {State : Type 0} (rules : State → Rules) (over : State → Bool) (ask
   abbrev pub AnswersLine : State → List ℕ → List ℕ → State → Type 0
   AnswersLine old line answer new = AnswersRequest old (request_of (rules old) line) answer new
 
-  -- Each line gets its one answer, in order, and none once the session is over. What stands behind the last end of a line is refused, where it has a byte.
+  -- Each line gets one answer, in order, and none once the session is over. A last line without an end is refused, if
+  -- it has a byte.
   abbrev pub AnswersLines : State → List (List ℕ) → List ℕ → State → Type 0
   AnswersLines old [] text new = (new ≡ old) × (text ≡ [])
   AnswersLines old (last ∷ []) text new = (new ≡ old) × (text ≡ (if (length last == 0) || over old then [] else unfinished_text))
@@ -68,7 +71,7 @@ module _ {State : Type 0} (rules : State → Rules) (over : State → Bool) (ask
   AnswersInput old input text new = AnswersLines old (slice_split is_line_feed input) text new
 
   module _ (most : ℕ) (takes_memory : Bool) (unread : List ℕ) (budget : ℕ) (before after : Streams) (old new : State) where
-    -- All was read, to the end of the reader or of the session and within the budget, and answered.
+    -- All was read and answered, within the budget, to the end of the reader or of the session.
     pub record AnswersAll : Type 0 where
       pub taken : List ℕ
       pub text : List ℕ
@@ -78,7 +81,8 @@ module _ {State : Type 0} (rules : State → Rules) (over : State → Bool) (ask
       pub answers : AnswersInput old (unread ++ taken) text new
       pub written : Appends before.contents after.contents text
 
-    -- Whole lines of what was read were answered, or all that the reader had, and a front of the answers was written, as much as the fault leaves. Where the reader failed, no line was left unanswered.
+    -- Whole lines that were read were answered, or all that the reader had. A front of the answers was written, as much
+    -- as the fault leaves. If the reader failed, no line was left unanswered.
     pub record AnswersFront (fault : SessionFault) : Type 0 where
       pub taken : List ℕ
       pub done : List ℕ
@@ -95,11 +99,11 @@ module _ {State : Type 0} (rules : State → Rules) (over : State → Bool) (ask
       pub left : IsLeft most takes_memory fault front.0
       pub no_line : fault ≡ Reader → length taken ≤ budget → HasNoEnd rest
 
-    -- Nothing was read, asked or written, since memory was refused at the start.
+    -- Nothing was read, asked or written, because memory was refused at the start.
     abbrev pub NeverBegins : SessionFault → Type 0
     NeverBegins fault = (fault ≡ Memory) × AreKept before after × (new ≡ old)
 
-    -- What a session does with what is unread and all that comes after it.
+    -- The session with the unread bytes and all that come after them.
     abbrev pub Serves : Result ⊤ SessionFault → Type 0
     Serves (Ok done) = AnswersAll
     Serves (Err fault) = NeverBegins fault ⊎ AnswersFront fault

@@ -1,4 +1,4 @@
--- How far a session has come: the words of private clauses.
+-- How far a session has come: the terms of private clauses.
 use Rattle.std.specs.Prelude.{◌≡◌, ◌≢◌, ◌⊎◌, ℕ, ◌==◌, Bool, true, false, List, [], ◌∷◌, ◌++◌, length, map, take, Option, Result, Ok, Err, OnOk, if◌then◌else◌, ⊤}
 use Rattle.std.specs.Io.KnownBytes.{Appends}
 use Rattle.hpb_rules.specs.declared.refusal.Refusal.{Refusal}
@@ -20,33 +20,35 @@ use Rattle.hpb_server.specs.declared.line.TheConstants.{KEPT_BYTES}
 use Rattle.hpb_server.specs.Reading.{HasNoEnd}
 use Rattle.hpb_server.specs.Serving.{AreLines, AnswersRequest, AnswersInput}
 
--- A front of the bytes was written, and the rest is left; or a front was written, as much as the fault leaves.
+-- A front of the bytes was written, and the rest is left. Or, after a fault, a front was written, as much as the fault
+-- leaves.
 abbrev pub Passes : (most : ℕ) (takes_memory : Bool) (writer_old writer_new : Option (List ℕ)) (bytes left : List ℕ) → Result ⊤ SessionFault → Type 0
 Passes most takes_memory writer_old writer_new bytes left (Ok done) = (sent : List ℕ) × Appends writer_old writer_new sent × (bytes ≡ sent ++ left)
 Passes most takes_memory writer_old writer_new bytes left (Err fault) = (fault ≢ Reader) × (sent : List ℕ) × Appends writer_old writer_new sent × (front : IsFront sent bytes) × IsLeft most takes_memory fault front.0
 
--- The same of one line: where memory was refused for it, it is what is left.
+-- The same for one line, which is left if memory was refused for it.
 abbrev pub PassesLine : (writer_old writer_new : Option (List ℕ)) (bytes left : List ℕ) → Result ⊤ SessionFault → Type 0
 PassesLine writer_old writer_new bytes left result = Passes 1 false writer_old writer_new bytes left result
 
--- A last line was refused where it has a byte, or a front of that was written, as much as the fault leaves.
+-- A last line was refused if it has a byte. Or, after a fault, a front of that answer was written, as much as the fault
+-- leaves.
 abbrev pub Ends : (writer_old writer_new : Option (List ℕ)) (line : List ℕ) → Result ⊤ SessionFault → Type 0
 Ends writer_old writer_new line result = PassesLine writer_old writer_new (if length line == 0 then [] else unfinished_text) [] result
 
--- What replies are written as.
+-- The text of replies.
 abbrev pub replies_text : List Reply → List ℕ
 replies_text replies = lines_of (map reply_text replies)
 
--- What the lines of commands ask for.
+-- The requests of commands.
 abbrev pub asked_for : List Command → List (Result Request Refusal)
 asked_for commands = map (λ command. Ok (requests.Command command)) commands
 
--- No command: a question, or a line that is refused.
+-- A request that isn't a command: a question, or a refused line.
 abbrev pub IsQuestion : Result Request Refusal → Type 0
 IsQuestion (Ok (requests.Command command)) = ⊥
 IsQuestion other = Unit {0}
 
--- What a question is answered by an auction.
+-- The answer of an auction to a question.
 abbrev pub view_in : Request → AuctionValue → List ℕ
 view_in (requests.Command command) value = []
 view_in requests.Show value = shown_in value
@@ -54,7 +56,7 @@ view_in (requests.Node place) value = node_shown_in value place
 view_in (requests.Who from) value = bidder_shown_in value from
 
 module _ {State : Type 0} (rules : State → Rules) (over : State → Bool) (asks : State → Command → Reply → State → Type 0) (looks : State → Option AuctionValue → State → Type 0) where
-  -- A request, or a line that is refused, was answered, and its answer was added, or nothing where memory was refused.
+  -- A request, or a refused line, was answered, and its answer was added. If memory was refused, nothing was added.
   abbrev pub AddsAnswer : {E : Type 0} → State → Result Request Refusal → State → (output_old output_new : List ℕ) → Result ⊤ E → Type 0
   AddsAnswer old request new output_old output_new result = (answer : List ℕ) × AnswersRequest rules over asks looks old request answer new × Adds output_old output_new answer result
 
@@ -65,7 +67,9 @@ module _ {State : Type 0} (rules : State → Rules) (over : State → Bool) (ask
       ((over old ≡ true) × (new ≡ old) × (text ≡ []))
       ⊎ ((over old ≡ false) × (answer rest : List ℕ) × (next : State) × (rules next ≡ rules old) × AnswersRequest rules over asks looks old request answer next × AnswersRequests next more rest new × (text ≡ line_of answer ++ rest))
 
-  -- A front of these requests was answered, and the others wait: they are the commands of the queue. A front of the output with the answers was written, and the rest is in the output. Where the session is broken off, a front was written.
+  -- The first of these requests were answered, and the others wait: they are the commands of the queue. A front of the
+  -- output with the answers was written, and the rest is in the output. If the session is broken off, a front was
+  -- written.
   pub record PassesRequests (most : ℕ) (takes_memory : Bool) (old : State) (asked : List (Result Request Refusal)) (new : State) (writer_old writer_new : Option (List ℕ)) (output_old output_new : List ℕ) (queue : List Command) (result : Result ⊤ SessionFault) : Type 0 where
     pub answered : List (Result Request Refusal)
     pub waiting : List (Result Request Refusal)
@@ -75,13 +79,14 @@ module _ {State : Type 0} (rules : State → Rules) (over : State → Bool) (ask
     pub passes : Passes most takes_memory writer_old writer_new (output_old ++ text) output_new result
     pub queued : OnOk result (waiting ≡ asked_for queue)
 
-  -- Whole lines were answered: whatever comes after them is answered from here on.
+  -- Whole lines were answered, and anything after them is answered from this state on.
   pub record Leads (old : State) (done text : List ℕ) (now : State) : Type 0 where
     pub whole : AreLines done
     pub goes_on : (more rest : List ℕ) (end : State) → AnswersInput rules over asks looks now more rest end → AnswersInput rules over asks looks old (done ++ more) (text ++ rest) end
 
   module _ (most : ℕ) (takes_memory : Bool) (start : List ℕ) (old now : State) (writer_old writer_now : Option (List ℕ)) (output_old : List ℕ) where
-    -- Of what there was at the start whole lines are answered, some bytes of one more are taken, and the rest is unread; what is not yet written is in the output.
+    -- Of the bytes at the start, whole lines are answered, some bytes of one more line are taken, and the rest is
+    -- unread. The unwritten answers are in the output.
     pub record Session (line unread output_now : List ℕ) : Type 0 where
       pub done : List ℕ
       pub rest : List ℕ

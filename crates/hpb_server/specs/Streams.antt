@@ -2,15 +2,16 @@
 use Rattle.std.specs.Prelude.{ℕ, List, Option}
 use Rattle.std.specs.Io.KnownBytes.{Keeps}
 
--- **Streams.** A reader and a writer, as far as their bytes are known: what the reader has left, and what the writer contains. Of a reader at most
--- one byte more is taken than may be read, as that shows that there is more.
+-- **Streams.** A reader and a writer, as far as their bytes are known: the bytes that the reader has left, and those
+-- that the writer contains. At most one byte more is taken from a reader than may be read, to see whether there is
+-- more.
 --
--- At one time: what the reader has left, and what the writer contains.
+-- The bytes at one time: those that the reader has left, and those that the writer contains.
 pub record Streams : Type 0 where
   pub remaining : Option (List ℕ)
   pub contents : Option (List ℕ)
 
--- These two.
+-- This reader and this writer.
 abbrev pub streams : Option (List ℕ) → Option (List ℕ) → Streams
 streams remaining contents = record { remaining = remaining; contents = contents }
 

@@ -8,11 +8,11 @@ use hpb_tree::Definition;
 use std::alloc::{AllocError, Global};
 use std::marker::Model;
 
-/// Whom a session asks. `ScriptDesk` is the auction of a script.
+/// The desk that a session asks. `ScriptDesk` is the auction of a script.
 ///
 /// Commands that have come may be asked together; they are judged one after another all the same.
 ///
-/// What a desk replies and shows is told by states that it stands at (`is_at`). It may stand at none that is known.
+/// The replies and auctions of a desk are described by its states (`is_at`). A desk may have no known state.
 pub trait Desk {
     ghost use Rattle.std.specs.Prelude.{ℕ, Bool, List, Option};
     ghost use Rattle.hpb_rules.specs.Tree.{Rules};
@@ -23,16 +23,16 @@ pub trait Desk {
     ghost use Rattle.hpb_server.specs.Desk.{seen, AsksAll, HasPlaces};
     ghost use Rattle.hpb_server.specs.DeskLaws.{RepliesAfter, ShowsAfter};
 
-    /// Where a desk stands, as the contracts of a session tell it.
+    /// The states of a desk, in the contracts of a session.
     ghost State: { Type 0 };
 
-    /// What the definition says.
+    /// The rules of the definition.
     ghost rules: { Self → Rules };
 
     /// The session is over: its desk is asked nothing more.
     ghost over: { Self → Bool };
 
-    /// The desk stands at this state.
+    /// The desk has this state.
     ghost is_at: { Self → State → Type 0 };
 
     /// The definition, by a state.
@@ -41,43 +41,43 @@ pub trait Desk {
     /// Whether the session is over, by a state.
     ghost over_at: { State → Bool };
 
-    /// A desk at this state may have told of this history.
+    /// A desk at this state may have shown this history.
     ghost tells: { State → List Asked → Type 0 };
 
-    /// A desk at a state that is asked for a command may give this reply and stand at this state afterwards.
+    /// A desk at a state may give this reply to a command, and then have this state.
     ghost asks: { State → Asked → Answered → State → Type 0 };
 
-    /// A desk at a state may show this, or nothing any more, and stand at this state afterwards.
+    /// A desk at a state may show this auction, or none any more, and then have this state.
     ghost looks: { State → Option AuctionValue → State → Type 0 };
 
     /// How many commands are asked together at most.
     ghost most: { ℕ };
 
-    /// Memory may be refused where commands are asked, and where the desk does its upkeep.
+    /// Memory may be refused when commands are asked, and when the desk does its upkeep.
     ghost takes_memory: { Bool };
 
-    /// To ask takes a wait, as for a commit.
+    /// Asking takes a wait, as for a commit.
     ghost waits: { Bool };
 
     /// The definition that lines are read by.
     fn definition(&self) -> &Definition
         ensures { result.now ≡ rules self.now };
 
-    /// Whether the last reply was the last of the session: nothing more is read or answered.
+    /// Whether the last reply ended the session, so that nothing more is read or answered.
     fn is_over(&self) -> bool
         ensures { result ≡ over self.now };
 
-    /// How many commands are to be asked together, where so many have come.
+    /// How many commands are asked together, if that many have come.
     fn most_asked(&self) -> usize
         ensures some { 0 < result }
         ensures most { result ≤ most };
 
-    /// Whether to ask takes a wait, as for a commit. What was answered before leaves first.
+    /// Whether asking takes a wait, as for a commit. If so, earlier answers are written first.
     fn waits_when_asked(&self) -> bool
         ensures { result ≡ waits };
 
-    /// Asks for commands together, and gives what each is answered, up to the reply that ends the session. Where
-    /// memory is refused, none is asked.
+    /// Asks for commands together, and returns the reply to each, up to the one that ends the session. If memory is
+    /// refused, none is asked.
     fn ask(&mut self, alloc: Global, commands: &Commands) -> Result<Replies, AllocError>
         requires some { 0 < length commands.now }
         requires most { length commands.now ≤ most }
@@ -86,9 +86,9 @@ pub trait Desk {
         ensures refused { OnErr result (takes_memory ≡ true) }
         ensures rules { rules self.new ≡ rules self.old };
 
-    /// Asks for one command, and gives what it is answered. Where memory is refused, it is not asked.
+    /// Asks for one command, and returns its reply. If memory is refused, it isn't asked.
     ///
-    /// A desk that is asked for one at a time has a body of its own, without lists.
+    /// A desk that is asked for one command at a time overrides this, so that no lists are needed.
     fn ask_one(&mut self, alloc: Global, command: &Command) -> Result<Reply, AllocError>
         requires goes_on { over self.old ≡ false }
         ensures asked { (state : State) → is_at self.old state → IfOk result (λ reply. (next : State) × asks state command.now reply next × is_at self.new next) }
@@ -102,36 +102,35 @@ pub trait Desk {
         Ok(replies.get(0).unwrap_or(Reply::Refused(Refusal::Failed)))
     }
 
-    /// Does what could wait until the answers had left.
+    /// Does work that could wait until the answers were written.
     fn upkeep(&mut self, alloc: Global) -> Result<(), AllocError>
         ensures kept { (state : State) → is_at self.old state → is_at self.new state }
         ensures refused { OnErr result (takes_memory ≡ true) }
         ensures over { over self.new ≡ over self.old }
         ensures rules { rules self.new ≡ rules self.old };
 
-    /// The auction as it stands, where the desk can still show one. It has as many nodes and bidders as the
-    /// definition.
+    /// The auction as it stands, if the desk can still show one. It has as many nodes and bidders as the definition.
     fn look(&mut self) -> Option<&Auction>
         ensures shown { IfSome result (λ a. HasPlaces (rules self.old) a.now.rules) }
         ensures* after { sem 𝓛 (Rests Self.row self.entry (λ new. ((state : State) → is_at self.old state → (next : State) × looks state (seen result) next × is_at new next) × (rules new ≡ rules self.old))) };
 
-    /// A state that the desk stands at has its definition.
+    /// Each state of the desk has the desk's definition.
     ghost rules_are: { (desk : Self) (state : State) → is_at desk state → rules_at state ≡ rules desk };
 
-    /// A state that the desk stands at says whether the session is over.
+    /// Each state of the desk says whether the session is over.
     ghost over_is: { (desk : Self) (state : State) → is_at desk state → over_at state ≡ over desk };
 
-    /// A command at least can be asked, and no more together than stand in `Commands`.
+    /// At least one command can be asked, and no more together than `Commands` has room for.
     ghost most_is_some: { (0 < most) × (most ≤ MOST_LETTERS) };
 
-    /// The definition stays.
+    /// The definition never changes.
     ghost rules_stay: { (old new : State) (command : Asked) (reply : Answered) → asks old command reply new → rules_at new ≡ rules_at old };
 
-    /// A reply is that of the rules after a history that goes on from what was told, or one by which the desk
-    /// tells of itself.
+    /// A reply is that of the rules after a history that continues the one shown before, or one that the desk gives for
+    /// itself.
     ghost replies_go_on: { (old new : State) (command : Asked) (reply : Answered) (told : List Asked) → asks old command reply new → tells old told → RepliesAfter (rules_at old) told command reply (tells new) };
 
-    /// What is shown is the auction after a history that goes on from what was told.
+    /// The auction that is shown is one after a history that continues the one shown before.
     ghost shows_go_on: { (old new : State) (shown : Option AuctionValue) (told : List Asked) → looks old shown new → tells old told → ShowsAfter told shown (tells new) };
 }
 

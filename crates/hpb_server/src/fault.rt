@@ -6,22 +6,22 @@ use hpb_rules::Refusal;
 use std::alloc::{AllocError, AllocFailed};
 use thiserror::Error;
 
-/// Why a session ended early. No line tells of it: its number is for whoever started the session.
+/// Why a session ended early. No line of the session reports it: its number is for whoever started the session.
 #[derive(Clone, Copy, Debug, PartialEq, Eq, Error)]
 pub enum SessionFault {
     /// 90: memory was refused.
     #[error("memory")]
     Memory,
-    /// 92: the reader failed, or more was read than may be.
+    /// 92: the reader failed, or more bytes came than may be read.
     #[error("stream")]
     Reader,
-    /// 92: the writer failed, or took nothing.
+    /// 92: the writer failed, or took no byte.
     #[error("stream")]
     Writer,
 }
 
 impl SessionFault {
-    /// The refusal that it is told by.
+    /// The refusal that reports this fault.
     pub fn refusal(self) -> Refusal
         ensures { result ≡ refusal_of self }
     {

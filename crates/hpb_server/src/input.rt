@@ -14,13 +14,13 @@ use std::io;
 use std::io::{ErrorKind, Read};
 use std::marker::Model;
 
-/// How many bytes are asked of a reader at a time.
+/// How many bytes are requested from a reader at a time.
 const CHUNK_BYTES: usize = 65_536;
 
-/// How many bytes of a definition are kept: one more than it may have, which shows that it is too long.
+/// How many bytes of a definition are kept: one more than it may have, to see that it is too long.
 const KEPT_DEFINITION_BYTES: usize = MOST_DEFINITION_BYTES + 1;
 
-/// What ends a line.
+/// The end of a line.
 const LINE_FEED: u8 = b'\n';
 
 /// The first line of a script, as far as it may be a definition.
@@ -31,7 +31,7 @@ pub(crate) struct DefinitionText {
     pub(crate) has_end: bool,
 }
 
-/// What a reader has given, cut into lines. A reader is only asked for more where all of it is taken.
+/// The bytes that a reader has given, cut into lines. A reader is only asked for more once all of them are taken.
 #[derive(Drop)]
 pub(crate) struct Input {
     chunk: Vec<u8>,
@@ -53,7 +53,7 @@ impl Model for Input {
 }
 
 impl Input {
-    /// An input of at most so many bytes.
+    /// An input of at most `budget` bytes. Fails only if memory is refused.
     pub(crate) fn new(alloc: Global, budget: u64) -> Result<Self, AllocError>
         ensures { IfOk result (λ i. i ≡ record { unread = []; budget = budget }) }
     {
@@ -65,12 +65,12 @@ impl Input {
         })
     }
 
-    /// Reads more, once all that was read is taken. `false` says that the reader has ended.
+    /// Reads more, once all bytes read before are taken. `false` if the reader has ended.
     pub(crate) fn fill<R: Read>(&mut self, reader: &mut R) -> Result<bool, SessionFault>
         requires { self.old.unread ≡ [] }
         ensures { Fills (R.remaining reader.old) (R.remaining reader.new) self.old self.new result }
     {
-        // Where nothing more may be read, one byte shows whether there is more.
+        // If nothing more may be read, one byte shows whether there is more.
         let most = self.budget.clamp(1, CHUNK_BYTES as u64) as usize;
         let Ok(count) = read_some(reader, self.chunk.as_mut_slice(), most) else {
             return Err(SessionFault::Reader);
@@ -87,8 +87,8 @@ impl Input {
         Ok(true)
     }
 
-    /// Reads the first line, as far as it may be a definition: of a longer one only as many bytes are
-    /// taken as show that it is one.
+    /// Reads the first line, as far as it may be a definition. A longer line is only read until it is known to be too
+    /// long.
     pub(crate) fn take_definition<R: Read>(
         &mut self,
         alloc: Global,
@@ -115,7 +115,7 @@ impl Input {
         }
     }
 
-    /// Adds what was read to a definition, up to its end. `false` says that all is taken and it goes on.
+    /// Adds unread bytes to a definition, up to its end. `false` if all are taken and it goes on.
     fn take_definition_part(&mut self, bytes: &mut Vec<u8>) -> Result<bool, AllocError>
         requires { vec_len bytes.old ≤ KEPT_DEFINITION_BYTES }
         ensures { IfOk result (TakesPart KEPT_DEFINITION_BYTES self.old self.new bytes.old.items bytes.new.items) }
@@ -135,21 +135,21 @@ impl Input {
         }
     }
 
-    /// What is unread, as it lies.
+    /// The unread bytes, without a copy.
     pub(crate) fn unread(&self) -> &[u8]
         ensures { result.now ≡ self.now.unread }
     {
         &self.chunk[self.start..self.end]
     }
 
-    /// How many bytes the next line has, where its end was read.
+    /// How many bytes the next line has, if its end was read.
     pub(crate) fn find_line(&self) -> Option<usize>
         ensures { FindsEnd self.now.unread result }
     {
         find_end(self.unread())
     }
 
-    /// So many bytes of what is unread, as they lie.
+    /// The first `size` unread bytes, without a copy.
     pub(crate) fn front(&self, size: usize) -> &[u8]
         requires { size ≤ length self.now.unread }
         ensures { result.now ≡ take size self.now.unread }
@@ -157,7 +157,7 @@ impl Input {
         &self.chunk[self.start..self.start + size]
     }
 
-    /// Takes the next line, which has so many bytes, and its end.
+    /// Takes the next line, which has `size` bytes, and its end.
     pub(crate) fn skip_line(&mut self, size: usize)
         requires { FindsEnd self.old.unread (Some size) }
         ensures { SkipsLine size self.old self.new }
@@ -166,7 +166,7 @@ impl Input {
         self.start = end + 1;
     }
 
-    /// Adds all that is unread to a line that goes on.
+    /// Adds all unread bytes to a line that goes on.
     pub(crate) fn keep_rest(&mut self, line: &mut Line)
         requires { HasNoEnd self.old.unread }
         ensures { TakesAll KEPT_BYTES self.old self.new line.old line.new }
@@ -193,7 +193,7 @@ fn find_end(bytes: &[u8]) -> Option<usize>
     memchr(LINE_FEED, bytes)
 }
 
-/// One read of at most so many bytes into the front of a buffer, tried again where a signal came first.
+/// Reads at most `most` bytes into the start of a buffer, and tries again after a signal.
 pub fn read_some<R: Read>(reader: &mut R, buffer: &mut [u8], most: usize) -> io::Result<usize>
     requires some { 0 < most }
     requires room { most ≤ length buffer.old }

@@ -3,7 +3,7 @@ ghost use Rattle.std.specs.Prelude.{◌≡◌, ◌==◌, [], ◌++◌, take, len
 use hpb_rules::MOST_LINE_BYTES;
 use std::marker::Model;
 
-/// How many bytes of a line are kept: one more than it may have, which shows that it is too long.
+/// How many bytes of a line are kept: one more than it may have, to see that it is too long.
 pub(crate) const KEPT_BYTES: usize = MOST_LINE_BYTES + 1;
 
 /// The kept bytes of a line, as far as it has been read.
@@ -52,7 +52,7 @@ impl Line {
         self.length = 0;
     }
 
-    /// Adds the bytes that come next.
+    /// Adds the next bytes of the line.
     pub(crate) fn extend(&mut self, part: &[u8])
         ensures { self.new ≡ take KEPT_BYTES (self.old ++ part.now) }
     {

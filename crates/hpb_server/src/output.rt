@@ -19,7 +19,7 @@ use std::marker::Model;
 /// How many bytes of responses are kept before they are written.
 const OUTPUT_BYTES: usize = 65_536;
 
-/// Responses that are still to be written. Their room is made once.
+/// Responses that are still to be written. Their room is allocated once.
 #[derive(Drop)]
 pub(crate) struct Output {
     waiting: ResponseText,
@@ -42,7 +42,7 @@ impl Output {
         })
     }
 
-    /// Adds a response, or nothing where memory is refused. A desk is the `Caller` of `render_for`.
+    /// Adds a response, or nothing if memory is refused. The desk is the `Caller` of `render_for`.
     #[inline(always)]
     pub(crate) fn add<Caller>(&mut self, response: &Response<'_>) -> Result<(), AllocError>
         ensures { Adds self.old self.new (text_of response.now) result }
@@ -50,7 +50,7 @@ impl Output {
         self.waiting.render_for::<Caller>(response)
     }
 
-    /// Adds a reply, or nothing where memory is refused.
+    /// Adds a reply, or nothing if memory is refused.
     #[inline(always)]
     pub(crate) fn reply(&mut self, reply: Reply) -> Result<(), AllocError>
         ensures { Adds self.old self.new (reply_text reply) result }
@@ -58,7 +58,7 @@ impl Output {
         self.waiting.render_reply(reply)
     }
 
-    /// Adds the line of a refusal, or nothing where memory is refused.
+    /// Adds the line of a refusal, or nothing if memory is refused.
     #[inline(always)]
     pub(crate) fn refuse(&mut self, refusal: Refusal) -> Result<(), AllocError>
         ensures { Adds self.old self.new (refusal_text refusal) result }
@@ -66,7 +66,7 @@ impl Output {
         self.reply(Reply::Refused(refusal))
     }
 
-    /// Whether room may be missing for one more response.
+    /// Whether there may be too little room for one more response.
     #[inline(always)]
     pub(crate) fn is_nearly_full(&self) -> bool
         ensures { IsTrue result ↔ OUTPUT_BYTES < length self.now + RESPONSE_BYTES }
@@ -74,8 +74,7 @@ impl Output {
         self.waiting.len() > OUTPUT_BYTES - RESPONSE_BYTES
     }
 
-    /// Writes the responses and has the writer hand them on. Where the writer fails, a front of them is
-    /// written.
+    /// Writes the responses and flushes the writer. If the writer fails, a front of them was written.
     #[tactic(auto, using(crate::proofs::Writing::none_sent))]
     pub(crate) fn send<W: Write>(&mut self, writer: &mut W) -> Result<(), SessionFault>
         ensures bytes { Sends (W.contents writer.old) (W.contents writer.new) self.old result }
@@ -93,7 +92,7 @@ impl Output {
     }
 }
 
-/// Writes bytes and has the writer hand them on.
+/// Writes bytes and flushes the writer.
 #[tactic(auto, using(crate::proofs::Writing::sent))]
 pub fn send_bytes<W: Write>(writer: &mut W, bytes: &[u8]) -> io::Result<()>
     ensures bytes { Puts (W.contents writer.old) (W.contents writer.new) bytes.now result }
@@ -114,8 +113,7 @@ fn put<W: Write>(writer: &mut W, bytes: &[u8]) -> io::Result<()>
     Ok(())
 }
 
-/// Writes a front of some bytes, tried again where a signal came first. A writer that takes nothing has
-/// failed.
+/// Writes a front of some bytes, and tries again after a signal. A writer that takes no byte has failed.
 fn put_some<W: Write>(writer: &mut W, bytes: &[u8]) -> io::Result<usize>
     requires { 0 < length bytes.now }
     ensures bytes { Writes (W.contents writer.old) (W.contents writer.new) bytes.now result }
@@ -135,7 +133,7 @@ fn put_some<W: Write>(writer: &mut W, bytes: &[u8]) -> io::Result<usize>
     Err(ErrorKind::TimedOut.into())
 }
 
-/// Has the writer hand on what it was given, tried again where a signal came first.
+/// Flushes the writer, and tries again after a signal.
 fn flush<W: Write>(writer: &mut W) -> io::Result<()>
     ensures bytes { Keeps (W.contents writer.old) (W.contents writer.new) }
     ensures cause { IfErr result IsFailure }

@@ -20,7 +20,7 @@ use hpb_tree::Definition;
 use std::alloc::Global;
 use std::io::{Read, Write};
 
-/// How a script ended that met no fault.
+/// The end of a script without a fault.
 #[derive(Clone, Copy, Debug, PartialEq, Eq)]
 pub enum ScriptEnd {
     /// Each line got its answer.
@@ -29,12 +29,11 @@ pub enum ScriptEnd {
     Refused(Refusal),
 }
 
-/// Runs an auction in memory by a script. Its first line is the definition in JSON; each line after it
-/// gets its answer, as `serve` says, of whose faults these are. Both together are within the bytes that
-/// may be read.
+/// Runs an auction in memory by a script. Its first line is the definition in JSON. Each line after it gets its answer
+/// as in `serve`, with the same faults. All lines together are within the bytes that may be read.
 ///
-/// The errors are told why a definition is refused, and on a terminal that it is accepted, and behind the answer of a
-/// refused command which number would do.
+/// Standard errors get the reason why a definition is refused. A terminal also gets a line that the definition is
+/// accepted and, behind the answer to a refused command, the number that would do.
 pub fn run_script<R: Read, W: Write, E: Write>(
     alloc: Global,
     reader: &mut R,
@@ -74,8 +73,8 @@ pub fn run_script<R: Read, W: Write, E: Write>(
     }
 }
 
-/// Serves an auction in memory, as `serve` says: what is written is the text by each history that the
-/// auction shows, and the auction then shows the history that the lines lead to.
+/// Serves an auction in memory, as `serve` does. The text that is written is the one by each history that the auction
+/// shows. The auction then shows the history that the lines lead to.
 pub fn serve_auction<R: Read, W: Write>(
     alloc: Global,
     reader: &mut R,
@@ -118,7 +117,7 @@ fn answer_script<R: Read, W: Write, E: Write>(
     )
 }
 
-/// Writes the line of a refused definition, and nothing where memory was refused.
+/// Writes the line of a refused definition, or nothing if memory was refused.
 fn refuse_script<W: Write>(
     writer: &mut W,
     cause: DefineCause,

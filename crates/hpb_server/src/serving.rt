@@ -29,21 +29,24 @@ use hpb_wire::{FrontRequest, Response, node, parse_front, parse_line, show, who}
 use std::alloc::{AllocError, Global};
 use std::io::{Read, Write, sink};
 
-/// Answers each line of the reader by one line on the writer, to the end of the reader. What has been answered is
-/// written and flushed before more is read. Where to ask the desk takes a wait (`Desk::waits_when_asked`) it is written
-/// and flushed before the desk is asked, too.
+/// Answers each line of the reader with one line on the writer, to the end of the reader. The answers are written and
+/// flushed before more is read. If asking the desk takes a wait (`Desk::waits_when_asked`), they are written and
+/// flushed before the desk is asked, too.
 ///
-/// A line has at most 128 bytes and a line feed; any other, a last one without line feed too, is refused
-/// by `ERR 10 line`. No line tells of a fault: 90 where memory is refused, 92 where the reader or the writer
-/// fails or more than 1,000,000,000 bytes are read: one byte more is taken at most, which shows that there
-/// is more. Where the reader fails, each line that was read is answered and all answers are written first;
-/// where memory is refused, all but the one that it was refused for and those that came together with it and
-/// stand behind it, or nothing is read at all; where the writer fails, a front of them. What was accepted
-/// stands.
+/// A line has at most 128 bytes and a line feed. Any other is refused with `ERR 10 line`; so is a last line without
+/// line feed. No line reports a fault:
 ///
-/// Commands that were read wait until the desk is asked for them together: once they are as many as it takes,
-/// before any other line is answered, and before more is read. A desk may end the session with a reply: that is
-/// written, and nothing more is read or answered.
+/// - 90: memory is refused. All lines are answered and written but the one that memory was refused for and those behind
+///   it that came together with it. Or nothing is read at all.
+/// - 92: the reader fails, or more than 1,000,000,000 bytes are read; at most one byte more is taken, to see that there
+///   is more. Each line that was read is answered, and all answers are written first.
+/// - 92: the writer fails. A front of the answers is written.
+///
+/// Accepted commands stay accepted.
+///
+/// Commands that were read wait until the desk is asked for them together. That happens once they are as many as the
+/// desk takes, before any other line is answered, and before more is read. A desk may end the session with a reply:
+/// that is written, and nothing more is read or answered.
 pub fn serve<R: Read, W: Write, D: Desk>(
     alloc: Global,
     reader: &mut R,
@@ -88,8 +91,8 @@ pub(crate) fn serve_lines<R: Read, W: Write, E: Write, D: Desk>(
     )
 }
 
-/// Answers what is unread of the input, and all that comes after it. At a terminal each command is asked by itself, and
-/// the errors are told what would do in place of one that is refused.
+/// Answers the unread bytes of the input, and all that come after them. At a terminal each command is asked by itself,
+/// and standard errors get the number that would do in place of a refused one.
 pub(crate) fn answer_lines<R: Read, W: Write, E: Write, D: Desk>(
     alloc: Global,
     reader: &mut R,
@@ -131,7 +134,7 @@ pub(crate) fn answer_lines<R: Read, W: Write, E: Write, D: Desk>(
     end_lines(writer, &line, output)
 }
 
-/// Answers a last line without its end, where it has a byte.
+/// Answers a last line without its end, if it has a byte.
 fn end_lines<W: Write>(writer: &mut W, line: &Line, output: &mut Output) -> Result<(), SessionFault>
     requires { output.old ≡ [] }
     ensures { Ends (W.contents writer.old) (W.contents writer.new) line.now result }
@@ -143,7 +146,7 @@ fn end_lines<W: Write>(writer: &mut W, line: &Line, output: &mut Output) -> Resu
     output.send(writer)
 }
 
-/// Answers the lines that end in what is unread. The start of one more stands in `line` afterwards.
+/// Answers the lines that end in the unread bytes. Afterwards `line` has the start of one more.
 fn answer_unread<W: Write, E: Write, D: Desk>(
     alloc: Global,
     writer: &mut W,
@@ -186,7 +189,7 @@ fn answer_unread<W: Write, E: Write, D: Desk>(
     Ok(())
 }
 
-/// What the next line asks for, where its end was read. What is kept of its start stands in `line`. A desk is the
+/// Reads the request of the next line, if its end was read. `line` has the kept bytes of its start. The desk is the
 /// `Caller` of `parse_front`.
 #[inline(always)]
 fn next_request<Caller>(
@@ -209,8 +212,8 @@ fn next_request<Caller>(
     Some(FrontRequest { size, request })
 }
 
-/// What a line asks for whose last part is given: as it lies where that is all of it, else with what is kept of its
-/// start.
+/// Reads the request of a line whose last part is given. If that is all of the line it is read without a copy;
+/// otherwise it is added to the kept bytes of the start.
 fn parse_part(part: &[u8], line: &mut Line, definition: &Definition) -> Result<Request, Refusal>
     ensures value { result ≡ request_of definition.now (take KEPT_BYTES (line.old ++ part.now)) }
     ensures known { IfOk result (IsRequestOf definition.now) }
@@ -222,8 +225,8 @@ fn parse_part(part: &[u8], line: &mut Line, definition: &Definition) -> Result<R
     parse_line(line.as_slice(), definition)
 }
 
-/// Passes what a line asks for: a command to the queue or to the desk, and any other to its answer, once all that waits
-/// is asked.
+/// Passes a request on. A command goes to the queue or to the desk. Any other request is answered once all waiting
+/// commands are asked.
 #[inline(always)]
 #[tactic(auto, using(crate::proofs::Explained::explained_at_none))]
 fn pass_request<W: Write, E: Write, D: Desk>(
@@ -265,9 +268,9 @@ fn pass_request<W: Write, E: Write, D: Desk>(
     }
 }
 
-/// Asks for a command by itself, at a terminal and where the desk takes one at a time. Else it is put into the queue,
-/// and all that waits is asked for once it is as much as is asked together. Where the desk waits, all that is answered
-/// leaves first.
+/// Asks for a command by itself, at a terminal or if the desk takes one at a time. Otherwise it is put into the queue,
+/// and all waiting commands are asked for once they are as many as the desk takes. If the desk waits, all answers are
+/// written first.
 #[inline(always)]
 #[tactic(auto, using(crate::proofs::Explained::explained_at_none))]
 fn pass_command<W: Write, E: Write, D: Desk>(
@@ -304,8 +307,8 @@ fn pass_command<W: Write, E: Write, D: Desk>(
     ask_queue(alloc, writer, desk, queue, output)
 }
 
-/// Asks for one command by itself, and adds its answer. At a terminal that is written, and what would do is told where
-/// it is a refusal. Where the desk waits, the output is empty.
+/// Asks for one command by itself, and adds its answer. At a terminal the answer is written, followed by the number
+/// that would do if it is a refusal. If the desk waits, the output is empty.
 #[inline(always)]
 #[tactic(auto, using(crate::proofs::Explained::explained_at_none))]
 fn ask_alone<W: Write, E: Write, D: Desk>(
@@ -325,7 +328,7 @@ fn ask_alone<W: Write, E: Write, D: Desk>(
         (W.contents writer.old) (W.contents writer.new) output.old output.new [] result) }
     ensures rules { D.rules desk.new ≡ D.rules desk.old }
     ensures explained { ExplainsAt is_terminal (E.contents errors.old) (E.contents errors.new) }
-    // Behind an answer that has left stands what would do, by what the desk then shows.
+    // Behind an answer that was written stands the number that would do, by the auction that the desk then shows.
     ensures told { is_terminal ≡ true → (state : D.State) → D.is_at desk.old state → OnOk result ((reply : Answered) × (next : D.State) × D.asks state command.now reply next
         × TellsReply D.looks next command.now reply (E.contents errors.old) (E.contents errors.new)) }
 {
@@ -340,7 +343,7 @@ fn ask_alone<W: Write, E: Write, D: Desk>(
     }
 }
 
-/// Asks for all that waits, and answers what is no command, unless the session is over.
+/// Asks for all waiting commands, and answers a request that isn't a command, unless the session is over.
 #[inline(always)]
 fn pass_question<W: Write, D: Desk>(
     alloc: Global,
@@ -367,8 +370,8 @@ fn pass_question<W: Write, D: Desk>(
     pass_added(writer, false, added, output)
 }
 
-/// Asks for all that waits, if anything does, and passes the replies. Where the desk waits, all that is answered leaves
-/// first.
+/// Asks for all waiting commands, if there are any, and passes the replies on. If the desk waits, all answers are
+/// written first.
 #[inline(always)]
 fn ask_queue<W: Write, D: Desk>(
     alloc: Global,
@@ -391,7 +394,7 @@ fn ask_queue<W: Write, D: Desk>(
     ask_waiting(alloc, writer, desk, queue, output)
 }
 
-/// Asks for all that waits, and passes the replies. Where the desk waits, the output is empty.
+/// Asks for all waiting commands, and passes the replies on. If the desk waits, the output is empty.
 #[inline(never)]
 fn ask_waiting<W: Write, D: Desk>(
     alloc: Global,
@@ -418,7 +421,7 @@ fn ask_waiting<W: Write, D: Desk>(
     }
 }
 
-/// Writes all that is answered, where the desk waits.
+/// Writes all answers, if the desk waits.
 #[inline(always)]
 #[tactic(auto, using(crate::proofs::Passing::all_sent))]
 fn send_first<W: Write, D: Desk>(
@@ -451,8 +454,8 @@ fn pass_replies<W: Write>(
     Ok(())
 }
 
-/// Goes on from an answer that was added, or was not. All that is answered is written at once, where that is wanted,
-/// where room for one answer more may be missing, and where memory is refused.
+/// Goes on after an answer was added, or wasn't. All answers are written at once if that is wanted, if there may be too
+/// little room for another one, or if memory is refused.
 #[inline(always)]
 fn pass_added<W: Write>(
     writer: &mut W,
@@ -475,7 +478,7 @@ fn pass_added<W: Write>(
     }
 }
 
-/// Ends a session to which memory was refused: all that is answered is written first.
+/// Ends a session because memory was refused: all answers are written first.
 fn break_off<W: Write>(
     writer: &mut W,
     refused: AllocError,
@@ -489,7 +492,7 @@ fn break_off<W: Write>(
     Err(refused.into())
 }
 
-/// Adds the answer to a question, or to a line that is refused.
+/// Adds the answer to a question, or to a refused line.
 #[inline(always)]
 fn answer_question<D: Desk>(
     desk: &mut D,
@@ -508,7 +511,7 @@ fn answer_question<D: Desk>(
     }
 }
 
-/// Adds the answer to a question, by what the desk shows.
+/// Adds the answer to a question, from the auction that the desk shows.
 #[inline(always)]
 fn answer_request<D: Desk>(
     desk: &mut D,
@@ -527,7 +530,7 @@ fn answer_request<D: Desk>(
     }
 }
 
-/// What a question is answered by an auction as it stands.
+/// The answer to a question, from an auction as it stands.
 #[inline(always)]
 fn view_of(auction: &Auction, request: Request) -> Response<'_>
     requires question { IsQuestion (Ok request) }

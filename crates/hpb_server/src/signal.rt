@@ -4,7 +4,7 @@ ghost use Rattle.std.specs.IoError.{error_kind};
 use std::io;
 use std::io::ErrorKind;
 
-/// Whether a signal came first, so that a call may be tried again.
+/// Whether a signal interrupted a call, so that it may be tried again.
 pub(crate) fn is_interrupted(error: &io::Error) -> bool
     ensures { IsTrue result ↔ (error_kind error.now ≡ ErrorKind.Interrupted) }
 {

@@ -1,4 +1,4 @@
-//! What is said to people, beside the answers.
+//! Lines for people, beside the answers.
 ghost use Rattle.std.specs.Prelude.{◌≡◌, true};
 ghost use Rattle.hpb_define.specs.Fault.{refusal_of};
 ghost use Rattle.hpb_server.specs.Desk.{LooksStay};
@@ -15,10 +15,10 @@ use std::alloc::Global;
 use std::fmt;
 use std::io::Write;
 
-/// What a terminal is told of a definition that is accepted.
+/// The line for a terminal about an accepted definition.
 pub(crate) const ACCEPTED: &str = "hpb: the definition is accepted: type commands and questions\n";
 
-/// Writes a text, as far as the writer takes it. Where it fails, there is nowhere left to say so.
+/// Writes a text, as far as the writer takes it. If the writer fails, the failure can't be reported anywhere.
 #[tactic(auto, using(crate::proofs::Fronts::put_front))]
 pub fn say<W: Write>(text: &[u8], writer: &mut W)
     ensures { Says (W.contents writer.old) (W.contents writer.new) text.now }
@@ -26,7 +26,7 @@ pub fn say<W: Write>(text: &[u8], writer: &mut W)
     let _ = send_bytes(writer, text);
 }
 
-/// Tells people of a refusal, by a line that has its number, its word and a reason, as far as memory and the errors
+/// Reports a refusal to people, by a line with its number, its word and a reason, as far as memory and standard errors
 /// allow.
 pub fn tell_people<E: Write>(alloc: Global, refusal: Refusal, reason: &str, errors: &mut E)
     ensures { Says (E.contents errors.old) (E.contents errors.new) (told_line refusal reason.now) }
@@ -55,7 +55,7 @@ impl fmt::Display for LineForPeople<'_> {
     }
 }
 
-/// Tells a terminal that a definition was accepted.
+/// Writes to a terminal that a definition was accepted.
 pub(crate) fn greet<E: Write>(is_terminal: bool, errors: &mut E)
     ensures { Says (E.contents errors.old) (E.contents errors.new) (accepted_text is_terminal) }
 {
@@ -64,11 +64,11 @@ pub(crate) fn greet<E: Write>(is_terminal: bool, errors: &mut E)
     }
 }
 
-/// What is said of a definition whose first line ends too early, and isn't the last one.
+/// The reason for a definition whose first line ends too early, and isn't the last line.
 const ONE_LINE: &str =
     ": a script has the whole definition in its first line, as `jq -c . definition.json` writes it";
 
-/// Tells people why a script's definition is refused, and of want of memory nothing. Lines may come behind it.
+/// Reports to people why a script's definition is refused, unless memory was refused. Other lines may follow.
 pub(crate) fn tell_reason<E: Write>(
     alloc: Global,
     fault: &DefineFault,
@@ -91,7 +91,7 @@ pub(crate) fn tell_reason<E: Write>(
     }
 }
 
-/// At a terminal, tells what would do in place of a command whose reply is a refusal.
+/// At a terminal, reports the number that would do in place of a command whose reply is a refusal.
 pub(crate) fn explain<E: Write, D: Desk>(
     alloc: Global,
     is_terminal: bool,
@@ -115,7 +115,7 @@ pub(crate) fn explain<E: Write, D: Desk>(
     }
 }
 
-/// Tells what would do in place of a refused command, by the auction that the desk shows.
+/// Reports the number that would do in place of a refused command, by the auction that the desk shows.
 fn explain_refusal<E: Write, D: Desk>(
     alloc: Global,
     desk: &mut D,
@@ -135,8 +135,8 @@ fn explain_refusal<E: Write, D: Desk>(
     }
 }
 
-/// Tells people which number would do in place of a command that is refused, by an auction as it stands, as far as
-/// memory and the errors allow. Where none would, nothing is told.
+/// Reports to people the number that would do in place of a refused command, by an auction as it stands, as far as
+/// memory and standard errors allow. If no number would do, nothing is written.
 #[tactic(auto, using(crate::proofs::Explained::said_none))]
 pub(crate) fn tell_refused<E: Write>(
     alloc: Global,
@@ -153,7 +153,7 @@ pub(crate) fn tell_refused<E: Write>(
     }
 }
 
-/// Tells people of a refusal by the number that would do.
+/// Reports a refusal to people with the number that would do.
 #[tactic(auto, using(crate::proofs::Explained::said_none))]
 fn tell_number<E: Write>(alloc: Global, refusal: Refusal, reason: Reason<'_>, errors: &mut E)
     ensures { Says (E.contents errors.old) (E.contents errors.new) (told_line refusal (text_of reason.entry)) }

@@ -1,4 +1,4 @@
-//! Sessions at a terminal: behind the answer to a command that is refused people are told which number would do.
+//! Sessions at a terminal: behind the answer to a refused command people get the number that would do.
 ghost use Rattle.std.specs.Prelude.{◌≡◌, [], List};
 ghost use Rattle.hpb_server.specs.Desk.{LooksStay, Moves};
 ghost use Rattle.hpb_server.specs.Serving.{Serves};
@@ -12,10 +12,13 @@ use hpb_rules::MOST_READ_BYTES;
 use std::alloc::Global;
 use std::io::{Read, Write};
 
-/// Answers each line as `serve` does, of a desk whose looks leave it as it is, and asks for commands one at a time: the
-/// answer to each is written and flushed at once. Where it is a refusal for which a number would do, the errors are
-/// told it, behind the answer, as far as memory and the errors allow: of 13, 14 and 15 the sender's next ticket, of 21
-/// the step, of 22 the least amount, of 23 the greatest, of 25 the bidder's eligibility and activity.
+/// Answers each line as `serve` does, for a desk that a look doesn't change. Asks for commands one at a time, and
+/// writes and flushes each answer at once. If an answer is a refusal for which some number would do, standard errors
+/// get that number behind the answer, as far as memory and standard errors allow:
+///
+/// - for 13, 14 and 15 the sender's next ticket;
+/// - for 21 the step, for 22 the least amount, for 23 the greatest;
+/// - for 25 the bidder's eligibility and activity.
 pub fn serve_at_terminal<R: Read, W: Write, E: Write, D: Desk>(
     alloc: Global,
     reader: &mut R,

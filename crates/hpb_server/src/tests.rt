@@ -21,7 +21,7 @@ use std::test::Fail;
 pub(crate) const DEFINITION: &[u8] =
     b"{\"step\":10,\"percent\":10,\"stages\":[80,95],\"nodes\":[{\"name\":\"all\",\"parent\":null},{\"name\":\"east\",\"parent\":\"all\"},{\"name\":\"a\",\"parent\":\"east\",\"units\":10,\"opening\":100},{\"name\":\"b\",\"parent\":\"east\",\"units\":10,\"opening\":100},{\"name\":\"c\",\"parent\":\"all\",\"units\":20,\"opening\":100},{\"name\":\"d\",\"parent\":null,\"units\":5,\"opening\":100}],\"bidders\":[{\"name\":\"x\",\"units\":10},{\"name\":\"y\",\"units\":10},{\"name\":\"z\",\"units\":40},{\"name\":\"w\",\"units\":25}]}\n";
 
-/// What a session does, as both of its ends see it.
+/// The events of a session, as both of its ends see them.
 #[derive(Drop)]
 pub(crate) struct Talk {
     reads: Cell<usize>,
@@ -64,7 +64,7 @@ impl Read for Lines<'_> {
     }
 }
 
-/// How long the first line is, its end with it.
+/// How many bytes the first line has, its end included.
 fn line_length(bytes: &[u8]) -> usize {
     match bytes.iter().position(|byte| *byte == b'\n') {
         Some(end) => end + 1,
@@ -72,7 +72,7 @@ fn line_length(bytes: &[u8]) -> usize {
     }
 }
 
-/// Gives at most so many bytes.
+/// Gives at most `most` bytes.
 fn give(rest: &mut &[u8], buffer: &mut [u8], most: usize) -> io::Result<usize>
     ensures { ReadsAtMost result buffer.new }
 {
@@ -107,7 +107,7 @@ impl Write for Counts<'_> {
     }
 }
 
-/// Gives one byte a call, each second call, and a signal comes at the others.
+/// Gives one byte at each second call; a signal comes at the others.
 #[derive(Drop)]
 struct OneByteReader<'a> {
     rest: &'a [u8],
@@ -124,7 +124,7 @@ impl Read for OneByteReader<'_> {
     }
 }
 
-/// Takes one byte a call, each second call, and a signal comes at the others.
+/// Takes one byte at each second call; a signal comes at the others.
 #[derive(Drop)]
 struct OneByteWriter {
     bytes: Vec<u8>,
@@ -155,7 +155,7 @@ impl Write for OneByteWriter {
     }
 }
 
-/// Gives one line a read, so often, and fails then.
+/// Gives one line at a read, a number of times, and then fails.
 #[derive(Drop)]
 pub(crate) struct FailingReader<'a> {
     pub(crate) rest: &'a [u8],
@@ -191,7 +191,7 @@ impl Read for EndingReader<'_> {
     }
 }
 
-/// Takes all of a write, and hands it on, each so often. It fails then, or takes nothing.
+/// Takes whole writes and flushes, each a number of times. Then it fails, or takes no byte.
 #[derive(Drop)]
 struct FailingWriter {
     bytes: Vec<u8>,
@@ -222,7 +222,7 @@ impl Write for FailingWriter {
     }
 }
 
-/// A script of so many equal lines.
+/// A script of `count` equal lines.
 fn script(alloc: Global, line: &[u8], count: usize) -> Result<Vec<u8>, Fail> {
     let mut text = DEFINITION.to_vec(alloc)?;
     for _ in 0..count {
@@ -242,7 +242,7 @@ pub(crate) fn new_desk(alloc: Global) -> Result<Box<ScriptDesk>, Fail> {
     Ok(Box::new(alloc, ScriptDesk::new(new_auction(alloc)?))?)
 }
 
-/// How a script and what it wrote ended.
+/// The end of a script, and the text that it wrote.
 type Ended = (Result<ScriptEnd, SessionFault>, Vec<u8>);
 
 /// Runs a script.
@@ -256,7 +256,7 @@ pub(crate) fn run_all<R: Read, W: Write, E: Write>(
     run_script(alloc, reader, writer, errors, is_terminal)
 }
 
-/// Runs a script with no terminal.
+/// Runs a script without a terminal.
 fn run<R: Read, W: Write>(
     alloc: Global,
     reader: &mut R,
@@ -265,7 +265,7 @@ fn run<R: Read, W: Write>(
     run_all(alloc, reader, writer, &mut io::sink(), false)
 }
 
-/// Runs a script with no terminal, and keeps what is written.
+/// Runs a script without a terminal, and keeps the text that it writes.
 fn run_kept<R: Read>(alloc: Global, reader: &mut R) -> Ended {
     let mut output = Vec::new(alloc);
     let result = run(alloc, reader, &mut output);
@@ -298,7 +298,7 @@ fn an_answer_leaves_before_the_next_line_is_asked_for(rt: HostRuntime) -> Result
     Ok(())
 }
 
-/// Commands and questions wait for nothing, since the desk doesn't.
+/// Commands and questions never wait, since this desk doesn't take a wait.
 #[test]
 fn a_script_that_is_piped_in_costs_few_writes(rt: HostRuntime) -> Result<(), Fail> {
     let text = script(rt.alloc(), b"CLOSE 0\nSHOW\n", 5_000)?;
@@ -311,7 +311,7 @@ fn a_script_that_is_piped_in_costs_few_writes(rt: HostRuntime) -> Result<(), Fai
     Ok(())
 }
 
-/// Runs a script that comes one byte a call, and whose answers go so.
+/// Runs a script that is read and answered one byte at a call.
 fn run_bytes(alloc: Global, text: &[u8]) -> Ended {
     let mut reader = OneByteReader {
         rest: text,
@@ -338,7 +338,7 @@ fn bytes_come_and_go_one_by_one(rt: HostRuntime) -> Result<(), Fail> {
 
 const LINES: &[u8] = b"BID x 1 a 100\nBID y 1 b 150\nCLOSE 1\nSHOW\n";
 
-/// What stands written once so many of these lines are answered.
+/// The text that is written once a number of these lines are answered.
 const FRONTS: [&[u8]; 5] = [
     b"",
     b"OK 1\n",
@@ -350,8 +350,8 @@ const FRONTS: [&[u8]; 5] = [
 const EMPTY: &str =
     "hpb: 60 json: the definition is empty: a script has the whole definition in its first line, as `jq -c . definition.json` writes it\n";
 
-/// Scripts, each at a terminal or not, with what people are told of its definition: of those that are refused one is
-/// laid out over many lines, and one was cut off.
+/// Scripts, each at a terminal or not, with the lines for people about its definition. Of the refused ones, one is laid
+/// out over many lines, and one was cut off.
 const DEFINITIONS: [(&[u8], bool, &str); 8] = [
     (b"\nSHOW\n", false, EMPTY),
     (b"\nSHOW\n", true, EMPTY),
@@ -375,7 +375,7 @@ const DEFINITIONS: [(&[u8], bool, &str); 8] = [
     (DEFINITION, true, ACCEPTED),
 ];
 
-/// What people are told of a script.
+/// The lines for people about a script.
 fn told_of(alloc: Global, text: &[u8], is_terminal: bool) -> Result<Vec<u8>, Fail> {
     let mut input = text;
     let mut errors = Vec::new(alloc);
@@ -392,7 +392,7 @@ fn people_are_told_of_a_definition(rt: HostRuntime) -> Result<(), Fail> {
     Ok(())
 }
 
-/// After so many reads so many lines are answered.
+/// Checks that after `reads` reads `lines` lines are answered.
 fn fail_after(rt: &impl Abort, alloc: Global, text: &[u8], reads: usize, lines: usize) {
     let mut reader = FailingReader { rest: text, reads };
     let (result, written) = run_kept(alloc, &mut reader);
@@ -414,7 +414,7 @@ fn each_read_fails_in_turn(rt: HostRuntime) -> Result<(), Fail> {
     Ok(())
 }
 
-/// A script whose reader ends once ends so, and this is written.
+/// Checks the end of a script whose reader ends once, and the text that is written.
 fn end_with(rt: &impl Abort, alloc: Global, text: &[u8], end: ScriptEnd, want: &[u8]) {
     let mut reader = EndingReader {
         rest: text,
@@ -441,7 +441,7 @@ fn nothing_is_read_after_the_end(rt: HostRuntime) -> Result<(), Fail> {
     Ok(())
 }
 
-/// Serves the lines one by one by an auction in memory.
+/// Serves the lines one by one, with an auction in memory.
 fn serve_to<W: Write>(
     alloc: Global,
     writer: &mut W,
@@ -460,7 +460,8 @@ fn count_of(desk: Box<ScriptDesk>) -> u32 {
     Box::into_inner(desk).into_auction().count()
 }
 
-/// Serves the lines one by one to a writer that fails: how that ended, what is written, and how many were accepted.
+/// Serves the lines one by one to a writer that fails. Returns how that ended, the text that was written, and how many
+/// commands were accepted.
 fn served(
     alloc: Global,
     (writes, flushes, takes_nothing): (usize, usize, bool),
@@ -476,7 +477,7 @@ fn served(
     Ok((result, writer.bytes, count_of(desk)))
 }
 
-/// With this writer the lines ended so: so many of them stand written, and so many are accepted.
+/// Checks how the lines end with this writer: how many of them are written, and how many are accepted.
 fn end_after(
     rt: &impl Abort,
     alloc: Global,
@@ -513,7 +514,7 @@ fn each_write_and_each_flush_fails_in_turn(rt: HostRuntime) -> Result<(), Fail> 
     end_after(&rt, alloc, (4, 4, false), Ok(()), (4, 3))
 }
 
-/// Answers the lines of a reader of which so many bytes may be read: how that ended, and what was written.
+/// Answers the lines of a reader within a budget of bytes. Returns how that ended, and the text that was written.
 fn answered_within<R: Read>(
     alloc: Global,
     reader: &mut R,
@@ -536,7 +537,7 @@ fn answered_within<R: Read>(
     Ok((result, written))
 }
 
-/// Of 24 bytes so many may be read: it ends so, this is written, and so many bytes are left.
+/// Checks a budget for a reader of 24 bytes: how it ends, the text that is written, and how many bytes are left.
 fn read_within(
     rt: &impl Abort,
     alloc: Global,

@@ -30,7 +30,7 @@ module _ (rules : Rules) (slot : Slot) (image : List ℕ) (saved : Saved) where
   pub some_found : (found : Found) (i : ℕ) → found.index ≡ Some i → IsFound rules slot image saved found → Holds rules slot i saved image
   some_found found i is h = subst Says is h.1
 
-  -- What a decoded body says of an open slot.
+  -- The state of an open slot, from its decoded body.
   module _ (body : List ℕ) (read : body ≡ body_of slot image) (is_open : IsOpen slot image) where
     pub decoded : (index : Option ℕ) → IfSome index (λ i. SpellsState rules body saved i)
         → ((state : Saved) (i : ℕ) → SpellsState rules body state i → (index ≡ Some i) × (saved ≡ state)) → Says index
@@ -42,7 +42,7 @@ module _ (one : HoldsOne) (rules : Rules) (image : List ℕ) where
   neither first second First index saved holds = first index saved holds
   neither first second Second index saved holds = second index saved holds
 
-  -- What has to be shown of each slot.
+  -- The statement to prove for each slot.
   abbrev Compared : Slot → ℕ → Slot → Type 0
   Compared slot i other = (j : ℕ) (older : Saved) → Holds rules other j older image → (j < i) ⊎ ((j ≡ i) × (place_of slot ≤ place_of other))
 

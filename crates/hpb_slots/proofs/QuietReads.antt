@@ -2,7 +2,7 @@
 use Rattle.std.proofs.Common.{inl, inr, ℕ, List, arith}
 use Rattle.hpb_disk.specs.Images.{LeavesOnly}
 
--- More reads, which leave no other images.
+-- More reads leave no other images.
 pub more_reads : (before mid now : ℕ) (past then since : ℕ → List ℕ → Type 0) (was left last : List ℕ → Type 0)
     → LeavesOnly before mid past then left was → LeavesOnly mid now then since last left → LeavesOnly before now past since last was
 more_reads before mid now past then since was left last one more = record {

@@ -1,4 +1,4 @@
--- What a write in a slot leaves as it was.
+-- The bytes that a write in a slot leaves as they were.
 use Rattle.std.proofs.Common.{◌≡◌, ◌≢◌, ◌⊎◌, inl, inr, ℕ, ◌+◌, ◌<◌, ◌≤◌, List, [], ◌∷◌, length, refl, sym, ◌∙◌, ap, subst, arith}
 use Rattle.std.proofs.lemmas.Bool.{cases_lt}
 use Rattle.hpb_disk.specs.Images.{part, put, Torn, TornFrom, Within, Elapses}
@@ -9,7 +9,7 @@ use Rattle.hpb_slots.specs.Slots.{place_of, gate_at, chunk_at, piece_of}
 use Rattle.hpb_slots.specs.Changes.{ChangesGate, ChangesChunk, TornGate, TornChunk}
 use Rattle.hpb_disk.proofs.Regions.{elapses_within}
 
--- There are two.
+-- There are two slots.
 pub two : (slot : Slot) → place_of slot ≤ 1
 two First = omega arith
 two Second = omega arith
@@ -21,7 +21,7 @@ places_differ Second First apart same = absurd (omega (arith, same))
 places_differ Second Second apart same = apart refl
 
 module _ (elsewhere : ElsewhereStays) (slot : Slot) where
-  -- The places of two slots, and that they differ where the slots do.
+  -- Different slots have different places.
   module _ (other : Slot) (apart : other ≢ slot) where
     differ : place_of other ≢ place_of slot
     differ = places_differ slot other apart
@@ -52,7 +52,7 @@ module _ (elsewhere : ElsewhereStays) (slot : Slot) where
           pieces = λ j few apart. stays (chunk_at slot j) 4096 (elim (cases_lt i j) [ inl less ↦ inr (omega (arith, less)) | inr ge ↦ inl (omega (arith, ge, apart)) ]);
         }
 
--- A write at this offset, of which a call tells.
+-- A write at this offset, as a call reports it.
 module _ (elsewhere : ElsewhereStays) (tears : PutIsTorn) (slot : Slot) (at : ℕ) where
   module _ (here : at ≡ gate_at slot) where
     gate_within : (images : List ℕ → Type 0) → Within (TornFrom at 1 images) (TornGate slot images)

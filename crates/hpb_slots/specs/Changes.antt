@@ -1,4 +1,4 @@
--- What a write of a slot leaves as it was. The head lies before the slots, the journal behind them.
+-- The bytes that a write of a slot leaves as they were. The head lies before the slots, the journal behind them.
 use Rattle.std.specs.Prelude.{◌≡◌, ◌≢◌, ℕ, ◌<◌, List, length}
 use Rattle.hpb_codec.specs.declared.state.TheConstants.{CHUNKS}
 use Rattle.hpb_disk.specs.Images.{SameBefore, SameFrom}
@@ -14,7 +14,7 @@ pub record ChangesGate (slot : Slot) (old new : List ℕ) : Type 0 where
   pub gates : (other : Slot) → other ≢ slot → gate_of other new ≡ gate_of other old
   pub bodies : (other : Slot) → body_of other new ≡ body_of other old
 
--- They differ at most in one chunk of its body.
+-- The images differ at most in one chunk of the body of this slot.
 pub record ChangesChunk (slot : Slot) (i : ℕ) (old new : List ℕ) : Type 0 where
   pub before : SameBefore SLOTS_AT old new
   pub behind : SameFrom SLOTS_END old new
@@ -27,6 +27,6 @@ pub record ChangesChunk (slot : Slot) (i : ℕ) (old new : List ℕ) : Type 0 wh
 abbrev pub TornGate : Slot → (List ℕ → Type 0) → List ℕ → Type 0
 TornGate slot images new = (old : List ℕ) × images old × ChangesGate slot old new
 
--- One of them, with any bytes in this chunk.
+-- One of these images, with any bytes in this chunk.
 abbrev pub TornChunk : Slot → ℕ → (List ℕ → Type 0) → List ℕ → Type 0
 TornChunk slot i images new = (old : List ℕ) × images old × ChangesChunk slot i old new

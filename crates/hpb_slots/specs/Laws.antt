@@ -13,12 +13,12 @@ use Rattle.hpb_slots.specs.Newest.{IsNewest}
 abbrev pub OpenOrClosed : Type 0
 OpenOrClosed = (slot : Slot) (image : List ℕ) → IsOpen slot image ⊎ IsClosed slot image
 
--- A slot holds one state at most.
+-- A slot holds at most one state.
 abbrev pub HoldsOne : Type 0
 HoldsOne = (rules : Rules) (slot : Slot) (index i : ℕ) (saved other : Saved) (image : List ℕ)
     → Holds rules slot index saved image → Holds rules slot i other image → (index ≡ i) × (saved ≡ other)
 
--- A device has one newest state at most.
+-- A device has at most one newest state.
 abbrev pub NewestIsOne : Type 0
 NewestIsOne = (rules : Rules) (slot other : Slot) (index i : ℕ) (saved older : Saved) (image : List ℕ)
     → IsNewest rules slot index saved image → IsNewest rules other i older image → (slot ≡ other) × (index ≡ i) × (saved ≡ older)
@@ -27,7 +27,7 @@ NewestIsOne = (rules : Rules) (slot other : Slot) (index i : ℕ) (saved older :
 abbrev pub ChunksAreWhole : Type 0
 ChunksAreWhole = (slot : Slot) (body image : List ℕ) → length body ≡ STATE_SIZE → HasChunks slot CHUNKS body image → body_of slot image ≡ body
 
--- Where no byte between the head and the journal differs, both slots are as they were.
+-- If no byte between the head and the journal differs, both slots are as they were.
 abbrev pub SlotsStay : Type 0
 SlotsStay = (slot : Slot) (old new : List ℕ)
     → ((at count : ℕ) → SLOTS_AT ≤ at → at + count ≤ SLOTS_END → part at count new ≡ part at count old)

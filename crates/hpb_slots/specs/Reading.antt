@@ -1,4 +1,4 @@
--- What is found in the slots, one after the other.
+-- The contents of the slots, read one after the other.
 use Rattle.std.specs.Prelude.{◌↔◌, ℕ, List, IsTrue, MatchOption}
 use Rattle.hpb_rules.specs.Tree.{Rules}
 use Rattle.hpb_rules.specs.declared.saved.Saved.{Saved}
@@ -9,18 +9,18 @@ use Rattle.hpb_slots.specs.declared.slot.Slot.TheVariants.{First, Second}
 use Rattle.hpb_slots.specs.Slots.{IsOpen, Holds, other_of}
 use Rattle.hpb_slots.specs.Newest.{IsNewest}
 
--- What a slot says: whether it is open, and its state, which is this, if it has one.
+-- The answer about one slot is right: whether it is open, and its state, if it has one.
 abbrev pub IsFound : Rules → Slot → List ℕ → Saved → Found → Type 0
 IsFound rules slot image saved found =
     (IsTrue found.is_open ↔ IsOpen slot image)
     × MatchOption found.index ((index : ℕ) (state : Saved) → Holds rules slot index state image → ⊥) (λ index. Holds rules slot index saved image)
 
--- Of the states of both slots that of this one.
+-- The state of this slot, from those of both.
 abbrev pub state_of_slot : Slot → Saved → Saved → Saved
 state_of_slot First one other = one
 state_of_slot Second one other = other
 
--- It is the newest one, and the other slot's gate is as told.
+-- The chosen state is the newest, and the other slot's gate is as the answer says.
 abbrev pub IsChosen : Rules → List ℕ → Saved → Saved → Newest → Type 0
 IsChosen rules image one other newest =
     IsNewest rules newest.slot newest.index (state_of_slot newest.slot one other) image × (IsTrue newest.other_open ↔ IsOpen (other_of newest.slot) image)

@@ -1,4 +1,4 @@
--- The two slots of a device, and what stands in them.
+-- The two slots of a device, and their contents.
 use Rattle.std.specs.Prelude.{◌≡◌, ◌≢◌, ℕ, ◌+◌, ◌*◌, ◌<◌, List}
 use Rattle.hpb_rules.specs.Tree.{Rules}
 use Rattle.hpb_rules.specs.declared.saved.Saved.{Saved}
@@ -12,9 +12,10 @@ use Rattle.hpb_slots.specs.declared.limits.TheConstants.{SLOTS_AT, SLOT_BYTES}
 use Rattle.hpb_slots.specs.declared.slot.Slot.{Slot}
 use Rattle.hpb_slots.specs.declared.slot.Slot.TheVariants.{First, Second}
 
--- **Slots.** `hpb_slots/specs`. A device has two places for a state. Each has a gate, and a body of four chunks behind it.
+-- **Slots.** `hpb_slots/specs`. A device has two places for a state. Each has a gate, and a body of four chunks behind
+-- it.
 --
--- The place of a slot among the two.
+-- The place of a slot: 0 or 1.
 abbrev pub place_of : Slot → ℕ
 place_of First = 0
 place_of Second = 1
@@ -44,14 +45,14 @@ piece_of slot i image = part (chunk_at slot i) CHUNK_SIZE image
 abbrev pub IsOpen : Slot → List ℕ → Type 0
 IsOpen slot image = gate_of slot image ≡ open_byte
 
--- It has any other value.
+-- The gate of the slot has any other value.
 abbrev pub IsClosed : Slot → List ℕ → Type 0
 IsClosed slot image = gate_of slot image ≢ open_byte
 
--- **The newest slot.** A slot holds a state where its gate is open and its body spells the state under the definition. Of the slots that hold one,
--- the newest covers the most batches; of two that cover as many it is the first.
+-- **The newest slot.** A slot holds a state if its gate is open and its body spells the state under the definition. Of
+-- the slots that hold one, the newest covers the most batches. If both cover equally many, the first is the newest.
 --
--- The slot is open with a state under the definition, and the number of batches that it covers.
+-- The slot is open with a state under the definition that covers this number of batches.
 abbrev pub Holds : Rules → Slot → ℕ → Saved → List ℕ → Type 0
 Holds rules slot index saved image = IsOpen slot image × SpellsState rules (body_of slot image) saved index
 
@@ -59,6 +60,6 @@ Holds rules slot index saved image = IsOpen slot image × SpellsState rules (bod
 abbrev pub IsBroken : Rules → Slot → List ℕ → Type 0
 IsBroken rules slot image = IsOpen slot image × ((index : ℕ) (saved : Saved) → Holds rules slot index saved image → ⊥)
 
--- The first chunks of the body are those of these bytes.
+-- The first `n` chunks of the slot's body are those of these bytes.
 abbrev pub HasChunks : Slot → ℕ → List ℕ → List ℕ → Type 0
 HasChunks slot count body image = (i : ℕ) → i < count → piece_of slot i image ≡ chunk_of i body

@@ -1,4 +1,4 @@
--- What a device is asked for where a slot is written.
+-- The writes that a device is asked for when a slot is written.
 use Rattle.std.specs.Prelude.{ℕ, List}
 use Rattle.hpb_codec.specs.Laws.{chunk_of}
 use Rattle.hpb_disk.specs.Asked.{Asked}

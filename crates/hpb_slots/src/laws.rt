@@ -10,14 +10,14 @@ pub fn open_or_closed()
     hpb_disk::open_or_closed();
 }
 
-/// A slot holds one state at most.
+/// A slot holds at most one state.
 pub fn holds_one()
     ensures { HoldsOne }
 {
     states_are_one();
 }
 
-/// A device has one newest state at most.
+/// A device has at most one newest state.
 pub fn newest_is_one()
     ensures { NewestIsOne }
 {
@@ -31,7 +31,7 @@ pub fn chunks_are_whole()
     states_are_one();
 }
 
-/// Slots stay where their bytes do.
+/// If the bytes of the slots stay, the slots stay as they were.
 pub fn slots_stay()
     ensures { SlotsStay }
 {}

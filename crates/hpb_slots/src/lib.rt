@@ -1,7 +1,7 @@
 //! The slots of a device: two places for a checkpoint, of which the newest whole one counts.
 //!
-//! A checkpoint is written into the slot that isn't the newest: `close_slot`, a sync, `write_chunk` four times, a sync,
-//! `open_slot`, and a sync.
+//! A checkpoint is written into the slot that isn't the newest, in these steps: `close_slot`, a sync, `write_chunk`
+//! four times, a sync, `open_slot`, and a sync.
 #![tactic(auto)]
 
 mod found;

@@ -1,6 +1,6 @@
 use crate::Slot;
 
-/// Where the newest state of a device stands.
+/// The slot that holds the newest state of a device.
 #[derive(Clone, Copy, Debug, PartialEq, Eq)]
 pub struct Newest {
     pub slot: Slot,

@@ -35,7 +35,7 @@ pub fn slot_is_open<D: Disk>(disk: &mut D, slot: Slot) -> Result<bool, DiskFaile
     gate_is_open(disk, gate_offset(slot))
 }
 
-/// What a slot says. Its state, if it has one, is put into `saved`.
+/// Reads one slot. Its state, if it has one, is put into `saved`.
 fn read_slot<D: Disk>(
     disk: &mut D,
     slot: Slot,
@@ -68,9 +68,9 @@ fn read_slot<D: Disk>(
     })
 }
 
-/// Reads whether a slot is open with a body that says nothing, which no honest device leaves: its gate is opened once its body
-/// is whole. Then it gives the count of accepted commands that the body's bytes have, true or not. `body` and `saved` are room
-/// for a state.
+/// Whether a slot is open with a body that spells no state. No honest device leaves that: a slot's gate is opened once
+/// its body is whole. If so, the answer has the count of accepted commands in the body's bytes, which may be wrong.
+/// `body` and `saved` are room for a state.
 pub fn read_broken<D: Disk>(
     disk: &mut D,
     slot: Slot,
@@ -102,7 +102,7 @@ pub fn read_broken<D: Disk>(
     }
 }
 
-/// The slot with the greater index of those that hold a state; of two equal ones the first.
+/// The slot with the greater index among those that hold a state. If both have the same index, the first.
 fn choose(first: Found, second: Found) -> Option<Newest>
     ensures { (rules : Rules) (image : List ℕ) (one other : Saved) → IsFound rules First image one first → IsFound rules Second image other second
         → MatchOption result (IsWithout rules image) (IsChosen rules image one other) }
@@ -138,7 +138,7 @@ fn choose(first: Found, second: Found) -> Option<Newest>
     }
 }
 
-// Takes the later state where it is the slot's.
+// Takes over the second slot's state if it is the chosen one.
 fn take(slot: Slot, saved: &mut Saved, later: &Saved)
     ensures { saved.new ≡ state_of_slot slot saved.old later.now }
 {
@@ -148,10 +148,10 @@ fn take(slot: Slot, saved: &mut Saved, later: &Saved)
     }
 }
 
-/// Reads both slots, each page once, and puts the newest state into `saved`: of the slots whose gate is open and whose
-/// body spells a state under the definition the one that covers more batches, of two equal ones the first. `None` where
-/// no slot holds a state; then, and where the device failed, what stands in `saved` is of no use. `body` is room for a
-/// state's body.
+/// Reads both slots, each page once, and puts the newest state into `saved`. A slot holds a state if its gate is open
+/// and its body spells a state under the definition. The newest covers more batches; if both cover equally many, it is
+/// the first. `None` if no slot holds a state. Then, and if the device failed, the contents of `saved` are of no use.
+/// `body` is room for a state's body.
 pub fn read_newest<D: Disk>(
     disk: &mut D,
     definition: &Definition,
@@ -166,7 +166,7 @@ pub fn read_newest<D: Disk>(
     ensures crash_kept { Within (D.may_leave disk.old) (D.may_leave disk.new) }
     ensures time { LeavesOnly (D.moment disk.old) (D.moment disk.new) (D.left_since disk.old) (D.left_since disk.new)
         (D.may_leave disk.new) (D.may_leave disk.old) }
-    // Two reads of a slot.
+    // Two reads for each slot.
     ensures calls { D.moment disk.new ≤ D.moment disk.old + 4 }
     ensures cause { CountsFailure result (D.failures disk.old) (D.failures disk.new) }
     ensures asked { Asks result [] (D.asked disk.old) (D.asked disk.new) }

@@ -10,7 +10,7 @@ pub enum Slot {
 impl Slot {
     ghost use Rattle.hpb_slots.specs.Slots.{place_of, other_of};
 
-    /// The one that isn't this.
+    /// The other slot.
     pub fn other(self) -> Slot
         ensures { result ≡ other_of self }
     {

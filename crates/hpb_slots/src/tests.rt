@@ -1,4 +1,4 @@
-//! What no clause says: where the slots stand, byte by byte, and which of two is taken.
+//! Facts that no clause states: the places of the slots, byte by byte, and which of two is taken.
 
 mod examples;
 mod newest;

@@ -23,8 +23,8 @@ pub(crate) fn gate_offset(slot: Slot) -> usize
     SLOTS_AT + SLOT_BYTES * slot.place()
 }
 
-/// Writes one chunk of a state's body into a slot. Where the slot's gate is closed in all that a crash may leave, it
-/// shows nothing, whole or torn.
+/// Writes one chunk of a state's body into a slot. If the slot's gate is closed in every image that a crash may leave,
+/// the chunk doesn't count, whether whole or torn.
 pub fn write_chunk<D: Disk>(
     disk: &mut D,
     slot: Slot,
@@ -34,11 +34,11 @@ pub fn write_chunk<D: Disk>(
     requires room { SLOTS_END ≤ length (D.seen disk.old) }
     requires body { length body.now ≡ STATE_SIZE }
     requires chunk { i < CHUNKS }
-    // After a write that succeeds a read gives the chunk there, and all else as it was.
+    // After a write that succeeds a read gives the chunk there. All else is as it was.
     ensures written { OnOk result (piece_of slot i (D.seen disk.new) ≡ chunk_of i body.now) }
     ensures rest { OnOk result (ChangesChunk slot i (D.seen disk.old) (D.seen disk.new)) }
     ensures size { length (D.seen disk.new) ≡ length (D.seen disk.old) }
-    // A crash from then on, or within the call, may leave any bytes in this chunk, and elsewhere what it could.
+    // A crash from then on, or within the call, may leave any bytes in this chunk, and elsewhere the same as before.
     ensures crash { Within (D.may_leave disk.new) (TornChunk slot i (D.may_leave disk.old)) }
     ensures time { Elapses (D.moment disk.old) (D.moment disk.new) (D.left_since disk.old) (D.left_since disk.new)
         (TornChunk slot i (D.may_leave disk.old)) }
@@ -54,7 +54,8 @@ pub fn write_chunk<D: Disk>(
     )
 }
 
-/// Opens the gate of a slot. It counts after the next sync; until then a crash may leave it open or closed.
+/// Opens the gate of a slot. The opening counts after the next sync. Until then a crash may leave the gate open or
+/// closed.
 pub fn open_slot<D: Disk>(disk: &mut D, slot: Slot) -> Result<(), DiskFailed>
     requires room { SLOTS_END ≤ length (D.seen disk.old) }
     ensures open { OnOk result (IsOpen slot (D.seen disk.new)) }
@@ -71,8 +72,8 @@ pub fn open_slot<D: Disk>(disk: &mut D, slot: Slot) -> Result<(), DiskFailed>
     open_gate(disk, gate_offset(slot))
 }
 
-/// Closes the gate of a slot, if it may be open. One that is closed in all that a crash may leave isn't written, as a torn
-/// byte could open what stands behind it: its caller says so, and the device has no call.
+/// Closes the gate of a slot, if it may be open. A gate that is closed in every image that a crash may leave isn't
+/// written, since a torn byte could open it. The caller says so by `may_be_open`; then the device gets no call.
 pub fn close_slot<D: Disk>(disk: &mut D, slot: Slot, may_be_open: bool) -> Result<(), DiskFailed>
     requires room { SLOTS_END ≤ length (D.seen disk.old) }
     requires told { may_be_open ≡ false → Within (D.may_leave disk.old) (IsClosed slot) }

@@ -1,4 +1,4 @@
--- What is said of nodes by their places, and of the nodes themselves.
+-- Sums and tests over the places of nodes, and the same over the nodes themselves.
 use Rattle.std.proofs.Common.{◌≡◌, ℕ, zero, suc, ◌+◌, Bool, cond, ◌||◌, List, [], ◌∷◌, length, Option, refl, sym, ap, ◌∙◌}
 use Rattle.std.proofs.Math.Numerals.{add-one}
 use Rattle.std.specs.Option.{is_some}
@@ -18,7 +18,7 @@ sum_moved f a (suc n) =
     ∙ ap (λ x. f (suc a) + x) (sum_moved f (a + 1) n)
     ∙ sym (sum_by-cons (λ place. f (suc place)) a (range_with_len (a + 1) n))
 
--- a sum over the terms by places is one over the nodes
+-- a sum over the terms, place by place, is the sum over the nodes
 sum_over_terms : (f : Option Terms → ℕ) (nodes : List Node) → sum_by (λ place. f (terms_of nodes place)) (places nodes) ≡ sum_by (λ node. f node.terms) nodes
 sum_over_terms f [] = refl
 sum_over_terms f (node ∷ nodes) =
@@ -33,12 +33,12 @@ any_moved p a (suc n) =
     ap (λ x. p x || list_any p (range_with_len (a + 1 + 1) n)) (add-one a)
     ∙ ap (λ b. p (suc a) || b) (any_moved p (a + 1) n)
 
--- a test of the terms by places is one of the nodes
+-- a test of the terms, place by place, is the test of the nodes
 pub any_over_terms : (p : Option Terms → Bool) (nodes : List Node) → list_any (λ place. p (terms_of nodes place)) (places nodes) ≡ list_any (λ node. p node.terms) nodes
 any_over_terms p [] = refl
 any_over_terms p (node ∷ nodes) =
     ap (λ b. p node.terms || b) (any_moved (λ place. p (terms_of (node ∷ nodes) place)) 0 (length nodes) ∙ any_over_terms p nodes)
 
--- licences by places are licences among the nodes
+-- licences counted by places are the licences among the nodes
 pub count_is : (nodes : List Node) → licence_count nodes ≡ drafts.licence_count nodes
 count_is nodes = sum_over_terms (λ terms. cond (is_some terms) 1 0) nodes

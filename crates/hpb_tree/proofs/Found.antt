@@ -20,7 +20,7 @@ prefix_len-map f p (x ∷ xs) = ap (λ n. cond (p (f x)) (1 + n) 0) (prefix_len-
 position-map : {X Y : Type 0} (f : X → Y) (p : Y → Bool) (xs : List X) → position p (map f xs) ≡ position (λ x. p (f x)) xs
 position-map f p xs = rw (prefix_len-map f (λ y. not (p y)) xs, length-map xs f) refl
 
--- what is sought among the items of a table is found where it stands in the list that the table stands for
+-- an item of a table is found at the place that it has in the list which the table stands for
 pub node_position : (ns : List TreeNode) {nodes : List Node} (name : List ℕ) → nodes_inside ns ≡ nodes → position (λ (n : TreeNode). bytes_eq (string_bytes n.name) name) ns ≡ position (λ (n : Node). bytes_eq n.name name) nodes
 node_position ns name seen = sym (position-map node_inside (λ (n : Node). bytes_eq n.name name) ns) ∙ ap (position (λ (n : Node). bytes_eq n.name name)) seen
 
@@ -31,7 +31,7 @@ bidder_position bs name seen = sym (position-map bidder_view (λ (b : Bidder). b
 abbrev pub IsBidderRead : List Entry → List Bidder → ℕ → ℕ → Entry → Type 0
 IsBidderRead = IsRead bidder_view
 
--- what is read of it
+-- the item stands in the table, and is the bidder of that place, with the same name
 module _ {bs : List Entry} {bidders : List Bidder} {index bidder : ℕ} {b : Entry} (read : IsBidderRead bs bidders index bidder b) where
   pub bidder_inside : index < length bs
   bidder_inside = read_inside read

@@ -1,4 +1,4 @@
--- What a definition keeps.
+-- What holds of the kept fields of a definition.
 use Rattle.std.proofs.Common.{◌≡◌, ℕ, ◌<◌, ◌≤◌, List, map, length, get_or, None, Some, ap, ◌∙◌, subst, arith}
 use Rattle.std.specs.List.{All, slice_get}
 use Rattle.std.proofs.lemmas.List.{length-map, get_or-map}
@@ -47,11 +47,11 @@ kept d e = record {
     at : (k : ℕ) (b : Entry) → k < length d.bidders.items → (get_or (bidders_view d.bidders.items) k (bidder_view b)).units ≡ (get_or d.bidders.items k b).units
     at k b h = ap (λ (x : Bidder). x.units) (get_or-map bidder_view d.bidders.items k b (bidder_view b) h)
 
--- what is known of the value of a definition
+-- the value of a definition is a set of rules that isn't refused
 pub accepted_value : (d : Inside) (rules : Rules) → IsDefined d → rules_view d ≡ rules → Accepted rules
 accepted_value d rules e seen = accepted rules (subst (λ (r : Rules). draft_refusal r ≡ None) seen e.accepted)
 
--- what is found at the place of a key
+-- the node or the bidder at the place of a key
 module _ (d : Inside) (rules : Rules) (defined : IsDefined d) (seen : rules_view d ≡ rules) (place : ℕ) (name : List ℕ) (bytes : AreBytes name) where
   pub node_hinted : slice_get d.node_hints.keys.items place ≡ Some (key_of name) → (node_named rules name ≡ Some place) × (place < length rules.nodes)
   node_hinted here =

@@ -1,4 +1,4 @@
--- Names that have one key are one.
+-- Two names with the same key are the same name.
 use Rattle.std.proofs.Common.{◌≡◌, ℕ, zero, suc, ◌+◌, ◌*◌, ◌/◌, ◌^◌, ◌<◌, ◌≤◌, true, List, [], ◌∷◌, ◌++◌, map, take, drop, length, get_or, min, inl, inr, ◌⊎◌, Option, option_map, false, Some, None, refl, sym, ap, ◌∙◌, arith}
 use Rattle.std.proofs.Math.Nat.{pow-succ', pow-le-pow_right, div-div-eq-div-mul}
 use Rattle.std.proofs.lemmas.Nat.{div-mul-add, pow-add}
@@ -14,7 +14,7 @@ use Rattle.hpb_tree.proofs.Twice.{found_at}
 use Rattle.hpb_tree.specs.Keys.{number_from, number, key_of}
 use Rattle.hpb_tree.specs.declared.key.NameKey.{NameKey}
 
--- each is a byte
+-- each number is a byte
 abbrev pub AreBytes : List ℕ → Type 0
 AreBytes bytes = (i : ℕ) → get_or bytes i 0 < 256
 
@@ -31,19 +31,19 @@ number_none = refl
 pub number_more : (bytes : List ℕ) (i : ℕ) → i < length bytes → number (take (i + 1) bytes) ≡ number (take i bytes) * 256 + get_or bytes i 0
 number_more bytes i h = ap number (take_more bytes i 0 h) ∙ from_more 0 (take i bytes) (get_or bytes i 0)
 
--- a number of some bytes, and one byte more, keeps its bound
+-- one byte more multiplies the bound of a number by 256
 pub bound_more : (n byte i : ℕ) → n < 256 ^ i → byte < 256 → n * 256 + byte < 256 ^ (i + 1)
 bound_more n byte i h b =
     let more : 256 ^ (i + 1) ≡ 256 * 256 ^ i = ap (λ (k : ℕ). 256 ^ k) (add-one i) ∙ pow-succ' 256 i in
     omega (arith, more)
 
--- as long as it is of no more than eight bytes, it fits 64 bits
+-- the number of at most eight bytes fits 64 bits
 pub bound_fits : (n i : ℕ) → n < 256 ^ i → i ≤ 8 → n < 2 ^ 64
 bound_fits n i h s =
     let most : 256 ^ i ≤ 256 ^ 8 = pow-le-pow_right (omega arith) s in
     omega (arith, most)
 
--- the number of the front is that of more bytes, without what the last of them add
+-- the number of the first bytes is the number of all of them, without the part that the last ones add
 pub number_front : (bytes : List ℕ) (len more all : ℕ) → AreBytes bytes → all ≡ len + more → all ≤ length bytes → number (take all bytes) / 256 ^ more ≡ number (take len bytes)
 number_front bytes len zero all a e h = let same : all ≡ len = omega arith in rw same (omega arith)
 number_front bytes len (suc more) all a e h =
@@ -59,7 +59,7 @@ number_front bytes len (suc more) all a e h =
     ∙ ap (λ (n : ℕ). n / 256 ^ more) (div-mul-add (number (take (len + more) bytes)) 256 (get_or bytes (len + more) 0) last)
     ∙ fewer
 
--- bits by bytes
+-- a bound in bits is the same bound in bytes
 pub byte_bits : (k : ℕ) → 2 ^ (8 * k) ≡ 256 ^ k
 byte_bits zero = refl
 byte_bits (suc k) =
@@ -82,7 +82,7 @@ number_eight bytes h = omega (
   number_more bytes 7 (omega arith),
 )
 
--- bytes that spell one number behind numbers are the same
+-- two lists of bytes of one length that spell the same number are the same list
 same_bytes : (m n : ℕ) (xs ys : List ℕ) → length xs ≡ length ys → AreBytes xs → AreBytes ys → number_from m xs ≡ number_from n ys → (m ≡ n) × (xs ≡ ys)
 unfolding number_from
 same_bytes m n [] [] l a b e = (e, refl)
@@ -95,7 +95,7 @@ same_bytes m n (x ∷ xs) (y ∷ ys) l a b e =
     let same : x ≡ y = omega (arith, behind.0) in
     (omega (arith, behind.0), ap (λ z. z ∷ xs) same ∙ ap (λ zs. y ∷ zs) behind.1)
 
--- so are those that some of them are
+-- the first of some bytes are bytes
 pub bytes_taken : (n : ℕ) (xs : List ℕ) → AreBytes xs → AreBytes (take n xs)
 bytes_taken zero xs a i = omega arith
 bytes_taken (suc n) [] a i = omega arith
@@ -115,18 +115,18 @@ key_short name h =
     let rest : take 8 (drop 8 name) ≡ [] = ap (take 8) (drop_all 8 name h) in
     rw (first, rest, number_none) refl
 
--- the key of such a name that so many first bytes are
+-- the key of such a name, which is the first bytes of a longer text
 pub key_front : (bytes : List ℕ) (len : ℕ) → len ≤ length bytes → len ≤ 8 → record { len = len; first = number (take len bytes); rest = 0 } ≡ key_of (take len bytes)
 key_front bytes len h short =
     let size : length (take len bytes) ≡ len = omega (arith, length-take len bytes) in
     ap (λ (n : ℕ). record { len = n; first = number (take len bytes); rest = 0 }) (sym size) ∙ key_short (take len bytes) (omega arith)
 
--- the key of a longer one
+-- the key of a name of more than eight bytes
 pub key_long : (name front behind : List ℕ) → front ≡ take 8 name → behind ≡ drop 8 name → record { len = length name; first = number front; rest = number (take 8 behind) } ≡ key_of name
 unfolding key_of
 key_long name front behind f b = rw (b, f) refl
 
--- so many as there are, at most eight, are the first eight
+-- as many as there are, but at most eight, are the first eight
 pub take_least : (xs : List ℕ) (n : ℕ) → n ≡ min (length xs) 8 → take n xs ≡ take 8 xs
 take_least xs n h = by (cases_lt (length xs) 8)
   where
@@ -134,7 +134,7 @@ take_least xs n h = by (cases_lt (length xs) 8)
     by (inl l) = take_all n xs (omega arith) ∙ sym (take_all 8 xs (omega arith))
     by (inr l) = let same : n ≡ 8 = omega arith in ap (λ k. take k xs) same
 
--- a name of at most 16 bytes is the one that has its key
+-- two names of at most 16 bytes with the same key are the same
 pub key_same : (one other : List ℕ) → key_of one ≡ key_of other → AreBytes one → AreBytes other → length one ≤ 16 → one ≡ other
 unfolding key_of
 key_same one other e a b short =
@@ -161,7 +161,7 @@ keys_more named items i x keys key h found k e =
     ∙ sym (map_push (λ y. key_of (named y)) (take i items) (get_or items i x))
     ∙ ap (map (λ y. key_of (named y))) (sym (take_more items i x h))
 
--- a name has bytes, and not too many
+-- a name consists of bytes, and is at most 16 long
 name_bytes : (name : List ℕ) → list_all is_name_byte name ≡ true → AreBytes name
 name_bytes [] e i = omega arith
 name_bytes (byte ∷ name) e zero = let here : is_name_byte byte ≡ true = (and_parts _ _ e).0 in grind (arith, nat_tests)
@@ -170,7 +170,7 @@ name_bytes (byte ∷ name) e (suc i) = name_bytes name (and_parts _ _ e).1 i
 pub is_short : (name : List ℕ) → is_name name ≡ true → length name ≤ 16
 is_short name e = leb-true (length name) 16 (and_parts _ _ (and_parts _ _ e).0).1
 
--- where valid names stand once, the one that has a key is found where the key stands
+-- among valid names that each stand once, the name with a key is found at the place of the key
 pub found_by_key : {X : Type 0} (named : X → List ℕ) (xs : List X) (keys : List NameKey) (place : ℕ) (name : List ℕ)
     → keys ≡ map (λ x. key_of (named x)) xs → ((k : ℕ) (d : X) → k < length xs → is_name (named (get_or xs k d)) ≡ true) → has_twice (map named xs) ≡ false
     → AreBytes name → slice_get keys place ≡ Some (key_of name) → (position (λ x. bytes_eq (named x) name) xs ≡ Some place) × (place < length xs)

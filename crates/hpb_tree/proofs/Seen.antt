@@ -9,7 +9,7 @@ use Rattle.std.proofs.lemmas.List.Sorted.{list_any-IsPermutation}
 use Rattle.hpb_rules.specs.Drafts.{has_twice}
 use Rattle.hpb_tree.proofs.Twice.{has_seen, twice_is}
 
--- the keys are the first names, and none of those stands twice
+-- the keys are the names before a place, and none of those names stands twice
 pub record Searched (names : List (List ℕ)) (i : ℕ) (keys : List (Bor (List ℕ))) : Type 0 where
   pub known : (bytes : List ℕ) → list_any (λ (k : Bor (List ℕ)). bytes_eq bytes k.now) keys ≡ list_any (bytes_eq bytes) (take i names)
   pub left : has_seen [] names ≡ has_seen (take i names) (drop i names)
@@ -23,7 +23,7 @@ or_comm true false = refl
 or_comm false true = refl
 or_comm false false = refl
 
--- what is left, with its first name
+-- the names from a place on are the name at that place and those behind it
 step : (names : List (List ℕ)) (i : ℕ) → i < length names
     → has_seen (take i names) (drop i names) ≡ (list_any (bytes_eq (get_or names i [])) (take i names) || has_seen (take (i + 1) names) (drop (i + 1) names))
 step names i h =

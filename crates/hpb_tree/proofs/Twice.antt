@@ -1,4 +1,4 @@
--- Names that stand twice, and that are found where they stand once.
+-- Names that stand twice; and a name that stands once, which is found at its own place.
 use Rattle.std.proofs.Common.{[], ◌≡◌, ℕ, zero, suc, ◌<◌, Bool, true, false, cond, ◌||◌, List, ◌∷◌, ◌++◌, map, take, length, get_or, Some, None, refl, sym, ap, ◌∙◌, arith}
 use Rattle.std.specs.List.{list_any, position, position_or_len}
 use Rattle.std.specs.Str.{bytes_eq}
@@ -45,7 +45,7 @@ or_four true b c d = refl
 or_four false true c d = refl
 or_four false false c d = refl
 
--- of the names that are left one was seen, or one stands twice among them
+-- among the remaining names one was seen before, or one stands twice
 seen_or_twice : (seen names : List (List ℕ)) → has_seen seen names ≡ (list_any (λ name. list_any (bytes_eq name) seen) names || has_twice names)
 seen_or_twice seen [] = refl
 seen_or_twice seen (name ∷ names) =
@@ -56,7 +56,7 @@ seen_or_twice seen (name ∷ names) =
     ∙ any_either (λ other. list_any (bytes_eq other) seen) (bytes_eq name) names)
     ∙ or_four (list_any (bytes_eq name) seen) (list_any (λ other. list_any (bytes_eq other) seen) names) (list_any (bytes_eq name) names) (has_twice names)
 
--- a name stands twice where it was seen before
+-- if one of the names was seen before, a name stands twice
 pub twice_is : (names : List (List ℕ)) → has_seen [] names ≡ has_twice names
 twice_is names = seen_or_twice [] names ∙ ap (λ b. b || has_twice names) (any_no names)
 
@@ -68,7 +68,7 @@ apart_from seen (x ∷ xs) e (suc j) h =
     ap (list_any (bytes_eq (get_or xs j []))) (sym (append_assoc seen (x ∷ []) (take j xs)))
     ∙ apart_from (seen ++ x ∷ []) xs (or_parts _ _ e).1 j (omega arith)
 
--- a name that stands once is found where it stands
+-- a name that stands once is found at its own place
 pub found_at : {X : Type 0} (f : X → List ℕ) (xs : List X) (j : ℕ) (d : X) → has_twice (map f xs) ≡ false → j < length xs → position (λ x. bytes_eq (f x) (f (get_or xs j d))) xs ≡ Some j
 found_at f xs j d e h =
     let at : position_or_len (λ x. bytes_eq (f x) (f (get_or xs j d))) xs ≡ j = position_or_len_is (λ x. bytes_eq (f x) (f (get_or xs j d))) xs j d (omega arith) other (λ less. (bytes_eq-Decides (f (get_or xs j d)) (f (get_or xs j d))).1 refl) in

@@ -33,7 +33,7 @@ read_inside {view = view} {items = items} read = omega (arith, length-map items 
 abbrev pub IsNodeRead : List TreeNode → List Node → ℕ → ℕ → TreeNode → Type 0
 IsNodeRead = IsRead node_inside
 
--- what is read of it
+-- its parent, its terms and its name
 module _ {ns : List TreeNode} {nodes : List Node} {index node : ℕ} {n : TreeNode} (read : IsNodeRead ns nodes index node n) where
   inside : index < length ns
   inside = read_inside read
@@ -47,7 +47,7 @@ module _ {ns : List TreeNode} {nodes : List Node} {index node : ℕ} {n : TreeNo
   pub terms_at : n.terms ≡ terms_of nodes node
   terms_at = ap (λ (m : TreeNode). m.terms) read.found ∙ sym (node_seen ns index n inside).1 ∙ ap (λ xs. terms_of xs index) read.seen ∙ ap (terms_of nodes) read.same
 
-  -- what is kept of it
+  -- the sums, licences and rank that the code keeps of it
   pub summed_at : ((j : ℕ) (m : TreeNode) → slice_get ns j ≡ Some m → IsSummed (nodes_inside ns) j m) → IsSummed nodes node n
   summed_at sums =
       let here : IsSummed (nodes_inside ns) index n = sums index n (slice_get_read ns (length ns) index n refl inside read.found) in
@@ -64,7 +64,7 @@ push_get [] y (suc i) x e = cc
 push_get (z ∷ xs) y zero x e = inl e
 push_get (z ∷ xs) y (suc i) x e = ⊎_elim (λ old. inl old) (λ last. inr (ap suc last.0, last.1)) (push_get xs y i x e)
 
--- one node more of those that are built
+-- one node more of those built so far
 pub built_more : (nodes : List Node) (ns : List TreeNode) (i : ℕ) (n : TreeNode) → i < length nodes
     → (nodes_inside ns ≡ take i nodes) × ((j : ℕ) (m : TreeNode) → slice_get ns j ≡ Some m → IsSummed nodes j m)
     → slice_get nodes i ≡ Some (node_inside n) → IsSummed nodes i n

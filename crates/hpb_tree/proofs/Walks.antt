@@ -1,4 +1,4 @@
--- The way up from a node, where each parent stands before its children.
+-- The way up from a node in a tree whose parents each stand before their children.
 use Rattle.std.proofs.Common.{◌≡◌, ℕ, zero, suc, ◌<◌, ◌≤◌, true, false, ◌||◌, eqb, List, length, Option, Some, None, refl, sym, ap, ◌∙◌, subst, arith}
 use Rattle.std.proofs.lemmas.Bool.{leb-false, eq-eqb, ne_eqb}
 use Rattle.hpb_rules.specs.Drafts.{is_late, has_late_parent}

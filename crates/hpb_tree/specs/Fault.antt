@@ -1,10 +1,10 @@
--- The refusals that faults are told by.
+-- The refusals that faults are reported by.
 use Rattle.hpb_rules.specs.declared.refusal.Refusal.{Refusal}
 use Rattle.hpb_rules.specs.declared.refusal.Refusal.TheVariants as refusals
 use Rattle.hpb_tree.specs.declared.fault.DefinitionFault.{DefinitionFault}
 use Rattle.hpb_tree.specs.declared.fault.DefinitionFault.TheVariants as faults
 
--- The refusal that a fault of a draft is told by: the one of the same name.
+-- The refusal that a fault of a draft is reported by: the one of the same name.
 abbrev pub refusal_of : DefinitionFault → Refusal
 refusal_of faults.Memory = refusals.Memory
 refusal_of faults.Number = refusals.Number

@@ -21,7 +21,7 @@ nodes_inside nodes = map node_inside nodes
 abbrev pub tree_inside : Inside → TreeRules
 tree_inside t = record { step = t.step; percent = t.percent; nodes = nodes_inside t.nodes.items }
 
--- What is kept of a node beside what was written is what the definitions say of it.
+-- A node as the code keeps it has, beside the written fields, the sums, licences and rank that the definitions give it.
 pub record IsSummed (nodes : List Node) (place : ℕ) (node : TreeNode) : Type 0 where
   pub units : node.units ≡ tree.units nodes place
   pub most_units : node.units ≤ MOST_LICENCES * MOST_LICENCE_UNITS
@@ -31,7 +31,7 @@ pub record IsSummed (nodes : List Node) (place : ℕ) (node : TreeNode) : Type 0
   pub children : node.children ≡ children_among nodes place (places nodes)
   pub rank : (parent : ℕ) → parent_of nodes place ≡ Some parent → node.rank ≡ children_among nodes parent (range_with_len 0 place)
 
--- A checked tree has nodes, though not too many, in the shape of a tree, and what is kept of each is right.
+-- A checked tree has nodes, at most `MOST_NODES`, in the shape of a tree, and each node as it is kept is right.
 pub record IsChecked (t : Inside) : Type 0 where
   pub some_step : 0 < t.step
   pub most_step : t.step ≤ MOST_STEP
@@ -44,7 +44,7 @@ pub record IsChecked (t : Inside) : Type 0 where
   pub ids : t.ids.items ≡ places (nodes_inside t.nodes.items)
   pub sums : (place : ℕ) (node : TreeNode) → slice_get t.nodes.items place ≡ Some node → IsSummed (nodes_inside t.nodes.items) place node
 
--- All that is known of a node.
+-- All that the code knows of a node.
 pub record Known : Type 0 where
   pub node : Node
   pub units : ℕ
@@ -53,7 +53,7 @@ pub record Known : Type 0 where
   pub children : ℕ
   pub rank : ℕ
 
--- What is known of a node of the code.
+-- The fields of a node of the code.
 abbrev pub known : TreeNode → Known
 known node = record {
   node = node_inside node;
@@ -64,6 +64,6 @@ known node = record {
   rank = node.rank;
 }
 
--- The same is known of each two nodes at one place.
+-- The two nodes at each place have the same fields.
 abbrev pub AreCopies : List TreeNode → List TreeNode → Type 0
 AreCopies old new = map known new ≡ map known old

@@ -12,15 +12,15 @@ licences_among nodes some = sum_by (λ node. cond (is_some (terms_of nodes node)
 abbrev pub licence_count : List Node → ℕ
 licence_count nodes = licences_among nodes (places nodes)
 
--- The number of the licence at a place: how many stand before it.
+-- The number of the licence at a place: how many licences stand before it.
 abbrev pub licence_number : List Node → ℕ → ℕ
 licence_number nodes licence = licences_among nodes (range_with_len 0 licence)
 
--- The bits of a mask say which licences are at or under a node, each licence's bit standing at its number.
+-- Bit i of the mask says whether the licence of number i is at or under the node.
 pub record IsMask (nodes : List Node) (node mask : ℕ) : Type 0 where
   pub bits : (licence : ℕ) → IsSome (terms_of nodes licence) → bit_at mask (licence_number nodes licence) ≡ cond (at_or_under nodes node licence) 1 0
   pub most : mask < 2 ^ licence_count nodes
 
--- What a place adds to the sum of a number over the licences that pass a test.
+-- What a place adds to a sum over the licences that pass a test: its number if it is such a licence, else 0.
 abbrev pub part_over : List Node → (ℕ → Bool) → (ℕ → ℕ) → ℕ → ℕ
 part_over nodes test number licence = elim (terms_of nodes licence) [ None ↦ 0 | Some terms ↦ cond (test licence) (number licence) 0 ]

@@ -1,11 +1,11 @@
--- What the sums of a tree need of its nodes.
+-- What the sums of a tree need from its nodes.
 use Rattle.std.specs.Prelude.{◌≡◌, ℕ, ◌<◌, ◌≤◌, false, List, length}
 use Rattle.hpb_rules.specs.declared.limits.TheConstants.{MOST_NODES, MOST_LICENCES, MOST_LICENCE_UNITS, MOST_LICENCE_OPENING}
 use Rattle.hpb_rules.specs.Drafts.{has_late_parent, has_thin_package, has_licence_with_child}
 use Rattle.hpb_rules.specs.Tree.{Node, units_at, opening_at}
 use Rattle.hpb_tree.specs.Licences.{licence_count}
 
--- Nodes against which nothing speaks, as far as it matters for what is kept of them.
+-- Nodes that no test refuses, as far as the kept sums depend on it.
 pub record AreSound (nodes : List Node) : Type 0 where
   pub some : 0 < length nodes
   pub most : length nodes ≤ MOST_NODES

@@ -22,8 +22,8 @@ use std::alloc::{AllocError, Global};
 use terms::has_bad_terms;
 
 impl Definition {
-    /// The definition that a draft spells. The first fault is named: a number out of range (62), then the
-    /// fault of the smallest number (50 to 57). Want of memory (90) may come in place of any.
+    /// The definition that a draft spells. If it has several faults, one is reported: a number out of range (62) first,
+    /// then the fault of the smallest number (50 to 57). If memory is refused, 90 may come in place of any.
     pub fn check(alloc: Global, draft: &Draft) -> Result<Definition, DefinitionFault>
         ensures ok { IfOk result (λ d. d ≡ rules_of draft.now) }
         ensures accepted { OnOk result (draft_refusal (rules_of draft.now) ≡ None) }
@@ -36,7 +36,7 @@ impl Definition {
     }
 }
 
-/// Why a draft is refused, if it is.
+/// The fault that a draft is refused for, if it is refused.
 fn first_fault(alloc: Global, draft: &Draft) -> Result<Option<DefinitionFault>, AllocError>
     ensures { IfOk result (λ fault. option_map refusal_of fault ≡ draft_refusal (rules_of draft.now)) }
 {

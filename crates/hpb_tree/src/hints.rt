@@ -14,7 +14,8 @@ const HINTS: usize = 4096;
 /// names that end in numbers seldom share a hint.
 const MIXED: u64 = 0xd0e1_ee28_c676_6bfd;
 
-/// For each name a place where it may stand, and for each place the key of the name that stands there.
+/// Leads from a name to the place at which it may stand: a hint for each hash of a key, and the key of the name at each
+/// place.
 #[derive(Debug, Drop)]
 pub(crate) struct Hints {
     places: Vec<u8>,
@@ -24,7 +25,7 @@ pub(crate) struct Hints {
 }
 
 impl Hints {
-    /// Hints at the places of items. Where two names share a hint, it is the later one's.
+    /// Hints to the places of items. If two names share a hint, the later one has it.
     pub(crate) fn new<T: Named>(alloc: Global, items: &[T]) -> Result<Hints, AllocError>
         requires some { 0 < length items.now }
         requires most { length items.now ≤ MOST_NODES }
@@ -40,7 +41,7 @@ impl Hints {
         Ok(Hints { places, keys })
     }
 
-    /// The same hints once more.
+    /// A copy of the hints. Fails only if memory is refused.
     pub(crate) fn copy(&self, alloc: Global) -> Result<Hints, AllocError>
         ensures { IfOk result (λ hints. hints.keys.items ≡ self.now.keys.items) }
     {
@@ -49,7 +50,7 @@ impl Hints {
         Ok(Hints { places, keys })
     }
 
-    /// The place that is hinted at, if the name that stands there is the one sought.
+    /// The place that is hinted at, if the name there is the one sought.
     #[inline(always)]
     pub(crate) fn find(&self, name: &[u8]) -> Option<usize>
         ensures { IfSome result (λ place. slice_get self.now.keys.items place ≡ Some (key_of name.now)) }
@@ -57,8 +58,8 @@ impl Hints {
         self.find_key(NameKey::of(name))
     }
 
-    /// The place that is hinted at, if the name that stands there is the one that so many first bytes are. A short one
-    /// is read at once, with what lies behind it.
+    /// The place that is hinted at, if the name there is the first `len` bytes. A short name is read at once, with the
+    /// bytes behind it.
     #[inline(always)]
     pub(crate) fn find_front(&self, bytes: &[u8], len: usize) -> Option<usize>
         requires { len ≤ length bytes.now }
@@ -70,7 +71,7 @@ impl Hints {
         self.find_key(NameKey::of_word(bytes, len))
     }
 
-    /// The same as `find`, out of the way of names that are read at once.
+    /// The same as `find`, kept out of line so that the path of short names stays small.
     #[cold]
     #[inline(never)]
     fn find_apart(&self, name: &[u8]) -> Option<usize>
@@ -79,7 +80,7 @@ impl Hints {
         self.find(name)
     }
 
-    /// The place that is hinted at, if the name that stands there has the key.
+    /// The place that is hinted at, if the name there has the key.
     #[inline(always)]
     fn find_key(&self, key: NameKey) -> Option<usize>
         ensures { IfSome result (λ place. slice_get self.now.keys.items place ≡ Some key) }
@@ -93,7 +94,7 @@ impl Hints {
     }
 }
 
-/// Which of the hints is a key's: the highest 12 bits of a product.
+/// The hint of a key: the highest 12 bits of a product.
 #[inline(always)]
 fn hint_of(key: NameKey) -> usize
     ensures { result < HINTS }

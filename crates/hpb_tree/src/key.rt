@@ -1,21 +1,21 @@
 ghost use Rattle.std.specs.Prelude.{◌≡◌, ◌<◌, ◌≤◌, length, take};
 ghost use Rattle.hpb_tree.specs.Keys.{number, key_of};
 
-/// How many bytes of a name one number takes.
+/// How many bytes of a name one number of a key holds.
 pub(crate) const WORD: usize = 8;
 
-/// What a name is compared by. Names of at most 16 bytes that differ have keys that differ.
+/// What a name is compared by. Names of at most 16 bytes that differ have different keys.
 #[derive(Clone, Copy, Debug, PartialEq, Eq)]
 pub(crate) struct NameKey {
     pub(crate) len: usize,
     /// The number that its first eight bytes spell.
     pub(crate) first: u64,
-    /// The number that the next eight spell. It is 0 where there are none.
+    /// The number that the next eight bytes spell, or 0 if there are none.
     pub(crate) rest: u64,
 }
 
 impl NameKey {
-    /// The key of a name. A short one takes one number alone.
+    /// The key of a name. For a short name one number is enough.
     #[inline(always)]
     pub(crate) fn of(name: &[u8]) -> NameKey
         ensures { result ≡ key_of name.now }
@@ -36,7 +36,7 @@ impl NameKey {
         }
     }
 
-    /// The key of the short name that so many first bytes are, read together with what lies behind it.
+    /// The key of the short name that is the first `len` bytes, read together with the bytes behind it.
     #[inline(always)]
     pub(crate) fn of_word(bytes: &[u8], len: usize) -> NameKey
         requires some { 0 < len }
@@ -55,7 +55,7 @@ impl NameKey {
     }
 }
 
-/// The number that the first bytes spell, as many as one number takes.
+/// The number that the first bytes spell, eight at most.
 #[cold]
 #[inline(never)]
 fn front_number(bytes: &[u8]) -> u64
@@ -64,7 +64,7 @@ fn front_number(bytes: &[u8]) -> u64
     number(&bytes[..bytes.len().min(WORD)])
 }
 
-/// The number that bytes spell, each a digit, the first one the highest.
+/// The number that bytes spell as digits of base 256, the first one the highest.
 #[inline(always)]
 fn number(bytes: &[u8]) -> u64
     requires { length bytes.now ≤ WORD }

@@ -5,7 +5,7 @@ use crate::definition::Bidder;
 use crate::draft::{BidderDraft, NodeDraft};
 use crate::tree::TreeNode;
 
-/// What has a name.
+/// A node or a bidder: an item with a name.
 pub(crate) trait Named {
     ghost use Rattle.std.specs.Prelude.{ℕ, List};
 
@@ -55,7 +55,7 @@ impl Named for Bidder {
     }
 }
 
-/// The place of the first item with a name, if one has it. Names are sought so where no hint leads to them.
+/// The place of the first item with a name, if there is one. Used when no hint leads to the name.
 #[cold]
 #[inline(never)]
 pub(crate) fn place_named<T: Named>(items: &[T], name: &[u8]) -> Option<usize>

@@ -27,7 +27,7 @@ pub(crate) fn sums(nodes: &[NodeDraft], node: usize) -> TermsDraft
     TermsDraft { units, opening }
 }
 
-/// What a place adds to the sums of a node.
+/// The units and the opening that a place adds to the sums of a node.
 fn part(nodes: &[NodeDraft], node: usize, place: usize) -> TermsDraft
     requires sound { AreSound (nodes_said nodes.now) }
     requires within { place < length nodes.now }

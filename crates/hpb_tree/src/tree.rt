@@ -15,24 +15,24 @@ use hpb_rules::{
 use std::alloc::{AllocError, Global};
 use std::marker::Model;
 
-/// A node with what is known of it once the whole tree is read.
+/// A node, with the sums and places that follow from the whole tree.
 #[derive(Debug, Drop)]
 pub(crate) struct TreeNode {
     pub(crate) name: String,
     pub(crate) parent: Option<NodeId>,
     pub(crate) terms: Option<Terms>,
-    /// The sums over its licences.
+    /// The sum of its licences' bidding units.
     pub(crate) units: u32,
     pub(crate) opening: u64,
-    /// A bit for each of its licences.
+    /// A bit for each of its licences, by the licence's number.
     pub(crate) licences: u64,
     pub(crate) children: u8,
     /// Its place among its parent's children, from 0.
     pub(crate) rank: u8,
 }
 
-/// The tree of packages and licences, with the step and the percent that bids on it go by. A parent
-/// stands before its children; a licence is a leaf and a package has children.
+/// The tree of packages and licences, with the step and the percent of its bids. A parent stands before its children; a
+/// licence is a leaf and a package has children.
 #[derive(Debug, Drop)]
 pub struct Tree {
     pub(crate) step: u32,
@@ -68,7 +68,7 @@ impl Tree {
         self.percent
     }
 
-    /// The same tree once more. Only want of memory refuses it.
+    /// A copy of the tree. Fails only if memory is refused.
     pub(crate) fn copy(&self, alloc: Global) -> Result<Tree, AllocError>
         ensures { IfOk result (λ t. t ≡ self.now) }
     {
@@ -81,8 +81,8 @@ impl Tree {
         })
     }
 
-    /// What is known of each tree: its numbers are in their ranges, and its nodes are not too many and in the
-    /// shape of a tree.
+    /// Proves what holds of each tree: its numbers are in range, and its nodes are within the limits and in the shape
+    /// of a tree.
     pub fn facts(&self)
         ensures some_step { 0 < self.now.step }
         ensures most_step { self.now.step ≤ MOST_STEP }
@@ -124,7 +124,7 @@ impl Tree {
         self.nodes[index].name.as_str()
     }
 
-    /// The node with a name, if one has it.
+    /// The node with this name, if there is one.
     pub(crate) fn find_node(&self, name: &[u8]) -> Option<NodeId>
         ensures value { result ≡ position (λ n. bytes_eq n.name name.now) self.now.nodes }
         ensures within { IfSome result (λ n. n < length self.now.nodes) }

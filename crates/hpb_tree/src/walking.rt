@@ -19,7 +19,7 @@ pub(crate) fn depth(nodes: &[NodeDraft], place: usize) -> usize
     }
 }
 
-/// Whether a node is another, or under it.
+/// Whether a node is at or under another.
 pub(crate) fn is_at_or_under(nodes: &[NodeDraft], above: usize, place: usize) -> bool
     requires before { has_late_parent (nodes_said nodes.now) ≡ false }
     requires within { place < length nodes.now }

@@ -28,7 +28,7 @@ sum_one f k (suc n) l h =
     (λ last. let same : n ≡ k = omega arith in omega (arith, sum_more f n, sum_none f n (λ m less. h m (λ e. omega arith)), ap f same))
     (cases_lt k n)
 
--- a number where there are terms, and else 0
+-- the number if there are terms, else 0
 abbrev part : Option Terms → ℕ → ℕ
 part t x = elim t [ None ↦ 0 | Some terms ↦ x ]
 
@@ -38,7 +38,7 @@ module _ (nodes : List Node) where
   itself zero l = eq-eqb l l refl
   itself (suc k) l = ap (λ b. b || at_parent (parent_of nodes l) (at_or_under_within nodes k l)) (eq-eqb l l refl)
 
-  -- what a place adds where it is a licence, and where it is none
+  -- the part that a place adds, if it is a licence and if it isn't
   pub part_some : (test : ℕ → Bool) (f : ℕ → ℕ) (l : ℕ) → is_some (terms_of nodes l) ≡ true → part_over nodes test f l ≡ cond (test l) (f l) 0
   part_some test f l some = by (terms_of nodes l) some
     where
@@ -53,11 +53,11 @@ module _ (nodes : List Node) where
       by None e = refl
       by (Some t) e = absurd (both_ways _ e refl)
 
-  -- whether a place is a licence, by what the code reads of it
+  -- whether a place is a licence, from the fields that the code reads
   pub licence_at : {i node : ℕ} {t : Option Terms} {b v : Bool} → node ≡ i → t ≡ terms_of nodes node → b ≡ is_some t → b ≡ v → is_some (terms_of nodes i) ≡ v
   licence_at at read tested e = ap (λ k. is_some (terms_of nodes k)) (sym at) ∙ ap is_some (sym read) ∙ sym tested ∙ e
 
-  -- tests that agree on each licence have one sum
+  -- tests that agree on each licence give the same sum
   pub sum_over_same : (one other : ℕ → Bool) (f : ℕ → ℕ) → ((l : ℕ) → IsSome (terms_of nodes l) → one l ≡ other l) → sum_over nodes one f ≡ sum_over nodes other f
   sum_over_same one other f h = ap (λ (g : ℕ → ℕ). sum_by g (places nodes)) (λ i. λ l. at l (is_some (terms_of nodes l)) refl i)
     where
@@ -66,7 +66,7 @@ module _ (nodes : List Node) where
       at l false e = part_none one f l e ∙ sym (part_none other f l e)
 
   module _ (tree : IsTree nodes) (l : ℕ) (some : is_some (terms_of nodes l) ≡ true) where
-    -- nothing is under a licence
+    -- no node but itself is at or under a licence
     only_itself : (k m : ℕ) → at_or_under_within nodes k l m ≡ true → m ≡ l
     only_itself zero m h = sym (eqb-true l m h)
     only_itself (suc k) m h = by (only_itself k) (eqb l m) refl (parent_of nodes m) refl h
@@ -90,14 +90,14 @@ module _ (nodes : List Node) where
         elsewhere m other true e = part_some (at_or_under nodes l) (units_at nodes) m e ∙ ap (λ b. cond b (units_at nodes m) 0) (false_from_ne_true (at_or_under nodes l m) (λ h. other (only_itself m m h)))
         elsewhere m other false e = part_none (at_or_under nodes l) (units_at nodes) m e
 
-  -- the number of a licence is below their greatest number
+  -- the number of a licence is below the most licences that there can be
   pub number_small : (l : ℕ) → licence_count nodes ≤ MOST_LICENCES → is_some (terms_of nodes l) ≡ true → licence_number nodes l < MOST_LICENCES
   number_small l most some =
       let one : cond {A = ℕ} (is_some (terms_of nodes l)) 1 0 ≡ 1 = ap (λ b. cond {A = ℕ} b 1 0) some in
       omega (arith, sum_has (λ n. cond {A = ℕ} (is_some (terms_of nodes n)) 1 0) l (length nodes) (terms_in nodes l some))
 
   module _ (mask : ℕ) where
-    -- the total and the number of licences before place i
+    -- the sum and the number of licences before place i
     pub record Counted (i total number : ℕ) : Type 0 where
       pub counted : number ≡ licence_number nodes i
       pub summed : total ≡ sum_by (part_over nodes (has_licence nodes mask) (units_at nodes)) (range_with_len 0 i)

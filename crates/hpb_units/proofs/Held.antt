@@ -33,7 +33,7 @@ module _ (nodes : List Node) where
       least (suc zero) (suc (suc y)) p q e = absurd (omega arith)
       least (suc (suc x)) y p q e = absurd (omega arith)
 
-  -- the sum over what passes either of two tests, of which no licence passes both
+  -- the sum over the licences that pass one of two tests, if no licence passes both
   pub sum_over_either : (one other : ℕ → Bool) (f : ℕ → ℕ) → ((l : ℕ) → IsSome (terms_of nodes l) → (one l && other l) ≡ false)
       → sum_over nodes (λ l. one l || other l) f ≡ sum_over nodes one f + sum_over nodes other f
   sum_over_either one other f apart = by (places nodes)
@@ -65,7 +65,7 @@ module _ (nodes : List Node) where
       by (l ∷ ls) = omega (arith, at l (is_some (terms_of nodes l)) refl (test l) refl, by ls, sum_by-cons (part_over nodes test (units_at nodes)) l ls, sum_by-cons (λ l. cond {A = ℕ} (is_some (terms_of nodes l)) 1 0) l ls)
 
   module _ (own more n : ℕ) (mask : IsMask nodes n more) where
-    -- both masks have what the first has and what is at or under the node
+    -- both masks together have the licences of the first and those at or under the node
     pub either_in_mask : (l : ℕ) → IsSome (terms_of nodes l) → has_licence nodes (bit_or own more) l ≡ (has_licence nodes own l || at_or_under nodes n l)
     either_in_mask l some = or_in_mask nodes own more l ∙ ap (λ b. has_licence nodes own l || b) (node_in_mask nodes n more l mask some)
 
@@ -82,7 +82,7 @@ module _ (nodes : List Node) where
     pub sum_both : sum_over nodes (has_licence nodes (bit_or own more)) (units_at nodes) ≡ sum_over nodes (λ l. has_licence nodes own l || at_or_under nodes n l) (units_at nodes)
     sum_both = sum_over_same nodes (has_licence nodes (bit_or own more)) (λ l. has_licence nodes own l || at_or_under nodes n l) (units_at nodes) either_in_mask
 
-  -- where nobody bid, what is held was won
+  -- if nobody bid, the licences held are those won
   pub held_won : (books : BooksView) (outcome : OutcomeView) → IsQuiet books → (b l : ℕ) → list_any (λ n. at_or_under nodes n l && is_won_by books outcome b n) (places nodes) ≡ held nodes books outcome b l
   held_won books outcome quiet b l = ap (λ (test : ℕ → Bool). list_any test (places nodes)) (λ i. λ n. at n i)
     where
@@ -97,7 +97,7 @@ module _ (nodes : List Node) where
   abbrev pub units_either : ℕ → ℕ → ℕ
   units_either mask n = sum_over nodes (λ l. has_licence nodes mask l || at_or_under nodes n l) (units_at nodes)
 
-  -- the same of the mask that was read
+  -- the same for the mask that was read
   module _ {read own : ℕ} (more n : ℕ) (mask : IsMask nodes n more) (is : read ≡ own) where
     pub read_held : bit_or read more ≡ read → units_of_mask own ≡ units_either own n
     read_held same = ap units_of_mask (sym is) ∙ sum_held read more n mask same ∙ ap (λ m. units_either m n) is
@@ -148,7 +148,7 @@ module _ (nodes : List Node) where
             let another : other ≡ bidder → ⊥ = λ same. both_ways (eqb bidder other) e (eq-eqb bidder other (sym same)) in
             set.other_units other another ∙ summed.sums other within ∙ ap units_of_mask (sym (set.other_licences other another))
 
-  -- where nobody holds anything there are no units
+  -- a bidder that holds nothing has no units
   pub nothing_holds : (holdings : HoldingsView) → IsNothing holdings → (b l : ℕ) → holds nodes holdings b l ≡ false
   nothing_holds holdings none b l = no_bit (slice_index holdings.licences b) (licence_number nodes l) (none.licences b)
 
@@ -167,12 +167,12 @@ module _ (nodes : List Node) where
   }
 
   module _ (books : BooksView) (outcome : OutcomeView) where
-    -- what a bidder holds is right
+    -- the licences and units of a bidder are right
     pub record IsFound (holdings : HoldingsView) (bidder : ℕ) : Type 0 where
       pub licences : (l : ℕ) → IsSome (terms_of nodes l) → holds nodes holdings bidder l ≡ held nodes books outcome bidder l
       pub units : slice_index holdings.units bidder ≡ units_of_mask (slice_index holdings.licences bidder)
 
-    -- one bidder more of whom it is
+    -- one bidder more whose licences and units are right
     pub found_more : (old new : HoldingsView) (bidder place licences units : ℕ) → bidder ≡ place → ((l : ℕ) → IsSome (terms_of nodes l) → has_licence nodes licences l ≡ held nodes books outcome bidder l)
         → units ≡ units_of_mask licences → IsSet old new bidder licences units → ((b : ℕ) → b < place → IsFound old b) → (b : ℕ) → b < place + 1 → IsFound new b
     found_more old new bidder place licences units here has counted set before b less = by (eqb bidder b) refl

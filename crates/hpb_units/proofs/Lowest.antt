@@ -21,7 +21,7 @@ odd_bits h (suc k) odd some =
     let half : (h - 1) / 2 ≡ h / 2 = omega (arith, odd) in
     bit_at-suc (h - 1) k ∙ ap (λ m. bit_at m k) half ∙ sym (bit_at-suc h k)
 
--- and that one is even
+-- the number below an odd one is even
 even : (h : ℕ) → h % 2 ≡ 1 → (h - 1) % 2 ≡ 0
 even h odd = omega (arith, odd)
 
@@ -33,7 +33,7 @@ module _ (mask place : ℕ) (low : IsLowest mask place) where
   abbrev high : ℕ
   high = mask / 2 ^ place
 
-  -- nothing stands below the place
+  -- no bit below the place is set
   none_below : mask % 2 ^ place ≡ 0
   none_below = same_from_bits (mask % 2 ^ place) 0 (λ k. ⊎_elim
       (λ less. sym (bit_at_cat_low high place (mask % 2 ^ place) k less) ∙ ap (λ m. bit_at m k) (div-add-mod' mask (2 ^ place)) ∙ low.before k less ∙ sym (bit_at-zero k))
@@ -46,7 +46,7 @@ module _ (mask place : ℕ) (low : IsLowest mask place) where
   one_less : mask - 1 ≡ (high - 1) * 2 ^ place + (2 ^ place - 1)
   one_less = ap (λ m. m - 1) whole ∙ before_multiple high (high - 1) (2 ^ place) (omega (arith, low.here)) (pow_pos place)
 
-  -- the others stay
+  -- the other bits stay
   pub lowest_others : (k : ℕ) → (k ≡ place → ⊥) → bit_at (without_lowest mask) k ≡ bit_at mask k
   lowest_others k other = bit_at_and mask (mask - 1) k ∙ ⊎_elim
       (λ less. let none : bit_at mask k ≡ 0 = low.before k less in omega (arith, none))
@@ -60,7 +60,7 @@ module _ (mask place : ℕ) (low : IsLowest mask place) where
       omega (arith, same))
       (cases_lt k place)
 
-  -- it is gone
+  -- the lowest bit is gone
   pub lowest_gone : bit_at (without_lowest mask) place ≡ 0
   lowest_gone =
       let at : place - place ≡ 0 = omega arith in

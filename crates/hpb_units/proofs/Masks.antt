@@ -1,4 +1,4 @@
--- A mask that gathers the licences held, node by node.
+-- Gathering the licences held into a mask, node by node.
 use Rattle.std.proofs.Common.{◌≡◌, ℕ, ◌+◌, ◌<◌, max, Bool, true, false, ◌&&◌, ◌||◌, eqb, List, [], ◌∷◌, bit_or, refl, sym, ap, ◌∙◌, arith}
 use Rattle.std.specs.Option.{IsSome}
 use Rattle.std.specs.Int.{bit_at}
@@ -24,7 +24,7 @@ module _ (nodes : List Node) where
   pub node_in_mask : (n mask l : ℕ) → IsMask nodes n mask → IsSome (terms_of nodes l) → has_licence nodes mask l ≡ at_or_under nodes n l
   node_in_mask n mask l m some = ap (λ x. eqb x 1) (m.bits l some) ∙ bit_of_test (at_or_under nodes n l)
 
-  -- two masks together have what either has
+  -- two masks together have each licence that either has
   pub or_in_mask : (a b l : ℕ) → has_licence nodes (bit_or a b) l ≡ (has_licence nodes a l || has_licence nodes b l)
   or_in_mask a b l =
       ap (λ x. eqb x 1) (bit_at_or a b (licence_number nodes l))
@@ -33,7 +33,7 @@ module _ (nodes : List Node) where
       greater : (x y : ℕ) → x < 2 → y < 2 → eqb (max x y) 1 ≡ (eqb x 1 || eqb y 1)
       greater x y p q = grind (arith, nat_tests)
 
-  -- a mask that has what a test says, with a node's licences added
+  -- adding a node's licences to a mask of the licences that pass a test
   pub with_in_mask : (test : ℕ → Bool) (mask : ℕ) {n own : ℕ} → ((l : ℕ) → IsSome (terms_of nodes l) → has_licence nodes mask l ≡ test l) → IsMask nodes n own
       → (l : ℕ) → IsSome (terms_of nodes l) → has_licence nodes (bit_or mask own) l ≡ (test l || at_or_under nodes n l)
   with_in_mask test mask {n = n} {own = own} has m l some =

@@ -18,7 +18,7 @@ module _ (nodes : List Node) where
       let one : cond {A = ℕ} (is_some (terms_of nodes l)) 1 0 ≡ 1 = ap (λ b. cond {A = ℕ} b 1 0) some in
       omega (arith, sum_has (λ n. cond {A = ℕ} (is_some (terms_of nodes n)) 1 0) l m less)
 
-  -- licences of one number are one
+  -- licences with the same number are the same
   number_same : (l m : ℕ) → is_some (terms_of nodes l) ≡ true → is_some (terms_of nodes m) ≡ true → licence_number nodes l ≡ licence_number nodes m → l ≡ m
   number_same l m some other same = ⊎_elim
       (λ less. absurd (omega (arith, same, number_before l m some less)))
@@ -48,7 +48,7 @@ module _ (nodes : List Node) where
   abbrev pub has_number : ℕ → ℕ → Bool
   has_number number licence = eqb (licence_number nodes licence) number
 
-  -- the sum over the licences of one number is over one licence
+  -- a sum over the licences of one number has one part
   pub sum_numbered : (number l : ℕ) → IsNumbered number l → sum_over nodes (has_number number) (units_at nodes) ≡ units_at nodes l
   sum_numbered number l at =
       sum_one (part_over nodes (has_number number) (units_at nodes)) l (length nodes) (terms_in nodes l at.some) (λ m other. elsewhere m other (is_some (terms_of nodes m)) refl)

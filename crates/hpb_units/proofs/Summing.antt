@@ -1,4 +1,4 @@
--- The units of a mask, licence by licence, and those of the part of a node that isn't held.
+-- The units of a mask, licence by licence, and the units of a node's licences that aren't held.
 use Rattle.std.proofs.Common.{◌≡◌, ℕ, zero, suc, ◌+◌, ◌-◌, ◌*◌, ◌^◌, ◌<◌, ◌≤◌, min, false, ◌&&◌, ◌||◌, eqb, List, bit_and, length, refl, sym, ap, ◌∙◌, arith, ⊎_elim}
 use Rattle.std.specs.Prelude.{slice_index}
 use Rattle.std.specs.Option.{IsSome}
@@ -24,12 +24,12 @@ lowest_found mask some most =
     record { here = found.1; before = found.2 }
 
 module _ (nodes : List Node) where
-  -- the total of the licences that were taken out of a mask, and those that are left
+  -- the sum over the licences taken out of a mask so far, and the mask of those that are left
   pub record IsSummedTo (mask rest total : ℕ) : Type 0 where
     pub within : rest < 2 ^ licence_count nodes
     pub summed : total + units_of_mask nodes rest ≡ units_of_mask nodes mask
 
-  -- a bit of such a mask is a licence's
+  -- each bit of such a mask is a licence's
   bit_within : (rest place : ℕ) → rest < 2 ^ licence_count nodes → IsLowest rest place → place < licence_count nodes
   bit_within rest place most low = ⊎_elim (λ less. less) (λ le. absurd (omega (arith, low.here, bit_at_above rest (licence_count nodes) place most le))) (cases_lt place (licence_count nodes))
 
@@ -43,7 +43,7 @@ module _ (nodes : List Node) where
       ∙ sum_over_either nodes (has_number nodes place) (has_licence nodes (without_lowest rest)) (units_at nodes) (λ l some. lowest_apart rest place low (licence_number nodes l))
       ∙ ap (λ own. own + units_of_mask nodes (without_lowest rest)) (sum_numbered nodes place at.0 at.1 ∙ sym read)
 
-  -- a licence more is summed
+  -- one licence more is summed
   pub summed_next : (table : List ℕ) (mask rest total : ℕ) → AreLicenceUnits nodes table → 0 < rest → rest < 2 ^ 64 → IsSummedTo mask rest total
       → IsSummedTo mask (without_lowest rest) (total + slice_index table (trailing_zeros w64 rest))
   summed_next table mask rest total are some most s = record {
@@ -57,7 +57,7 @@ module _ (nodes : List Node) where
   summed_small table mask rest total small are some most s =
       omega (arith, s.summed, sum_lowest table rest (trailing_zeros w64 rest) are s.within (lowest_found rest some most), sum_over_small nodes (has_licence nodes mask) small)
 
-  -- ---- the part of a node that is not held
+  -- ---- the licences of a node that aren't held
   module _ (own more n : ℕ) (mask : IsMask nodes n more) where
     -- the licences of the node that the bidder does not hold
     abbrev pub others : ℕ
@@ -89,13 +89,13 @@ module _ (nodes : List Node) where
           apart (suc zero) y z p e = ap (λ k. eqb k 1) (let none : z ≡ 0 = omega (arith, e) in none)
           apart (suc (suc x)) y z p e = absurd (omega arith)
 
-      -- the units with those of the node are those held and those of the others
+      -- the units of both masks together are those held and those of the others
       pub sum_others : units_either nodes own n ≡ units_of_mask nodes own + units_of_mask nodes others
       sum_others =
           sum_over_same nodes (λ l. has_licence nodes own l || at_or_under nodes n l) (λ l. has_licence nodes own l || has_licence nodes others l) (units_at nodes) others_in_mask
           ∙ sum_over_either nodes (has_licence nodes own) (has_licence nodes others) (units_at nodes) others_apart
 
-  -- the same of the mask that was read
+  -- the same for the mask that was read
   pub read_others : {read own : ℕ} (more n : ℕ) → IsMask nodes n more → licence_count nodes ≤ MOST_LICENCES → read < 2 ^ 64 → read ≡ own → units_either nodes own n ≡ units_of_mask nodes own + units_of_mask nodes (bit_and more (bit_not w64 read))
   read_others {read = read} more n mask few fits is =
       ap (λ m. units_either nodes m n) (sym is) ∙ sum_others read more n mask few fits ∙ ap (λ m. units_of_mask nodes m + units_of_mask nodes (bit_and more (bit_not w64 read))) is

@@ -37,15 +37,15 @@ module _ (nodes : List Node) where
           any_at other some.0 (omega (arith, some.1)) (sym (same some.0 (omega (arith, some.1))) ∙ some.2)
 
   module _ (books : BooksView) (outcome : OutcomeView) where
-    -- a node has the licence, and the bidder's high bid
+    -- a node holds the licence, and its high bid is the bidder's
     abbrev brings : ℕ → ℕ → ℕ → Bool
     brings b l n = at_or_under nodes n l && is_of b (offer_at books.standing n)
 
-    -- a node of a mask does
+    -- some node of a mask does
     abbrev to_come : ℕ → ℕ → ℕ → Bool
     to_come mask b l = list_any (λ n. has_bit mask n && brings b l n) (places nodes)
 
-    -- what is held, with what comes by the winners that are left, is what was won
+    -- the licences held so far and those of the winners that are left are the licences won
     pub record AreWon (holdings : HoldingsView) (left : ℕ) : Type 0 where
       pub licences : (b l : ℕ) → IsSome (terms_of nodes l) → (holds nodes holdings b l || to_come left b l) ≡ list_any (λ n. at_or_under nodes n l && is_won_by books outcome b n) (places nodes)
       pub summed : AreSummed nodes holdings
@@ -68,7 +68,7 @@ module _ (nodes : List Node) where
         swapped false true z = refl
         swapped false false z = refl
 
-    -- ---- the greatest of them
+    -- ---- taking the greatest place of the winners that are left
     module _ {holdings : HoldingsView} {left place rest node : ℕ} (won : AreWon holdings left) (taken : IsGreatestTaken left (Some place) rest) (same : node ≡ place) where
       pub won_within : node < length nodes
       won_within = omega (arith, same, taken_within place taken (length nodes) won.within)
@@ -100,7 +100,7 @@ module _ (nodes : List Node) where
               (λ here. any_at (λ n. has_bit left n && brings b l n) node won_within (and_from (has_bit left node) (brings b l node) (ap (has_bit left) same ∙ taken_here place taken) here))
               (or_cases (to_come rest b l) (brings b l node) e)
 
-      -- its bidder holds its licences
+      -- its bidder now holds its licences
       pub won_more : {new : HoldingsView} (winner : ℕ) → ((b : ℕ) → is_of b (offer_at books.standing node) ≡ (winner == b)) → HoldsMore nodes holdings new winner node → AreSummed nodes new → AreWon new rest
       won_more winner who more summed = record {
         licences = λ b l some.
@@ -123,7 +123,7 @@ module _ (nodes : List Node) where
           moved false false w false true e = refl
           moved false false w false false e = refl
 
-      -- it has no bid
+      -- it has no high bid
       pub won_none : offer_at books.standing node ≡ None → AreWon holdings rest
       won_none none = record {
         licences = λ b l some.
@@ -138,7 +138,7 @@ module _ (nodes : List Node) where
           fewer false true w e = sym e
           fewer false false w e = refl
 
-    -- ---- once none is left, and nobody has bid since
+    -- ---- in the end no winner is left, and if nobody has bid since, the holdings are right
     pub won_all : {holdings : HoldingsView} {left rest : ℕ} → IsQuiet books → IsGreatestTaken left None rest → AreWon holdings left → AreHoldings nodes books outcome holdings
     won_all {holdings = holdings} {left = left} quiet none won = record {
       licences = λ b l within some.

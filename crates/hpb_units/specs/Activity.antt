@@ -21,11 +21,11 @@ is_active_on books outcome bidder node = has_bid books bidder node || (is_in out
 abbrev pub held : List Node → BooksView → OutcomeView → ℕ → ℕ → Bool
 held nodes books outcome bidder licence = list_any (λ node. at_or_under nodes node licence && is_active_on books outcome bidder node) (places nodes)
 
--- The units of all licences held, each licence once.
+-- The units of all licences held, each licence counted once.
 abbrev pub activity_of : List Node → BooksView → OutcomeView → ℕ → ℕ
 activity_of nodes books outcome bidder = sum_over nodes (held nodes books outcome bidder) (units_at nodes)
 
--- The activity with one node more, each licence once.
+-- The activity with one node more, each licence counted once.
 abbrev pub activity_with : List Node → BooksView → OutcomeView → ℕ → ℕ → ℕ
 activity_with nodes books outcome bidder node = sum_over nodes (λ licence. held nodes books outcome bidder licence || at_or_under nodes node licence) (units_at nodes)
 

@@ -26,16 +26,18 @@ pub record IsNothing (holdings : HoldingsView) : Type 0 where
 abbrev pub AreLicenceUnits : List Node → List ℕ → Type 0
 AreLicenceUnits nodes table = (licence : ℕ) → IsSome (terms_of nodes licence) → slice_index table (licence_number nodes licence) ≡ units_at nodes licence
 
--- The units of a bidder are those of the licences that it holds, each licence once, and the table of the licences' units is right.
+-- The units of a bidder are those of the licences that it holds, each counted once, and the table of the licences'
+-- units is right.
 pub record AreSummed (nodes : List Node) (holdings : HoldingsView) : Type 0 where
   pub sums : (bidder : ℕ) → bidder < MOST_BIDDERS → slice_index holdings.units bidder ≡ sum_over nodes (holds nodes holdings bidder) (units_at nodes)
   pub licences : AreLicenceUnits nodes holdings.licence_units
 
--- No licence has more units than the greatest number.
+-- No licence has more units than `MOST_LICENCE_UNITS`.
 abbrev pub AreSmall : List Node → Type 0
 AreSmall nodes = (licence : ℕ) → units_at nodes licence ≤ MOST_LICENCE_UNITS
 
--- Each bidder holds the licences at or under the nodes on which it bid in the open round or which it won at the last close.
+-- Each bidder holds the licences at or under the nodes on which it bid in the open round or which it won at the last
+-- close.
 pub record AreHoldings (nodes : List Node) (books : BooksView) (outcome : OutcomeView) (holdings : HoldingsView) : Type 0 where
   pub licences : (bidder licence : ℕ) → bidder < MOST_BIDDERS → IsSome (terms_of nodes licence) → holds nodes holdings bidder licence ≡ held nodes books outcome bidder licence
   pub summed : AreSummed nodes holdings

@@ -17,8 +17,8 @@ use hpb_winners::{Outcome, first_bits, take_greatest};
 use std::alloc::{AllocError, Global};
 use std::marker::Model;
 
-/// The licences that each bidder holds, and its activity: what follows from the books and the outcome, kept
-/// so that it need not be found anew for each bid.
+/// The licences that each bidder holds, and its activity. Both follow from the books and the outcome; they are kept so
+/// that they needn't be found anew for each bid.
 #[derive(Debug, Drop)]
 pub struct Holdings {
     /// A mask for each bidder: bit i is for the i-th licence of the tree, from 0.
@@ -38,7 +38,7 @@ impl Model for Holdings {
 }
 
 impl Holdings {
-    /// The holdings by some books and an outcome. Fails only where memory is refused.
+    /// The holdings that follow from books and an outcome. Fails only if memory is refused.
     pub fn new(
         alloc: Global,
         tree: &Tree,
@@ -56,7 +56,7 @@ impl Holdings {
         Ok(holdings)
     }
 
-    /// The same holdings once more. Fails only where memory is refused.
+    /// A copy of the holdings. Fails only if memory is refused.
     pub fn copy(&self, alloc: Global) -> Result<Holdings, AllocError>
         ensures { IfOk result (λ holdings. holdings ≡ self.now) }
     {
@@ -67,7 +67,7 @@ impl Holdings {
         })
     }
 
-    /// Becomes the same as other holdings. Takes no memory.
+    /// Makes these holdings equal to others. Takes no memory.
     pub fn copy_from(&mut self, other: &Holdings)
         ensures { self.new ≡ other.now }
     {
@@ -77,7 +77,7 @@ impl Holdings {
             .copy_from_slice(other.licence_units.as_slice());
     }
 
-    /// The activity of a bidder, in bidding units: those of the licences that it holds, each licence once.
+    /// The activity of a bidder, in bidding units: the units of the licences that it holds, each counted once.
     #[inline(always)]
     pub fn activity(&self, bidder: BidderId) -> u32
         ensures { result ≡ slice_index self.now.units bidder }
@@ -96,7 +96,7 @@ impl Holdings {
         self.units_with(tree, bidder, node) <= eligibility
     }
 
-    /// Becomes the holdings by some books and an outcome.
+    /// Makes these the holdings that follow from books and an outcome.
     pub fn find(&mut self, tree: &Tree, books: &Books, outcome: &Outcome)
         ensures { AreHoldings tree.now.nodes books.now outcome.now self.new }
     {
@@ -108,9 +108,9 @@ impl Holdings {
         }
     }
 
-    /// Becomes the holdings by an outcome and books without a bid in the open round: those of the winners, who are given
-    /// as a mask with bit n for node n. The bidding units of the tree's licences are known, as holdings by any books on the
-    /// tree know them.
+    /// Makes these the holdings that follow from an outcome and books without a bid in the open round. `winners` is the
+    /// mask of the winners, bit n for node n. The bidding units of the tree's licences must be known; holdings that
+    /// follow from any books on the tree know them.
     pub fn find_won(&mut self, tree: &Tree, books: &Books, outcome: &Outcome, winners: u128)
         requires quiet { IsQuiet books.now }
         requires small { AreSmall tree.now.nodes }
@@ -130,7 +130,7 @@ impl Holdings {
         }
     }
 
-    /// A bidder holds the licences of one node more.
+    /// Adds the licences of one node to those that a bidder holds.
     #[inline(always)]
     pub fn add(&mut self, tree: &Tree, bidder: BidderId, node: NodeId)
         requires node { node < length tree.now.nodes }
@@ -144,8 +144,8 @@ impl Holdings {
         self.set(bidder, licences, units);
     }
 
-    /// The units of the licences that a bidder holds or that are a node's. Where it holds a part of the
-    /// node's, only the others are summed up, licence by licence.
+    /// The units of the licences that a bidder holds, together with those of a node. If the bidder holds some of the
+    /// node's licences, only the others are added, licence by licence.
     #[inline(always)]
     fn units_with(&self, tree: &Tree, bidder: BidderId, node: NodeId) -> u32
         requires node { node < length tree.now.nodes }
@@ -166,8 +166,8 @@ impl Holdings {
         self.activity(bidder) + self.units_of_licences(tree, more & !own)
     }
 
-    /// The bidding units of these licences: bit i is for the i-th licence of the tree, from 0. The set bits
-    /// are walked, from the lowest up, and the others cost nothing.
+    /// The bidding units of these licences: bit i is for the i-th licence of the tree, from 0. Walks the set bits from
+    /// the lowest up; clear bits cost nothing.
     #[inline(always)]
     fn units_of_licences(&self, tree: &Tree, licences: u64) -> u32
         requires within { licences < 2 ^ licence_count tree.now.nodes }
@@ -210,7 +210,7 @@ impl Holdings {
         }
     }
 
-    /// Sets what a bidder holds, and nothing else.
+    /// Sets the licences and the units of a bidder, and nothing else.
     #[inline(always)]
     fn set(&mut self, bidder: BidderId, licences: u64, units: u32)
         ensures licences { slice_index self.new.licences bidder ≡ licences }
@@ -224,7 +224,7 @@ impl Holdings {
         self.units[place] = units;
     }
 
-    /// Nobody holds anything, and nothing else changes.
+    /// Clears the licences and the units of each bidder, and nothing else.
     fn clear(&mut self)
         ensures nothing { IsNothing self.new }
         ensures same_licence_units { self.new.licence_units ≡ self.old.licence_units }

@@ -10,8 +10,8 @@ use hpb_rules::{BidderId, NodeId};
 use hpb_tree::Tree;
 use hpb_winners::Outcome;
 
-/// The activity of a bidder, in bidding units: those of the licences of the nodes on which it bid in the
-/// open round or which it won at the last close, each licence once.
+/// The activity of a bidder, in bidding units. It counts, once each, the licences of the nodes on which the bidder bid
+/// in the open round or which it won at the last close.
 pub fn activity(tree: &Tree, books: &Books, outcome: &Outcome, bidder: BidderId) -> u32
     ensures { result ≡ activity_of tree.now.nodes books.now outcome.now bidder }
 {
@@ -34,7 +34,7 @@ pub fn fits(
     units_of(tree, licences) <= eligibility
 }
 
-/// A bit for each licence of the nodes on which a bidder bid in the open round or which it won.
+/// A mask of the licences of the nodes on which a bidder bid in the open round or which it won, a bit for each licence.
 pub(crate) fn licences_held(tree: &Tree, books: &Books, outcome: &Outcome, bidder: BidderId) -> u64
     ensures { (l : ℕ) → IsSome (terms_of tree.now.nodes l) → has_licence tree.now.nodes result l ≡ held tree.now.nodes books.now outcome.now bidder l }
 {

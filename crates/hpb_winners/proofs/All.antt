@@ -37,6 +37,6 @@ count_every nodes tree few (suc k) i e =
       count_every nodes tree few k (i + 1) (omega arith),
     )
 
--- each of them is formed
+-- a pass over the mask of all nodes forms each of them
 pub all_reached : (nodes : List Node) → IsTree nodes → length nodes ≤ MOST_NODES → reached_count nodes every ≡ length nodes
 all_reached nodes tree few = count_every nodes tree few (length nodes) 0 (omega arith)

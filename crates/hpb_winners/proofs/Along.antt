@@ -1,4 +1,4 @@
--- The pass from changed nodes upward: what stands when the nodes from a place on are looked at.
+-- The pass from changed nodes upward: what holds once the nodes from a place on are done.
 use Rattle.std.proofs.Common.{◌≡◌, ℕ, zero, suc, ◌+◌, ◌*◌, ◌%◌, ◌^◌, ◌<◌, ◌≤◌, Bool, true, false, cond, ◌&&◌, ◌||◌, List, Option, Some, None, length, get_or, set, take, max, ◌-◌, ◌⊎◌, inl, inr, refl, sym, ap, ◌∙◌, ⊎_elim, arith, subst}
 use Rattle.std.specs.Prelude.{◌==◌, bit_or}
 use Rattle.std.specs.List.{count_by, list_any, range_with_len}
@@ -22,7 +22,7 @@ use Rattle.hpb_winners.specs.Along.{WasOutcome, AreSums, AreSmall, IsOthersSum, 
 use Rattle.hpb_winners.proofs.Totals.{total_same, value_is, best_is, right_all, right_total, small_all}
 use Rattle.hpb_winners.proofs.Winning.{outcome_of, wins_right}
 
--- a node of the mask is at or under this one
+-- some node of the mask is at or under this one
 abbrev pub Reached : List Node → ℕ → ℕ → Type 0
 Reached nodes mask n = (m : ℕ) × (m < length nodes) × (has_bit mask m ≡ true) × IsAtOrUnder nodes n m
 
@@ -34,7 +34,7 @@ any_some test i (suc k) e = ⊎_elim
     (or_cases (test i) (list_any test (range_with_len (i + 1) k)) e)
 
 module _ (nodes : List Node) (bid : ℕ → ℕ) (changed : ℕ) where
-  -- the nodes from place i on are looked at
+  -- the nodes from place i on are done
   pub record Along (i pending : ℕ) (o : OutcomeView) : Type 0 where
     pub sums : AreSums nodes o
     pub small : AreSmall nodes o
@@ -48,7 +48,7 @@ module _ (nodes : List Node) (bid : ℕ → ℕ) (changed : ℕ) where
 
   -- ---- which nodes are reached
   module _ (tree : IsTree nodes) where
-    -- where each place behind one hands its bit up, a place above a set bit has its own
+    -- if each place behind one sets the bit of its parent, each place above a set bit has its own bit set
     climbs : (mask : ℕ) {i m : ℕ} → ((n p : ℕ) → suc i ≤ n → parent_of nodes n ≡ Some p → has_bit mask n ≡ true → has_bit mask p ≡ true) → IsAtOrUnder nodes i m → has_bit mask m ≡ true → has_bit mask i ≡ true
     climbs mask h itself b = b
     climbs mask {i = i} h (child {node = m} {parent = p} e u) b = climbs mask h u (h m p (omega (arith, under_le nodes tree u, tree.parents m p e)) e b)
@@ -65,7 +65,7 @@ module _ (nodes : List Node) (bid : ℕ → ℕ) (changed : ℕ) where
         list_any_at (λ m. has_bit mask m && at_or_under nodes n m) (places nodes) r.0 0 (omega (arith, length-range_with_len 0 (length nodes), r.1))
         (ap (λ m. has_bit mask m && at_or_under nodes n m) at ∙ and_from (has_bit mask r.0) (at_or_under nodes n r.0) r.2 (under_complete nodes tree n r.0 r.3))
 
-    -- ---- at the start nothing is looked at
+    -- ---- at the start no node is done
     module _ {o : OutcomeView} (was : WasOutcome nodes bid changed o) where
       was_table : (n : ℕ) → n < length nodes → get_or o.values n 0 ≡ get_or (values_from 0 nodes was.was) n 0
       was_table n h = was.outcome.values n h ∙ sym (value_is nodes was.was n h)
@@ -122,7 +122,7 @@ module _ (nodes : List Node) (bid : ℕ → ℕ) (changed : ℕ) where
           let rest : suc i + (length nodes - suc i) ≡ length nodes = omega arith in
           omega (arith, before.count (length nodes - suc i) rest, count_by-le-length (is_reached nodes changed) (range_with_len (suc i) (length nodes - suc i)), length-range_with_len (suc i) (length nodes - suc i))
 
-      -- a node that is not reached stays
+      -- a node that isn't reached keeps its value
       pub along_stays : has_bit pending i ≡ false → Along i pending o
       along_stays off = record {
         sums = before.sums;
@@ -136,7 +136,7 @@ module _ (nodes : List Node) (bid : ℕ → ℕ) (changed : ℕ) where
         count = λ m at. omega (arith, count_more false (is_asked ∙ off) m at);
       }
 
-      -- a node that is reached is formed, and its parent is to follow
+      -- a node that is reached is formed, and its parent's bit is set
       module _ {o' : OutcomeView} (pending' : ℕ) (most : length nodes ≤ MOST_NODES) (on : has_bit pending i ≡ true)
           (keeps : (n : ℕ) → has_bit pending n ≡ true → has_bit pending' n ≡ true)
           (adds : (n : ℕ) → has_bit pending' n ≡ true → (has_bit pending n ≡ true) ⊎ (parent_of nodes i ≡ Some n))
@@ -202,7 +202,7 @@ module _ (nodes : List Node) (bid : ℕ → ℕ) (changed : ℕ) where
             (λ p e. absurd (cc (sym none ∙ parent ∙ e)))
             sums small value others formed parents
 
-    -- ---- in the end all are looked at
+    -- ---- in the end all nodes are done
     module _ {k pending : ℕ} {o : OutcomeView} (so_far : Along k pending o) (all : k ≡ 0) (most : length nodes ≤ MOST_NODES) (ordered : AreBefore o.parents) (wins : o.wins ≡ wins_of o.parents o.inside o.values) where
       right : (n : ℕ) → n < length nodes → get_or o.values n 0 ≡ max (bid n) (total (is_node n) nodes o.values)
       right n h = so_far.done n (omega arith) h ∙ ap (max (bid n)) (so_far.sums.inside n h)

@@ -1,4 +1,4 @@
--- The greatest bit of a mask and the others, and its first bits.
+-- The greatest bit of a mask, the bits that are left, and the first bits of a mask.
 use Rattle.std.proofs.Common.{◌≡◌, ℕ, suc, ◌+◌, ◌-◌, ◌*◌, ◌/◌, ◌%◌, ◌^◌, ◌<◌, ◌≤◌, true, false, Some, sym, ap, ◌∙◌, arith, subst, ⊎_elim}
 use Rattle.std.specs.Prelude.{◌==◌, bit_and, min}
 use Rattle.std.specs.Int.{bit_at}
@@ -10,7 +10,7 @@ use Rattle.std.proofs.lemmas.Nat.Bits.{bit_at_and, bit_at_ones, bit_at-lt, bit_a
 use Rattle.hpb_rules.specs.Saved.{has_bit}
 use Rattle.hpb_winners.specs.Places.{IsGreatestTaken, IsTopPlace}
 
--- a word of 64 bits has its greatest one at this place
+-- the greatest bit of a word of 64 bits stands at this place
 pub greatest_bit : (a : ℕ) → 0 < a → a < 2 ^ 64 → IsTopPlace a (63 - count_leading_zeros 64 a)
 greatest_bit a some most =
     let top : (j : ℕ) × (count_leading_zeros 64 a + suc j ≡ 64) × (2 ^ j ≤ a) × (a < 2 ^ suc j) = leading_top 64 a some most in
@@ -32,7 +32,7 @@ high_bit place within =
     ∙ ap (λ k. k % 2 ^ 128) (let e : 2 ^ place * 2 ^ 64 ≡ 1 * 2 ^ (place + 64) = omega (arith, pow-add 2 place 64) in e)
     ∙ one_shl (place + 64) 128 (omega arith)
 
--- what the high word says of the whole number
+-- the greatest bit of the high word is that of the whole number
 pub high_top : (a place : ℕ) → IsTopPlace (a / 2 ^ 64) place → (2 ^ (place + 64) ≤ a) × (a < 2 ^ (place + 64) + 2 ^ (place + 64))
 high_top a place top =
     let parts : a / 2 ^ 64 * 2 ^ 64 + a % 2 ^ 64 ≡ a = div-add-mod' a (2 ^ 64) in
@@ -44,32 +44,32 @@ module _ {old rest : ℕ} (place : ℕ) (taken : IsGreatestTaken old (Some place
   together : old ≡ 1 * 2 ^ place + rest
   together = omega (arith, taken.0)
 
-  -- the place has its bit
+  -- the bit at the place is set
   pub taken_here : has_bit old place ≡ true
   taken_here =
       let none : place - place ≡ 0 = omega arith in
       ap (λ m. has_bit m place) together ∙ ap (λ k. k == 1) (bit_at_cat_high 1 place rest place taken.1 (omega arith) ∙ ap (bit_at 1) none ∙ bit_at_lowest 1)
 
-  -- none behind it has
+  -- no bit behind it is set
   pub taken_behind : (n : ℕ) → place < n → has_bit old n ≡ false
   taken_behind n h = ap (λ k. k == 1) (bit_at_above old (suc place) n (omega (arith, taken.0, taken.1)) (omega arith))
 
-  -- those before it stay
+  -- the bits before it stay
   pub taken_before : (n : ℕ) → n < place → has_bit rest n ≡ has_bit old n
   taken_before n h = ap (λ k. k == 1) (sym (bit_at_cat_low 1 place rest n h)) ∙ ap (λ m. has_bit m n) (sym together)
 
-  -- the others have none from the place on
+  -- the rest has no bit from the place on
   pub rest_before : (n : ℕ) → has_bit rest n ≡ true → n < place
   rest_before n e = ⊎_elim (λ less. less) (λ le. absurd (both_ways (has_bit rest n) (ap (λ k. k == 1) (bit_at_above rest place n taken.1 le)) e)) (cases_lt n place)
 
-  -- the place is one of those that a bound allows
+  -- if the mask is within a bound of bits, the place is too
   pub taken_within : (bound : ℕ) → old < 2 ^ bound → place < bound
   taken_within bound most = ⊎_elim (λ less. less) (λ le. absurd (omega (arith, taken.0, most, powers le))) (cases_lt place bound)
     where
       powers : bound ≤ place → 2 ^ bound ≤ 2 ^ place
       powers le = ⊎_elim (λ less. omega (arith, pow-lt less)) (λ no. omega (arith, ap (λ k. 2 ^ k) (let e : bound ≡ place = omega arith in e))) (cases_lt bound place)
 
--- ---- the first bits
+-- ---- the first bits of a mask
 
 module _ (mask count : ℕ) (low : count < 128) where
   shifted : 1 * 2 ^ count % 2 ^ 128 ≡ 2 ^ count

@@ -1,4 +1,4 @@
--- A mask that is made place by place.
+-- Building a mask place by place.
 use Rattle.std.proofs.Common.{◌≡◌, ℕ, suc, ◌+◌, ◌*◌, ◌%◌, ◌^◌, ◌<◌, ◌≤◌, Bool, true, false, not, ◌&&◌, ◌||◌, ltb, List, Option, Some, None, get_or, set, length, replicate, refl, sym, ap, ◌∙◌, ⊎_elim, arith, subst}
 use mir.Syntax.{w128}
 use Rattle.std.specs.Prelude.{◌==◌, bit_or}
@@ -20,15 +20,15 @@ use Rattle.hpb_winners.proofs.Winning.{free_step}
 pub bit_next : (i bit : ℕ) → i < 127 → bit ≡ 2 ^ i → bit * 2 ^ 1 % 2 ^ 128 ≡ 2 ^ (i + 1)
 bit_next i bit small is = let next : i + 1 ≡ suc i = omega arith in omega (arith, is, ap (λ k. 2 ^ k) next, pow-lt {i = i} {j = 127} small)
 
--- what is in the mask are those of the first places that pass the test
+-- a place is in the mask if it is among the first places and passes the test
 abbrev pub AreInMask : (ℕ → Bool) → (ℕ → Bool) → ℕ → Type 0
 AreInMask test is_in_mask i = (n : ℕ) → is_in_mask n ≡ (ltb n i && test n)
 
--- the mask is of those of the first places that pass the test
+-- the mask has the bits of those among the first places that pass the test
 abbrev pub IsMaskOf : (ℕ → Bool) → ℕ → ℕ → Type 0
 IsMaskOf test i mask = AreInMask test (has_bit mask) i
 
--- the flags are of those of the first places that pass the test
+-- the flags are set for those among the first places that pass the test
 pub record AreFlagsOf (test : ℕ → Bool) (i : ℕ) (flags : List Bool) : Type 0 where
   pub count : length flags ≡ MOST_NODES
   pub in_mask : AreInMask test (is_in flags) i
@@ -43,7 +43,7 @@ flags_start test {flags = flags} all = record {
 }
 
 module _ (test : ℕ → Bool) (i : ℕ) where
-  -- the next place is in the mask where it passes
+  -- the next place is in the mask if it passes the test
   in_mask_more : (old new : ℕ → Bool) → AreInMask test old i → new i ≡ test i → ((n : ℕ) → (n ≡ i → ⊥) → new n ≡ old n) → AreInMask test new (i + 1)
   in_mask_more old new so_far here there n = ⊎_elim
       (λ same. ap new same ∙ here ∙ sym (ap (λ b. b && test n) (ltb_same n i same) ∙ ap test same))
@@ -64,7 +64,7 @@ module _ (test : ℕ → Bool) (i : ℕ) where
     in_mask = in_mask_more (is_in flags) (is_in (set flags i flag)) so_far.in_mask (get_or-set_same flags i flag false (omega (arith, so_far.count)) ∙ is) (λ n other. get_or-set_other flags i n flag false other);
   }
 
--- ---- winners, and what they cover
+-- ---- winners, and the nodes that they cover
 
 twice : (b : Bool) → not (not b) ≡ b
 twice true = refl
@@ -77,7 +77,7 @@ module _ (parents : List (Option ℕ)) (inside values : List ℕ) where
   abbrev pub is_covered : ℕ → Bool
   is_covered n = not (not (is_ahead inside values n) && is_free parents (is_ahead inside values) n)
 
-  -- the parent is covered where a node above is ahead
+  -- the parent is covered if some node above is ahead
   pub under_is : AreBefore parents → (i : ℕ) (flags : List Bool) → AreFlagsOf is_covered i flags → not (or_top (get_or parents i None) (λ p. not (is_in flags p))) ≡ not (is_free parents (is_ahead inside values) i)
   under_is before i flags so_far = ap not (by (get_or parents i None) refl ∙ sym (free_step parents before (is_ahead inside values) i))
     where
@@ -86,7 +86,7 @@ module _ (parents : List (Option ℕ)) (inside values : List ℕ) where
       by (Some p) e = ap not (so_far.in_mask p ∙ ap (λ b. b && is_covered p) (lt-ltb p i (before i p e))) ∙ twice (not (is_ahead inside values p) && is_free parents (is_ahead inside values) p)
 
   module _ (i : ℕ) {under ahead : Bool} (below : under ≡ not (is_free parents (is_ahead inside values) i)) (more : ahead ≡ is_ahead inside values i) where
-    -- who is covered, and who wins
+    -- whether a node is covered, and whether it wins
     pub covered_is : is_covered i ≡ (under || ahead)
     covered_is = by (is_ahead inside values i) (is_free parents (is_ahead inside values) i) ∙ sym (ap (λ b. b || is_ahead inside values i) below) ∙ sym (ap (λ b. under || b) more)
       where
@@ -99,7 +99,7 @@ module _ (parents : List (Option ℕ)) (inside values : List ℕ) where
     pub win_is : wins_at i ≡ (ahead && not under)
     win_is = ap (λ b. b && is_free parents (is_ahead inside values) i) (sym more) ∙ ap (λ b. ahead && b) (sym (ap not below ∙ twice (is_free parents (is_ahead inside values) i)))
 
-  -- in the end the mask is of the flags
+  -- in the end the mask has the bits of the winners
   pub mask_all : (i mask : ℕ) → MOST_NODES ≤ i → IsMaskOf wins_at i mask → i ≤ MOST_NODES → (n : ℕ) → has_bit mask n ≡ is_in (wins_of parents inside values) n
   mask_all i mask all so_far most n = so_far n ∙ ⊎_elim
       (λ less. ap (λ b. b && wins_at n) (lt-ltb n i less) ∙ sym (get_or-map-range_with_len wins_at 0 MOST_NODES n n false (omega arith) (omega arith)))

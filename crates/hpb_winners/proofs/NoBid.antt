@@ -1,4 +1,4 @@
--- What a tree without a bid comes to.
+-- The outcome of a tree without a bid.
 use Rattle.std.proofs.Common.{◌≡◌, ℕ, zero, suc, ◌<◌, ◌≤◌, Bool, false, not, ◌&&◌, ltb, List, [], ◌∷◌, Option, Some, None, length, get_or, replicate, max, refl, sym, ap, ◌∙◌, arith}
 use Rattle.std.proofs.lemmas.Bool.{le-ltb, and_right}
 use Rattle.hpb_rules.specs.declared.limits.TheConstants.{MOST_NODES}
@@ -24,7 +24,7 @@ revenue_none : (i n : ℕ) (bid : ℕ → ℕ) → revenue_from i bid (replicate
 revenue_none i zero bid = refl
 revenue_none i (suc n) bid = omega (arith, revenue_none (suc i) n bid)
 
--- the parents, and zeros
+-- the tree's parents with values of 0 are that outcome
 pub outcome_none : (nodes : List Node) {parents : List (Option ℕ)} {inside values : List ℕ} {formed : ℕ} → length nodes ≤ MOST_NODES → AreBefore parents → AreParents nodes parents
     → inside ≡ replicate MOST_NODES 0 → values ≡ replicate MOST_NODES 0
     → IsOutcome nodes no_bid (record { parents = parents; inside = inside; values = values; wins = wins_of parents inside values; revenue = 0; formed = formed })

@@ -1,4 +1,4 @@
--- One node's value is formed anew.
+-- Forming one node's value anew.
 use Rattle.std.proofs.Common.{◌≡◌, ℕ, ◌+◌, ◌-◌, ◌<◌, ◌≤◌, Bool, true, false, cond, List, Some, None, length, get_or, set, max, refl, sym, ap, ◌∙◌, ⊎_elim, arith, subst}
 use Rattle.std.proofs.lemmas.Bool.{cases_eq, eq-eqb, ne_eqb}
 use Rattle.std.proofs.lemmas.List.{get_or-set_other, length-set}
@@ -12,7 +12,7 @@ use Rattle.hpb_winners.specs.View.{OutcomeView}
 use Rattle.hpb_winners.specs.Along.{AreSums, AreSmall, IsOthersSum, greatest_values}
 use Rattle.hpb_winners.proofs.Totals.{total_le, total_set, total_part, value_is, best_is, inside_most, top_most, value_most}
 
--- the value of a node was the greater of its bid and of what is inside it, by sums that were right
+-- the new value is the greater of the node's bid and the best inside it, from sums that were right
 pub record IsRenewal (nodes : List Node) (old : OutcomeView) (i newer : ℕ) : Type 0 where
   pub tree : IsTree nodes
   pub few : length nodes ≤ MOST_NODES
@@ -47,7 +47,7 @@ module _ {nodes : List Node} {old : OutcomeView} {i newer : ℕ} (renewal : IsRe
       (λ other. omega (arith, ap (λ vs. get_or vs n 0) made ∙ get_or-set_other old.values i n newer 0 (λ e. other (sym e)), renewal.small n h))
       (cases_eq i n)
 
-  -- what a sum becomes, by whether the node counts in it
+  -- how a sum changes, by whether the node counts in it
   counted : (q : Test) → q (parent_of nodes i) ≡ true → total q nodes (set old.values i newer) + get_or old.values i 0 ≡ total q nodes old.values + newer
   counted q e = subst (λ b. total q nodes (set old.values i newer) + cond b (get_or old.values i 0) 0 ≡ total q nodes old.values + cond b newer 0) e (total_set q nodes old.values i newer renewal.within has_value)
 
@@ -60,7 +60,7 @@ module _ {nodes : List Node} {old : OutcomeView} {i newer : ℕ} (renewal : IsRe
   sum_most : (q : Test) → total q nodes (set old.values i newer) ≤ total q nodes (greatest_values nodes)
   sum_most q = total_le q nodes (set old.values i newer) (greatest_values nodes) (λ k l e. small_more refl k l)
 
-  -- where the node has a parent
+  -- for a node with a parent
   module _ {p : ℕ} (up : parent_of nodes i ≡ Some p) where
     inner : p < length nodes
     inner = omega (arith, renewal.within, renewal.tree.parents i p up)
@@ -96,7 +96,7 @@ module _ {nodes : List Node} {old : OutcomeView} {i newer : ℕ} (renewal : IsRe
     pub part_others : {inside : List ℕ} (x : ℕ) → inside ≡ set old.inside p x → IsOthersSum nodes i old.inside inside
     part_others x s n other = ap (λ xs. get_or xs n 0) s ∙ get_or-set_other old.inside p n x 0 (λ e. other (up ∙ ap Some (sym e)))
 
-  -- where it has none
+  -- for a node without a parent
   module _ (top : parent_of nodes i ≡ None) where
     pub top_here : get_or old.values i 0 ≤ old.revenue
     top_here = omega (arith, counts is_top (ap is_top top), renewal.sums.revenue)

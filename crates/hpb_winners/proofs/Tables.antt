@@ -9,13 +9,13 @@ use Rattle.hpb_winners.specs.View.{OutcomeView, AreBefore, is_free, wins_of}
 use Rattle.hpb_winners.specs.Inside.{outcome_view, IsKept}
 use Rattle.hpb_winners.proofs.Winning.{free_under, free_top}
 
--- what is read within a table does not depend on what stands past it
+-- an item read within a table doesn't depend on the item that stands for those behind its end
 pub within_read : {A : Type 0} (xs : List A) (n : ℕ) (x d : A) → n < length xs → x ≡ get_or xs n x → get_or xs n d ≡ x
 within_read [] n x d h e = absurd (omega arith)
 within_read (y ∷ ys) zero x d h e = sym e
 within_read (y ∷ ys) (suc n) x d h e = within_read ys n x d (omega arith) e
 
--- one small number in a table of small numbers
+-- setting one small number keeps a table of small numbers
 pub set_small : (most : ℕ) (xs : List ℕ) (i x : ℕ) → x ≤ most → ((p : ℕ) → get_or xs p 0 ≤ most) → (p : ℕ) → get_or (set xs i x) p 0 ≤ most
 set_small most [] i x h k p = k p
 set_small most (y ∷ ys) zero x h k zero = h

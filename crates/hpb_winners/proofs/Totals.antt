@@ -9,7 +9,7 @@ use Rattle.hpb_rules.proofs.Loops.{Test, below_is, sum_is, sum_all, best_from, s
 use Rattle.hpb_winners.specs.declared.outcome.TheConstants.{MOST_VALUE}
 use Rattle.hpb_winners.specs.Along.{greatest_values}
 
--- ---- one sum beside another
+-- ---- how one sum compares with another
 
 total_none : (q : Test) (ns : List Node) → total q ns [] ≡ 0
 total_none q [] = refl
@@ -19,7 +19,7 @@ cond_le : (b : Bool) (u v : ℕ) → (b ≡ true → u ≤ v) → cond b u 0 ≤
 cond_le true u v h = h refl
 cond_le false u v h = omega arith
 
--- a sum reads the values of those nodes alone whose parent passes
+-- a sum depends only on the values of nodes whose parent passes
 pub total_le : (q : Test) (ns : List Node) (us vs : List ℕ) → ((k : ℕ) → k < length ns → q (parent_of ns k) ≡ true → get_or us k 0 ≤ get_or vs k 0) → total q ns us ≤ total q ns vs
 total_le q [] us vs h = omega arith
 total_le q (n ∷ ns) [] vs h = omega arith
@@ -33,7 +33,7 @@ total_le q (n ∷ ns) (u ∷ us) (v ∷ vs) h = omega (arith, cond_le (q n.paren
 pub total_same : (q : Test) (ns : List Node) (us vs : List ℕ) → ((k : ℕ) → k < length ns → q (parent_of ns k) ≡ true → get_or us k 0 ≡ get_or vs k 0) → total q ns us ≡ total q ns vs
 total_same q ns us vs h = omega (arith, total_le q ns us vs (λ k l e. omega (arith, h k l e)), total_le q ns vs us (λ k l e. omega (arith, h k l e)))
 
--- where one value changes, a sum changes by the difference, or not at all
+-- if one value changes, a sum changes by the difference or not at all
 pub total_set : (q : Test) (ns : List Node) (vs : List ℕ) (i x : ℕ) → i < length ns → i < length vs
     → total q ns (set vs i x) + cond (q (parent_of ns i)) (get_or vs i 0) 0 ≡ total q ns vs + cond (q (parent_of ns i)) x 0
 total_set q [] vs i x h k = absurd (omega arith)
@@ -48,14 +48,14 @@ total_part q (n ∷ ns) [] i h k = absurd (omega arith)
 total_part q (n ∷ ns) (v ∷ vs) zero h k = omega arith
 total_part q (n ∷ ns) (v ∷ vs) (suc i) h k = omega (arith, total_part q ns vs i (omega arith) (omega arith))
 
--- ---- the values of some bids
+-- ---- the values that bids give
 
 value_at : (bid : ℕ → ℕ) (j : ℕ) (ns : List Node) (k : ℕ) → k < length ns → get_or (values_from j ns bid) k 0 ≡ max (bid (j + k)) (get_or (bests_from j ns bid) k 0)
 value_at bid j [] k h = absurd (omega arith)
 value_at bid j (n ∷ ns) zero h = ap (λ m. max (bid m) (total (is_node j) ns (values_from (suc j) ns bid))) (let e : j ≡ j + 0 = omega arith in e)
 value_at bid j (n ∷ ns) (suc k) h = value_at bid (suc j) ns k (omega arith) ∙ ap (λ m. max (bid m) (get_or (bests_from (suc j) ns bid) k 0)) (let e : suc j + k ≡ j + suc k = omega arith in e)
 
--- the first nodes add nothing where their parents do not pass
+-- the first nodes add nothing if their parents don't pass
 total_later : (q : Test) (bid : ℕ → ℕ) (j i : ℕ) (ns : List Node) → ((k : ℕ) → k < i → q (parent_of ns k) ≡ false) → total q ns (values_from j ns bid) ≡ total q (drop i ns) (values_from (j + i) (drop i ns) bid)
 total_later q bid j zero ns h = ap (λ m. total q ns (values_from m ns bid)) (let e : j ≡ j + 0 = omega arith in e)
 total_later q bid j (suc i) [] h = refl
@@ -73,7 +73,7 @@ module _ (nodes : List Node) where
   value_is bid n h = value_at bid 0 nodes n h ∙ ap (λ m. max (bid m) (best nodes bid n)) (let e : 0 + n ≡ n = omega arith in e)
 
   module _ (tree : IsTree nodes) where
-    -- who counts in a sum inside a node stands behind it
+    -- a node that counts in the sum inside another stands behind it
     pub child_after : (n k : ℕ) → is_node n (parent_of nodes k) ≡ true → n < k
     child_after n k e = by (parent_of nodes k) refl e
       where
@@ -87,7 +87,8 @@ module _ (nodes : List Node) where
         ∙ ap (λ m. total (is_node n) (drop (suc n) nodes) (values_from m (drop (suc n) nodes) bid)) (let e : suc n ≡ 0 + suc n = omega arith in e)
         ∙ sym (total_later (is_node n) bid 0 (suc n) nodes (λ k l. false_from_ne_true (is_node n (parent_of nodes k)) (λ e. omega (arith, child_after n k e))))
 
-    -- ---- values that go by the bids and by themselves are those of the bids
+    -- ---- if each value is the greater of the node's bid and the sum of its children's values, all are the values of
+    -- ---- the bids
     module _ (bid : ℕ → ℕ) (values : List ℕ) (right : (n : ℕ) → n < length nodes → get_or values n 0 ≡ max (bid n) (total (is_node n) nodes values)) where
       right_from : (k i : ℕ) → i + k ≡ length nodes → (n : ℕ) → i ≤ n → n < length nodes → get_or values n 0 ≡ get_or (values_from 0 nodes bid) n 0
       right_from zero i e n a b = absurd (omega arith)
@@ -105,7 +106,7 @@ module _ (nodes : List Node) where
       pub right_total : (q : Test) → total q nodes values ≡ total q nodes (values_from 0 nodes bid)
       right_total q = total_same q nodes values (values_from 0 nodes bid) (λ k l e. right_all k l)
 
-    -- ---- values that go by small bids and by themselves are small
+    -- ---- such values of small bids are small
     module _ (bid : ℕ → ℕ) (values : List ℕ) (amounts : (n : ℕ) → bid n ≤ MOST_AMOUNT) (right : (n : ℕ) → n < length nodes → get_or values n 0 ≡ max (bid n) (total (is_node n) nodes values)) where
       small_from : (k i : ℕ) → i + k ≡ length nodes → (n : ℕ) → i ≤ n → n < length nodes → get_or values n 0 ≤ get_or (greatest_values nodes) n 0
       small_from zero i e n a b = absurd (omega arith)
@@ -125,7 +126,7 @@ module _ (nodes : List Node) where
       pub small_all : (n : ℕ) → n < length nodes → get_or values n 0 ≤ get_or (greatest_values nodes) n 0
       small_all n h = small_from (length nodes) 0 (omega arith) n (omega arith) h
 
-    -- ---- how large values get
+    -- ---- a bound for values
     module _ (few : length nodes ≤ MOST_NODES) where
       pub inside_most : (n : ℕ) → n < length nodes → total (is_node n) nodes (greatest_values nodes) ≤ MOST_VALUE
       inside_most n h = omega (arith, best_is (λ m. MOST_AMOUNT) n h, best_from nodes (λ m. MOST_AMOUNT) n h, sum_bound nodes (λ m. MOST_AMOUNT) MOST_AMOUNT (suc n) (is_node n) (λ m. le_refl MOST_AMOUNT) (below_is n), mul-le-mul few (le_refl MOST_AMOUNT))

@@ -15,7 +15,7 @@ use Rattle.hpb_winners.proofs.Along.{Along, few, along_start, along_stays, along
 use Rattle.hpb_winners.proofs.GreatestBit.{taken_here, taken_behind, taken_before, taken_within}
 
 module _ (nodes : List Node) (bid : ℕ → ℕ) (changed : ℕ) where
-  -- the nodes from a place on are looked at, and those before it that are asked are the bits that are left
+  -- the nodes from a place on are done; the bits that are left are those before it that the pass must form
   pub record Walk (pending : ℕ) (o : OutcomeView) : Type 0 where
     pub place : ℕ
     pub asked : ℕ
@@ -25,7 +25,7 @@ module _ (nodes : List Node) (bid : ℕ → ℕ) (changed : ℕ) where
     pub most : pending < 2 ^ place
 
   module _ (tree : IsTree nodes) where
-    -- ---- at the start the bits are those of the changed nodes
+    -- ---- at the start the bits that are left are those of the changed nodes
     pub walk_start : {o begun : OutcomeView} → WasOutcome nodes bid changed o → begun ≡ record o { formed = 0 } → length o.inside ≡ MOST_NODES → length o.values ≡ MOST_NODES
         → (count pending : ℕ) → count ≡ length nodes → ((n : ℕ) → n < count → has_bit pending n ≡ has_bit changed n) → pending < 2 ^ count → Walk pending begun
     walk_start was begun insides values count pending all same most = record {
@@ -43,7 +43,7 @@ module _ (nodes : List Node) (bid : ℕ → ℕ) (changed : ℕ) where
     skips (suc more) i so_far at within clear =
         skips more i (along_stays nodes bid changed tree so_far (i + more) (omega (arith, at)) (omega (arith, at, within)) (clear (i + more) (omega arith) (omega (arith, at)))) refl (omega (arith, at, within)) (λ n a h. clear n a (omega (arith, at)))
 
-    -- ---- the greatest place that is left
+    -- ---- taking the greatest place that is left
     module _ {pending place rest node : ℕ} {o : OutcomeView} (walk : Walk pending o) (taken : IsGreatestTaken pending (Some place) rest) (same : node ≡ place) where
       ahead : node < walk.place
       ahead = omega (arith, same, taken_within place taken walk.place walk.most)
@@ -70,7 +70,7 @@ module _ (nodes : List Node) (bid : ℕ → ℕ) (changed : ℕ) where
         handed_up : bit_or rest (1 * 2 ^ q % 2 ^ 128) < 2 ^ node
         handed_up = or_lt node rest (1 * 2 ^ q % 2 ^ 128) (omega (arith, taken.1, ap (λ k. 2 ^ k) same)) (omega (arith, one_shl q 128 low, pow-lt before))
 
-        -- what is left gets less
+        -- the bits that are left get fewer
         pub walk_smaller : bit_or rest (1 * 2 ^ q % 2 ^ 128) < pending
         walk_smaller = omega (arith, handed_up, taken.0, ap (λ k. 2 ^ k) same)
 
@@ -83,7 +83,7 @@ module _ (nodes : List Node) (bid : ℕ → ℕ) (changed : ℕ) where
       module _ {o' : OutcomeView} {above : Option ℕ} (most : length nodes ≤ MOST_NODES) (parent : above ≡ parent_of nodes node)
           (sums : AreSums nodes o') (small : AreSmall nodes o') (value : o'.values ≡ set o.values node (max (bid node) (get_or o.inside node 0)))
           (others : IsOthersSum nodes node o.inside o'.inside) (formed : o'.formed ≡ o.formed + 1) (parents : o'.parents ≡ o.parents) where
-        -- its parent is to follow
+        -- its parent's bit is set
         pub walk_part : {p q : ℕ} → above ≡ Some p → q ≡ p → q < 128 → Walk (bit_or rest (1 * 2 ^ q % 2 ^ 128)) o'
         walk_part {q = q} some at low = record {
           place = node;
@@ -94,7 +94,7 @@ module _ (nodes : List Node) (bid : ℕ → ℕ) (changed : ℕ) where
           most = handed_up parent some at low;
         }
 
-        -- it has none
+        -- it has no parent
         pub walk_top : above ≡ None → Walk rest o'
         walk_top none = record {
           place = node;

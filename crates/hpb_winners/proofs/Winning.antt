@@ -1,4 +1,4 @@
--- Who wins, by the kept tables.
+-- The winners, from the kept tables.
 use Rattle.std.proofs.Common.{◌≡◌, ℕ, zero, suc, ◌+◌, ◌<◌, ◌≤◌, Bool, true, false, not, ◌&&◌, ltb, List, [], ◌∷◌, map, Option, Some, None, length, get_or, set, take, max, refl, sym, ap, ◌∙◌, ⊎_elim, arith, subst}
 use Rattle.std.specs.List.{range_with_len}
 use Rattle.std.proofs.lemmas.Bool.{cases_lt, lt-ltb, le-ltb}
@@ -11,19 +11,19 @@ use Rattle.hpb_rules.proofs.TreeLaws.{winners_are_one}
 use Rattle.hpb_rules.proofs.Loops.{freed, freed_set, winners_after, winners_start, winners_step, winners_end}
 use Rattle.hpb_winners.specs.View.{IsOutcome, AreParents, AreBefore, is_ahead, is_free, is_free_within, or_top, wins_of}
 
--- ---- going up
+-- ---- two tests that agree on the parent agree one step up
 
 or_top_same : (c : Option ℕ) (f g : ℕ → Bool) → ((p : ℕ) → c ≡ Some p → f p ≡ g p) → or_top c f ≡ or_top c g
 or_top_same None f g h = refl
 or_top_same (Some p) f g h = h p refl
 
 module _ (parents : List (Option ℕ)) (before : AreBefore parents) (test : ℕ → Bool) where
-  -- nothing stands above the first place
+  -- no node stands above the first place
   first_free : (c : Option ℕ) (n : ℕ) (f : ℕ → Bool) → get_or parents n None ≡ c → n ≤ 0 → or_top c f ≡ true
   first_free None n f e h = refl
   first_free (Some p) n f e h = absurd (omega (arith, before n p e))
 
-  -- the number of steps does not matter, where it is enough
+  -- the number of steps makes no difference once it is large enough
   same_steps : (k l n : ℕ) → n ≤ k → n ≤ l → is_free_within parents test k n ≡ is_free_within parents test l n
   same_steps zero zero n a b = refl
   same_steps zero (suc l) n a b = sym (first_free (get_or parents n None) n _ refl a)
@@ -40,7 +40,7 @@ module _ (parents : List (Option ℕ)) (before : AreBefore parents) (test : ℕ 
   pub free_top : (n : ℕ) → get_or parents n None ≡ None → is_free parents test n ≡ true
   free_top n top = free_step n ∙ ap (λ c. or_top c (λ p. not (test p) && is_free parents test p)) top
 
--- ---- the winners of the definitions
+-- ---- the winners by the definitions
 
 set_got : (xs : List Bool) (i : ℕ) (x : Bool) → x ≡ get_or xs i false → i < length xs → set xs i x ≡ xs
 set_got [] i x e h = absurd (omega arith)
@@ -59,7 +59,7 @@ left_open true false = refl
 left_open false true = refl
 left_open false false = refl
 
--- the greater of a bid and a sum is more than the sum where the bid is
+-- the greater of a bid and a sum exceeds the sum if and only if the bid does
 ahead_by : (b s : ℕ) → ltb s (max b s) ≡ ltb s b
 ahead_by b s = ⊎_elim
     (λ less. lt-ltb s (max b s) (omega arith) ∙ sym (lt-ltb s b less))
@@ -122,7 +122,7 @@ module _ (nodes : List Node) (bid : ℕ → ℕ) (parents : List (Option ℕ)) (
   pub wins_right : IsTree nodes → IsWinners nodes bid (take (length nodes) (wins_of parents inside values))
   wins_right tree = subst (IsWinners nodes bid) (sym wins_are) (winners_are_one nodes bid tree).0
 
-  -- the tables are those of the outcome
+  -- the code's tables are those of the outcome
   pub outcome_of : {sum formed : ℕ} → sum ≡ revenue bid (winners nodes bid)
       → IsOutcome nodes bid (record { parents = parents; inside = inside; values = values; wins = wins_of parents inside values; revenue = sum; formed = formed })
   outcome_of sum = record {

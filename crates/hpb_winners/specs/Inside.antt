@@ -5,7 +5,7 @@ use Rattle.hpb_winners.specs.View.{OutcomeView, wins_of, AreBefore}
 use Rattle.hpb_winners.specs.declared.outcome.TheConstants.{MOST_VALUE}
 use Rattle.hpb_winners.specs.declared.outcome.Outcome.TheInside.{Inside}
 
--- The tables of the code, and who wins by them.
+-- The code's tables, and the winners by them.
 abbrev pub outcome_view : Inside → OutcomeView
 outcome_view o = record {
   parents = o.parents.items;
@@ -16,7 +16,7 @@ outcome_view o = record {
   formed = o.values.formed;
 }
 
--- Each table has a place for each node that a tree can have, a parent stands before its children, and no amount is out of range.
+-- Each table has `MOST_NODES` places, a parent stands before its children, and no amount is out of range.
 pub record IsKept (o : Inside) : Type 0 where
   pub parents : length o.parents.items ≡ MOST_NODES
   pub inside : length o.inside.items ≡ MOST_NODES

@@ -4,8 +4,8 @@ use crate::outcome::{MOST_VALUE, Outcome};
 use hpb_rules::{MOST_NODES, NodeId};
 use std::alloc::{AllocError, Global};
 
-/// The value of each node, and how many of them were formed since a pass began. Only `Outcome::form` gives a
-/// node a value: the table is else made, copied or cleared as a whole.
+/// The value of each node, and how many of them were formed since a pass began. Only `Outcome::form` gives one node a
+/// value; otherwise the table is made, copied or cleared as a whole.
 #[derive(Debug, Drop)]
 pub(crate) struct Values {
     values: Vec<u64>,
@@ -24,7 +24,7 @@ impl Values {
         })
     }
 
-    /// Becomes the value 0 for each node.
+    /// Makes the value of each node 0.
     pub(crate) fn clear(&mut self)
         ensures values { self.new.values.items ≡ replicate (length self.old.values.items) 0 }
         ensures formed { self.new.formed ≡ 0 }
@@ -33,7 +33,7 @@ impl Values {
         self.formed = 0;
     }
 
-    /// Becomes the same as another table. Takes no memory.
+    /// Makes this table equal to another. Takes no memory.
     pub(crate) fn copy_from(&mut self, other: &Values)
         requires { length self.old.values.items ≡ length other.now.values.items }
         ensures values { self.new.values.items ≡ other.now.values.items }
@@ -43,7 +43,7 @@ impl Values {
         self.formed = other.formed;
     }
 
-    /// The same table once more. Fails only where memory is refused.
+    /// A copy of the table. Fails only if memory is refused.
     pub(crate) fn copy(&self, alloc: Global) -> Result<Values, AllocError>
         ensures values { IfOk result (λ table. table.values.items ≡ self.now.values.items) }
         ensures formed { IfOk result (λ table. table.formed ≡ self.now.formed) }
@@ -64,7 +64,7 @@ impl Outcome {
         self.values.values[index]
     }
 
-    /// How many values the last pass formed.
+    /// How many values were formed since the last pass began.
     pub fn formed(&self) -> u32
         ensures { result ≡ self.now.formed }
     {
@@ -78,7 +78,7 @@ impl Outcome {
         self.values.formed = 0;
     }
 
-    /// Gives a node its value, and counts that.
+    /// Gives a node its value, and counts it as formed.
     pub(crate) fn form(&mut self, node: NodeId, value: u64)
         requires most { value ≤ MOST_VALUE }
         requires few { self.old.formed < MOST_NODES }

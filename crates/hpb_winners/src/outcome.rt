@@ -10,12 +10,12 @@ use hpb_tree::Tree;
 use std::alloc::{AllocError, Global};
 use std::marker::Model;
 
-/// The greatest value of a node, and the greatest revenue, in whole dollars: each node adds at most the
-/// greatest amount.
+/// The greatest value of a node, and the greatest revenue, in whole dollars: each of `MOST_NODES` nodes adds at most
+/// the greatest amount.
 pub const MOST_VALUE: u64 = MOST_NODES as u64 * MOST_AMOUNT;
 
-/// What the high bids on a tree come to: the values of its nodes and the revenue of the winners, who follow
-/// from the values. There is room for `MOST_NODES` nodes; only the places of the tree's nodes count.
+/// The outcome of the high bids on a tree: the values of its nodes and the winners' revenue. The winners follow from
+/// the values. There is room for `MOST_NODES` nodes; only the places of the tree's nodes count.
 #[derive(Debug, Drop)]
 pub struct Outcome {
     pub(crate) parents: Vec<Option<NodeId>>,
@@ -33,7 +33,7 @@ impl Model for Outcome {
 }
 
 impl Outcome {
-    /// The outcome of a tree without a bid: no winner, no revenue. Fails only where memory is refused.
+    /// The outcome of a tree without a bid: no winner, no revenue. Fails only if memory is refused.
     pub fn new(alloc: Global, tree: &Tree) -> Result<Outcome, AllocError>
         ensures { IfOk result (IsOutcome tree.now.nodes no_bid) }
     {
@@ -48,7 +48,7 @@ impl Outcome {
         })
     }
 
-    /// Becomes the outcome of a tree without a bid.
+    /// Makes this the outcome of a tree without a bid.
     pub(crate) fn restart(&mut self, tree: &Tree)
         ensures { IsOutcome tree.now.nodes no_bid self.new }
     {
@@ -59,7 +59,7 @@ impl Outcome {
         self.revenue = 0;
     }
 
-    /// What is known of all outcomes: no amount is above `MOST_VALUE`, and who wins follows from the values.
+    /// Proves what holds of all outcomes: no amount is above `MOST_VALUE`, and the winners follow from the values.
     pub fn facts(&self)
         ensures inside { (n : ℕ) → slice_index self.now.inside n ≤ MOST_VALUE }
         ensures values { (n : ℕ) → slice_index self.now.values n ≤ MOST_VALUE }
@@ -80,7 +80,7 @@ impl Outcome {
         self.inside[index]
     }
 
-    /// Whether a node's high bid wins: it is ahead of what is inside the node, and no node above it has such a bid.
+    /// Whether a node's high bid wins: it exceeds the best revenue inside the node, and no node above has such a bid.
     pub fn wins(&self, node: NodeId) -> bool
         ensures { result ≡ is_in self.now.wins node }
     {
@@ -88,15 +88,16 @@ impl Outcome {
         self.is_ahead(node) && self.is_free(node)
     }
 
-    /// The nodes whose high bids win: bit n is for node n. From the first node to the last, a node is covered
-    /// where it is ahead or its parent is covered, and wins where it is ahead and its parent isn't covered.
+    /// The nodes whose high bids win: bit n is for node n. Nodes are taken from the first to the last. A node is
+    /// covered if it is ahead or its parent is covered; it wins if it is ahead and its parent isn't covered.
     pub fn winners(&self) -> u128
         ensures { (n : ℕ) → has_bit result n ≡ is_in self.now.wins n }
     {
         self.facts();
         let mut winners = 0;
         let mut covered = [false; MOST_NODES];
-        // The bit of the place. It moves up by one each turn: a shift of 128 bits by a variable takes ten instructions.
+        // The bit of the place. It moves up by one each turn, because a shift of 128 bits by a variable takes ten
+        // instructions.
         let mut bit = 1;
         for place in 0..MOST_NODES {
             let under = self.is_under(place, &covered);
@@ -122,7 +123,7 @@ impl Outcome {
         }
     }
 
-    /// Whether a node's high bid is more than the sum of its children's values.
+    /// Whether a node's high bid is greater than the sum of its children's values.
     fn is_ahead(&self, node: NodeId) -> bool
         ensures value { result ≡ is_ahead self.now.inside self.now.values node }
         ensures within { node < MOST_NODES }
@@ -130,7 +131,7 @@ impl Outcome {
         self.inside(node) < self.value(node)
     }
 
-    /// Whether no node above a node has a bid that is ahead.
+    /// Whether no node above this one has a bid that is ahead.
     fn is_free(&self, node: NodeId) -> bool
         ensures { result ≡ is_free self.now.parents (is_ahead self.now.inside self.now.values) node }
     {
@@ -148,7 +149,7 @@ impl Outcome {
         self.revenue
     }
 
-    /// Puts one value in the place of another in the sum of a node's children.
+    /// Replaces a node's older value by its newer one in the sum over a node's children.
     pub(crate) fn replace_inside(&mut self, node: NodeId, older: u64, newer: u64)
         requires part { older ≤ slice_index self.old.inside node }
         requires most { slice_index self.old.inside node - older + newer ≤ MOST_VALUE }
@@ -162,7 +163,7 @@ impl Outcome {
         self.inside[index] = self.inside[index] - older + newer;
     }
 
-    /// Puts one value in the place of another in the revenue.
+    /// Replaces a top node's older value by its newer one in the revenue.
     pub(crate) fn replace_revenue(&mut self, older: u64, newer: u64)
         requires part { older ≤ self.old.revenue }
         requires most { self.old.revenue - older + newer ≤ MOST_VALUE }
@@ -175,7 +176,7 @@ impl Outcome {
         self.revenue = self.revenue - older + newer;
     }
 
-    /// Becomes the same as another outcome. Takes no memory.
+    /// Makes this outcome equal to another. Takes no memory.
     pub fn copy_from(&mut self, other: &Outcome)
         ensures { self.new ≡ other.now }
     {
@@ -185,7 +186,7 @@ impl Outcome {
         self.revenue = other.revenue;
     }
 
-    /// The same outcome once more. Fails only where memory is refused.
+    /// A copy of the outcome. Fails only if memory is refused.
     pub fn copy(&self, alloc: Global) -> Result<Outcome, AllocError>
         ensures { IfOk result (λ outcome. outcome ≡ self.now) }
     {
@@ -198,7 +199,7 @@ impl Outcome {
     }
 }
 
-/// Writes down the parents of a tree's nodes.
+/// Writes the parents of a tree's nodes into a table.
 fn keep_parents(tree: &Tree, parents: &mut [Option<NodeId>])
     requires count { length parents.old ≡ MOST_NODES }
     requires before { AreBefore parents.old }

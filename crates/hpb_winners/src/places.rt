@@ -3,8 +3,8 @@ ghost use Rattle.hpb_rules.specs.declared.limits.TheConstants.{MOST_NODES};
 ghost use Rattle.hpb_rules.specs.Saved.{has_bit};
 ghost use Rattle.hpb_winners.specs.Places.{IsGreatestTaken, IsTopPlace};
 
-/// Takes the greatest place out of a mask at which a bit is set, if there is one. So the set bits are walked, from
-/// the greatest down, and the others cost nothing.
+/// Takes the greatest set bit out of a mask and returns its place, if there is one. A loop over it walks the set bits
+/// from the greatest down, and clear bits cost nothing.
 pub fn take_greatest(mask: &mut u128) -> Option<usize>
     ensures { IsGreatestTaken mask.old result mask.new }
 {
@@ -23,7 +23,7 @@ pub fn take_greatest(mask: &mut u128) -> Option<usize>
     Some(place)
 }
 
-/// The greatest place at which a word has a bit.
+/// The place of a word's greatest set bit.
 fn greatest_place(word: u64) -> usize
     requires { 0 < word }
     ensures { IsTopPlace word result }
@@ -31,7 +31,7 @@ fn greatest_place(word: u64) -> usize
     (63 - word.leading_zeros()) as usize
 }
 
-/// A mask that has the bits of another at so many first places, and no others.
+/// The first `count` bits of a mask, without the others.
 pub fn first_bits(mask: u128, count: usize) -> u128
     requires { count ≤ MOST_NODES }
     ensures bits { (place : ℕ) → place < count → has_bit result place ≡ has_bit mask place }

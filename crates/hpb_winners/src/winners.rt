@@ -11,8 +11,8 @@ use hpb_bids::Books;
 use hpb_rules::{MOST_AMOUNT, MOST_NODES, NodeId};
 use hpb_tree::Tree;
 
-/// Finds the outcome of the high bids: the winners are the choice of greatest revenue, and on a tie the
-/// parts of a package win. The value of each node is formed.
+/// Finds the outcome of the high bids, and forms the value of each node. The winners are the choice of greatest
+/// revenue; on a tie the parts of a package win.
 pub fn upward(tree: &Tree, books: &Books, outcome: &mut Outcome)
     ensures outcome { IsOutcome tree.now.nodes (bid_of books.now) outcome.new }
     ensures winners { IsWinners tree.now.nodes (bid_of books.now) (take (length tree.now.nodes) outcome.new.wins) }
@@ -23,8 +23,8 @@ pub fn upward(tree: &Tree, books: &Books, outcome: &mut Outcome)
     upward_along(tree, books, u128::MAX, outcome);
 }
 
-/// Finds the outcome of the high bids from that of earlier ones, which were the same but on the nodes of a mask:
-/// bit n is for node n. Only the values of these nodes and of those above them are formed.
+/// Finds the outcome of the high bids from that of earlier ones. Those may have differed only on the nodes of a mask:
+/// bit n is for node n. Only the values of these nodes and of the nodes above them are formed.
 pub fn upward_along(tree: &Tree, books: &Books, changed: u128, outcome: &mut Outcome)
     requires { WasOutcome tree.now.nodes (bid_of books.now) changed outcome.old }
     ensures outcome { IsOutcome tree.now.nodes (bid_of books.now) outcome.new }
@@ -44,8 +44,8 @@ pub fn upward_along(tree: &Tree, books: &Books, changed: u128, outcome: &mut Out
     outcome.facts();
 }
 
-/// Forms the value of a node by its high bid and its children's values, and puts it in the place of its earlier
-/// value in the sum over its parent's children, or in the revenue. Returns its parent.
+/// Forms the value of a node from its high bid and its children's values. It replaces its earlier value in the sum over
+/// its parent's children, or in the revenue. Returns its parent.
 fn renew(tree: &Tree, books: &Books, node: NodeId, outcome: &mut Outcome) -> Option<NodeId>
     requires node { node < length tree.now.nodes }
     requires few { outcome.old.formed < MOST_NODES }
@@ -72,7 +72,7 @@ fn renew(tree: &Tree, books: &Books, node: NodeId, outcome: &mut Outcome) -> Opt
     above
 }
 
-/// The high bid of a node, or 0 where it has none.
+/// The high bid of a node, or 0 if it has none.
 fn high_bid(books: &Books, node: NodeId) -> u64
     ensures value { result ≡ bid_of books.now node }
     ensures most { result ≤ MOST_AMOUNT }

@@ -11,7 +11,7 @@ use Rattle.hpb_wire.proofs.Digits.{beyond}
 abbrev are_digits : List ℕ → Bool
 are_digits word = all_ascii_digits word && ltb 0 (length word)
 
--- what the tests give
+-- the results of the tests
 with_front_zero : (digits within : Bool) (v : ℕ) → cond (digits && false && within) (Some v) None ≡ None
 with_front_zero true within v = refl
 with_front_zero false within v = refl
@@ -36,7 +36,7 @@ digits_below false below v n h = cc
 pub fronted : (most : ℕ) (word : List ℕ) → has_front_zero word ≡ true → number_up_to most word ≡ None
 fronted most word h = rw h (with_front_zero (are_digits word) (leb (digits_value 10 word) most) (digits_value 10 word))
 
--- what is no number below 2^64 is none up to a lesser bound
+-- a word that is no number below 2^64 is none up to a lower bound
 pub no_number : (most : ℕ) (word : List ℕ) → number_of_digits word ≡ None → most < 2 ^ 64 → number_up_to most word ≡ None
 no_number most word h small = not_below (are_digits word) (has_front_zero word) (leb (digits_value 10 word) most) (ltb (digits_value 10 word) (2 ^ 64)) (digits_value 10 word) h (λ e. lt-ltb _ _ (omega (arith, leb-true _ _ e)))
 
@@ -45,7 +45,7 @@ too_large most n word h large =
     let over : leb (digits_value 10 word) most ≡ false = lt-leb _ _ (omega (arith, (digits_below (are_digits word) _ _ n h).1)) in
     rw over (not_within (are_digits word) (has_front_zero word) (digits_value 10 word))
 
--- a word of more than 20 digits is none up to a bound below 2^64
+-- a word of more than 20 digits is no number up to a bound below 2^64
 pub too_long : (most : ℕ) (word : List ℕ) → 20 < length word → most < 2 ^ 64 → number_up_to most word ≡ None
 too_long most word long small = by (has_front_zero word) (all_ascii_digits word) refl refl
   where

@@ -42,6 +42,6 @@ pub too_many : (k b t n a rest : List ℕ) → spelled_by (k ∷ b ∷ t ∷ n �
 too_many k b t n a [] = refl
 too_many k b t n a (x ∷ xs) = five_and_more k b t n a (slice_split is_space xs) (is_space x) x
 
--- a short line without a line feed spells what its words do
+-- a short line without a line feed spells the request that its words spell
 pub spelled_whole : (line : List ℕ) → length line ≤ most_line_bytes → All (λ b. is_line_feed b ≡ false) line → spelled line ≡ spelled_by (line_words line)
 spelled_whole line short none = λ i. cond (le-ltb most_line_bytes (length line) short i || list_any_none is_line_feed line none i) None (spelled_by (line_words line))

@@ -25,14 +25,14 @@ paired (suc count) two all h =
 pub pair_at : (two : ℕ) → two < 100 → (get_or PAIRS (two * 2) 0 ≡ 48 + two / 10) × (get_or PAIRS (two * 2 + 1) 0 ≡ 48 + two % 10)
 pair_at two h = paired 100 two tt h
 
--- the last two digits stand behind the others
+-- the last two digits are written behind the others
 pub two_behind : (front text high low : List ℕ) (number : ℕ) → 100 ≤ number → number < 2 ^ 64 → text ≡ (front ++ high) ++ low → high ≡ decimal (number / 100) → low ≡ pair (number % 100) → text ≡ front ++ decimal number
 two_behind front text high low number least most is h l =
     is
     ∙ append_assoc front high low
     ∙ ap (λ xs. front ++ xs) (ap (λ xs. xs ++ low) h ∙ ap (λ xs. decimal (number / 100) ++ xs) l ∙ sym (decimal_pair number least most))
 
--- so do the last four
+-- so are the last four
 pub four_behind : (front text first second : List ℕ) (number : ℕ) → 10000 ≤ number → number < 2 ^ 64 → text ≡ ((front ++ decimal (number / 10000)) ++ first) ++ second
     → first ≡ pair (number % 10000 / 100) → second ≡ pair (number % 10000 % 100) → text ≡ front ++ decimal number
 four_behind front text first second number least most is f s =

@@ -20,7 +20,7 @@ all_digits-push (byte ∷ front) last = elim (is_ascii_digit byte) as (λ b. (b 
   | false ↦ refl
 ]
 
--- tens and ones, where both are there and 64 bits hold them
+-- tens and ones joined, if both are there and 64 bits hold the result
 abbrev joined : Option ℕ → Option ℕ → Option ℕ
 joined tens ones = option_and_then (λ tens. option_and_then (λ ones. cond (ltb (tens * 10 + ones) (2 ^ 64)) (Some (tens * 10 + ones)) None) ones) tens
 
@@ -45,21 +45,21 @@ few word filled short =
       | false ↦ λ below. refl
     ]
 
--- what fewer than 19 digits spell is below ten to the 18th
+-- fewer than 19 digits spell a number below 10^18
 pub room : (count : ℕ) → count < 19 → 10 ^ count ≤ 10 ^ 18
 room count few = pow-le-pow_right (lit< tt) {i = count} {j = 18} (omega arith)
 
--- digits behind a number make it so many times ten times as large at least
+-- each digit behind a number multiplies it by at least ten
 after_at_least : (number : ℕ) (digits : List ℕ) → number * 10 ^ length digits ≤ digits_value_after 10 number digits
 after_at_least number [] = omega arith
 after_at_least number (byte ∷ digits) =
     omega (arith, after_at_least (number * 10 + digit_value byte) digits, ap (λ x. number * x) (pow-suc 10 (length digits)))
 
--- a digit that is no zero is worth one at least
+-- a digit other than zero is worth at least one
 worth : (byte : ℕ) → is_ascii_digit byte ≡ true → eqb byte 48 ≡ false → 1 ≤ digit_value byte
 worth byte h other = grind (arith, nat_tests)
 
--- more than 20 digits, of which the first is no zero, are worth more than 64 bits hold
+-- more than 20 digits without a zero in front spell more than 64 bits hold
 pub beyond : (word : List ℕ) → all_ascii_digits word ≡ true → has_front_zero word ≡ false → 20 < length word → 2 ^ 64 ≤ digits_value 10 word
 beyond [] h plain long = absurd (omega arith)
 beyond (byte ∷ digits) h plain long =
@@ -69,11 +69,11 @@ beyond (byte ∷ digits) h plain long =
     let power : 10 ^ 20 ≤ 10 ^ length digits = pow-le-pow_right (lit< tt) {i = 20} {j = length digits} (omega arith) in
     omega (arith, mul-le-mul_right (10 ^ length digits) first, after_at_least (0 * 10 + digit_value byte) digits)
 
--- a digit is worth nine at most
+-- a digit is worth at most nine
 worth_most : (byte : ℕ) → is_ascii_digit byte ≡ true → digit_value byte ≤ 9
 worth_most byte h = grind (arith, nat_tests)
 
--- digits behind a number keep it below the next one with as many zeros
+-- digits behind a number keep it below the next number with as many zeros
 after_below : (number : ℕ) (digits : List ℕ) → all_ascii_digits digits ≡ true → digits_value_after 10 number digits < (number + 1) * 10 ^ length digits
 after_below number [] h = omega arith
 after_below number (byte ∷ digits) h =

@@ -41,7 +41,7 @@ lowest (byte ∷ bytes) (suc count) h =
 scaled : (a m c : ℕ) → 0 < m → 0 < c → a * c % (m * c) ≡ a % m * c
 scaled a m c M C = rw (mod-mul _ M C, mul-div_cancel a C, mul-mod_left, add-zero)
 
--- bits by bytes
+-- a bound in bits is the same bound in bytes
 byte_bits : (k : ℕ) → k ≤ 8 → 2 ^ (8 * k) ≡ 256 ^ k
 byte_bits k h = eqb→eq _ _ (every_below (λ j. eqb (2 ^ (8 * j)) (256 ^ j)) 9 tt k (omega arith))
 
@@ -71,7 +71,7 @@ byte_at [] h k = omega arith
 byte_at (byte ∷ bytes) h zero = h.0
 byte_at (byte ∷ bytes) h (suc k) = byte_at bytes h.1 k
 
--- the high bit where a byte is ten or more
+-- the high bit if a byte is ten or more, else 0
 abbrev flag : ℕ → ℕ
 flag byte = cond (leb 10 byte) 128 0
 
@@ -79,12 +79,12 @@ one_more : (ten : Bool) (n : ℕ) (rest : Bool) → not (eqb n 0) ≡ rest → n
 one_more true n rest h = ap not (ne_eqb _ 0 (omega arith))
 one_more false n rest h = ap not (eqb_scaled n) ∙ h
 
--- no flag is set where no byte is ten or more
+-- a flag is set if and only if some byte is ten or more
 any_flag : (bytes : List ℕ) → not (eqb (number_l 256 (map flag bytes)) 0) ≡ list_any (nat_le 10) bytes
 any_flag [] = refl
 any_flag (byte ∷ bytes) = one_more (leb 10 byte) (number_l 256 (map flag bytes)) (list_any (nat_le 10) bytes) (any_flag bytes)
 
--- what the test of a word tells
+-- the test of a word says whether some byte isn't a digit
 pub others : (bytes : List ℕ) (word : ℕ) → IsEightBytes bytes → word ≡ number_l 256 bytes
     → not (nat_eq (bit_and (bit_or (bit_and word 0x7f7f_7f7f_7f7f_7f7f + 0x7676_7676_7676_7676) word) 0x8080_8080_8080_8080) 0) ≡ list_any (nat_le 10) bytes
 others bytes word eight is =
@@ -97,7 +97,7 @@ others bytes word eight is =
 
 -- ---- digits alone
 
--- what stands for bytes
+-- the values that stand for bytes
 lanes_fit : (bytes : List ℕ) → AllBelowBase 256 bytes → AllBelowBase 256 (map less_zero bytes)
 lanes_fit [] h = tt
 lanes_fit (byte ∷ bytes) h = (xor_lt 8 byte 48 h.0 (omega arith), lanes_fit bytes h.1)
@@ -125,7 +125,7 @@ none_other : (bytes : List ℕ) → list_any (nat_le 10) bytes ≡ false → All
 none_other [] h = tt
 none_other (byte ∷ bytes) h = let parts = or_parts (leb 10 byte) (list_any (nat_le 10) bytes) h in (leb-false _ _ parts.0, none_other bytes parts.1)
 
--- a byte that stands as less than ten is a digit, and stands as its value
+-- a byte whose value is below ten is a digit with that value
 abbrev is_digit_lane : ℕ → Bool
 is_digit_lane byte = is_ascii_digit byte && eqb (less_zero byte) (digit_value byte)
 
@@ -145,7 +145,7 @@ zeros_worth : (k : ℕ) (digits : List ℕ) → number_from_digits 10 (replicate
 zeros_worth zero digits = refl
 zeros_worth (suc k) digits = zeros_worth k digits
 
--- where no byte is another, the first ones are digits, and what they spell is what the digits behind the zeros do
+-- if no byte is another, the first ones are digits, and spell the same number with zeros in front
 pub digits_first : (bytes : List ℕ) (count : ℕ) → IsEightBytes bytes → count ≤ 8 → list_any (nat_le 10) (replicate (8 - count) 0 ++ take count (map less_zero bytes)) ≡ false
     → (all_ascii_digits (take count bytes) ≡ true) × IsEightDigits (replicate (8 - count) 0 ++ take count (map less_zero bytes))
     × (number_from_digits 10 (replicate (8 - count) 0 ++ take count (map less_zero bytes)) ≡ digits_value 10 (take count bytes))

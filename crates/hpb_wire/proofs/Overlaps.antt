@@ -1,13 +1,13 @@
--- Pieces that are written one over the other.
+-- Pieces written over one another.
 use Rattle.std.proofs.Common.{◌≡◌, ℕ, ◌+◌, ◌≤◌, List, ◌++◌, length, take, drop, sym, ap, subst, ◌∙◌, arith, append_assoc, take-append-drop, length-drop}
 use Rattle.std.proofs.Math.Seq.{take-append-add}
 use Rattle.std.proofs.lemmas.List.{length-take-le, take-take, take_all}
 
--- a front of what was written up to a place and of a text behind it
+-- the first bytes of those written up to a place and of a text behind it
 front_behind : (at size : ℕ) (old text : List ℕ) → at ≤ length old → take (at + size) (take at old ++ text) ≡ take at old ++ take size text
 front_behind at size old text within = subst (λ (n : ℕ). take (n + size) (take at old ++ text) ≡ take at old ++ take size text) (length-take-le at old within) (take-append-add (take at old) text size)
 
--- a text whose front and back are written, which may overlap
+-- a text is written once its front and its back are, which may overlap
 pub ends_written : (at size back first last : ℕ) (old middle new text : List ℕ) → at ≤ length old → back ≤ size → back + size ≡ length text
     → first ≡ at + size → last ≡ at + back + size
     → take first middle ≡ take at old ++ take size text

@@ -1,4 +1,4 @@
--- Where a byte stands in the parts of a line.
+-- The places of a byte in the parts of a line.
 use Rattle.std.proofs.Common.{◌≡◌, ◌≢◌, ℕ, zero, suc, ◌+◌, ◌*◌, ◌/◌, ◌%◌, ◌^◌, ◌<◌, ◌≤◌, Bool, true, false, cond, eqb, List, [], ◌∷◌, length, map, get_or, take, drop, refl, sym, ap, subst, ◌∙◌, arith}
 use lib.Count.{count_trailing_zeros}
 use native.Mathlib.Nat.{add-mul-mod_self_right, mod-eq_of_lt}
@@ -28,13 +28,13 @@ map_behind byte (suc n) (x ∷ xs) =
     ∙ ap (λ m. m / 2 ^ n) (half (eqb x byte) (map_of byte xs))
     ∙ map_behind byte n xs
 
--- the map of the first n bytes, and of those from byte n on
+-- the map of the first n bytes and that of the bytes from n on give the whole map
 pub map_joined : (byte n : ℕ) (line : List ℕ) → map_of byte (take n line) + map_of byte (drop n line) * 2 ^ n ≡ map_of byte line
 map_joined byte zero line = omega arith
 map_joined byte (suc n) [] = omega arith
 map_joined byte (suc n) (x ∷ xs) = omega (arith, map_joined byte n xs, ap (λ p. map_of byte (drop n xs) * p) (two-pow-succ n))
 
--- where a byte is mapped, the first is one of the line's bytes
+-- if a byte is mapped, its first place is within the line
 pub mapped_within : (byte : ℕ) (line : List ℕ) → 0 < map_of byte line → position_or_len (λ b. eqb b byte) line < length line
 mapped_within byte [] h = absurd (omega (arith, h))
 mapped_within byte (x ∷ xs) h =
@@ -43,11 +43,11 @@ mapped_within byte (x ∷ xs) h =
       | false ↦ λ p. omega (arith, mapped_within byte xs (omega (arith, p)))
     ]) h
 
--- the lowest bit is that of the first such byte
+-- the lowest bit is the place of the first such byte
 pub first_bit : (byte : ℕ) (line : List ℕ) → length line ≤ 64 → 0 < map_of byte line → (count_trailing_zeros 64 (map_of byte line) ≡ position_or_len (λ b. eqb b byte) line) × (position_or_len (λ b. eqb b byte) line < length line)
 first_bit byte line short some = (trailing_mask_l (λ b. eqb b byte) 64 line short some, mapped_within byte line some)
 
--- the map of the first n bytes is the lowest n bits
+-- the lowest n bits are the map of the first n bytes
 pub map_before : (byte n : ℕ) (line : List ℕ) → n ≤ length line → map_of byte line % 2 ^ n ≡ map_of byte (take n line)
 map_before byte n line within =
     let front = take n line in
@@ -58,7 +58,7 @@ map_before byte n line within =
 pub words_unmapped : (line : List ℕ) → map_of space line ≡ 0 → line_words line ≡ line ∷ []
 words_unmapped line h = words_all line (sym (leading_from_mask_l is_space line h))
 
--- where a space is mapped, the lowest bit is the first space's
+-- if a space is mapped, the lowest bit is the first space's
 pub lowest_bit : (is_mapped : Bool) (spaces : ℕ) (line : List ℕ) → (is_mapped ≡ true → length line ≤ 32) → spaces ≡ cond is_mapped (map_of space line) 0 → spaces ≢ 0 → (count_trailing_zeros 64 spaces ≡ position_or_len is_space line) × (position_or_len is_space line < length line) × (length line ≤ 32)
 lowest_bit true spaces line short e h =
     let some : 0 < map_of space line = omega (arith, e, h) in
@@ -66,12 +66,12 @@ lowest_bit true spaces line short e h =
     (ap (count_trailing_zeros 64) e ∙ first.0, first.1, short refl)
 lowest_bit false spaces line short e h = absurd (h e)
 
--- the map of what stands behind the first n bytes
+-- the map of the bytes behind the first n
 pub spaces_behind : (is_mapped : Bool) (n : ℕ) (line : List ℕ) → cond is_mapped (map_of space line) 0 / 2 ^ n ≡ cond is_mapped (map_of space (drop n line)) 0
 spaces_behind true n line = map_behind space n line
 spaces_behind false n line = omega arith
 
--- where a line feed is mapped among the first bytes, the lowest bit is the end of the first line
+-- if a line feed is mapped among the first bytes, the lowest bit is the end of the first line
 pub front_ends : (n : ℕ) (bytes : List ℕ) → n ≤ 64 → n ≤ length bytes → 0 < map_of line_feed (take n bytes)
     → IsFrontLine bytes (count_trailing_zeros 64 (map_of line_feed (take n bytes))) × (count_trailing_zeros 64 (map_of line_feed (take n bytes)) < n)
 front_ends n bytes few within some =

@@ -1,4 +1,4 @@
-//! Where a byte stands in the front of some bytes, as a number: bit i is set where byte i is that byte.
+//! Maps the places of a byte among the first bytes to a number: bit i is set if byte i is that byte.
 ghost use Rattle.std.specs.Prelude.{◌≡◌, ◌+◌, ◌≤◌, ◌<◌, ◌^◌, length, take, drop};
 ghost use Rattle.hpb_wire.specs.ByteMaps.{map_of};
 
@@ -7,10 +7,10 @@ use std::simd::prelude::*;
 /// How many bytes `byte_map` reads.
 pub(crate) const MAPPED_BYTES: usize = 32;
 
-/// How many of them are read together.
+/// How many bytes are compared together.
 const LANES: usize = 16;
 
-/// Where a byte stands among the first bytes.
+/// The map of the places of a byte among the first bytes.
 #[inline(always)]
 pub(crate) fn byte_map(bytes: &[u8], byte: u8) -> u64
     requires { 32 ≤ length bytes.now }

@@ -9,7 +9,7 @@ use crate::byte_map::{MAPPED_BYTES, byte_map};
 use crate::word::Word;
 
 impl<'a> Word<'a> {
-    /// Its own bytes.
+    /// The bytes of the part.
     #[inline(always)]
     pub(crate) fn text(self) -> &'a [u8]
         ensures { result.now ≡ bytes_of self.entry }
@@ -18,7 +18,7 @@ impl<'a> Word<'a> {
     }
 }
 
-/// What is left of a line. Where it is mapped, bit i of `spaces` is set where byte i is a space.
+/// The words that are left of a line. If they are mapped, bit i of `spaces` is set if byte i is a space.
 #[derive(Clone, Copy)]
 pub(crate) struct Words<'a> {
     pub(crate) line: Word<'a>,
@@ -41,7 +41,7 @@ pub(crate) fn unmapped(line: &[u8]) -> Words<'_>
     }
 }
 
-/// The first line of some bytes, where its end is among the first 32: its end and its spaces are found at once.
+/// The first line of some bytes, if its end is among the first 32. Its end and its spaces are found at once.
 #[inline(always)]
 pub(crate) fn front_line(bytes: &[u8]) -> Option<Words<'_>>
     ensures front { IfSome result (λ words. IsFrontLine bytes.now words.line.size) }
@@ -60,7 +60,7 @@ pub(crate) fn front_line(bytes: &[u8]) -> Option<Words<'_>>
     })
 }
 
-/// How long the first line is.
+/// How many bytes the first line has.
 #[inline(always)]
 fn front_size(bytes: &[u8]) -> Option<usize>
     requires { 32 ≤ length bytes.now }
@@ -74,7 +74,7 @@ fn front_size(bytes: &[u8]) -> Option<usize>
     Some(ends.trailing_zeros() as usize)
 }
 
-/// The first word of a line, and what stands behind the space after it, where there is one.
+/// The first word of a line, and the words behind the space after it, if there is one.
 #[inline(always)]
 pub(crate) fn cut(words: Words<'_>) -> (Word<'_>, Option<Words<'_>>)
     requires { IsMapped words }
@@ -92,7 +92,7 @@ pub(crate) fn cut(words: Words<'_>) -> (Word<'_>, Option<Words<'_>>)
     cut_at(words, first_mapped(words))
 }
 
-/// Where the first space is.
+/// The place of the first space, if there is one.
 #[inline(always)]
 fn first_mapped(words: Words<'_>) -> usize
     requires mapped { IsMapped words }
@@ -104,7 +104,7 @@ fn first_mapped(words: Words<'_>) -> usize
     words.spaces.trailing_zeros() as usize
 }
 
-/// The word before the space at a place, and what stands behind it.
+/// The word before the space at a place, and the words behind it.
 #[inline(always)]
 fn cut_at(words: Words<'_>, place: usize) -> (Word<'_>, Option<Words<'_>>)
     requires mapped { IsMapped words }
@@ -121,7 +121,7 @@ fn cut_at(words: Words<'_>, place: usize) -> (Word<'_>, Option<Words<'_>>)
     (word, Some(behind(words, place)))
 }
 
-/// What stands behind the space at a place.
+/// The words behind the space at a place.
 #[inline(always)]
 fn behind(words: Words<'_>, place: usize) -> Words<'_>
     requires mapped { IsMapped words }
@@ -137,7 +137,7 @@ fn behind(words: Words<'_>, place: usize) -> Words<'_>
     }
 }
 
-/// What is left of a part of a line behind so many bytes.
+/// The part of a line behind its first `count` bytes.
 #[inline(always)]
 fn from_place(line: Word<'_>, count: usize) -> Word<'_>
     requires { count ≤ line.size }

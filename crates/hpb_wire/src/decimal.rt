@@ -8,7 +8,7 @@ use itoa::Buffer;
 /// The most digits that a number has.
 pub(crate) const MOST_DIGITS: usize = 20;
 
-/// The pairs of digits from 00 to 99, one behind the other.
+/// The pairs of digits from 00 to 99, one after another.
 static PAIRS: [u8; 200] =
     *b"00010203040506070809101112131415161718192021222324252627282930313233343536373839404142434445464748495051525354555657585960616263646566676869707172737475767778798081828384858687888990919293949596979899";
 
@@ -64,7 +64,7 @@ fn put_short(bytes: &mut [u8], at: usize, number: u64) -> usize
     put_piece(bytes, next, &two_digits(number % 100))
 }
 
-/// The digits of a number below 100, also where the first is 0.
+/// The two digits of a number below 100, even if the first is 0.
 #[inline(always)]
 fn two_digits(number: u64) -> [u8; 2]
     requires { number < 100 }

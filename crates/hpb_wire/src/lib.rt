@@ -1,4 +1,4 @@
-//! Lines of text: what each asks for, how responses are written, and what a terminal is told beside a refusal: the number
+//! Lines of text: reading requests, writing responses, and the line for a terminal beside a refusal, with the number
 //! that would do.
 #![tactic(auto)]
 

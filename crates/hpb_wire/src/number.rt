@@ -19,10 +19,10 @@ const ZEROS: u64 = 0x3030_3030_3030_3030;
 /// The high bit of each of eight bytes.
 const HIGH_BITS: u64 = 0x8080_8080_8080_8080;
 
-/// What takes ten to the high bit, for each of eight bytes.
+/// The number that, added to each of eight bytes, sets the high bit of those from ten on.
 const TEN_TO_HIGH: u64 = 0x7676_7676_7676_7676;
 
-/// The number up to `most` that a word spells in decimal, with no sign and no zero before another digit.
+/// The number up to `most` that a word spells in decimal, without a sign and without a zero in front of another digit.
 #[inline(always)]
 pub(crate) fn number(word: Word<'_>, most: u64) -> Option<u64>
     ensures value { result ≡ number_up_to most (bytes_of word.entry) }
@@ -34,8 +34,8 @@ pub(crate) fn number(word: Word<'_>, most: u64) -> Option<u64>
     }
 }
 
-/// The number that a word of up to eight digits spells, read at once with what stands behind it. `None` says nothing of
-/// the word.
+/// The number that a word of up to eight digits spells, read at once with the bytes behind it. `None` says nothing
+/// about the word.
 #[inline(always)]
 pub(crate) fn short_number(word: Word<'_>) -> Option<u64>
     ensures value { IfSome result (λ n. (most : ℕ) → n ≤ most → number_up_to most (bytes_of word.entry) ≡ Some n) }
@@ -46,15 +46,15 @@ pub(crate) fn short_number(word: Word<'_>) -> Option<u64>
     }
     let lanes = lanes(word.bytes);
     let digits = keep_first(lanes, word.size);
-    // The lowest of the lanes is the first byte of the word.
+    // The lowest byte is the first of the word.
     if has_others(digits) || (lanes % 256 == 0 && word.size > 1) {
         return None;
     }
     Some(value_of_eight(digits))
 }
 
-/// The first eight bytes as one number, the first of them lowest. A digit is there as its value, any other byte as ten
-/// or more.
+/// The first eight bytes as one number, the first of them lowest. A digit becomes its value, and any other byte ten or
+/// more.
 #[inline(always)]
 fn lanes(bytes: &[u8]) -> u64
     requires { 8 ≤ length bytes.now }
@@ -67,7 +67,7 @@ fn lanes(bytes: &[u8]) -> u64
     word ^ ZEROS
 }
 
-/// The first `count` of eight bytes, moved up to the end, and zeros before them.
+/// The first `count` of eight bytes, moved up to the end, with zeros in front.
 #[inline(always)]
 fn keep_first(word: u64, count: usize) -> u64
     requires some { 0 < count }
@@ -94,15 +94,15 @@ fn value_of_eight(word: u64) -> u64
     ensures value { (digits : List ℕ) → IsEightDigits digits → word ≡ number_l 256 digits → result ≡ number_from_digits 10 digits }
     ensures bound { result < 2 ^ 32 }
 {
-    // Each second byte is a pair of digits: the first and the third pair stand under the mask, and so do the others once
-    // they are moved down. What each pair is worth comes together in the upper half.
+    // Each second byte is a pair of digits. The first and the third pair stand under the mask, and the others do once
+    // they are moved down. The values of all pairs add up in the upper half.
     let pairs = word.wrapping_mul(10).wrapping_add(word >> 8);
     let odd = (pairs & TWO_PAIRS).wrapping_mul(100 + (1_000_000 << 32));
     let even = ((pairs >> 16) & TWO_PAIRS).wrapping_mul(1 + (10_000 << 32));
     odd.wrapping_add(even) >> 32
 }
 
-/// What `number` answers, of any word, read digit by digit.
+/// The same result as `number`, for any word, read digit by digit.
 #[cold]
 #[inline(never)]
 #[tactic(auto, using(crate::proofs::Canonical::fronted, crate::proofs::Canonical::no_number, crate::proofs::Canonical::too_long))]
@@ -126,7 +126,7 @@ fn has_front_zero(word: &[u8]) -> bool
     word.len() > 1 && word[0] == b'0'
 }
 
-/// The number of 64 bits that a word's digits spell. Only the last of 20 can make it too large.
+/// The number of 64 bits that a word's digits spell. Of at most 20 digits, only the last can make it too large.
 #[tactic(auto, using(crate::proofs::Digits::pushed, crate::proofs::Digits::few))]
 fn number_of_word(word: &[u8]) -> Option<u64>
     requires { length word.now ≤ 20 }
@@ -140,7 +140,7 @@ fn number_of_word(word: &[u8]) -> Option<u64>
     tens.checked_mul(10)?.checked_add(ones)
 }
 
-/// The number that fewer than 20 digits spell, 0 where there are none.
+/// The number that fewer than 20 digits spell, or 0 if there are none.
 #[tactic(auto, using(crate::proofs::Digits::room))]
 fn number_of_front(digits: &[u8]) -> Option<u64>
     requires { length digits.now < 20 }
@@ -154,7 +154,7 @@ fn number_of_front(digits: &[u8]) -> Option<u64>
     Some(number)
 }
 
-/// What a byte is worth, if it is a digit.
+/// The value of a byte, if it is a digit.
 fn digit(byte: u8) -> Option<u64>
     ensures value { result ≡ digit_number byte }
     ensures bound { IfSome result (λ digit. digit < 10) }

@@ -1,4 +1,5 @@
-//! Writes pieces of a line one behind the other. Each writer answers the place behind what it wrote, where the next piece goes.
+//! Writes pieces of a line one after another. Each writer returns the place behind the bytes that it wrote, at which
+//! the next piece goes.
 ghost use Rattle.std.specs.Prelude.{◌≡◌, ◌≤◌, ◌+◌, ◌*◌, ◌++◌, take, drop, length};
 
 /// Writes a piece of a fixed size.
@@ -52,8 +53,8 @@ fn put_ends<const N: usize>(bytes: &mut [u8], at: usize, text: &[u8]) -> usize
     put_part::<N>(bytes, at + back, text, back)
 }
 
-/// Writes so many bytes of a text, from one of them on. All are read before the first is written, so that they are
-/// moved together.
+/// Writes `count` bytes of a text, from one place on. All are read before the first is written, so that they are moved
+/// together.
 #[inline(always)]
 fn put_part<const N: usize>(bytes: &mut [u8], at: usize, text: &[u8], from: usize) -> usize
     requires part { from + N ≤ length text.now }

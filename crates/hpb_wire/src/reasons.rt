@@ -7,32 +7,32 @@ use hpb_auction::Auction;
 use hpb_rules::{BidderId, Command, MOST_AMOUNT, Refusal};
 use std::fmt;
 
-/// The number that would do in place of one that is refused.
+/// The number that would do in place of a refused one.
 #[derive(Clone, Copy, Debug, PartialEq, Eq)]
 pub enum Reason<'a> {
-    /// Of 13, 14 and 15: the ticket that comes next of a bidder.
+    /// For 13, 14 and 15: a bidder's next ticket.
     BidderTicket {
         bidder: &'a str,
         ticket: u64,
     },
-    /// The same of the auctioneer.
+    /// For 13, 14 and 15: the auctioneer's next ticket.
     AuctioneerTicket {
         ticket: u64,
     },
-    /// Of 21: the step, in whole dollars.
+    /// For 21: the step, in whole dollars.
     Step {
         dollars: u32,
     },
-    /// Of 22: the least amount that may be bid on a node, in whole dollars.
+    /// For 22: the least amount that may be bid on a node, in whole dollars.
     Least {
         node: &'a str,
         dollars: u64,
     },
-    /// Of 23: the greatest amount that may be bid, in whole dollars.
+    /// For 23: the greatest amount that may be bid, in whole dollars.
     Most {
         dollars: u64,
     },
-    /// Of 25: a bidder's eligibility, and its activity without the bid, in bidding units.
+    /// For 25: a bidder's eligibility, and its activity without the bid, in bidding units.
     Units {
         bidder: &'a str,
         eligibility: u32,
@@ -75,10 +75,13 @@ impl fmt::Display for Reason<'_> {
     }
 }
 
-/// The number that would do in place of one for which a command is refused, by the auction as it stands: of 13, 14 and
-/// 15 the sender's next ticket, of 21 the step, of 22 the least amount, of 23 the greatest, and of 25 the bidder's
-/// eligibility with its activity. `None` of any other refusal, and where the definition hasn't the command's bidder or
-/// node.
+/// The number that would do in place of the one for which a command is refused, by the auction as it stands:
+///
+/// - for 13, 14 and 15 the sender's next ticket;
+/// - for 21 the step, for 22 the least amount, for 23 the greatest;
+/// - for 25 the bidder's eligibility with its activity.
+///
+/// `None` for any other refusal, and if the definition doesn't have the command's bidder or node.
 pub fn reason_of<'a>(
     auction: &'a Auction,
     command: &Command,
@@ -93,7 +96,7 @@ pub fn reason_of<'a>(
     }
 }
 
-/// The same of a command whose bidder and node the definition has.
+/// The same for a command whose bidder and node the definition has.
 fn known_reason<'a>(auction: &'a Auction, command: &Command, refusal: Refusal) -> Option<Reason<'a>>
     requires { AreKnown auction.now.rules command.now }
     ensures { option_map text_of result ≡ known_reason auction.now command.now refusal }
@@ -112,7 +115,7 @@ fn known_reason<'a>(auction: &'a Auction, command: &Command, refusal: Refusal) -
     }
 }
 
-/// Which ticket of a command's sender is next.
+/// The next ticket of a command's sender.
 fn next_ticket<'a>(auction: &'a Auction, command: &Command) -> Reason<'a>
     requires { AreKnown auction.now.rules command.now }
     ensures { text_of result ≡ ticket_text auction.now (sender_of command.now) }
@@ -128,7 +131,7 @@ fn next_ticket<'a>(auction: &'a Auction, command: &Command) -> Reason<'a>
     }
 }
 
-/// The least that may be bid on a bid's node.
+/// The least amount that may be bid on a bid's node.
 fn least_of<'a>(auction: &'a Auction, command: &Command) -> Option<Reason<'a>>
     requires { AreKnown auction.now.rules command.now }
     ensures { option_map text_of result ≡ least_of auction.now command.now }

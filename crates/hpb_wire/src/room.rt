@@ -1,9 +1,9 @@
-//! Room for what is to be written behind the bytes that count.
+//! Makes room for bytes to be written behind those that count.
 ghost use Rattle.std.specs.Prelude.{◌≡◌, ◌≤◌, ◌+◌, take, vec_len, OnOk};
 
 use std::alloc::AllocError;
 
-/// Makes room for so many bytes more behind the first ones, which stay as they are.
+/// Makes room for `more` bytes behind the first ones, which stay as they are.
 #[inline(always)]
 pub(crate) fn make_room(bytes: &mut Vec<u8>, length: usize, more: usize) -> Result<(), AllocError>
     requires { length ≤ vec_len bytes.old }
@@ -17,7 +17,7 @@ pub(crate) fn make_room(bytes: &mut Vec<u8>, length: usize, more: usize) -> Resu
     Ok(())
 }
 
-/// Doubles the bytes that count, and makes room for so many more behind them.
+/// Doubles the bytes that count, and makes room for `more` behind them.
 #[cold]
 #[inline(never)]
 fn grow(bytes: &mut Vec<u8>, length: usize, more: usize) -> Result<(), AllocError>

@@ -1,4 +1,4 @@
-//! Whose command it is, and which ticket of its is next.
+//! The sender of a command, and its next ticket.
 ghost use Rattle.std.specs.Prelude.{◌≡◌, suc, ◌<◌, true, false, length, IsSome, None};
 ghost use Rattle.hpb_rules.specs.Answer.{unknown};
 ghost use Rattle.hpb_rules.specs.Rounds.{auctioneer, bidder as bidder_sender, ticket_of};

@@ -51,7 +51,7 @@ fn definition(alloc: Global) -> Result<Box<Definition>, Fail> {
     Ok(Box::new(alloc, Definition::check(alloc, &draft(alloc)?)?)?)
 }
 
-/// An auction of these.
+/// An auction of this draft.
 fn auction(alloc: Global) -> Result<Box<Auction>, Fail> {
     let definition = definition(alloc)?;
     Ok(Box::new(alloc, Auction::new(alloc, &definition)?)?)
@@ -83,7 +83,7 @@ const MALFORMED: [(&[u8], Refusal); 10] = [
     (b"NODE ", Refusal::Line),
 ];
 
-/// Bytes that nobody types.
+/// Hostile bytes.
 const HOSTILE: [(&[u8], Refusal); 13] = [
     (&[b'x'; 1_000], Refusal::Line),
     (b"\xff\xff\xff\xff", Refusal::Line),
@@ -199,7 +199,7 @@ fn responses_are_written(rt: HostRuntime) -> Result<(), Fail> {
     Ok(())
 }
 
-/// The response to a request to see something.
+/// The response to a question.
 fn response(auction: &Auction, request: Request) -> Response<'_>
     requires { IsRequestOf auction.now.rules request }
 {
@@ -211,7 +211,7 @@ fn response(auction: &Auction, request: Request) -> Response<'_>
     }
 }
 
-/// Adds what a line is answered.
+/// Adds the response to a line.
 fn answer(text: &mut ResponseText, auction: &mut Auction, line: &[u8]) -> Result<(), AllocError> {
     match parse_line(line, auction.definition()) {
         Ok(Request::Command(command)) => text.render_reply(auction.apply(&command)),
@@ -252,7 +252,7 @@ fn auctions_are_shown(rt: HostRuntime) -> Result<(), Fail> {
     Ok(())
 }
 
-/// What was asked before the reasons below.
+/// The lines that come before the commands below.
 const BEFORE: [&[u8]; 4] = [
     b"BID x 1 a 200",
     b"BID y 1 d 100",
@@ -260,9 +260,9 @@ const BEFORE: [&[u8]; 4] = [
     b"BID y 2 d 110",
 ];
 
-/// Commands, each with its refusal, and what is told of it.
+/// Commands, each with its refusal and its reason for people.
 const REASONS: [(&[u8], Refusal, &str); 9] = [
-    // x bid once, y twice, and one round was closed.
+    // x has bid once and y twice, and one round was closed.
     (
         b"BID x 1 a 300",
         Refusal::Ticket,
@@ -279,7 +279,7 @@ const REASONS: [(&[u8], Refusal, &str); 9] = [
         Refusal::Step,
         "an amount is a multiple of 10 dollars",
     ),
-    // a has a high bid of 200, and the percent is 10; of d the open round doesn't count yet.
+    // a has a high bid of 200, and the percent is 10; the bid on d in the open round doesn't count yet.
     (
         b"BID y 3 a 210",
         Refusal::Low,
@@ -295,7 +295,7 @@ const REASONS: [(&[u8], Refusal, &str); 9] = [
         Refusal::High,
         "the most that may be bid is 1000000000000 dollars",
     ),
-    // x has won a, of 10 of its 12 units; d has 7.
+    // x has won a, which takes 10 of its 12 units; d has 7.
     (
         b"BID x 2 d 110",
         Refusal::Eligibility,
@@ -304,7 +304,7 @@ const REASONS: [(&[u8], Refusal, &str); 9] = [
     (b"BID x 2 d 110", Refusal::Again, ""),
 ];
 
-/// What is told of a line's command that is refused so, or nothing.
+/// The reason for a line's command with this refusal, or nothing.
 fn told(alloc: Global, auction: &Auction, line: &[u8], refusal: Refusal) -> Result<String, Fail> {
     let mut text = String::new(alloc);
     if let Request::Command(command) = parse_line(line, auction.definition())? {

@@ -19,7 +19,7 @@ pub const RESPONSE_BYTES: usize = 256;
 #[derive(Drop)]
 pub struct ResponseText {
     bytes: Vec<u8>,
-    /// How many of the bytes count.
+    /// How many of its bytes are responses.
     length: usize,
 }
 
@@ -34,7 +34,7 @@ impl Model for ResponseText {
 }
 
 impl ResponseText {
-    /// No response yet, with room for so many bytes.
+    /// A text without a response, with room for this many bytes.
     pub fn new(alloc: Global, bytes: usize) -> Result<Self, AllocError>
         ensures { IfOk result (λ t. t ≡ []) }
     {
@@ -44,15 +44,15 @@ impl ResponseText {
         })
     }
 
-    /// Adds the line of a response, with its end. Where memory is refused, the text stays as it is.
+    /// Adds the line of a response, with its end. If memory is refused, the text stays as it is.
     pub fn render(&mut self, response: &Response<'_>) -> Result<(), AllocError>
         ensures { Adds self.old self.new (text_of response.now) result }
     {
         self.render_for::<()>(response)
     }
 
-    /// The same, with a copy for each caller, as `parse_front` has: a response is then not put together in memory only
-    /// to be taken apart again.
+    /// The same, with a copy for each caller, as `parse_front` has. So a response needn't be built in memory only to be
+    /// taken apart again.
     #[inline(always)]
     pub fn render_for<Caller>(&mut self, response: &Response<'_>) -> Result<(), AllocError>
         ensures { Adds self.old self.new (text_of response.now) result }
@@ -65,7 +65,7 @@ impl ResponseText {
         }
     }
 
-    /// Adds the line of a reply, with its end. Where memory is refused, the text stays as it is.
+    /// Adds the line of a reply, with its end. If memory is refused, the text stays as it is.
     #[inline(always)]
     pub fn render_reply(&mut self, reply: Reply) -> Result<(), AllocError>
         ensures { Adds self.old self.new (reply_text reply) result }
@@ -141,7 +141,7 @@ impl ResponseText {
         &self.bytes[..self.length]
     }
 
-    /// Takes all responses out, and keeps the room.
+    /// Removes all responses, and keeps the room.
     pub fn clear(&mut self)
         ensures { self.new ≡ [] }
     {

@@ -1,6 +1,6 @@
 ghost use Rattle.std.specs.Prelude.{◌≤◌, length};
 
-/// A part of a line, and what stands behind it: so many first bytes are its own.
+/// A part of a line with the bytes behind it: the first `size` bytes are its own.
 #[derive(Clone, Copy)]
 pub(crate) struct Word<'a> {
     pub(crate) bytes: &'a [u8],

@@ -10,7 +10,7 @@ const RECORD: [u8; 16] = [1, 0, 2, 0, 0, 0, 0, 1, 0, 0, 0, 0, 0, 0, 0, 0x64];
 /// The record of the auctioneer's first command, a close.
 const CLOSE: [u8; 16] = [2, 0, 0, 0, 0, 0, 0, 1, 0, 0, 0, 0, 0, 0, 0, 0];
 
-/// The fields of a first batch before its records, so many of them.
+/// The fields of a first batch before its records, of which there are `count`.
 const fn front(count: u8) -> [u8; 24] {
     [
         0, 0, 0, 0, 0, 0, 0, 0, 0, 0, 0, 0, 0, 0, 0, 1, 0, count, 0, 0, 0, 0, 0, 0,
@@ -56,7 +56,7 @@ fn batch_bytes(rt: HostRuntime) -> Result<(), Fail> {
     Ok(())
 }
 
-/// A batch of 64 bids, the last of all that there can be.
+/// A batch of 64 bids, the last batch that an auction can have.
 fn greatest() -> Batch {
     let mut commands = Commands::new();
     for i in 0..64 {

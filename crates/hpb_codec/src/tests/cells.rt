@@ -4,7 +4,7 @@ use hpb_rules::{BidderId, Command, Commands, MOST_LETTERS, NodeId};
 use hpb_tree::Definition;
 use std::test::*;
 
-/// A batch of so many bids, 64 at most.
+/// A batch of `count` bids, 64 at most.
 fn batch(count: usize) -> Batch {
     let mut commands = Commands::new();
     for i in 0..count.min(MOST_LETTERS) {
@@ -22,7 +22,7 @@ fn batch(count: usize) -> Batch {
     }
 }
 
-/// How many commands the bytes have, if they begin with the cells of a batch.
+/// How many commands the batch has whose cells the bytes begin with, if they begin with any.
 fn decoded(bytes: &[u8], definition: &Definition) -> Option<usize> {
     if bytes.len() != CELLS_SIZE {
         return None;
@@ -30,7 +30,7 @@ fn decoded(bytes: &[u8], definition: &Definition) -> Option<usize> {
     decode_cells(bytes, definition).map(|batch| batch.commands.len())
 }
 
-/// How many they have with another byte at a place. They stay as they are.
+/// The same with one byte changed. The bytes are restored.
 fn decoded_with(bytes: &mut [u8], definition: &Definition, at: usize, byte: u8) -> Option<usize> {
     if at >= bytes.len() {
         return None;
@@ -42,7 +42,7 @@ fn decoded_with(bytes: &mut [u8], definition: &Definition, at: usize, byte: u8) 
     found
 }
 
-/// So many records, and the bytes of the cells that they take.
+/// Numbers of records, and the bytes of the cells that they take.
 const SIZES: [(usize, usize); 6] = [
     (1, 496),
     (29, 496),
@@ -60,7 +60,7 @@ fn sizes_of_cells(rt: HostRuntime) -> Result<(), Fail> {
         let mut bytes = scribbled(alloc, CELLS_SIZE)?;
         let before = bytes.clone()?;
         assert_eq!(rt; encode_cells(&batch(count), &mut bytes), size, "{count}");
-        // Nothing is written behind them, and nothing is read there.
+        // No byte is written behind them, and none is read there.
         assert!(rt; bytes[size..] == before[size..]);
         assert_eq!(rt; decoded(&bytes, &definition), Some(count));
         if size < CELLS_SIZE {

@@ -25,13 +25,13 @@ fn of_units(units: u64) -> Option<TermsDraft> {
     })
 }
 
-/// Six nodes, four bidders and two stages: `all` 0 has `east` 1 and the licence `c` 4, `east` has the licences `a` 2
-/// and `b` 3, and the licence `d` 5 stands alone.
+/// Six nodes, four bidders and two stages. `all` (0) has `east` (1) and the licence `c` (4), `east` has the licences
+/// `a` (2) and `b` (3), and the licence `d` (5) stands alone.
 pub(crate) fn six_nodes(alloc: Global) -> Result<Definition, Fail> {
     six_nodes_with(alloc, 0)
 }
 
-/// The same, with so many waivers.
+/// The same, with this many waivers.
 pub(crate) fn six_nodes_with(alloc: Global, waivers: u64) -> Result<Definition, Fail> {
     let mut draft = Draft {
         step: 10,
@@ -54,7 +54,7 @@ pub(crate) fn six_nodes_with(alloc: Global, waivers: u64) -> Result<Definition, 
     Ok(Definition::check(alloc, &draft)?)
 }
 
-/// A bid of a bidder's first ticket.
+/// A bid with a bidder's first ticket.
 pub(crate) fn first_bid(bidder: usize, node: usize, amount: u64) -> Command
     requires bidder { bidder < 64 }
     requires node { node < 127 }
@@ -67,14 +67,14 @@ pub(crate) fn first_bid(bidder: usize, node: usize, amount: u64) -> Command
     }
 }
 
-/// So many bytes that no body has all over.
+/// `size` bytes of a value that no body has all over.
 pub(crate) fn scribbled(alloc: Global, size: usize) -> Result<Vec<u8>, AllocError>
     ensures { IfOk result (λ bytes. length bytes.items ≡ size) }
 {
     Ok(vec![in alloc; 0x5a; size]?)
 }
 
-/// Zero bytes, but for what is named: an offset, and the bytes from there on.
+/// Zero bytes except for the parts: an offset, and the bytes from there on.
 pub(crate) fn body_with(
     alloc: Global,
     size: usize,
@@ -87,7 +87,7 @@ pub(crate) fn body_with(
     Ok(bytes)
 }
 
-/// Puts bytes at offsets. What doesn't fit is left out.
+/// Writes bytes at offsets. Parts that don't fit are left out.
 pub(crate) fn change(bytes: &mut [u8], parts: &[(usize, &[u8])]) {
     for (at, part) in parts {
         if *at <= bytes.len() && part.len() <= bytes.len() - *at {

@@ -7,10 +7,10 @@ use hpb_tree::{BidderDraft, Definition, Draft, NodeDraft, TermsDraft};
 use std::alloc::{AllocError, Global};
 use std::test::*;
 
-/// Where page 1 begins: a head begins with byte 16 of page 0.
+/// The offset of page 1: a head begins with byte 16 of page 0.
 const NODES: usize = 4_080;
 
-/// What stands in the head of six nodes and a journal of 1,024 pages.
+/// The bytes of the head of six nodes and a journal of 1,024 pages.
 const SIX_NODES: [(usize, &[u8]); 29] = [
     (0, b"HPBAUCT1"),
     (8, &[1, 2, 6, 4, 10, 2, 80, 95]),
@@ -52,26 +52,26 @@ fn written_out(alloc: Global) -> Result<Vec<u8>, AllocError> {
     body_with(alloc, HEAD_SIZE, &SIX_NODES)
 }
 
-/// A journal of so many frames of a page each.
+/// A journal of this many frames of a page each.
 fn pages(frames: u32) -> JournalShape {
     let layout = JournalLayout::Pages;
     JournalShape { layout, frames }
 }
 
-/// A journal of so many frames of three cells each.
+/// A journal of this many frames of three cells each.
 fn cells(frames: u32) -> JournalShape {
     let layout = JournalLayout::Cells;
     JournalShape { layout, frames }
 }
 
-/// The head of six nodes and a journal of so many frames of three cells each.
+/// The head of six nodes and a journal of this many frames of three cells each.
 fn written_out_with_cells(alloc: Global, frames: u32) -> Result<Vec<u8>, AllocError> {
     let mut bytes = written_out(alloc)?;
     change(&mut bytes, &[(8, &[2]), (24, &frames.to_be_bytes())]);
     Ok(bytes)
 }
 
-/// A head as it is encoded, of the second format of states.
+/// The encoded head, with the second format of states.
 fn encoded(
     alloc: Global,
     definition: &Definition,
@@ -82,7 +82,7 @@ fn encoded(
     Ok(bytes)
 }
 
-/// The head that bytes are, with its format of states, if they are as many and are one.
+/// The head that the bytes spell, with its format of states, if they have the size of one and spell one.
 fn decoded(alloc: Global, bytes: &[u8]) -> Result<Option<(Head, StateFormat)>, AllocError> {
     if bytes.len() != HEAD_SIZE {
         return Ok(None);
@@ -94,12 +94,12 @@ fn begins_a_head(bytes: &[u8]) -> bool {
     bytes.len() >= 8 && has_magic(bytes)
 }
 
-/// Some of the bytes, and none where they aren't there.
+/// A range of the bytes, or none if it reaches past their end.
 fn part(bytes: &[u8], from: usize, to: usize) -> &[u8] {
     bytes.get(from..to).unwrap_or(&[])
 }
 
-/// The shape of a head's journal, and the places of a node and of a bidder by their names, if its states are of the
+/// The shape of a head's journal, and the places of a node and of a bidder by their names, if its states are in the
 /// second format.
 fn found(
     read: Option<&(Head, StateFormat)>,
@@ -137,7 +137,7 @@ fn told(read: Option<&(Head, StateFormat)>) -> Option<(u8, StateFormat)> {
 #[test]
 fn formats_of_heads(rt: HostRuntime) -> Result<(), Fail> {
     let alloc = rt.alloc();
-    // The format of states, the waivers, and what is told of them: in the first there are none.
+    // The format of states, the waivers, and what a reader finds of both: in the first format there are no waivers.
     let table = [
         (1, 0, Some((0, StateFormat::One))),
         (1, 1, None),
@@ -195,7 +195,7 @@ fn each_byte_of_page_0_counts(rt: HostRuntime) -> Result<(), Fail> {
     Ok(())
 }
 
-/// A node of the greatest definition: the first 63 are packages of two.
+/// A node of the greatest definition, whose first 63 nodes are packages of two.
 fn greatest_node(alloc: Global, n: u64) -> Result<NodeDraft, AllocError> {
     let terms = TermsDraft {
         units: 1_000_000,

@@ -8,7 +8,7 @@ use std::alloc::Global;
 use std::process::Abort;
 use std::test::*;
 
-/// What stands in the body of the empty auction of six nodes.
+/// The bytes of the body of the empty auction of six nodes.
 const EMPTY: [(usize, &[u8]); 5] = [
     (0, &[2, 1, 0, 0, 0, 0, 0, 1]),
     (3_096, &[0, 0, 0, 10]),
@@ -17,14 +17,14 @@ const EMPTY: [(usize, &[u8]); 5] = [
     (3_240, &[0, 0, 0, 25]),
 ];
 
-/// What stands in the body of the same auction after `x` bid 100 on `a`, `y` 150 on `b`, `z` 500 on `all`, `w` 100 on `c`
-/// and a close, all in one batch.
+/// The bytes of the body of the same auction after one batch. In it `x` bid 100 on `a`, `y` 150 on `b`, `z` 500 on
+/// `all` and `w` 100 on `c`, and the round was closed.
 const AFTER_A_CLOSE: [(usize, &[u8]); 19] = [
     (0, &[2, 1, 0, 0, 0, 0, 0, 2, 0, 0, 0, 5]),
     (23, &[1]),
     (24, &[0, 0, 0, 1, 0, 0, 0, 5]),
     (32, &[2, 0, 0, 0, 0, 0, 0, 1]),
-    // The high bids on `all`, `a`, `b` and `c`, and who bid them, of `a` bidder 0.
+    // The high bids on `all`, `a`, `b` and `c`, each with its bidder. The bidder on `a` is 0.
     (54, &[0x01, 0xf4]),
     (64, &[2]),
     (103, &[100]),
@@ -32,7 +32,7 @@ const AFTER_A_CLOSE: [(usize, &[u8]); 19] = [
     (136, &[1]),
     (151, &[100]),
     (160, &[3]),
-    // What is kept of `x`, `y`, `z` and `w`: units, ticket and number, and the record.
+    // The entries of `x`, `y`, `z` and `w`: units, ticket and number, and the record.
     (3_096, &[0, 0, 0, 10, 0, 0, 0, 1, 0, 0, 0, 1]),
     (3_112, &[1, 0, 2, 0, 0, 0, 0, 1, 0, 0, 0, 0, 0, 0, 0, 100]),
     (3_144, &[0, 0, 0, 10, 0, 0, 0, 1, 0, 0, 0, 2]),
@@ -46,14 +46,14 @@ const AFTER_A_CLOSE: [(usize, &[u8]); 19] = [
     (3_256, &[1, 3, 4, 0, 0, 0, 0, 1, 0, 0, 0, 0, 0, 0, 0, 100]),
 ];
 
-/// What stands in the body of the auction of six nodes and one waiver after `x` waived, in one batch.
+/// The bytes of the body of the auction of six nodes and one waiver after `x` waived, in one batch.
 const WAIVED: [(usize, &[u8]); 9] = [
     (0, &[2, 1, 0, 0, 0, 0, 0, 1, 0, 0, 0, 1]),
     (23, &[1]),
-    // Of `x` the units, ticket and number, no waiver left and that it waived, and the record.
+    // The entry of `x`: units, ticket and number, no waiver left and that it waived, and the record.
     (3_096, &[0, 0, 0, 10, 0, 0, 0, 1, 0, 0, 0, 1, 0, 1, 0, 0]),
     (3_112, &[4, 0, 0, 0, 0, 0, 0, 1]),
-    // Of `y`, `z` and `w` the units and the waiver that is left.
+    // The entries of `y`, `z` and `w`: units, and the waiver that is left.
     (3_144, &[0, 0, 0, 10]),
     (3_156, &[1]),
     (3_192, &[0, 0, 0, 40, 0, 0, 0, 0, 0, 0, 0, 0, 1]),
@@ -61,7 +61,7 @@ const WAIVED: [(usize, &[u8]); 9] = [
     (3_252, &[1]),
 ];
 
-/// What is saved of nothing, to be overwritten.
+/// An empty saved auction, to be overwritten.
 fn blank() -> Saved {
     Saved {
         round: 0,
@@ -83,7 +83,7 @@ fn blank() -> Saved {
     }
 }
 
-/// What is saved of the auction of six nodes before the first command, where each bidder has so many waivers.
+/// The saved auction of six nodes before the first command, with this many waivers for each bidder.
 fn beginning(waivers: u8) -> Saved {
     let mut saved = blank();
     saved.round = 1;
@@ -96,19 +96,19 @@ fn beginning(waivers: u8) -> Saved {
     saved
 }
 
-/// The last command of a sender that was accepted under a number.
+/// A sender's last command, accepted under a number.
 fn accepted(command: Command, number: u32) -> Option<Accepted> {
     Some(Accepted { command, number })
 }
 
-/// The body of what is saved.
+/// The body of a saved auction.
 fn body_of(alloc: Global, saved: &Saved, index: u64) -> Result<Vec<u8>, Fail> {
     let mut bytes = scribbled(alloc, STATE_SIZE)?;
     encode_state(saved, index, &mut bytes);
     Ok(bytes)
 }
 
-/// The batch index of a body, if bytes are one, and what is saved besides.
+/// The batch index of a body, if the bytes are one. The saved auction is read into `saved`.
 fn index_of(bytes: &[u8], definition: &Definition, saved: &mut Saved) -> Option<u64> {
     if bytes.len() != STATE_SIZE {
         return None;
@@ -116,7 +116,7 @@ fn index_of(bytes: &[u8], definition: &Definition, saved: &mut Saved) -> Option<
     decode_state(bytes, definition, saved)
 }
 
-/// The body of what a body says, if it says this batch index.
+/// The body encoded from a decoded body, if that has this batch index.
 fn body_again(
     alloc: Global,
     definition: &Definition,
@@ -160,7 +160,7 @@ fn waiver_state_bytes(rt: HostRuntime) -> Result<(), Fail> {
     Ok(())
 }
 
-/// The body in the first format of what a body says.
+/// The body in the first format, encoded from a decoded body.
 fn body_of_format_1(alloc: Global, definition: &Definition, bytes: &[u8]) -> Result<Vec<u8>, Fail> {
     let mut saved = blank();
     let mut first = scribbled(alloc, STATE_SIZE)?;
@@ -179,7 +179,7 @@ fn formats_differ_in_one_byte(rt: HostRuntime) -> Result<(), Fail> {
         let mut first = body_with(alloc, STATE_SIZE, parts)?;
         change(&mut first, &[(0, &[1])]);
         assert!(rt; body_of_format_1(alloc, &definition, &second)? == first);
-        // A body of the first format is read as what it was, and is written in the second.
+        // A body of the first format is read as the value that it spells, and is written in the second.
         let mut saved = blank();
         let index = index_of(&first, &definition, &mut saved);
         assert!(rt; index.is_some());
@@ -224,7 +224,7 @@ fn chunks_are_pages(rt: HostRuntime) -> Result<(), Fail> {
     Ok(())
 }
 
-/// Whether a body of these parts, with changes, is one.
+/// Whether a body of these parts, with changes, spells a state.
 fn is_state_with(
     alloc: Global,
     definition: &Definition,
@@ -237,10 +237,10 @@ fn is_state_with(
     Ok(index_of(&bytes, definition, &mut saved).is_some())
 }
 
-/// Changes of a body, and whether they leave one.
+/// Changes of a body, and whether it still spells a state.
 type Changes = (&'static [(usize, &'static [u8])], bool);
 
-/// Changes of a body after a close that leave one, each beside one that breaks one condition.
+/// Changes of a body after a close: for each condition one that keeps it beside one that breaks it.
 const HEAD_CHANGES: [Changes; 34] = [
     (&[], true),
     // The format is 1 or 2.
@@ -290,7 +290,7 @@ const HEAD_CHANGES: [Changes; 34] = [
 ];
 
 const ENTRY_CHANGES: [Changes; 36] = [
-    // The entries past the definition's are empty.
+    // The entries behind the definition's are empty.
     (&[(199, &[100])], false),
     (&[(208, &[1])], false),
     (&[(3_291, &[1])], false),
@@ -302,7 +302,7 @@ const ENTRY_CHANGES: [Changes; 36] = [
     (&[(54, &[0x01, 0x22])], false),
     (&[(96, &[0, 0, 0, 0xe8, 0xd4, 0xa5, 0x10, 0x00])], true),
     (&[(96, &[0, 0, 0, 0xe8, 0xd4, 0xa5, 0x10, 0x0a])], false),
-    // A bidder of an amount is one of four, and is 0 without an amount.
+    // The bidder of an amount is one of four, and is 0 without an amount.
     (&[(112, &[3])], true),
     (&[(112, &[4])], false),
     (&[(103, &[0])], true),
@@ -333,12 +333,12 @@ const ENTRY_CHANGES: [Changes; 36] = [
     (&[(3_143, &[4])], false),
     (&[(3_143, &[0x40])], false),
     (&[(3_128, &[0x80])], false),
-    // Where the auction is over there is no incoming bid.
+    // If the auction is over, there is no incoming bid.
     (&[(111, &[100])], true),
     (&[(2, &[1]), (111, &[100])], false),
 ];
 
-/// Whether each of these changes of a body of these parts leaves one, or doesn't, as it is said.
+/// Whether a body of these parts still spells a state after each of these changes, or doesn't, as stated beside it.
 fn change_each(
     rt: &impl Abort,
     alloc: Global,

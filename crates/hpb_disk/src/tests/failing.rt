@@ -1,4 +1,4 @@
-//! Devices that are made to fail; gates; and a record that is replaced.
+//! Devices that are made to fail, gates, and the replacing of a record.
 
 use super::using::{has, holds_two, reads_open};
 use crate::{Disk, Fate, FuseDisk, MemoryDisk, OnceDisk, close_gate, open_gate, replace_record};
@@ -19,7 +19,7 @@ fn script<D: Disk>(disk: &mut D) -> [bool; 5] {
     [first, second, third, fourth, fifth]
 }
 
-/// How many calls a device had, and what a stop leaves of it where the writes that no sync covers are lost.
+/// Checks how many calls a device had, and what a stop leaves of it if the writes that no sync covers are lost.
 fn check_behind<R: Abort>(
     rt: &R,
     alloc: Global,
@@ -68,7 +68,7 @@ fn gates_open_and_close(rt: HostRuntime) -> Result<(), Fail> {
 #[test]
 fn a_record_is_replaced(rt: HostRuntime) -> Result<(), Fail> {
     let alloc = rt.alloc();
-    // The gate, the record before, and the place for the new one.
+    // The gate, the old record, and the place for the new one.
     let mut disk = MemoryDisk::of(alloc, [0, 1, 2, 0, 0].to_vec(alloc)?)?;
     assert_eq!(rt; disk.len(), 5);
     assert!(rt; replace_record(&mut disk, &[3, 4]).is_ok());

@@ -9,7 +9,7 @@ use std::os::fd::IntoRawFd;
 use std::os::unix::fs::{PermissionsExt, chown, symlink};
 use std::test::Fail;
 
-/// What came of opening or making a file, in a word.
+/// The result of opening or making a file, as one word.
 fn word(opened: Result<FileDisk, FileFault>) -> &'static str {
     match &opened {
         Ok(_) => "opened",
@@ -46,12 +46,12 @@ fn a_file_is_made_written_and_opened_again(rt: HostRuntime) -> Result<(), Fail> 
     assert!(rt; write(&mut *disk, 2, &[3]));
     assert!(rt; disk.sync().is_ok());
     assert!(rt; has(&mut *disk, &[0, 1, 3, 0]));
-    // While one value has the file no other can.
+    // While one value has the file, no other can open it.
     assert_eq!(rt; word(FileDisk::open(&rt, alloc, path)), "busy");
     drop(disk);
     let mut again = opened(&rt, alloc, path)?;
     assert!(rt; has(&mut *again, &[0, 1, 3, 0]));
-    // It is there, so it isn't made.
+    // The file exists, so it isn't made.
     assert_eq!(rt; word(FileDisk::make(&rt, alloc, path, 4)), "refused");
     fs::remove_file(&rt, path)?;
     Ok(())
@@ -70,7 +70,7 @@ fn a_file_that_another_changes_or_cuts_fails(rt: HostRuntime) -> Result<(), Fail
     assert_eq!(rt; two_at(&mut *disk, 2), None);
     assert_eq!(rt; two_at(&mut *disk, 0), Some([1, 2]));
     assert_eq!(rt; (holds_two(&*disk, 0), holds_two(&*disk, 2)), (true, false));
-    // As it was.
+    // Its bytes are as before.
     fs::write(&rt, path, [1, 2, 3, 4].as_slice())?;
     assert!(rt; holds_two(&*disk, 2));
     assert_eq!(rt; disk.len(), 4);
@@ -115,7 +115,7 @@ fn a_folder_that_cannot_be_synced_is_refused(rt: HostRuntime) -> Result<(), Fail
     let _ = fs::remove_dir_all(&rt, folder);
     fs::create_dir(&rt, folder)?;
     fs::set_permissions(&rt, folder, fs::Permissions::from_mode(0o300))?;
-    // A user who may do all opens it all the same.
+    // A user with all rights opens it all the same.
     let may_read = File::open(&rt, folder).is_ok();
     let path = "hpb_disk_shut/made";
     let wanted = if may_read { "opened" } else { "refused" };
@@ -137,7 +137,7 @@ fn the_descriptor_of_a_standard_stream_is_refused(rt: HostRuntime) -> Result<(),
     libc::close(libc::STDIN_FILENO);
     let opened = word(FileDisk::open(&rt, alloc, path));
     let read = word(FileDisk::open_to_read(&rt, alloc, path));
-    // The folder is opened by that descriptor, and the file by another.
+    // The folder gets that descriptor, and the file another.
     let made = word(FileDisk::make(&rt, alloc, "hpb_disk_stream_made", 4));
     assert_eq!(rt; opened, "stream");
     assert_eq!(rt; read, "stream");
@@ -155,7 +155,7 @@ fn the_descriptor_of_a_standard_stream_is_refused(rt: HostRuntime) -> Result<(),
     Ok(())
 }
 
-/// Who may do what with a file.
+/// The permissions of a file.
 fn permissions_of<R: Files>(rt: &R, path: &str) -> io::Result<u32> {
     Ok(fs::metadata(rt, path)?.permissions().mode() & 0o7777)
 }
@@ -165,7 +165,7 @@ fn what_a_killed_process_left_beside_is_removed(rt: HostRuntime) -> Result<(), F
     let alloc = rt.alloc();
     let (path, beside) = ("hpb_disk_left", "hpb_disk_left.new");
     let _ = fs::remove_file(&rt, path);
-    // It was longer.
+    // The left file was longer.
     fs::write(&rt, beside, [0; 8].as_slice())?;
     fs::set_permissions(&rt, beside, fs::Permissions::from_mode(0o644))?;
     let rest = File::open(&rt, beside)?;
@@ -173,12 +173,12 @@ fn what_a_killed_process_left_beside_is_removed(rt: HostRuntime) -> Result<(), F
     assert!(rt; has(&mut *disk, &[0; 4]));
     assert!(rt; !fs::exists(&rt, beside)?);
     assert_eq!(rt; permissions_of(&rt, path)?, 0o600);
-    // Who has the rest open still hasn't the file.
+    // Anyone who still has the left file open doesn't have the new one.
     assert_eq!(rt; rest.metadata()?.len(), 8);
     assert!(rt; rest.try_lock().is_ok());
     assert!(rt; write(&mut *disk, 0, b"wxyz"));
     drop(disk);
-    // The process ended between the two names.
+    // The process was killed between the two names.
     fs::hard_link(&rt, path, beside)?;
     let mut again = made(&rt, alloc, path)?;
     assert!(rt; has(&mut *again, b"wxyz"));
@@ -193,18 +193,18 @@ fn what_stands_beside_is_not_overwritten(rt: HostRuntime) -> Result<(), Fail> {
     let alloc = rt.alloc();
     let (path, beside, other) = ("hpb_disk_moved", "hpb_disk_moved.new", "hpb_disk_kept");
     let _ = fs::remove_file(&rt, path);
-    // A file of somebody's.
+    // A file that somebody wrote.
     fs::write(&rt, beside, b"wxyz".as_slice())?;
     assert_eq!(rt; word(FileDisk::make(&rt, alloc, path, 4)), "beside");
     assert_eq!(rt; fs::read(&rt, beside)?.as_slice(), b"wxyz".as_slice());
-    // One that has zeros for two pages, and then a byte that is none.
+    // A file with two pages of zeros, and then a byte that isn't zero.
     let mut long = vec![in alloc; 0; 8_193]?;
     long[8_192] = b'w';
     fs::write(&rt, beside, long.as_slice())?;
     assert_eq!(rt; word(FileDisk::make(&rt, alloc, path, 4)), "beside");
     assert_eq!(rt; fs::read(&rt, beside)?.as_slice(), long.as_slice());
     fs::remove_file(&rt, beside)?;
-    // Another name of one that holds zeros, and then a link to it.
+    // A second name of a file of zeros, and then a link to it.
     fs::write(&rt, other, [0; 8].as_slice())?;
     fs::hard_link(&rt, other, beside)?;
     assert_eq!(rt; word(FileDisk::make(&rt, alloc, path, 4)), "beside");
@@ -243,7 +243,7 @@ fn what_is_another_users_is_refused(rt: HostRuntime) -> Result<(), Fail> {
     let (path, beside) = ("hpb_disk_another", "hpb_disk_another.new");
     let _ = fs::remove_file(&rt, path);
     fs::write(&rt, beside, [0; 4].as_slice())?;
-    // Only a user who may do all gives a file away.
+    // Only a user with all rights can give a file away.
     if chown(&rt, beside, Some(1), None).is_ok() {
         assert_eq!(rt;
             word(FileDisk::make(&rt, alloc, path, 4)),
@@ -312,7 +312,7 @@ fn a_file_that_is_read_alone_cannot_be_written(rt: HostRuntime) -> Result<(), Fa
     let mut disk = Box::new(alloc, FileDisk::open_to_read(&rt, alloc, path)?)?;
     assert!(rt; has(&mut *disk, b"abcd"));
     assert!(rt; disk.sync().is_ok());
-    // It never asked for the right to write, so that a user who may do all can't either.
+    // It was opened without the right to write, so even a user with all rights can't write by it.
     assert!(rt; !write(&mut *disk, 0, b"x"));
     assert!(rt; !has(&mut *disk, b"abcd"));
     assert!(rt; disk.sync().is_err());
@@ -365,7 +365,7 @@ fn a_file_without_permission_is_refused(rt: HostRuntime) -> Result<(), Fail> {
     let _ = fs::remove_file(&rt, path);
     fs::write(&rt, path, b"abcd".as_slice())?;
     fs::set_permissions(&rt, path, fs::Permissions::from_mode(0o400))?;
-    // A user who may do all opens it all the same.
+    // A user with all rights opens it all the same.
     let may_write = File::options().write(true).open(&rt, path).is_ok();
     let wanted = if may_write { "opened" } else { "refused" };
     assert_eq!(rt; word(FileDisk::open(&rt, rt.alloc(), path)), wanted);

@@ -1,4 +1,4 @@
-//! Devices in memory, and what a stop leaves of them.
+//! Devices in memory, and the images that a stop leaves of them.
 
 use super::using::{has, write};
 use crate::done::Done;
@@ -6,14 +6,14 @@ use crate::{Disk, Fate, MemoryDisk};
 use std::test::Fail;
 
 const STOPS: [(&[Fate], [u8; 8]); 3] = [
-    // The last write has no fate: it is lost.
+    // The last write has no fate, so it is lost.
     (&[Fate::Lost, Fate::Kept], [9, 9, 2, 2, 2, 9, 9, 9]),
-    // Filled with a byte, over what an earlier write left and under what a later one leaves.
+    // A write filled with a byte, over an earlier write and under a later one.
     (
         &[Fate::Kept, Fate::Filled(7), Fate::Kept],
         [1, 1, 7, 7, 3, 3, 9, 9],
     ),
-    // A fate more than there are writes changes nothing.
+    // More fates than writes change nothing.
     (
         &[Fate::Lost, Fate::Lost, Fate::Lost, Fate::Kept],
         [9, 9, 9, 9, 9, 9, 9, 9],
@@ -38,7 +38,7 @@ fn fates_of_writes(rt: HostRuntime) -> Result<(), Fail> {
     Ok(())
 }
 
-/// That a value may go to another thread is proved where this is called.
+/// Calls of this prove that the value may go to another thread.
 fn may_cross_threads<T: Send>(_value: &T) {}
 
 #[test]

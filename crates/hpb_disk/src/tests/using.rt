@@ -1,8 +1,8 @@
-//! Calls that first see that they stay within the device.
+//! Calls that check first that they stay within the device.
 
 use crate::{Disk, gate_is_open};
 
-/// Whether these bytes, eight at most, are all of a device.
+/// Whether a device has exactly these bytes, eight at most.
 pub(super) fn has<D: Disk>(disk: &mut D, bytes: &[u8]) -> bool {
     let mut found = [0; 8];
     let len = disk.len();
@@ -12,7 +12,7 @@ pub(super) fn has<D: Disk>(disk: &mut D, bytes: &[u8]) -> bool {
     disk.read_into(0, &mut found[..len]).is_ok() && found.starts_with(bytes)
 }
 
-/// Two bytes of it, where the read succeeds.
+/// Two bytes of a device, if the read succeeds.
 pub(super) fn two_at<D: Disk>(disk: &mut D, at: usize) -> Option<[u8; 2]> {
     let mut bytes = [0; 2];
     let len = disk.len();
@@ -25,7 +25,7 @@ pub(super) fn two_at<D: Disk>(disk: &mut D, at: usize) -> Option<[u8; 2]> {
     }
 }
 
-/// Whether nobody else has written two bytes of it.
+/// Whether nobody else has written two bytes of the device.
 pub(super) fn holds_two<D: Disk>(disk: &D, at: usize) -> bool {
     let mut room = [0; 2];
     let len = disk.len();

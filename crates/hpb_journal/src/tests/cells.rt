@@ -6,8 +6,8 @@ use crate::{CellFrames, Frames};
 use hpb_disk::MemoryDisk;
 use std::test::*;
 
-/// What stands at some offsets of a device with a batch of two cells: the gate, the index, the second cell with its
-/// number, and the rest of the record that it cuts.
+/// Bytes at some offsets of a device with a batch of two cells. They are the gate, the index, the second cell with its
+/// number, and the end of the record that is cut in two.
 const PARTS: [(usize, &[u8]); 4] = [
     (60_928, &[0xa5]),
     (60_944, &[0, 0, 0, 0, 0, 0, 0, 5]),
@@ -15,15 +15,15 @@ const PARTS: [(usize, &[u8]); 4] = [
     (61_456, &[1, 1, 5, 0, 0, 0, 0, 30]),
 ];
 
-/// From where to where nothing is written: before the gate, 15 bytes behind it, and behind the two cells.
+/// Ranges that aren't written: before the gate, 15 bytes behind it, and behind the two cells.
 const UNTOUCHED: [(usize, usize); 3] = [(0, 60_928), (60_929, 60_944), (61_952, 77_824)];
 
-/// Whether these bytes stand at an offset.
+/// Whether bytes have this part at an offset.
 fn is_part(bytes: &[u8], at: usize, part: &[u8]) -> bool {
     at <= bytes.len() && bytes[at..].starts_with(part)
 }
 
-/// Whether bytes from an offset to another are as they were before anything was written.
+/// Whether the bytes of a range are as they were before anything was written.
 fn is_untouched(bytes: &[u8], from: usize, to: usize) -> bool {
     from <= to && to <= bytes.len() && bytes[from..to].iter().all(|byte| *byte == 0x5a)
 }

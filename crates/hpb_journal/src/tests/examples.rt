@@ -71,7 +71,7 @@ pub(crate) fn batch(index: u64, first: u64) -> Batch {
     }
 }
 
-/// A batch of so many bids, 64 at most.
+/// A batch of `count` bids, 64 at most.
 pub(crate) fn batch_of(index: u64, count: usize) -> Batch {
     let mut commands = Commands::new();
     for i in 0..count.min(MOST_LETTERS) {
@@ -89,7 +89,7 @@ pub(crate) fn batch_of(index: u64, count: usize) -> Batch {
     }
 }
 
-/// The frames of a journal of so many of this layout, where there may be one.
+/// The frames of a journal with this layout and this many frames, if there may be one.
 pub(crate) fn frames_of(layout: JournalLayout, frames: u32) -> Option<AnyFrames> {
     let journal = JournalShape { layout, frames };
     if journal.is_allowed() {
@@ -99,7 +99,7 @@ pub(crate) fn frames_of(layout: JournalLayout, frames: u32) -> Option<AnyFrames>
     }
 }
 
-/// Whether a batch was put into its frame, step by step, each with its sync.
+/// Whether a batch was written into its frame, step by step, each with its sync.
 pub(crate) fn is_put<F: Frames, D: Disk>(frames: &F, disk: &mut D, batch: &Batch) -> bool {
     if disk.len() < frames.device_len() || frames.write_body(disk, batch).is_err() {
         return false;
@@ -118,7 +118,7 @@ pub(crate) fn is_closed<F: Frames, D: Disk>(frames: &F, disk: &mut D, index: u64
     frames.close_frame(disk, index, true).is_ok() && disk.sync().is_ok()
 }
 
-/// What the frame of a batch says: a word, and of a batch its index and the number of its first command.
+/// The contents of a batch's frame: a word, and for a batch its index and the number of its first command.
 pub(crate) fn said<F: Frames, D: Disk>(
     frames: &F,
     disk: &mut D,

@@ -4,7 +4,7 @@ use crate::tests::examples::{
 use crate::{Frames, PageFrames};
 use std::test::*;
 
-/// Where the first frame begins.
+/// The offset of the first frame.
 const FIRST: usize = 53_248;
 
 /// The page of the first batch: the gate, 15 bytes that aren't read, index 0, first number 1, one record, six zero
@@ -34,17 +34,17 @@ fn frame_byte_by_byte(rt: HostRuntime) -> Result<(), Fail> {
     Ok(())
 }
 
-/// Each change of one byte in the page of the first batch, by its offset, and what is then said of batch 0.
+/// Changes of one byte in the page of the first batch, by offset, and what a reader then finds of batch 0.
 const CHANGES: [(usize, u8, (&str, u64, u64)); 6] = [
-    // A gate that is neither open nor closed by a writer.
+    // A gate that no writer opened or closed.
     (53_248, 0xa4, CLOSED),
     // A byte that isn't read.
     (53_263, 0xff, ("batch", 0, 1)),
     // Another index.
     (53_271, 1, OTHER),
-    // Another number, which the grammar allows.
+    // Another number, which the format allows.
     (53_279, 2, ("batch", 0, 2)),
-    // One record too many, and a bidder that there isn't.
+    // One record too many, and an unknown bidder.
     (53_281, 65, DAMAGED),
     (53_289, 4, DAMAGED),
 ];

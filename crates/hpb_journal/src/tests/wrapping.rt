@@ -8,7 +8,7 @@ use std::alloc::Global;
 use std::process::Abort;
 use std::test::*;
 
-/// The longest journal of a layout: how long its device is, and where its second and its last frame begin.
+/// The longest journal of a layout: the length of its device, and the offsets of its second and its last frame.
 type Longest = (JournalLayout, usize, usize, usize);
 
 const LONGEST: [Longest; 2] = [
@@ -16,7 +16,7 @@ const LONGEST: [Longest; 2] = [
     (JournalLayout::Cells, 1_626_112, 54_784, 1_624_576),
 ];
 
-/// Where the first frame begins.
+/// The offset of the first frame.
 const FIRST: usize = 53_248;
 
 /// Whether the gate at an offset of a device is this byte.
@@ -25,7 +25,7 @@ fn is_gate(disk: &mut MemoryDisk, at: usize, byte: u8) -> bool {
     is_there(disk, at, &mut gate) && gate == [byte]
 }
 
-/// Puts a batch into the last frame and the next one into the first.
+/// Writes a batch into the last frame and the next one into the first.
 fn put_at_both_ends(
     rt: &impl Abort,
     alloc: Global,

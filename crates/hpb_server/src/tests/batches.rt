@@ -13,17 +13,18 @@ use std::io::Read;
 use std::process::Abort;
 use std::test::Fail;
 
-/// A desk that is asked for so many commands together, and keeps how many each time. What it tells of no clause says.
+/// A desk that is asked for a number of commands together, and records how many came each time. No clause describes its
+/// replies.
 #[derive(Drop)]
 struct BatchDesk {
     auction: Auction,
     together: usize,
-    /// After so many replies it ends the session.
+    /// The number of replies after which it ends the session.
     left: usize,
     is_over: bool,
     /// How many commands were asked, each time.
     batches: Vec<usize>,
-    /// The batch that memory is refused for, from 0, and the upkeep.
+    /// The batch, from 0, for which memory is refused, and the upkeep for which it is.
     refused_batch: usize,
     refused_upkeep: usize,
     upkeeps: Cell<usize>,
@@ -118,7 +119,7 @@ impl Desk for BatchDesk {
     }
 }
 
-/// Applies commands one after another, so many at most.
+/// Applies commands one after another, at most `most`.
 fn apply_some(auction: &mut Auction, commands: &Commands, most: usize) -> Replies
     requires { 0 < most }
     ensures some { 0 < length commands.now → 0 < length result }
@@ -134,8 +135,8 @@ fn apply_some(auction: &mut Auction, commands: &Commands, most: usize) -> Replie
     replies
 }
 
-/// A desk that is asked for so many commands together, ends after so many replies, and is refused memory where it is
-/// told.
+/// A desk that is asked for `together` commands together. It ends after a number of replies, and is refused memory for
+/// a given batch or upkeep.
 fn desk_with(
     alloc: Global,
     together: usize,
@@ -156,16 +157,16 @@ fn desk_with(
     Ok(Box::new(alloc, desk)?)
 }
 
-/// A desk that is asked for so many commands together, and meets nothing else.
+/// A desk that is asked for `together` commands together, without an end or a refusal.
 fn desk(alloc: Global, together: usize) -> Result<Box<BatchDesk>, Fail> {
     desk_with(alloc, together, usize::MAX, usize::MAX, usize::MAX)
 }
 
-/// Three commands, a question, a command, a line that is refused, and two commands.
+/// Three commands, a question, a command, a refused line, and two commands.
 const LINES: &[u8] =
     b"BID x 1 a 100\nBID y 1 b 150\nBID z 1 c 100\nSHOW\nBID w 1 d 100\nHIDE\nBID w 1 d 100\nCLOSE 1\n";
 
-/// What stands written once so many of these lines are answered.
+/// The text that is written once a number of these lines are answered.
 const FRONTS: [&[u8]; 9] = [
     b"",
     b"OK 1\n",
@@ -178,7 +179,7 @@ const FRONTS: [&[u8]; 9] = [
     b"OK 1\nOK 2\nOK 3\nROUND 1 STAGE 1 OPEN REVENUE 0 COUNT 3\nOK 4\nERR 10 line\nOK 4\nOK 5\n",
 ];
 
-/// The lines at once: how a session of them ended, and what was written.
+/// Serves the lines at once. Returns how the session ended, and the text that was written.
 fn serve_lines(alloc: Global, desk: &mut BatchDesk) -> (Result<(), SessionFault>, Vec<u8>) {
     let mut reader = LINES;
     let mut written = Vec::new(alloc);
@@ -186,8 +187,8 @@ fn serve_lines(alloc: Global, desk: &mut BatchDesk) -> (Result<(), SessionFault>
     (result, written)
 }
 
-/// A desk that ends after so many replies, and is refused memory for this batch or this upkeep, ends so, and so many lines
-/// are answered by then.
+/// Checks a desk that ends after a number of replies, and is refused memory for this batch or this upkeep. Its session
+/// must end in this way, with this many lines answered.
 fn end_so(
     rt: &impl Abort,
     alloc: Global,
@@ -206,7 +207,7 @@ fn end_so(
     Ok(())
 }
 
-/// Serves a reader, and counts what is written.
+/// Serves a reader, and counts the lines and calls of its writer.
 fn serve_counted<R: Read>(
     alloc: Global,
     reader: &mut R,
@@ -216,8 +217,8 @@ fn serve_counted<R: Read>(
     serve_all(alloc, reader, &mut Counts { talk }, desk)
 }
 
-/// A desk that is asked for so many commands together is asked for so many each time, and as often is written: before
-/// each batch but the first, and at the end.
+/// Checks that a desk that is asked for a number of commands together gets that many each time. The answers are written
+/// as often: before each batch but the first, and at the end.
 fn leave_together(
     rt: &impl Abort,
     alloc: Global,
@@ -235,7 +236,8 @@ fn leave_together(
     Ok(())
 }
 
-/// How many are asked together at most, and each time: once they are long enough, and before any other line.
+/// How many commands are asked together at most, and the sizes of the batches that follow: a batch ends when it is
+/// full, and before any other line.
 const BATCHES: [(usize, &[usize]); 4] = [
     (1, &[1, 1, 1, 1, 1, 1]),
     (2, &[2, 1, 1, 2]),
@@ -287,7 +289,8 @@ fn memory_is_refused_to_a_desk(rt: HostRuntime) -> Result<(), Fail> {
         let desk = (2, usize::MAX, batch, usize::MAX);
         end_so(&rt, rt.alloc(), desk, refused, lines)?;
     }
-    // The desk does its upkeep once nothing is read, and once all is answered.
+    // The upkeep comes before each read and at the end: memory is refused for the first one, when nothing is answered,
+    // and for the second, when all is.
     for (upkeep, lines) in [(0, 0), (1, 8)] {
         let desk = (2, usize::MAX, usize::MAX, upkeep);
         end_so(&rt, rt.alloc(), desk, refused, lines)?;

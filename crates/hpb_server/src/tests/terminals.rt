@@ -2,7 +2,7 @@ use crate::tests::{DEFINITION, run_all};
 use std::alloc::Global;
 use std::test::Fail;
 
-/// Commands of which most are refused, by the definition of six nodes.
+/// Commands for the definition of six nodes, most of which are refused.
 const LINES: &[u8] = b"BID x 1 a 90
 BID x 1 a 105
 BID x 1 a 2000000000000
@@ -63,7 +63,7 @@ hpb: 15 gap: the next ticket of the auctioneer is 2
 hpb: 15 gap: the next ticket of x is 2
 ";
 
-/// What a script of these lines is answered at a terminal, and what its errors are told.
+/// The answers to a script of these lines at a terminal, and the text on standard errors.
 fn run_at_terminal(alloc: Global) -> Result<(Vec<u8>, Vec<u8>), Fail> {
     let mut text = DEFINITION.to_vec(alloc)?;
     text.extend_from_slice(LINES)?;

@@ -17,7 +17,7 @@ const NO_BID: SavedNode = SavedNode {
     incoming: None,
 };
 
-/// A bidder that stands where it began.
+/// A bidder as it began, with these units.
 const fn with_units(eligibility: u32) -> SavedBidder {
     SavedBidder {
         eligibility,
@@ -77,7 +77,7 @@ pub(crate) fn zeros(alloc: Global) -> Result<Box<MemoryDisk>, Fail> {
     Ok(Box::new(alloc, MemoryDisk::zeros(alloc, DEVICE)?)?)
 }
 
-/// What is saved where so many commands were accepted and no bid stands.
+/// A saved auction with `count` accepted commands and no bid.
 pub(crate) fn quiet(count: u32) -> Saved {
     let mut bidders = [with_units(0); MOST_BIDDERS];
     bidders[0] = with_units(10);
@@ -146,7 +146,7 @@ pub(crate) fn is_put(disk: &mut MemoryDisk, at: usize, byte: u8) -> bool {
     at < disk.len() && disk.write_at(at, &[byte]).is_ok() && disk.sync().is_ok()
 }
 
-/// Whether these bytes stand there.
+/// Whether the device has these bytes at an offset.
 pub(crate) fn is_there(disk: &mut MemoryDisk, at: usize, wanted: &[u8; 8]) -> bool {
     let mut bytes = [0x77; 8];
     let len = disk.len();

@@ -6,7 +6,7 @@ use hpb_disk::MemoryDisk;
 use std::alloc::Global;
 use std::test::*;
 
-/// A device with these states in its slots, both open: the index of each, and the count, which tells them apart.
+/// A device with these states in its slots, both open. Each has an index, and a count that tells them apart.
 fn with_both(
     alloc: Global,
     first: (u64, u32),
@@ -37,7 +37,7 @@ fn greater_index_is_taken(rt: HostRuntime) -> Result<(), Fail> {
     let mut saved = quiet(0);
     for (first, second, slot, index) in [
         (3, 4, SECOND, 4),
-        // Of two equal ones the first.
+        // Two with the same index: the first.
         (4, 4, FIRST, 4),
     ] {
         let mut disk = with_both(alloc, (first, 10), (second, 20), &mut body)?;
@@ -52,11 +52,11 @@ fn greater_index_is_taken(rt: HostRuntime) -> Result<(), Fail> {
     Ok(())
 }
 
-/// A change of one byte of the first slot, which is the newer one, and whether its gate is open then.
+/// Changes of one byte of the first slot, which is the newer one, and whether its gate is then open.
 const CHANGES: [(usize, u8, bool); 4] = [
     // Its gate.
     (12_288, 0xa4, false),
-    // A state format that there isn't, one unit more than the bidder began with, a last byte that isn't zero.
+    // An unknown state format, one unit more than the bidder began with, a last byte that isn't zero.
     (16_384, 3, true),
     (19_483, 11, true),
     (32_767, 1, true),
@@ -81,7 +81,7 @@ fn damaged_slot_is_passed_over(rt: HostRuntime) -> Result<(), Fail> {
             "at {at}"
         );
         assert_eq!(rt; saved.count, 20);
-        // Without the second slot there is none.
+        // Once the second slot is closed, no slot holds a state.
         assert!(rt; is_put(&mut disk, 32_768, 0));
         assert!(rt;
             newest(&mut *disk, &definition, &mut body, &mut saved).is_none(),

@@ -2,7 +2,7 @@ use crate::tests::examples::{is_opened, is_there, is_written, quiet, room, zeros
 use crate::{SLOTS_AT, SLOTS_END, Slot};
 use std::test::*;
 
-/// What stands at some offsets after a state with index 3 and count 5 was put into both slots.
+/// The bytes at some offsets after a state with index 3 and count 5 was written into both slots.
 const PLACES: [(usize, [u8; 8]); 12] = [
     // The gate pages of the first and of the second slot.
     (12_288, [0xa5, 0, 0, 0, 0, 0, 0, 0]),

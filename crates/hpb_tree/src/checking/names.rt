@@ -22,7 +22,7 @@ fn has_bad_name_among<T: Named>(items: &[T]) -> bool
     items.iter().any(|item| !is_name(item.name()))
 }
 
-/// Whether two nodes or two bidders have one name.
+/// Whether two nodes, or two bidders, have the same name.
 pub(crate) fn has_duplicate(alloc: Global, draft: &Draft) -> Result<bool, AllocError>
     ensures { IfOk result (λ found. found ≡ has_duplicate (rules_of draft.now)) }
 {

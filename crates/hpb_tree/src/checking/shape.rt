@@ -8,7 +8,7 @@ use crate::draft::NodeDraft;
 use crate::outline::{children_before, is_licence, parent_at};
 use hpb_rules::LEAST_CHILDREN;
 
-/// Whether a parent doesn't stand before its node.
+/// Whether some parent doesn't stand before its node.
 pub(crate) fn has_late_parent(nodes: &[NodeDraft]) -> bool
     ensures { result ≡ has_late_parent (nodes_said nodes.now) }
 {
@@ -29,7 +29,7 @@ fn is_late(place: usize, parent: Option<u64>) -> bool
     }
 }
 
-/// Whether a package has fewer than two children.
+/// Whether some package has fewer than two children.
 pub(crate) fn has_thin_package(nodes: &[NodeDraft]) -> bool
     ensures { result ≡ has_thin_package (nodes_said nodes.now) }
 {
@@ -48,7 +48,7 @@ fn is_thin_package(nodes: &[NodeDraft], place: usize) -> bool
     !is_licence(nodes, place) && children_before(nodes, place, nodes.len()) < LEAST_CHILDREN
 }
 
-/// Whether a licence has a child.
+/// Whether some licence has a child.
 pub(crate) fn has_parted_licence(nodes: &[NodeDraft]) -> bool
     ensures { result ≡ has_licence_with_child (nodes_said nodes.now) }
 {

@@ -7,7 +7,7 @@ use crate::draft::{Draft, TermsDraft};
 use crate::outline::terms_at;
 use hpb_rules::{MOST_LICENCE_OPENING, MOST_LICENCE_UNITS};
 
-/// Whether a licence's units or opening are out of range. The step isn't 0.
+/// Whether some licence's units or opening are out of range. The step must not be 0.
 pub(crate) fn has_bad_terms(draft: &Draft) -> bool
     requires { 0 < draft.now.step }
     ensures { result ≡ has_bad_terms (rules_of draft.now) }

@@ -6,7 +6,7 @@ use Rattle.hpb_format.proofs.formatting.format_shape.Given.{Over}
 use Rattle.hpb_format.proofs.formatting.format_shape.Goals.{After-format_in_place}
 use Rattle.hpb_format.proofs.formatting.format_shape.Goals as goal
 
--- What the call in place did, whatever it answered.
+-- The effect of the call in place, whatever its result.
 formats : (g : Over) (c : After-format_in_place g) → FormatsAs g.D.Disk.seen g.D.Disk.may_leave g.D.Disk.moment g.D.Disk.left_since g.D.Disk.failures g.D.Disk.asked
     c.args.definition.now c.args.journal c.args.disk c.format_in_place.new.disk c.format_in_place.result
 formats g c =

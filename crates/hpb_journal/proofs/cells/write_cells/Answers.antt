@@ -9,7 +9,7 @@ use Rattle.hpb_journal.proofs.cells.write_cells.Given.{Over}
 use Rattle.hpb_journal.proofs.cells.write_cells.Goals.{After-write_at}
 use Rattle.hpb_journal.proofs.cells.write_cells.Goals as goal
 
--- What is written are the cells of the batch.
+-- The written bytes are the cells of the batch.
 are : (g : Over) (c : After-write_at g) → take c.encode_cells-size.result c.encode_cells-size.new.out ≡ cells_of c.args.batch.now
 are g c = cells_are c.args.batch.now c.encode_cells-size.result c.encode_cells-size.new.out c.encode_cells-size.ensures.size c.encode_cells-size.ensures.inside c.encode_cells-size.auto.out c.encode_cells-size.ensures.written
 

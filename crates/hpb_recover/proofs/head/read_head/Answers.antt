@@ -19,7 +19,7 @@ two_reads g c =
     let head = one_call d.seen d.may_leave d.moment d.left_since g.met.D.Disk.counts_now c.gate_is_open.new.disk c.read_into.new.self read.seen read.crash read.time in
     more_calls d.seen d.may_leave d.moment d.left_since 1 1 2 c.args.disk.now c.gate_is_open.new.disk c.read_into.new.self (omega arith) gate head
 
--- What was read is what the device begins with.
+-- The image begins with the bytes that were read.
 begins : (g : Over) (c : After-head_in g) → Begins c.deref.result.now c.len-len.result (g.D.Disk.seen c.args.disk.now)
 begins g c = record {
   size = sym c.len-len.ensures;

@@ -12,7 +12,7 @@ use Rattle.hpb_recover.proofs.opening.open.Given.{Over}
 use Rattle.hpb_recover.proofs.opening.open.Goals.{After-read_plan}
 use Rattle.hpb_recover.proofs.opening.open.Goals as goal
 
--- The sync and the reads are so many calls at most.
+-- A bound on the calls of the sync and the reads.
 calls_made : (g : Over) (c : After-read_plan g) → IsQuiet g.D.Disk.seen g.D.Disk.may_leave g.D.Disk.moment g.D.Disk.left_since (1 + reads_in (g.D.Disk.seen c.args.disk)) c.args.disk c.read_plan.new.disk
 calls_made g c =
     let d = g.D.Disk in
@@ -25,7 +25,7 @@ returns-in-Ok-read_plan-clause-shows g c history stands =
     let found = c.in-Ok-read_plan.ensures.found in
     subst (λ (value : AuctionValue). Shows value history) (sym found.2.auction) (c.read_is_shown.ensures history found.0 image here found.1)
 
--- what is read has no flaw
+-- an image that was read has no flaw
 pub returns-in-Ok-read_plan-clause-exact : goal.returns-in-Ok-read_plan-clause-exact
 returns-in-Ok-read_plan-clause-exact g c flaw has =
     let image = g.D.Disk.seen c.settle.new.disk in

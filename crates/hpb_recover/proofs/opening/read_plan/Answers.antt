@@ -24,7 +24,7 @@ quiet_reads g c =
 newest_read : (g : Over) (c : In-Ok g) → IsCheckpoint c.in_ok-head.head.definition c.in-Ok.checkpoint.newest c.in-Ok.checkpoint.auction (g.D.Disk.seen c.args.disk.now)
 newest_read g c = subst (IsCheckpoint c.in_ok-head.head.definition c.in-Ok.checkpoint.newest c.in-Ok.checkpoint.auction) c.read_head.ensures.quiet.same c.in-Ok.ensures.checkpoint
 
--- The plan that is given where all is read.
+-- The plan that is returned if all is read.
 abbrev plan_read : (g : Over) → In-Ok-Some g → Plan
 plan_read g c = record {
   frames = c.new-frames.result;
@@ -37,7 +37,8 @@ plan_read g c = record {
   auction = c.read_journal.new.auction;
 }
 
--- The journal of the image is whole, and leads to what the plan tells, in the layout of these frames or of the head.
+-- The journal of the image is whole, and leads to the auction of the plan, in the layout of these frames or of the
+-- head.
 abbrev IsWholeBy : (g : Over) → In-Ok-Some g → JournalShape → Type 0
 IsWholeBy g c shape = IsWhole (shaped shape) c.in-Ok.checkpoint.newest.index c.in-Ok.checkpoint.auction (g.D.Disk.seen c.args.disk.now) c.in-Ok-Some.journal.next c.in-Ok-Some.journal.clean_end c.in-Ok-Some.journal.gates.items c.read_journal.new.auction
 

@@ -3,7 +3,7 @@ use Rattle.hpb_rules.specs.Values.{value_after}
 use Rattle.hpb_rules.specs.AcceptedRuns.{AllAccepted}
 use Rattle.hpb_recover.proofs.replay.are_taken.Given as goal
 
--- what is left decides
+-- the commands that are left decide
 abbrev pub invariant-loop-command : goal.invariant-loop-command
 invariant-loop-command l =
     let rest = drop l.command-index l.commands in

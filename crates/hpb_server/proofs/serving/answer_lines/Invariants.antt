@@ -5,7 +5,7 @@ use Rattle.hpb_server.specs.Telling.{ExplainsAt}
 use Rattle.hpb_server.proofs.Chunks.{Comes}
 use Rattle.hpb_server.proofs.serving.answer_lines.Given as goal
 
--- the definition stays, the session has come so far, and people were told of refused commands alone
+-- the definition stays, the session has come this far, and people got reasons for refused commands alone
 abbrev pub invariant-chunks : goal.invariant-chunks
 invariant-chunks g l =
     (g.D.Desk.rules l.desk ≡ g.D.Desk.rules l.initial.desk)

@@ -6,7 +6,8 @@ use Rattle.hpb_server.specs.Telling.{ExplainsAt}
 use Rattle.hpb_server.proofs.Queues.{Queues}
 use Rattle.hpb_server.proofs.serving.answer_unread.Given as goal
 
--- the definition stays, nothing is read, there is room in the queue, nothing waits once the session is over or at a terminal, it goes on, and people were told of refused commands alone
+-- the definition stays, nothing is read, and the queue has room; no command waits once the session is over or at a
+-- terminal; the session goes on. People got reasons for refused commands alone.
 abbrev pub invariant-lines : goal.invariant-lines
 invariant-lines g l =
     (g.D.Desk.rules l.desk ≡ g.D.Desk.rules l.initial.desk) × (l.input.budget ≡ l.initial.input.budget)

@@ -5,7 +5,7 @@ use Rattle.hpb_server.specs.declared.line.TheConstants.{KEPT_BYTES}
 use Rattle.hpb_server.proofs.Kept.{none_kept}
 use Rattle.hpb_server.proofs.serving.next_request.Goals as goal
 
--- nothing was kept of the start of a line that lies whole in what was read
+-- no byte was kept of the start of a line that is whole in the chunk
 pub returns-in-Some-clause-value : goal.returns-in-Some-clause-value
 returns-in-Some-clause-value g c =
     let rules = c.args.definition.now in

@@ -5,7 +5,7 @@ use Rattle.hpb_server.specs.declared.line.TheConstants.{KEPT_BYTES}
 use Rattle.hpb_server.proofs.Kept.{none_kept}
 use Rattle.hpb_server.proofs.serving.parse_part.Goals as goal
 
--- of a line that lies whole in what was read nothing was kept before
+-- no byte was kept before of a line that is whole in the chunk
 pub returns-then-is_empty-clause-value : goal.returns-then-is_empty-clause-value
 returns-then-is_empty-clause-value c =
     let rules = c.args.definition.now in

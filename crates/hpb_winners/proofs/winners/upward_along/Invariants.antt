@@ -2,7 +2,7 @@ use Rattle.hpb_bids.specs.View.{bid_of}
 use Rattle.hpb_winners.proofs.Walking.{Walk}
 use Rattle.hpb_winners.proofs.winners.upward_along.Given as goal
 
--- each turn takes a place out and adds at most a lesser one
+-- each turn takes a place out and adds at most a smaller one
 abbrev pub decreases-loop-place : goal.decreases-loop-place
 decreases-loop-place l = l.pending
 

@@ -34,7 +34,7 @@ returns-then-has_bid_on-clause-value c =
     (again_found c.self.inside c.self.invariant c.args.self.now c.self.view_is c.args.bidder c.args.node c.args.amount c.requires.bidder c.requires.node ∙ sym c.has_bid_on.ensures ∙ c.if-has_bid_on.true)
     refl
 
--- what is wrong with a bid that is not refused before, by whether its node fits
+-- the fault of a bid that has no earlier one, by whether its node fits
 by_fits : (c : After-fits) (is_over : Bool) → not c.fits.result ≡ is_over → (ticket : ℕ) → first_fault true false false false is_over ≡ fault_in c.args.self.now (Bid c.args.bidder ticket c.args.node c.args.amount)
 by_fits c is_over e =
     fault_is c.args.self.now c.args.bidder c.args.node c.args.amount true false false false is_over

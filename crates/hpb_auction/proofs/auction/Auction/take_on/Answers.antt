@@ -19,7 +19,7 @@ use Rattle.hpb_auction.proofs.auction.Auction.take_on.Goals.{After-downward}
 pub restore_nodes-requires-clause-small : goal.restore_nodes-requires-clause-small
 restore_nodes-requires-clause-small c = entries_small c.args.self.now.rules c.args.saved.now c.requires
 
--- what is saved may be restored under the definition
+-- the saved auction may be restored under the definition
 sound : (c : After-downward) → IsSaved c.self.inside.definition c.args.saved.now
 sound c = subst (λ (value : AuctionValue). IsSaved value.rules c.args.saved.now) (sym c.self.view_is) c.requires
 

@@ -1,4 +1,4 @@
--- The struct is made of nothing, with the list of no entries and the bytes that it was shown.
+-- The struct is made with an empty list of entries and the bytes that it was shown; it takes no memory.
 use Rattle.std.proofs.Common.{[], ◌∷◌, refl}
 use Rattle.std.proofs.raw_atomic.Walks.{proved}
 use base.Fml.{ftrue, flft}
@@ -20,11 +20,11 @@ use Rattle.hpb_disk.specs.contracts.trace.Trace.new as f
 use Rattle.hpb_disk.proofs.trace.Trace.new.Statement.{statement}
 use Rattle.hpb_disk.proofs.trace.Trace.new.Code as code
 
--- At the return the function still has the slice.
+-- At its return the function still has the slice.
 abbrev stayed : Stays f.ended.signature.params f.ended.kept
 stayed = (stay_none_slice (0 ∷ []) tt (plain (λ _. u8)) yes, tt)
 
--- What the machine has of a trace.
+-- The machine's value of a trace.
 abbrev made : Val
 made = vstruct (vcons (vstruct vnil) vnil)
 

@@ -1,4 +1,4 @@
--- The body is empty: the borrow of the trace is opened, and closed at a trace with one entry more, which no memory holds.
+-- The body is empty: the borrow of the trace is opened, and closed with one entry more, which takes no memory.
 use Rattle.std.proofs.Common.{[], ◌∷◌, refl}
 use Rattle.std.proofs.raw_atomic.Walks.{proved}
 use base.Logic.{id⊢}
@@ -22,7 +22,7 @@ use Rattle.hpb_disk.specs.contracts.trace.Trace.note as f
 use Rattle.hpb_disk.proofs.trace.Trace.note.Statement.{statement}
 use Rattle.hpb_disk.proofs.trace.Trace.note.Code as code
 
--- At the return the function still has all three.
+-- At its return the function still has all three.
 abbrev stayed : Stays f.ended.signature.params f.ended.kept
 stayed = (stay_ref (0 ∷ []) tt (plain (λ _. R)), (stay_none_slice (1 ∷ []) tt (plain (λ _. u64)) yes, (stay_none_slice (2 ∷ []) tt (plain (λ _. u8)) yes, tt)))
 

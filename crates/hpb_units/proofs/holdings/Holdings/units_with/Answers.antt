@@ -22,7 +22,7 @@ apart c = omega (
   read_apart c.args.tree.now.nodes c.licences-more.result c.args.node c.licences-more.ensures c.licences-own.ensures.value c.if-own-more-eq0.true,
 )
 
--- as are those of its licences that the bidder doesn't hold
+-- so are those of its licences that the bidder doesn't hold
 others : (c : After-units_of_licences) → c.activity-2.result + c.units_of_licences.result ≡ sum_over c.args.tree.now.nodes (λ l. holds c.args.tree.now.nodes c.args.self.now c.args.bidder l || at_or_under c.args.tree.now.nodes c.args.node l) (units_at c.args.tree.now.nodes)
 others c = omega (
   arith,
