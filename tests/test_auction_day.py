@@ -19,7 +19,7 @@ from harness.serving import free_port, read_line, wait_until
 TOP = Path(__file__).resolve().parents[1]
 SECONDS = 60
 FRONT = "tools/front --config front.toml &"
-IN_FILES = "rm -f front.out; tools/front --config front.toml > front.out 2> front.err < /dev/null &"
+IN_FILES = "tools/front --config front.toml >> front.out 2>> front.err < /dev/null &"
 PARTS = re.compile(r"((?:^ {4}.*\n)+|(?:^\|.*\n)+)", re.MULTILINE)
 END = "these-were-the-commands"
 
@@ -63,7 +63,7 @@ class Shell:
     files there."""
 
     def __init__(self, folder: Path, program: Program) -> None:
-        self.folder = folder
+        self.folder, self.fronts = folder, 0
         self.process = subprocess.Popen(
             ["bash", "-e"],
             stdin=subprocess.PIPE,
@@ -89,8 +89,9 @@ class Shell:
         return "".join(lines)
 
     def wait_for_front(self) -> None:
-        """Until clients are let in."""
-        wait_until(lambda: "BOARD " in self.said("front.out"), SECONDS, "a front that comes up")
+        """Until one more has let clients in."""
+        self.fronts += 1
+        wait_until(lambda: self.said("front.out").count("BOARD ") == self.fronts, SECONDS, "a front that comes up")
 
     def said(self, name: str) -> str:
         """The text of a file of the folder, if it is there yet."""
@@ -120,11 +121,10 @@ def written_pages() -> tuple[str, str]:
     """The page and the configuration of docs/FRONT.md, with ports that are free."""
     page = (TOP / "docs" / "AUCTION-DAY.md").read_text(encoding="utf-8")
     configuration = (TOP / "docs" / "FRONT.md").read_text(encoding="utf-8").split("```toml\n")[1].split("```")[0]
-    for port in ("6000", "8443"):
-        assert port in configuration
-        other = str(free_port())
-        page, configuration = page.replace(port, other), configuration.replace(port, other)
-    return page, configuration
+    ports = {"6000": str(free_port()), "8443": str(free_port())}
+    assert all(port in configuration for port in ports) and len(set(ports.values())) == len(ports)
+    form = re.compile(r"\b(" + "|".join(ports) + r")\b")
+    return form.sub(lambda port: ports[port[0]], page), form.sub(lambda port: ports[port[0]], configuration)
 
 
 @pytest.mark.timeout(300)
@@ -132,12 +132,11 @@ def test_the_commands_of_the_day_do_what_the_page_says(shell: Shell) -> None:
     """The page has the output of some of them; of the others it says what to look at."""
     page, configuration = written_pages()
     (shell.folder / "front.toml").write_text(configuration)
-    written, closes = "", ""
+    written = ""
     for step in steps(page):
         output = shell.type(step.commands)
         assert step.wanted in (None, output), (step, output)
         written += output
-        closes = closes or "".join(line for line in shell.said("front.out").splitlines() if " RECORD " in line)
     assert "FORMATTED 1037\n" in written and "\nROUND 1 STAGE 1 OPEN REVENUE 0 COUNT 0\n" in written
     assert shell.said("kept.json") == shell.said("definition.json")
     assert '"name":"ann"' in written and '"outcome":"welcome"' in written
@@ -145,6 +144,7 @@ def test_the_commands_of_the_day_do_what_the_page_says(shell: Shell) -> None:
     assert "So no choice of these bids brings more than 100.\n" in written
     assert "ann   x       a        100" in shell.said("rounds.txt")
     assert "<title>Auction, round 2, open</title>" in shell.said("report.html")
-    digest = closes.split(" ")[-1]
-    assert closes.startswith("ROUND 2 STAGE 1 OPEN REVENUE 100 COUNT 2 RECORD ")
+    close, stopped = (line.split(" RECORD ") for line in shell.said("front.out").splitlines() if " RECORD " in line)
+    assert (close[0], stopped[0]) == ("ROUND 2 STAGE 1 OPEN REVENUE 100 COUNT 2", "STOPPED 3")
+    digest = close[1].split(" ")[1]
     assert any(line.startswith(f"{digest} ") for line in shell.said("auction.record").splitlines())
