@@ -37,9 +37,10 @@ FULL_DISK = "hpb: 91 device: the disk of F failed: File too large (os error 27).
 
 
 def transcript(text: str) -> tuple[str, str]:
-    """Its lines, and its answers."""
+    """Its lines, and its answers. A line without ` = ` has none."""
     pairs = [pair.rsplit(" = ", 1) for pair in re.split(r"; |;?\n *", text.replace("FIRST", FIRST).strip("\n ;")) if pair]
-    return "".join(f"{line}\n" for line, _ in pairs).replace("<EOF>\n", ""), "".join(f"{answer}\n" for _, answer in pairs)
+    lines = "".join(f"{pair[0]}\n" for pair in pairs).replace("<EOF>\n", "")
+    return lines, "".join(f"{pair[1]}\n" for pair in pairs if len(pair) > 1)
 
 
 def same(answer: str, *lines: str) -> str:

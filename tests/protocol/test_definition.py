@@ -4,7 +4,6 @@ from __future__ import annotations
 
 import json
 import re
-from collections.abc import Mapping
 
 import pytest
 
@@ -13,9 +12,11 @@ from protocol.page import PAGE, codes
 from protocol.talking import EMPTY, WORDS, Asks, Hpb, asks_script, changed, data, waivers
 
 MOST = 1_000_000_000_000
+# JSON by fields; without one the field isn't there.
+Fields = dict[str, str | None]
 
 
-def edited(fields: Mapping[str, str | None]) -> str:
+def edited(fields: Fields) -> str:
     """The definition of the page with these fields. Each key is a field of the top object, or a node or bidder by its name, a point and a
     field; each value is JSON, or None for a field that isn't there."""
     definition = json.loads(PAGE.definition)
@@ -78,46 +79,30 @@ VALUES: dict[tuple[str, str], tuple[str, dict[int, list[str | None]]]] = {
     ("bidder", "name"): ("w.name", {**NAMES, 0: [*NAMES[0], '"all"'], 52: ['"z"'], 61: ["null", None]}),
     ("bidder", "units"): ("w.units", {0: ["1", "64000000"], 62: ["0", "64000001", "100000000"], 61: ['"25"', None]}),
 }
-ONE = {"nodes": '[{"opening":100,"units":10,"parent":null,"name":"a"}]', "bidders": '[{"units":10,"name":"x"}]'}
-# More than one fault, or fields that are where they may not be: what refuses them, and its reason where that shows which fault it was.
-FAULTS: list[tuple[dict[str, str | None], int, str]] = [
-    *(({key: "1"}, 61, "") for key in ("note", "d.note", "w.note", "Step", "w.waivers", "d.waivers")),
-    ({"step": "1000000", **ONE, "nodes": ONE["nodes"].replace("100", "1000000")}, 0, ""),
-    ({**ONE, "nodes": "[]"}, 50, ""),
-    ({**ONE, "bidders": "[]"}, 50, ""),
-    ({"all.parent": '"d"'}, 53, ""),
-    ({"all.parent": None}, 61, ""),
-    ({"b.parent": None}, 61, ""),
-    ({"east.units": "20", "east.opening": "200"}, 55, ""),
-    ({"d.units": None, "d.opening": None}, 54, ""),
-    ({"b.parent": '"all"'}, 54, ""),
-    ({"b.parent": "null"}, 54, ""),
-    ({"b.parent": "null", "d.parent": '"east"'}, 0, ""),
-    ({"Step": "10", "note": "[" * 126 + "]" * 126}, 61, ""),
-    ({"Step": "10", "note": "[" * 127 + "]" * 127}, 60, ""),
-    ({"Step": "1e999"}, 60, ""),
-    ({"Step": "10", "note": f'"{"a" * 65_500}"'}, 60, ""),
-    ({"Step": "10,"}, 60, ""),
-    ({"step": "1.5", "w.units": None}, 61, ""),
-    ({"step": "1.5", "w.note": "1"}, 61, ""),
-    ({"step": "1.5", "w.units": '"25"'}, 61, ""),
-    ({"step": str(2**64), "w.units": '"25"'}, 61, ""),
-    ({"step": "1.5", "waivers": "null"}, 61, ""),
-    ({"step": "0", "w.units": "2.5"}, 62, "bidders[3].units: 2.5 "),
-    ({"percent": "51", "w.units": str(2**64)}, 62, "bidders[3].units: "),
-    ({"all.name": '"All"', "w.units": "2.5"}, 62, ""),
-    *(({"all.name": '"All"', key: value}, 62, "") for key, value in (("step", "0"), ("percent", "51"), ("stages", "[80,101]"))),
-    *(({"all.name": '"All"', key: value}, 62, "") for key, value in (("waivers", "21"), ("w.units", "64000001"))),
-    ({"stages": "[]", "waivers": "21"}, 62, ""),
-    ({"stages": "[]", "w.units": "0"}, 62, ""),
-    ({"stages": "[]", "d.name": '"D"'}, 50, ""),
-    ({"d.name": '"a"', "w.name": '"W"'}, 51, ""),
-    ({"d.parent": '"nowhere"', "w.name": '"x"'}, 52, ""),
-    ({"b.parent": '"all"', "d.parent": '"nowhere"'}, 53, ""),
-    ({"b.parent": '"all"', "d.parent": '"a"'}, 54, ""),
-    ({"stages": "[80,80,80,80,80]", "d.parent": '"a"'}, 55, ""),
-    ({"stages": "[80,80,80,80,80]", "a.units": "0"}, 56, ""),
-]
+ONE: Fields = {"nodes": '[{"opening":100,"units":10,"parent":null,"name":"a"}]', "bidders": '[{"units":10,"name":"x"}]'}
+MILLION: Fields = {**ONE, "step": "1000000", "nodes": '[{"name":"a","parent":null,"units":10,"opening":1000000}]'}
+BAD_NAME: Fields = {"all.name": '"All"'}
+# By the refusal that comes of them (0: none): fields, of which several may be wrong.
+FAULTS: dict[int, list[Fields]] = {
+    0: [MILLION, {"b.parent": "null", "d.parent": '"east"'}],
+    50: [{**ONE, "nodes": "[]"}, {**ONE, "bidders": "[]"}, {"stages": "[]", "d.name": '"D"'}],
+    51: [{"d.name": '"a"', "w.name": '"W"'}],
+    52: [{"d.parent": '"nowhere"', "w.name": '"x"'}],
+    53: [{"all.parent": '"d"'}, {"b.parent": '"all"', "d.parent": '"nowhere"'}],
+    54: [{"d.units": None, "d.opening": None}, {"b.parent": '"all"'}, {"b.parent": "null"}, {"b.parent": '"all"', "d.parent": '"a"'}],
+    55: [{"east.units": "20", "east.opening": "200"}, {"stages": "[80,80,80,80,80]", "d.parent": '"a"'}],
+    56: [{"stages": "[80,80,80,80,80]", "a.units": "0"}],
+    60: [{"Step": "1e999"}, {"Step": "10", "note": "[" * 127 + "]" * 127}, {"Step": "10", "note": f'"{"a" * 65_500}"'}, {"Step": "10,"}],
+    61: [
+        {"note": "1"}, {"d.note": "1"}, {"w.note": "1"}, {"Step": "1"}, {"w.waivers": "3"}, {"d.waivers": "3"}, {"all.parent": None},
+        {"b.parent": None}, {"Step": "10", "note": "[" * 126 + "]" * 126}, {"step": "1.5", "w.units": None}, {"step": "1.5", "w.note": "1"},
+        {"step": "1.5", "w.units": '"25"'}, {"step": str(2**64), "w.units": '"25"'}, {"step": "1.5", "waivers": "null"},
+    ],
+    62: [
+        {**BAD_NAME, "w.units": "2.5"}, {**BAD_NAME, "step": "0"}, {**BAD_NAME, "percent": "51"}, {**BAD_NAME, "stages": "[80,101]"},
+        {**BAD_NAME, "waivers": "21"}, {**BAD_NAME, "w.units": "64000001"}, {"stages": "[]", "waivers": "21"}, {"stages": "[]", "w.units": "0"},
+    ],
+}
 
 
 @pytest.mark.parametrize(("object_", "field"), VALUES, ids=".".join)
@@ -141,11 +126,17 @@ def test_each_row_of_the_table_is_tried_by_its_ends_and_by_its_refusals() -> Non
             assert str(least) in values[0] and {str(least - 1), str(most + 1)} <= set(values[number]), told
 
 
-@pytest.mark.parametrize(("fields", "number", "said"), FAULTS)
-def test_several_faults_give_one_refusal(program: Program, fields: dict[str, str | None], number: int, said: str) -> None:
+@pytest.mark.parametrize("number", FAULTS)
+def test_several_faults_give_one_refusal(program: Program, number: int) -> None:
     """A node with `units` and .. A node with neither is .. A node with only one .. Several faults give one .. 60, the bytes aren't .. 61, anywhere
     in the text .. 62, anywhere in the text .. 62, the step, the percent .. the smallest of 50 to .."""
-    judge(program, edited(fields), number, said)
+    for fields in FAULTS[number]:
+        judge(program, edited(fields), number)
+
+
+def test_a_number_that_is_not_whole_comes_before_one_out_of_range(program: Program) -> None:
+    judge(program, edited({"step": "0", "w.units": "2.5"}), 62, "bidders[3].units: 2.5 ")
+    judge(program, edited({"percent": "51", "w.units": str(2**64)}), 62, "bidders[3].units: ")
 
 
 def test_the_text_of_a_definition(hpb: Hpb) -> None:
@@ -163,8 +154,8 @@ def test_the_text_of_a_definition(hpb: Hpb) -> None:
         judge(hpb.program, changed(change), 60)
     package = '{"name":"east","parent":"all"}, -> '
     judge(hpb.program, changed(package, '"east" -> "all"', '"east" -> "all"'), 0)
-    bare = json.dumps({"bidders": json.loads(ONE["bidders"]), "nodes": json.loads(ONE["nodes"]), "stages": [80], "percent": 10, "step": 10})
-    judge(hpb.program, bare + "\n", 0)
+    bare = f'{{"bidders":{ONE["bidders"]},"nodes":{ONE["nodes"]},"stages":[80],"percent":10,"step":10}}\n'
+    judge(hpb.program, bare, 0)
 
 
 def test_escapes_in_texts(asks: Asks) -> None:
@@ -197,7 +188,8 @@ def definition_of(nodes: list[dict[str, object]], bidders: list[str], **fields: 
 
 
 def test_the_greatest_definitions(program: Program) -> None:
-    tree = [(licence if place > 62 else node)(f"n{place}", f"n{(place - 1) // 2}" if place else None) for place in range(127)]
+    parents = [None, *(f"n{place // 2}" for place in range(126))]
+    tree = [(licence(f"n{place}", parent) if place > 62 else node(f"n{place}", parent)) for place, parent in enumerate(parents)]
     levels = [node(f"p{level}", f"p{level - 1}" if level > 1 else None) for level in range(1, 9)]
     eight = [*levels[:7], *(licence(f"l{level}", f"p{level}") for level in range(1, 8)), licence("l8", "p7")]
     nine = [*levels, *(licence(f"l{level}", f"p{level}") for level in range(1, 9)), licence("l9", "p8")]
@@ -229,13 +221,14 @@ def test_the_longest_line_and_the_longest_answer(asks: Asks) -> None:
     definition, bids = prices(name, bidder)
     answer = f"NODE {name} HIGH {MOST} {bidder} PRICE {64 * MOST} MIN {96 * MOST} WIN no"
     line = f"BID {bidder} 4294967295 {name} 18446744073709551615"
-    asks("; ".join([*bids, f"BID {bidder} 65 {name} {MOST} = OK 65", "CLOSE 1 = OK 66", f"NODE {name} = {answer}", f"{line} = ERR 15 gap"]), definition)
+    high = f"BID {bidder} 65 {name} {MOST} = OK 65"
+    asks("; ".join([*bids, high, "CLOSE 1 = OK 66", f"NODE {name} = {answer}", f"{line} = ERR 15 gap"]), definition)
     assert (len(line), len(answer)) == (69, 104)
 
 
 @pytest.mark.timeout(300)
 def test_a_million_commands(program: Program) -> None:
-    """At 1,000,000 accepted .. Bids since the last close .. `COUNT` shows how many .. One that comes after .. `ROUND` in a `SHOW` that .."""
+    """At 1,000,000 accepted .. Bids since the last close .. `COUNT` shows how many .. 26 comes after 1,000,000 .."""
     names, left, rounds, least, lines = [f"b{place}" for place in range(64)], 1_000_000, 0, 1, []
     while left > 64 * 64:
         lines += [f"BID {name} {64 * rounds + place + 1} l{place} {least}" for name in names for place in range(64)]

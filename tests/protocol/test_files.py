@@ -7,6 +7,7 @@ import os
 import re
 import resource
 import subprocess
+from collections.abc import Callable
 from pathlib import Path
 
 import pytest
@@ -16,7 +17,7 @@ from harness.conditions import NORMAL, Conditions
 from harness.programs import shown
 from harness.serving import Server, read_line
 from protocol.page import PAGE, codes
-from protocol.talking import EMPTY, FIRST, FULL_DISK, SHOWN, Hpb, fill_disk, no_signal, transcript
+from protocol.talking import EMPTY, FIRST, FULL_DISK, SHOWN, Hpb, data, fill_disk, no_signal, transcript
 
 SLOTS = slice(3 * 4096, 13 * 4096)
 ZEROS = bytes(17 * 4096)
@@ -53,36 +54,45 @@ def test_a_file_is_run_and_shown(hpb: Hpb, layout: Layout) -> None:
     hpb.runs(FIRST, "--batch", "64", "--every", "1")
     before = file.read_bytes()
     hpb.gives("check --file F", STATE, "CLOSE 2\n")
-    hpb.runs("BID x 1 a 100 = OK 1; BID x 2 b 210 = ERR 25 eligibility; CLOSE 0 = ERR 13 old", "--batch", "3")
-    hpb.runs(f"{PAGE.definition[:-1]} = ERR 10 line; NODE d = NODE d HIGH 0 - PRICE 0 MIN 100 WIN no; BID z 2 b 210<EOF> = ERR 10 line", "--every", "007")
+    hpb.runs("BID x 1 a 100 = OK 1; BID x 2 a 150 = ERR 22 low; CLOSE 0 = ERR 13 old", "--batch", "3")
+    half = "NODE d = NODE d HIGH 0 - PRICE 0 MIN 100 WIN no; BID z 2 b 210<EOF> = ERR 10 line"
+    hpb.runs(f"{PAGE.definition[:-1]} = ERR 10 line; {half}", "--every", "007")
     assert file.read_bytes() == before
 
 
 # By sentences: words of which each is wrong.
 WRONG = {
-    """A number has digits alone .. Zeros may stand in front .. Numbers are decimal ..""": """run --file F --every=-0; serve --file F --port +5000 --sessions 2; run --file F --batch 0x10
-        run --file F --batch 1.0; run --file F --every ten""",
-    """2 | `hpb` doesn't know the words, or .. The path F has at least .. Any other number is a ..""": """script; format; check --file F again; check --file ''; format --file F --journal 16 --layout 0
-        format --file F --journal 16 --layout 3""",
-    """2 | `hpb` doesn't know the words, a .. `--batch N` | 1 to 64 .. `--every K` | 0 to 4,294,967,295 ..""": """run; run --file F --journal 4; run --file F --batch 0; run --file F --batch 65; run --file F --every 4294967296
-        run --file F --every=-1""",
-    """2 | `hpb` doesn't know the words, one .. All three have to be .. `--port P` | 1,024 to .. `--sessions N` | 1 to ..""": """serve --file F --port 5000 --sessions 1 --batch 1; serve --port 5000 --sessions 1; serve --file F --sessions 1
+    """A number has digits alone .. Zeros may stand in front .. Numbers are decimal ..""": (
+        """run --file F --every=-0; serve --file F --port +5000 --sessions 2; run --file F --batch 0x10
+        run --file F --batch 1.0; run --file F --every ten"""
+    ),
+    """2 | `hpb` doesn't know the words, or .. The path F has at least .. Any other number is a ..""": (
+        """script; format; check --file F again; check --file ''; format --file F --journal 16 --layout 0
+        format --file F --journal 16 --layout 3"""
+    ),
+    """2 | `hpb` doesn't know the words, a .. `--batch N` | 1 to 64 .. `--every K` | 0 to 4,294,967,295 ..""": (
+        """run; run --file F --journal 4; run --file F --batch 0; run --file F --batch 65; run --file F --every 4294967296
+        run --file F --every=-1"""
+    ),
+    """2 | `hpb` doesn't know the words, one .. All three have to be .. `--port P` | 1,024 to .. `--sessions N` | 1 to ..""": (
+        """serve --file F --port 5000 --sessions 1 --batch 1; serve --port 5000 --sessions 1; serve --file F --sessions 1
         serve --file F --port 5000; serve --file F --port 0x1388 --sessions 1; serve --file F --port 5000 --sessions one
         serve --file F --port 1023 --sessions 1; serve --file F --port 65536 --sessions 1; serve --file F --port 5000 --sessions 0
-        serve --file F --port 5000 --sessions 33""",
+        serve --file F --port 5000 --sessions 33"""
+    ),
 }
 
 
-@pytest.mark.parametrize("quotes", WRONG, ids=lambda quotes: quotes[:30])
-def test_wrong_words_end_with_2_before_a_file_is_opened(hpb: Hpb, quotes: str) -> None:
-    """One out of its range .. `--file F` | a path | | has .. `--file F` | a path | a .."""
-    hpb.misreads(*re.split(r"; |\n +", WRONG[quotes]))
+@pytest.mark.parametrize("fronts", WRONG, ids=[fronts[:30] for fronts in WRONG])
+def test_wrong_words_end_with_2_before_a_file_is_opened(hpb: Hpb, fronts: str) -> None:
+    """One out of its range .. Wrong words are explained .. A word that isn't UTF-8 .. `--file F` | a path | | has .. `--file F` | a path | a .."""
+    hpb.misreads(*re.split(r"; |\n +", WRONG[fronts]))
     # These numbers are right, so that the file is looked for, which isn't there.
     for words in ("run --file F", "run --file F --batch 10", "serve --file F --port 1024 --sessions 32", "serve --file F --port 65535 --sessions 1"):
         hpb.refuses(words, "91 device", "SHOW\n", "F could not be opened: ")
-    for words in ([b"\xff"], ["check", "--file", b"F\xff"], ["run", "--file", b"F\xff"], ["serve", "--file", b"F\xff", "--port", "5000"]):
-        ran = subprocess.run([hpb.program.path, *words], capture_output=True, timeout=20, check=False)
-        assert (ran.stdout, ran.stderr, ran.returncode) == (b"", b"hpb: an argument is not UTF-8\n", 2)
+    for command in ("", "check --file", "run --file", "serve --port 5000 --sessions 1 --file"):
+        ran = hpb.program.run(*command.split(), b"F\xff")
+        assert (ran.output, ran.errors, ran.status) == ("", "hpb: an argument is not UTF-8\n", 2)
     assert not list(hpb.folder.iterdir())
 
 
@@ -126,10 +136,10 @@ def put(file: Path, at: int, byte: int) -> None:
 
 
 # By the refusal of a file: what makes it so.
-DAMAGED = {
+DAMAGED: dict[str, Callable[[Path], object]] = {
     "40 unformatted": lambda file: file.write_bytes(ZEROS),
-    "42 layout": lambda file: os.truncate(file, 20 * 4096),
-    "42 layout ": lambda file: os.truncate(file, 15 * 4096),
+    "42 layout": lambda file: os.truncate(file, 19 * 4096),
+    "42 layout ": lambda file: os.truncate(file, 17 * 4096),
     "44 checkpoint": lambda file: put(file, 3 * 4096, 0),
     "45 frame": lambda file: put(file, 13 * 4096, 0xA5),
 }
@@ -143,7 +153,7 @@ def test_a_file_that_is_refused(hpb: Hpb, refusal: str) -> None:
     DAMAGED[refusal](file)
     image = file.read_bytes()
     for words in ("run", "check", "serve --port 5000 --sessions 1"):
-        hpb.refuses(f"{words} --file F", refusal.strip(), "SHOW\n", "F ")
+        hpb.refuses(f"{words} --file F", refusal.strip(), "SHOW\n")
     hpb.ran("format --file F --journal 5", PAGE.definition)
     assert file.read_bytes() == image or refusal == "40 unformatted"
 
@@ -185,7 +195,7 @@ SAID = {row[0]: codes(row[1])[0] for row in PAGE.table("Event", "Its line").rows
 def test_streams_that_fail(hpb: Hpb) -> None:
     """All answers go to standard .. Everything else goes .. 1 | the definition, the .. In a script, and in a .. Earlier answers stand .. `format`
     and `check` .. `format` writes that .. If standard output failed .. reading standard input .. writing standard output .. If a run of the file ..
-    If F's disk failed in .. It has the system's words .. It is the last line if .. If nobody reads standard output, .."""
+    If F's disk failed in .. It has the system's words .. It is the last line if .."""
     hpb.formats()
     writing, reading = SAID["writing standard output failed"], SAID["reading standard input failed"]
     full = os.open("/dev/full", os.O_WRONLY)
@@ -197,12 +207,13 @@ def test_streams_that_fail(hpb: Hpb) -> None:
     ):
         ran = hpb.ran(words, text, output=full)
         assert (ran.errors, ran.status) == (f"{said}\n", 1), words
-    hpb.runs("SHOW = ROUND 1 STAGE 1 OPEN REVENUE 0 COUNT 1")
+    hpb.runs(f"SHOW = {SHOWN.format(1)}")
     both = f"{writing}{ALL_KEPT}\nhpb: 91 device: the disk of F failed: File too large (os error 27). "
-    hpb.fills("run --file F", "BID y 1 b 150 = ", both, full)
+    hpb.fills("run --file F", "BID y 1 b 150", both, full)
     os.close(full)
     # The memory of a process has nothing at its front, and a read there fails.
-    for words, output, said in (("", "", f"{reading}\n"), ("run --file F", "", f"{reading}{ALL_KEPT}\n"), ("format --file H --journal 4", "ERR 92 stream\n", "")):
+    reads = [("", "", f"{reading}\n"), ("run --file F", "", f"{reading}{ALL_KEPT}\n"), ("format --file H --journal 4", "ERR 92 stream\n", "")]
+    for words, output, said in reads:
         with open("/proc/self/mem", "rb") as memory:
             process = hpb.program.start(*words.split(), input=memory, conditions=Conditions(folder=hpb.folder))
             written, errors = process.communicate(timeout=20)
@@ -211,16 +222,17 @@ def test_streams_that_fail(hpb: Hpb) -> None:
 
 @pytest.mark.parametrize("restored", [False, True], ids=["SIGPIPE is ignored", "SIGPIPE as it comes"])
 def test_an_output_that_nobody_reads(hpb: Hpb, restored: bool) -> None:
+    """If nobody reads standard output any .. Commands that were accepted .."""
     hpb.formats()
     for words, text in (((), PAGE.definition + "SHOW\n"), (("run", "--file", "F"), "BID x 1 a 100\n"), (("check", "--file", "F"), "")):
         reader, writer = os.pipe()
         os.close(reader)
         ran = subprocess.run(
-            [hpb.program.path, *words], input=text.encode(), stdout=writer, stderr=-1, cwd=hpb.folder, restore_signals=restored, timeout=20, check=False
+            [hpb.program.path, *words], input=text.encode(), stdout=writer, stderr=-1, cwd=hpb.folder, restore_signals=restored, timeout=20
         )
         os.close(writer)
         assert (ran.stderr[:39], ran.returncode) == (b"hpb: 92 stream: writing: Broken pipe (o", 1)
-    hpb.runs("SHOW = ROUND 1 STAGE 1 OPEN REVENUE 0 COUNT 1")
+    hpb.runs(f"SHOW = {SHOWN.format(1)}")
 
 
 BOUGHT = "BID x 1 a 100 = ERR 91 device; {} = {}; BID y 1 b 150 = ERR 93 failed"
@@ -290,7 +302,8 @@ def test_an_ok_leaves_when_its_command_is_durable(hpb: Hpb, layout: Layout) -> N
         run, image = Run(hpb, "--batch", batch), file.read_bytes()
         for number, line in enumerate(FIRST_ROUND, 1):
             run.asks(f"{line} = OK {number}")
-            assert (image := file.read_bytes()) != image or number, "a command is in the file before the next line"
+            before, image = image, file.read_bytes()
+            assert before != image, "a command is in the file before the next line"
         # A repeat, a refused command, and the end of them by a kill.
         run.asks("CLOSE 1 = OK 5; BID x 1 a 110 = ERR 14 ticket; BID x 2 a 160 = OK 6")
         run.process.kill()
@@ -304,8 +317,8 @@ def test_half_a_line_ends_no_batch(hpb: Hpb) -> None:
     run = Run(hpb, "--batch", "64")
     run.asks(f"SHOW = {EMPTY}")
     fill_disk(run.process)
-    run.asks("BID x 1 a 100 = ERR 91 device; BID y 1 b<EOF> = ")
-    run.asks(" 150 = ERR 93 failed")
+    run.asks("BID x 1 a 100 = ERR 91 device; BID y 1 b <EOF>")
+    run.asks("150 = ERR 93 failed")
     run.ends(1, FULL_DISK)
 
 
@@ -313,12 +326,13 @@ def test_a_checkpoint_that_fails(hpb: Hpb, layout: Layout) -> None:
     """a call for a checkpoint .."""
     hpb.formats(journal=layout.least_journal, layout=layout)
     run = Run(hpb)
-    lines = commands(layout.least_journal)
+    *lines, last = commands(layout.least_journal + 1)
     for number, line in enumerate(lines, 1):
         run.asks(f"{line} = OK {number}")
+    before = hpb.program.run(text=data(PAGE.definition + "".join(f"{line}\n" for line in [*lines, "SHOW", "NODE a", "WHO x"]))).lines()[-3:]
     fill_disk(run.process)
-    state = hpb.ran("check --file F").output if False else ""
-    run.asks(f"CLOSE 3 = ERR 93 failed; {lines[0]} = ERR 93 failed; BID nobody 1 a 100 = ERR 11 bidder{state}")
+    asked = "; ".join(f"{line} = {answer}" for line, answer in zip(("SHOW", "NODE a", "WHO x"), before, strict=True))
+    run.asks(f"{last} = ERR 93 failed; {asked}; {lines[0]} = ERR 93 failed; BID nobody 1 a 100 = ERR 11 bidder")
     run.ends(1, FULL_DISK)
     assert hpb.program.count(hpb.folder / "F") == len(lines)
 
@@ -345,23 +359,3 @@ def test_runs_answer_as_scripts(hpb: Hpb, layout: Layout) -> None:
         for part in (asked[:cut], asked[cut:]):
             hpb.runs("; ".join(part), "--batch", str(batch), "--every", str(every))
         file.unlink()
-
-
-def test_memory_that_is_refused(hpb: Hpb) -> None:
-    """If there isn't even memory .. memory was refused to .."""
-    hpb.formats(journal=1024)
-    numbers = b"[" + b"0," * 32_000 + b"0]"
-    hpb.refuses("", "61 field", numbers)
-    too_few, enough = 0, 1 << 16
-    while enough - too_few > 1:
-        pages = (too_few + enough) // 2
-        starts = subprocess.run(["bash", "-c", f"ulimit -v {4 * pages}; exec {hpb.program.path} --version"], capture_output=True, timeout=20, check=False)
-        too_few, enough = (too_few, pages) if starts.returncode == 0 else (pages, enough)
-    little = NORMAL.with_limit(resource.RLIMIT_AS, (enough + 256) * 4096)
-    refused = "ERR 90 memory\n"
-    asked = (("", numbers, ""), ("format --file G --journal 4", numbers, refused), ("check --file F", b"", refused), ("run --file F", b"SHOW\n", refused))
-    for words, text, answer in asked:
-        ran = hpb.ran(words, text, conditions=little)
-        assert (ran.output, ran.errors, ran.status) == (answer, SAID["memory was refused to a script"] + "\n", 1), words
-    assert not (hpb.folder / "G").exists()
-    hpb.runs(f"SHOW = {EMPTY}")

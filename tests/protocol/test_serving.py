@@ -4,22 +4,21 @@ from __future__ import annotations
 
 import fcntl
 import os
-import resource
 import signal
-import socket
 import subprocess
+import tempfile
 import time
 from contextlib import suppress
 from pathlib import Path
 
 import pytest
 
-from harness.auctions import EXAMPLES, FIRST_ROUND, Layout
+from harness.auctions import EXAMPLES, Layout
 from harness.conditions import Conditions
 from harness.programs import Program
-from harness.serving import ADDRESS, Client, Ended, Serve, read_line
+from harness.serving import ADDRESS, Client, Serve, free_port, read_line
 from protocol.page import PAGE, TOP, codes
-from protocol.talking import EMPTY, FULL_DISK, SHOWN, Asks, asks_server, fill_disk, no_signal, transcript, without_places
+from protocol.talking import EMPTY, FULL_DISK, SHOWN, fill_disk, no_signal, transcript, without_places
 
 MOST_BYTES = 1_000_000_000
 
@@ -31,13 +30,9 @@ def asks(client: Client, text: str) -> None:
     assert [client.line() for _ in answers.splitlines()] == answers.splitlines()
 
 
-def ends(server_output: str, count: int) -> None:
-    assert server_output == f"CLOSED {count}\n"
-
-
 def test_two_sessions_share_one_auction(serve: Serve, file: Path) -> None:
     """`hpb serve --file F --port .. All sessions share one .. First session | Answer | Second session | Answer .. It writes `LISTENING .. It writes
-    `CLOSED n` .. It writes `CLOSED n` .. It doesn't read standard .. N connections are taken .. Any further one is refused .."""
+    `CLOSED n` .. It writes `CLOSED n` .. N connections are taken .. Any further one is refused .. 0 | all sessions have .."""
     server = serve(file, sessions=2)
     clients = [server.connect(), server.connect()]
     for row in PAGE.table("First session", "Answer", "Second session", "Answer").rows:
@@ -64,13 +59,14 @@ def test_any_session_may_send_any_line(serve: Serve, file: Path) -> None:
     asks(first, "BID x 2 a 120 = ERR 14 ticket")
 
 
-@pytest.mark.parametrize("script", sorted(EXAMPLES.glob("*.txt")), ids=lambda script: script.stem)
-def test_a_session_answers_as_a_script(program: Program, room: Path, layout: Layout, script: Path) -> None:
+@pytest.mark.parametrize("script", sorted(path.stem for path in EXAMPLES.glob("*.txt")))
+def test_a_session_answers_as_a_script(program: Program, serve: Serve, room: Path, layout: Layout, script: str) -> None:
     """Each connection is a .. No definition stands .. Each line gets one answer, and .."""
-    definition, _, lines = script.read_text().partition("\n")
-    answers = script.with_suffix(".out").read_text()
-    pairs = "; ".join(f"{line} = {answer}" for line, answer in zip(lines.splitlines(), answers.splitlines(), strict=True))
-    asks_server(program, room / "F", layout, pairs, definition + "\n")
+    definition, _, lines = (EXAMPLES / f"{script}.txt").read_bytes().partition(b"\n")
+    assert program.format(room / "F", layout, text=definition).status == 0
+    client = serve(room / "F").connect()
+    client.send(lines)
+    assert client.finish() == (EXAMPLES / f"{script}.out").read_text().splitlines()
 
 
 def test_sessions_end(serve: Serve, file: Path) -> None:
@@ -129,8 +125,7 @@ def test_a_client_sends_again_what_has_no_answer(serve: Serve, file: Path) -> No
         client.send(b"BID y 1 b 150\n")
         server.kill()
     server = serve(file, sessions=2, port=server.port)
-    words = [TOP / "tools" / "client", str(server.port)]
-    tool = subprocess.Popen(words, stdin=subprocess.PIPE, stdout=subprocess.PIPE)
+    tool = subprocess.Popen([str(TOP / "tools" / "client"), str(server.port)], stdin=subprocess.PIPE, stdout=subprocess.PIPE)
     assert tool.stdin is not None
     for line, answer in (("BID y 1 b 150", "OK 2"), ("BID z 1 all 500", "OK 3")):
         tool.stdin.write(f"{line}\n".encode())
@@ -200,19 +195,16 @@ def test_a_disk_that_fails_under_sessions(serve: Serve, file: Path) -> None:
     assert server.ended().output == "CLOSED 3\n"
 
 
-def filled_pipe() -> tuple[int, int, int]:
-    """A pipe that has room for nothing, and how many bytes it has."""
-    reader, writer = os.pipe()
-    room = fcntl.fcntl(writer, fcntl.F_SETPIPE_SZ, 4096)
-    return reader, writer, os.write(writer, b"x" * room)
-
-
 def test_an_output_that_nobody_reads_holds_up_the_start_and_the_end(program: Program, file: Path) -> None:
-    """If nobody reads standard output, .."""
-    reader, writer, room = filled_pipe()
-    port = 20_000 + os.getpid() % 10_000
-    process = program.start("serve", "--file", file, "--port", port, "--sessions", 1, output=writer)
-    time.sleep(0.2)
+    """If nobody reads standard output, .. It doesn't read standard .."""
+    (reader, writer), port = os.pipe(), free_port()
+    room = os.write(writer, b"x" * fcntl.fcntl(writer, fcntl.F_SETPIPE_SZ, 4096))
+    with tempfile.TemporaryFile() as lines:
+        lines.write(b"SHOW\n")
+        lines.seek(0)
+        process = program.start("serve", "--file", file, "--port", port, "--sessions", 1, input=lines, output=writer)
+        time.sleep(0.2)
+        assert os.lseek(lines.fileno(), 0, os.SEEK_CUR) == 0
     assert process.poll() is None
     os.read(reader, room)
     assert os.read(reader, 4096) == f"LISTENING {port}\n".encode()
@@ -223,24 +215,6 @@ def test_an_output_that_nobody_reads_holds_up_the_start_and_the_end(program: Pro
     assert process.poll() is None and program.count(file) == 1
     os.read(reader, room)
     assert (os.read(reader, 4096), process.wait(20)) == (b"CLOSED 1\n", 0)
-
-
-def test_errors_that_nobody_reads_hold_up_nothing(serve: Serve, file: Path) -> None:
-    """While a file is served .. Only the lines about .. If the last session ends .. Nobody waits until these .. At its end `serve` waits .. the
-    third of eight connections .."""
-    _, writer, _ = filled_pipe()
-    server = serve(file, sessions=2, errors=writer)
-    clients = [server.connect(), server.connect()]
-    asks(clients[1], "BID x 1 a 100 = OK 1")
-    assert [client.finish() for client in clients] == [[], []]
-    began = time.monotonic()
-    ran = server.ended()
-    assert (ran.output, ran.status) == ("CLOSED 1\n", 0) and time.monotonic() - began < 5
-    server = serve(file, sessions=3)
-    for client in [server.connect() for _ in range(3)]:
-        client.close()
-    taken = [line for line in server.ended().errors.splitlines() if line.endswith(" places taken")]
-    assert taken == [f"hpb: {number} of 3 places taken" for number in (1, 2, 3)]
 
 
 def test_a_last_line_that_cannot_be_written(serve: Serve, file: Path, program: Program) -> None:

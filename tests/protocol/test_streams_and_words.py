@@ -2,21 +2,18 @@
 
 from __future__ import annotations
 
-import fcntl
 import json
 import os
 import pty
 import re
 import subprocess
 import termios
-import time
 from pathlib import Path
 
 import pytest
 
 from harness.auctions import EXAMPLES
 from harness.programs import Program, shown
-from harness.serving import read_line
 from protocol.page import PAGE, TOP, codes
 from protocol.talking import EMPTY, FIRST, SHOWN, Hpb, transcript
 
@@ -34,10 +31,9 @@ def read_all(pipe: int, count: int) -> str:
 @pytest.mark.parametrize("words", ["", "run --file F"], ids=["script", "run"])
 def test_answers_leave_before_the_program_waits(hpb: Hpb, words: str) -> None:
     """Answers are gathered .. So a client may send .. A script that is piped .. `hpb run` also makes .. All this holds for a .. No answer waits for
-    other .. In `hpb run` these are .. All answers that are .. Pipes and terminals may .. A read that finds nothing .."""
+    other .. In `hpb run` these are .. All answers that are .."""
     hpb.formats()
     reader, writer = os.pipe()
-    os.set_blocking(reader, False)
     process = subprocess.Popen([hpb.program.path, *words.split()], stdin=reader, stdout=subprocess.PIPE, cwd=hpb.folder)
     assert process.stdout is not None
     os.write(writer, b"" if words else PAGE.definition.encode())
@@ -51,20 +47,6 @@ def test_answers_leave_before_the_program_waits(hpb: Hpb, words: str) -> None:
     assert read_all(process.stdout.fileno(), len(answers)) == answers
     os.close(writer)
     assert (process.communicate(timeout=20)[0], process.returncode) == (b"", 0)
-
-
-@pytest.mark.parametrize("words", ["", "run --file F"], ids=["script", "run"])
-def test_an_output_that_is_set_not_to_wait_is_waited_for(hpb: Hpb, words: str) -> None:
-    hpb.formats()
-    reader, writer = os.pipe()
-    os.set_blocking(writer, False)
-    fcntl.fcntl(writer, fcntl.F_SETPIPE_SZ, 4096)
-    (hpb.folder / "lines").write_text(("" if words else PAGE.definition) + "SHOW\n" * 1000)
-    with open(hpb.folder / "lines", "rb") as lines:
-        process = subprocess.Popen([hpb.program.path, *words.split()], stdin=lines, stdout=writer, cwd=hpb.folder)
-    os.close(writer)
-    time.sleep(0.2)
-    assert read_all(reader, 1000 * len(EMPTY) + 1) == EMPTY * 1000 and process.wait(20) == 0
 
 
 class Terminal:
@@ -130,18 +112,6 @@ def test_a_terminal_cuts_a_line(hpb: Hpb, length: int) -> None:
     hpb.gives("", EMPTY, text)
 
 
-def test_errors_that_are_a_file_of_the_words(hpb: Hpb) -> None:
-    """If standard error is .."""
-    image = hpb.formats().read_bytes()
-    for words, status in ((["check", "--flie", "F"], 2), (["check", "--flie=F"], 2), (["check", "--file", "F", "--help"], 0)):
-        with open(hpb.folder / "F", "ab") as errors:
-            assert subprocess.run([hpb.program.path, *words], stderr=errors, cwd=hpb.folder, timeout=20, check=False).returncode == status
-    with open(hpb.folder / "F.new", "ab") as errors:
-        words = ["format", "--file", "F", "--journal", "four"]
-        assert subprocess.run([hpb.program.path, *words], stderr=errors, cwd=hpb.folder, timeout=20, check=False).returncode == 2
-    assert (hpb.folder / "F").read_bytes() == image and (hpb.folder / "F.new").read_bytes() == b""
-
-
 def bash(hpb: Hpb, script: str) -> str:
     """What a script prints in whose folder are the program, examples and tools."""
     for name, place in (("hpb", hpb.program.path), ("examples", EXAMPLES), ("tools", TOP / "tools")):
@@ -187,7 +157,7 @@ def test_the_definition_of_coast(hpb: Hpb) -> None:
     for words in ("", "format --file G --journal 4"):
         hpb.refuses(words, number, wrong, said)
     (hpb.folder / "definition.json").write_text(wrong)
-    assert bash(hpb, "jq '.nodes[4].opening' definition.json; jq .nodes[0].name definition.json; tools/explain examples/coast.txt") == '1525\n"coast"\n'
+    assert bash(hpb, "jq '.nodes[4].opening, .nodes[0].name' definition.json; tools/explain examples/coast.txt") == '1525\n"coast"\n'
     hpb.refuses("", "60 json", '["\xc3\xa9" 1]\n', "line 1 column 7: ")
     twice = COAST.replace('"percent":5', '"percent":0.05').replace('"bob"', '"Bob"')
     hpb.refuses("", "62 number", twice, "percent: 0.05 is no whole number in plain digits")
