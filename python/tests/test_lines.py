@@ -80,14 +80,9 @@ def plain(cell: str) -> str:
 
 def test_each_refusal_of_the_protocol_has_a_class_and_no_other(documents: pathlib.Path) -> None:
     text = (documents / "PROTOCOL.md").read_text(encoding="utf-8")
-    rows = re.findall(r"^\| (\d+) `(\w+)` \| (.*?) \| (.*?) \|$", text[text.index("\n## Refusals") :], re.MULTILINE)
-    table = {int(number): (word, plain(meaning)) for number, word, meaning, _ in rows if int(number) < 97}
-    wanted = {number: told for number, told in table.items() if not re.fullmatch(r"\d+", told[0])}
-    assert {number: (kind.word, kind.meaning) for number, kind in Refused.by_number.items()} == wanted
-    advice = {int(number): plain(told) for number, _, _, told in rows}
-    assert {n: k.advice for n, k in Refused.by_number.items() if not advice[n].startswith("as ")} == {
-        n: told for n, told in advice.items() if not told.startswith("as ")
-    }
+    rows = re.findall(r"^\| (\d+) \| `(\w+)` \| (.*?) \| (.*?) \|$", text[text.index("\n## Refusals") :], re.MULTILINE)
+    table = {int(number): (word, plain(meaning), plain(advice)) for number, word, meaning, advice in rows}
+    assert {number: (kind.word, kind.meaning, kind.advice) for number, kind in Refused.by_number.items()} == table
 
 
 def test_a_refusal_says_number_word_and_what_to_do() -> None:

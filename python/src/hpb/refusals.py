@@ -94,7 +94,7 @@ class AuctionOver(Refused, number=20, word="closed"):
 
 
 class NotAStep(Refused, number=21, word="step"):
-    meaning = "the amount is no multiple of the step"
+    meaning = "the amount isn't a multiple of the step"
     advice = "round it up to one"
 
 
@@ -130,7 +130,7 @@ class NoFurtherStage(Refused, number=27, word="stage"):
 
 class NoWaiverLeft(Refused, number=28, word="waiver"):
     meaning = "the bidder has no waiver left"
-    advice = "ask WHO; where its answer has no WAIVERS the definition has none"
+    advice = "ask WHO; if its answer has no WAIVERS, the definition has none"
 
 
 class WaivedAlready(Refused, number=29, word="waived"):
@@ -140,32 +140,38 @@ class WaivedAlready(Refused, number=29, word="waived"):
 
 class Unformatted(Refused, number=40, word="unformatted"):
     meaning = "the file keeps no auction: it never did, or it was cut or overwritten"
-    advice = "if it kept one, go back to your newest backup; is it the right file? hpb format makes one"
+    advice = (
+        "if it kept one, leave it as it is, and go back to your newest backup; is it the right file? If hpb format was stopped, run it again with"
+        " the same words"
+    )
 
 
 class Formatted(Refused, number=41, word="formatted"):
     meaning = "the file keeps an auction already; it wasn't touched"
-    advice = "name another file"
+    advice = "look at it by hpb check; name another file for a new auction"
 
 
 class BadHead(Refused, number=42, word="layout"):
     meaning = "the file's head is damaged, or its length was changed"
-    advice = "go back to your newest backup"
+    advice = "leave the file as it is, and go back to your newest backup. If it was made longer, standard error gives the command that cuts it"
 
 
 class BadLength(Refused, number=43, word="length"):
     meaning = "the layout can't have that number of frames, or the file is there and has another length"
-    advice = "4 to 1,024, with --layout 2 16 to 1,024 in eights; name a file that isn't there"
+    advice = "give 4 to 1,024, or with --layout 2 16 to 1,024 in eights; or name a file that isn't there. Standard error names the numbers that fit"
 
 
 class NoCheckpoint(Refused, number=44, word="checkpoint"):
     meaning = "the file has no whole checkpoint"
-    advice = "go back to your newest backup"
+    advice = "no power cut does this to an honest disk: leave the file as it is, and go back to your newest backup"
 
 
 class BadFrame(Refused, number=45, word="frame"):
-    meaning = "a batch in the file's journal is damaged"
-    advice = "go back to your newest backup"
+    meaning = "a batch in the file's journal is damaged, or one before it is missing"
+    advice = (
+        "no power cut does this to an honest disk: leave the file as it is, and go back to your newest backup. The batch isn't left out, since"
+        " acknowledged commands would be lost without a word"
+    )
 
 
 class Empty(Refused, number=50, word="empty"):
@@ -209,7 +215,7 @@ class BadTerms(Refused, number=57, word="terms"):
 
 
 class NotJson(Refused, number=60, word="json"):
-    meaning = "the definition is no JSON"
+    meaning = "the definition isn't JSON"
     advice = "is the whole definition on one line? Try it with any JSON tool"
 
 
@@ -224,25 +230,28 @@ class BadNumber(Refused, number=62, word="number"):
 
 
 class NoMemory(Refused, number=90, word="memory"):
-    meaning = "memory was refused"
-    advice = "the program ends with 1; try again"
+    meaning = "memory was refused, or a thread of hpb serve"
+    advice = "the program ends with 1; free some, and try again. Each command that was answered OK is kept"
 
 
 class DeviceFault(Refused, number=91, word="device"):
     meaning = (
-        "the file can't be opened, made, read, written or synced, is in use, or is one of the standard streams; or it would be made of another"
+        "the file can't be opened, made, read, written or synced, is in use, or is one of the standard streams. Or it would be made of another"
         " user's file, or of one that others may write"
     )
-    advice = "standard error says which; to a command of hpb run, or at the end of hpb serve: see after a 91"
+    advice = "standard error says which. To a command of hpb run, or at the end of hpb serve: see after a 91"
 
 
 class StreamFault(Refused, number=92, word="stream"):
     meaning = "the input or the output failed, or more than 1,000,000,000 bytes came; or the port or as many connections can't be had"
-    advice = "the program ends with 1; take another port, or fewer sessions"
+    advice = (
+        "the program ends with 1; standard error says which. Take another port, raise ulimit -n, or give fewer to --sessions. After a stream that"
+        " failed, send again each line that has no answer"
+    )
 
 
 class Failed(Refused, number=93, word="failed"):
-    meaning = "a call of the file's device failed before; nothing is accepted any more"
+    meaning = "a call of the file's device failed before. Nothing is accepted any more"
     advice = "see after a 91"
 
 
@@ -252,12 +261,12 @@ class NoPlace(Refused, number=94, word="place"):
 
 
 class OutOfOrder(Refused, number=95, word="order"):
-    meaning = "a session was given another answer than that to its command"
+    meaning = "a session had another answer than that to its command"
     advice = "a fault of hpb: see after a 95"
 
 
 class CountsDiffer(Refused, number=96, word="counts"):
-    meaning = "what all sessions were answered isn't what was kept"
+    meaning = "the answers to all sessions don't agree with the auction that the file keeps"
     advice = "a fault of hpb: see after a 95"
 
 

@@ -1,0 +1,190 @@
+"""What the tests of the page have `hpb` do: scripts, runs of a file and sessions, and commands with their words.
+
+A transcript is lines with their answers: `BID x 1 a 100 = OK 1; SHOW = ..`, parted by semicolons or line ends. FIRST stands for the
+first round of the page, and <EOF> at the end of a line for its missing LF. Letters up to U+00FF stand for the byte of that number.
+"""
+
+from __future__ import annotations
+
+import fcntl
+import os
+import re
+import resource
+import shlex
+import signal
+import struct
+import subprocess
+import termios
+from dataclasses import dataclass
+from pathlib import Path
+from typing import Protocol
+
+from harness.auctions import Layout
+from harness.conditions import NORMAL, Conditions
+from harness.programs import Program, Ran, format_words, shown
+from harness.serving import Server, wait_until
+from protocol.page import PAGE
+
+SECONDS = 60
+FIRST = "; ".join(f"{line} = {answer}" for line, answer in PAGE.table("Line", "Answer").pairs() if answer.startswith("OK"))
+SHOWN = "ROUND 1 STAGE 1 OPEN REVENUE 0 COUNT {}\n"
+EMPTY = SHOWN.format(0)
+WORDS = {row[0]: row[1].strip("`") for row in PAGE.table("Number", "Word", "When", "What to do next").rows}
+AT_A_TERMINAL = [said for row in PAGE.table("Of", "Its line").rows for said in re.findall("`(hpb: .*?)`", row[1])]
+# A file can't be written behind its third page on a disk that is full.
+FULL = 3 * 4096
+FULL_DISK = "hpb: 91 device: the disk of F failed: File too large (os error 27). All that was answered by OK is kept."
+
+
+def transcript(text: str) -> tuple[str, str]:
+    """Its lines, and its answers. A line without ` = ` has none."""
+    pairs = [pair.rsplit(" = ", 1) for pair in re.split(r"; |;?\n *", text.replace("FIRST", FIRST).strip("\n ;")) if pair]
+    lines = "".join(f"{pair[0]}\n" for pair in pairs).replace("<EOF>\n", "")
+    return lines, "".join(f"{pair[1]}\n" for pair in pairs if len(pair) > 1)
+
+
+def same(answer: str, *lines: str) -> str:
+    """A transcript of lines that have one answer."""
+    return "; ".join(f"{line} = {answer}" for line in lines)
+
+
+def changed(*changes: str) -> str:
+    """The definition of the page, with `OLD -> NEW` for each change, of which OLD stands there. An OLD `step` puts NEW before the step."""
+    definition = PAGE.definition
+    for change in changes:
+        old, new = change.split(" -> ")
+        assert old in definition, old
+        definition = definition.replace(old, new, 1)
+    return definition
+
+
+def waivers(count: int) -> str:
+    """The definition of the page, with so many waivers."""
+    return changed(f'"nodes" -> "waivers":{count},"nodes"')
+
+
+def data(text: str | bytes) -> bytes:
+    """The bytes of a text."""
+    return text if isinstance(text, bytes) else text.encode("latin-1")
+
+
+def check_said(ran: Ran) -> None:
+    """Each line of standard error begins with `hpb: `, a number and its word; but of wrong words, of help, and at a terminal."""
+    if ran.errors.startswith("error: ") or ran.errors == "hpb: an argument is not UTF-8\n":
+        assert ran.status == 2, ran
+    elif "Usage: " in ran.errors or re.match(r"hpb \d", ran.errors):
+        assert ran.status == 0, ran
+    else:
+        for line in ran.errors.splitlines():
+            said = re.match(r"hpb: (\d\d) ([a-z]+): .", line)
+            assert line in AT_A_TERMINAL or (said and WORDS.get(said[1]) == said[2]), line
+
+
+def no_signal() -> None:
+    """A write that is too long fails, and no signal ends the program."""
+    signal.signal(signal.SIGXFSZ, signal.SIG_IGN)
+
+
+def fill_disk(process: subprocess.Popen[bytes]) -> None:
+    """From now on it can write no file behind its third page."""
+    most = resource.prlimit(process.pid, resource.RLIMIT_FSIZE)[1]
+    resource.prlimit(process.pid, resource.RLIMIT_FSIZE, (FULL, most))
+
+
+def unread(pipe: int) -> int:
+    """How many bytes of a pipe nobody has read."""
+    count: int = struct.unpack("i", fcntl.ioctl(pipe, termios.FIONREAD, b"\0" * 4))[0]
+    return count
+
+
+@dataclass(frozen=True)
+class Hpb:
+    """The program in a folder. Each run is compared with its whole output, all that is said, and its status."""
+
+    program: Program
+    folder: Path
+
+    def ran(self, words: str, text: str | bytes = b"", output: int = subprocess.PIPE, conditions: Conditions = NORMAL) -> Ran:
+        """What it does with this text; only the form of what it says is compared."""
+        where = Conditions(folder=self.folder, limits=conditions.limits, last=conditions.last)
+        ran = self.program.run(*shlex.split(words), text=data(text), output=output, conditions=where, seconds=SECONDS)
+        check_said(ran)
+        return ran
+
+    def gives(self, words: str, output: str, text: str | bytes = b"") -> None:
+        """It writes this, says nothing and ends with 0."""
+        ran = self.ran(words, text)
+        assert (ran.output, ran.errors, ran.status) == (output, "", 0), words
+
+    def refuses(self, words: str, refusal: str, text: str | bytes = b"", said: str = "") -> None:
+        """It writes the line of this refusal, says its number, its word and this front of a reason, and ends with 1."""
+        ran = self.ran(words, text)
+        assert (ran.output, ran.status) == (f"ERR {refusal}\n", 1), words
+        assert re.fullmatch(f"hpb: {refusal}: (?=.){re.escape(said)}.*\n", ran.errors), ran
+
+    def misreads(self, *commands: str) -> None:
+        """It knows none of these words."""
+        for words in commands:
+            ran = self.ran(words)
+            assert (ran.output, ran.errors[:7], ran.status) == ("", "error: ", 2), words
+
+    def formats(self, file: str = "F", journal: int = 4, layout: Layout = Layout.PAGES, definition: str = "") -> Path:
+        """A new file."""
+        words = shlex.join(map(str, format_words(Path(file), layout, journal)))
+        self.gives(words, f"FORMATTED {layout.pages(journal)}\n", definition or PAGE.definition)
+        return self.folder / file
+
+    def runs(self, text: str, *words: str) -> None:
+        """A run of F answers as this transcript says."""
+        lines, answers = transcript(text)
+        self.gives(shlex.join(["run", "--file", "F", *words]), answers, lines)
+
+    def fills(self, words: str, text: str, said: str = FULL_DISK, output: int = subprocess.PIPE) -> None:
+        """A run whose disk is full from its first line on answers as this transcript says, and ends with 1 after this front of a reason."""
+        lines, answers = transcript(text)
+        conditions = Conditions(folder=self.folder, last=no_signal)
+        process = self.program.start(*shlex.split(words), input=subprocess.PIPE, output=output, conditions=conditions)
+        assert process.stdin is not None
+        pipe = process.stdin.fileno()
+        os.write(pipe, data(lines)[:1])
+        wait_until(lambda: not unread(pipe) or process.poll() is not None, SECONDS, "the first byte is read")
+        fill_disk(process)
+        written, errors = process.communicate(data(lines)[1:], SECONDS)
+        check_said(Ran("", shown(errors), process.returncode, 0))
+        wanted = (answers if output == subprocess.PIPE else "", said, 1)
+        assert (shown(written), shown(errors)[: len(said)], process.returncode) == wanted, words
+
+
+class Asks(Protocol):
+    """Compares the answers of a transcript with those of a program, on a definition: that of the page, or another."""
+
+    def __call__(self, text: str, definition: str = "") -> None:
+        """AssertionError where an answer, or the end of the program, is another."""
+
+
+def asks_script(program: Program, text: str, definition: str = "") -> None:
+    """By a script."""
+    lines, answers = transcript(text)
+    ran = program.run(text=data((definition or PAGE.definition) + lines), seconds=SECONDS)
+    assert (ran.output, ran.errors, ran.status) == (answers, "", 0)
+
+
+def asks_server(program: Program, file: Path, layout: Layout, text: str, definition: str = "") -> None:
+    """By one session of a server on a new file, which then says how many commands it keeps."""
+    lines, answers = transcript(text)
+    program.format(file, layout, text=data(definition or PAGE.definition))
+    with Server(program, file) as server:
+        client = server.connect()
+        client.send(data(lines))
+        found = client.finish()
+        ran = server.ended()
+    count = max(map(int, re.findall(r"^OK (\d+)$", answers, re.MULTILINE)), default=0)
+    assert found == answers.splitlines()
+    assert (ran.output, ran.status) == (f"CLOSED {count}\n", 0), ran
+    assert not without_places(ran.errors), ran.errors
+    file.unlink()
+
+
+def without_places(errors: str) -> str:
+    """What is said but for the places that are taken, who has them and how that ends."""
+    return re.sub(r"hpb: (\d+ of \d+ places taken|place \d+ of \d+ (is held by [0-9.:]+|\([0-9.:]+\) has ended: [^\n]+))\n", "", errors)
