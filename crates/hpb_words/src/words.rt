@@ -27,8 +27,8 @@ const USAGE: &str = r#"hpb < SCRIPT
 const ABOUT: &str = "Runs a simultaneous ascending auction with bids on packages.";
 
 const HELP: &str =
-    r#"Without a command the auction is in memory. Standard input has its definition in JSON, in one line, and
-then commands and questions, one a line. Each of them gets one line on standard output:
+    r#"Without a command, hpb keeps the auction in memory. The first line of standard input is its definition in JSON.
+Commands and questions follow, one a line. Each gets one line on standard output:
 
   BID bidder ticket node amount   a bid, in whole dollars        OK number
   CLOSE ticket                    ends the round                 OK number
@@ -39,12 +39,12 @@ then commands and questions, one a line. Each of them gets one line on standard 
   WHO bidder                      a bidder                       WHO x ELIGIBILITY e ACTIVITY a TICKET t
 
 A CLOSE of a round in which nobody bid or waived ends the auction, for good.
-Where the definition gives waivers, what WHO is answered ends with WAIVERS and how many are left.
-Each bidder numbers its commands 1, 2, .. by tickets, and so does who closes rounds and moves stages.
-What is refused gets ERR with a number and a word.
+If the definition gives waivers, the answer to WHO ends with WAIVERS and the number that is left.
+Each bidder numbers its commands 1, 2, .. by tickets. So does the auctioneer, who sends CLOSE and STAGE.
+A line that is refused gets ERR with a number and a word.
 
 Status: 0 each line got its answer; 1 the definition or memory was refused, or reading or writing
-failed; 2 the words were wrong. Each command says by --help what its status means.
+failed; 2 the words were wrong. The --help of each command says what its status means.
 
 Example: the lines
 
@@ -53,7 +53,7 @@ Example: the lines
   CLOSE 1
   NODE a
 
-are answered by OK 1, OK 2 and NODE a HIGH 100 x PRICE 100 MIN 110 WIN yes.
+get OK 1, OK 2 and NODE a HIGH 100 x PRICE 100 MIN 110 WIN yes.
 
 docs/RULES.md has the rules of the auction; docs/PROTOCOL.md has the definition, all lines, answers and
 refusals."#;
@@ -61,28 +61,27 @@ refusals."#;
 const FORMAT_ABOUT: &str = "Makes a file that keeps an auction, before its first command";
 
 const FORMAT_HELP: &str =
-    r#"Standard input is the definition in JSON, in as many lines as you like. A file that isn't there is made. One that
-is there must have the same number of bytes as one that is made so, and must not keep an auction yet; what it holds
-is lost. The journal has J frames, each for a batch of commands. The more it has, the more rarely a checkpoint is
-needed.
+    r#"Standard input is the definition in JSON, in as many lines as you like. If there is no such file, it is made. If
+there is one, it must have the length of a new one and keep no auction; its bytes are lost. The journal has J frames,
+each for a batch of commands. With more frames, checkpoints are needed more rarely.
 
 --layout 1: a frame is a page of 4,096 bytes. J is from 4 to 1,024, and the file has 13 + J pages.
 
---layout 2: a frame is three cells of 512 bytes, of which a batch takes as many as it needs, so a journal of as many
+--layout 2: a frame is three cells of 512 bytes, and a batch takes as many cells as it needs. A journal for the same
 batches has three eighths of the pages. J is a multiple of 8 from 16 to 1,024, and the file has 13 + 3J/8 pages.
 
-Both keep the same promises. The layout is in the file's head, where the other commands find it.
+Both keep the same promises. The file's head has the layout, so the other commands find it.
 
-What is written is FORMATTED with the number of pages, or ERR with a number and a word.
+The answer is FORMATTED with the number of pages, or ERR with a number and a word.
 
-Status: 0 the file keeps the auction; 1 it doesn't, and why is written; 2 the words were wrong.
+Status: 0 the file keeps the auction; 1 it doesn't, and standard error says why; 2 the words were wrong.
 
 Example: a file of 77 pages, and one of 37 for as many batches
 
   hpb format --file auction.hpb --journal 64 < definition.json
   hpb format --file cells.hpb --journal 64 --layout 2 < definition.json
 
-docs/OPERATIONS.md says how to size, copy and move a file, and what each refusal means."#;
+docs/OPERATIONS.md says how to size, copy and move a file; docs/PROTOCOL.md says what to do after each refusal."#;
 
 const JOURNAL_HELP: &str =
     "The number of frames of the journal: 4 to 1024, and of cells a multiple of 8 from 16";
@@ -92,42 +91,41 @@ const LAYOUT_HELP: &str = "The layout of the journal: 1, a page for each frame, 
 const CHECK_ABOUT: &str = "Shows the auction that a file keeps";
 
 const CHECK_HELP: &str =
-    r#"What is written is the line that SHOW is answered, and then for each node, in the order of the definition, the line
-that NODE is answered; or ERR with a number and a word. The file is only read. It can't be read so while another
-program runs it.
+    r#"The output has the answer to SHOW, and then the answer to NODE for each node, in the order of the definition; or ERR
+with a number and a word. The file is only read. While another program runs or serves it, check is refused.
 
-Status: 0 the auction is shown; 1 it isn't, and why is written; 2 the words were wrong.
+Status: 0 the auction is shown; 1 it isn't, and standard error says why; 2 the words were wrong.
 
 Example:
 
   hpb check --file auction.hpb
 
-docs/OPERATIONS.md says what each refusal means."#;
+docs/PROTOCOL.md says what to do after each refusal."#;
 
 const RUN_ABOUT: &str = "Runs the auction that a file keeps";
 
 const RUN_HELP: &str =
-    r#"Standard input has commands and questions, one a line, as a script has behind its definition, and each line gets its
-answer on standard output (hpb --help). A command is answered by OK once it is on the disk: no power cut takes it back,
-as long as the disk does what it is told. The auction goes on where the file's last run ended, with all that was
-answered by OK. While it runs, no other program may have the file.
+    r#"Standard input has commands and questions, one a line, as a script has behind its definition. Each line gets its
+answer on standard output (hpb --help). A command gets OK once it is on the disk. No power cut takes it back, if the
+disk does as it says. The auction goes on after the file's last run, with every command that got OK. While it runs,
+no other program may have the file.
 
---batch N: as many commands as have come are put on the disk together, N at most, and then answered. Any line that is
-no command ends a batch, and no batch waits for more to come. What a batch costs, mostly two syncs of the disk, its
-commands share.
+--batch N: commands that have come together, N at most, go on the disk together, and then get their answers. A line
+that isn't a command ends a batch, and no batch waits for more lines. The commands of a batch share its cost, which is
+mostly two syncs of the disk.
 
---every K: a checkpoint is written after each K batches that were put on the disk. With 0 one is written only where
-the journal is full. The more often, the faster the file is opened again.
+--every K: a checkpoint is written after each K batches. With 0 one is written only if the journal is full. More
+checkpoints make opening faster.
 
-Status: 0 each line got its answer; 1 the file could not be opened, its disk failed (commands are answered ERR 91
-device or ERR 93 failed from then on), memory was refused, or reading or writing failed; 2 the words were wrong. With
-1 standard error says what happened and what to do.
+Status: 0 each line got its answer; 1 the file could not be opened, its disk failed (from then on commands get ERR 91
+device or ERR 93 failed), memory was refused, or reading or writing failed; 2 the words were wrong. With 1 standard
+error says what happened and what to do.
 
 Example: up to 16 commands at a time, and a checkpoint after each 50 batches
 
   hpb run --file auction.hpb --batch 16 --every 50 < lines
 
-docs/OPERATIONS.md says what each refusal means."#;
+docs/PROTOCOL.md says what to do after each refusal."#;
 
 const BATCH_HELP: &str = "The most commands that are put on the disk together, from 1 to 64";
 
@@ -136,24 +134,23 @@ const EVERY_HELP: &str = "The number of batches after which a checkpoint is writ
 const SERVE_ABOUT: &str = "Serves sessions over TCP by the auction that a file keeps";
 
 const SERVE_HELP: &str =
-    r#"LISTENING P is written once port P of 127.0.0.1 can be connected to. N connections are taken, and each is a session
-of its own; the system refuses any further one. A session sends commands and questions, one a line, as a script has
-behind its definition, and each line gets its answer (hpb --help). So nc 127.0.0.1 P is a client, and needs nothing
-else. All sessions are in one auction: each is shown by its questions what the others did.
+    r#"LISTENING P is written once clients can connect to port P of 127.0.0.1. N connections are taken, and each is a
+session of its own; the system refuses any further one. A session sends commands and questions, one a line, as a script
+has behind its definition. Each line gets its answer (hpb --help). So nc 127.0.0.1 P is a client, and needs nothing
+else. All sessions are in one auction: the answers to questions show what the others did.
 
-A command is answered by OK once it is on the disk: no power cut takes it back, as long as the disk does what it is
-told. The auction goes on where the file's last run ended, with all that was answered by OK. While it is served, no
-other program may have the file.
+A command gets OK once it is on the disk. No power cut takes it back, if the disk does as it says. The auction goes on
+after the file's last run, with every command that got OK. While it is served, no other program may have the file.
 
-A session ends where its client ends its lines or its connection. Once all N have ended CLOSED n is written: n commands
-are accepted in all. What can't be served gets ERR with a number and a word.
+A session ends once its client ends its lines or its connection. Once all N have ended, CLOSED n is written: n commands
+are accepted in all. If the file can't be served, ERR is written, with a number and a word.
 
-Only programs on this machine can connect. Any of them may send any command: nobody is asked who he is.
+Only programs on this machine can connect. Any of them may send any command: no password is asked for.
 
-Status: 0 all sessions have ended; 1 the file could not be opened, as many connections may not be open at a time (ulimit
--n), the port could not be had, the file's disk failed (commands are answered ERR 93 failed from then on), memory was
-refused, writing failed, or what was answered isn't what was kept; 2 the words were wrong. With 1 standard error says
-what happened and what to do. Before, it says which places are taken, and when the disk fails.
+Status: 0 all sessions have ended; 1 the file could not be opened, too few connections may be open at a time (ulimit
+-n), the port could not be had, the file's disk failed (from then on commands get ERR 93 failed), memory was refused,
+writing failed, or the answers aren't those that the file keeps; 2 the words were wrong. With 1 standard error says what
+happened and what to do. Before that, it says which places are taken, and when the disk fails.
 
 Example: two sessions, each from a terminal of its own
 
@@ -161,7 +158,7 @@ Example: two sessions, each from a terminal of its own
   nc 127.0.0.1 5000
   nc 127.0.0.1 5000
 
-docs/OPERATIONS.md says what each refusal means; docs/PROTOCOL.md has all lines, answers and refusals."#;
+docs/PROTOCOL.md has all lines, answers and refusals, and says what to do after each."#;
 
 const PORT_HELP: &str = "The port of 127.0.0.1, from 1024 to 65535";
 
