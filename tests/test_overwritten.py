@@ -15,11 +15,11 @@ from harness.serving import Client, Serve, Server
 
 PLACE = re.compile(r"hpb: (\d+ of \d+ places taken|place \d+ of \d+ (is held by|\(\S+\) has ended:) .*)\n")
 SPOILED = (
-    "hpb: {0} was cut, made longer or overwritten while it was served, and may not keep what is answered by OK: "
+    "hpb: {0} was cut, made longer or overwritten while it was served, and may lack commands that get OK: "
     "end all sessions, and go back to your newest backup\n"
 )
 WAS_SPOILED = (
-    "hpb: 91 device: {0} was cut, made longer or overwritten while it was served, and may not keep what was answered by OK. "
+    "hpb: 91 device: {0} was cut, made longer or overwritten while it was served, and may lack commands that got OK. "
     "See it by `hpb check --file {0}`, go back to your newest backup, and send again, in their order, the commands since then\n"
 )
 UNNAMED = (

@@ -37,7 +37,7 @@ slot_text damaged later = damaged_text damaged ++ later
 -- The line with the texts of the doubts, behind the count of the opened auction.
 abbrev pub doubts_line : ℕ → List ℕ → List ℕ
 doubts_line count found =
-    codes "hpb: a checkpoint is damaged, which no power cut does, and it may be the newest: COUNT is " ++ decimal count ++ codes " by what was opened" ++ found
+    codes "hpb: a checkpoint is damaged, which no power cut does, and it may be the newest: COUNT is " ++ decimal count ++ codes " in the auction that was opened" ++ found
     ++ codes ". Copy the file before anything else, and hold COUNT against the number of the last OK: if that is greater, go back to your newest backup, and send again, in their order, the commands since then\n"
 
 -- The warning after an auction of this many commands was opened: nothing if there are no doubts.

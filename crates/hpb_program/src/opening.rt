@@ -136,7 +136,7 @@ impl fmt::Display for DoubtsLine<'_> {
         let (count, found) = (self.count, self.found);
         write!(
             f,
-            "hpb: a checkpoint is damaged, which no power cut does, and it may be the newest: COUNT is {count} by what was opened{found}. Copy the file before anything else, and hold COUNT against the number of the last OK: if that is greater, go back to your newest backup, and send again, in their order, the commands since then\n"
+            "hpb: a checkpoint is damaged, which no power cut does, and it may be the newest: COUNT is {count} in the auction that was opened{found}. Copy the file before anything else, and hold COUNT against the number of the last OK: if that is greater, go back to your newest backup, and send again, in their order, the commands since then\n"
         )
     }
 }

@@ -62,7 +62,7 @@ impl fmt::Display for JobAdvice<'_> {
             JobFault::Counts => advise_of_differing(
                 f,
                 known,
-                "what the sessions were answered isn't what the file keeps",
+                "the answers to the sessions aren't those that the file keeps",
             ),
         }
     }
@@ -77,7 +77,7 @@ fn advise_of_differing<W: fmt::Write>(
     let (file, look) = (Escaped(known.file()), CheckCommand(known.file()));
     write!(
         f,
-        "{what}, which is a fault of hpb: see what {file} keeps by {look}, and hold it against what was answered"
+        "{what}, which is a fault of hpb: see what {file} keeps by {look}, and compare it with the answers"
     )
 }
 
@@ -372,7 +372,7 @@ impl fmt::Display for SpoiledAdvice<'_> {
         let (file, look) = (Escaped(file), CheckCommand(file));
         write!(
             f,
-            "{file} was cut, made longer or overwritten while it was served, and may not keep what was answered by OK. See it by {look}, go back to your newest backup, and send again, in their order, the commands since then"
+            "{file} was cut, made longer or overwritten while it was served, and may lack commands that got OK. See it by {look}, go back to your newest backup, and send again, in their order, the commands since then"
         )
     }
 }

@@ -65,23 +65,23 @@ impl fmt::Display for ChangeNotice<'_> {
         match (self.change, self.is_end) {
             (Change::Spoiled, _) => write!(
                 f,
-                "{file} was cut, made longer or overwritten while it was served, and may not keep what is answered by OK: end all sessions, and go back to your newest backup"
+                "{file} was cut, made longer or overwritten while it was served, and may lack commands that get OK: end all sessions, and go back to your newest backup"
             ),
             (Change::Moved, false) => write!(
                 f,
-                "{file} was moved while it was served: what is answered by OK goes on into the file that was opened: see that it gets its name again"
+                "{file} was moved while it was served: commands that get OK go on into the file that was opened: see that it gets its name again"
             ),
             (Change::Moved, true) => write!(
                 f,
-                "{file} was moved while it was served: what was answered by OK is in the file that was opened, by its other name: see that it gets its name again"
+                "{file} was moved while it was served: commands that got OK are in the file that was opened, under its other name: see that it gets its name again"
             ),
             (Change::Unnamed { inode }, false) => write!(
                 f,
-                "{file} was removed or replaced while it was served, but its file has another name, which `find / -inum {inode}` finds: what is answered by OK goes on into it, and is kept as long as that name stays. See that it gets its name again"
+                "{file} was removed or replaced while it was served, but its file has another name, which `find / -inum {inode}` finds: commands that get OK go on into it, and are kept as long as that name stays. See that it gets its name again"
             ),
             (Change::Unnamed { inode }, true) => write!(
                 f,
-                "{file} was removed or replaced while it was served, but its file has another name, which `find / -inum {inode}` finds: what was answered by OK is in it, and is kept as long as that name stays. See that it gets its name again"
+                "{file} was removed or replaced while it was served, but its file has another name, which `find / -inum {inode}` finds: commands that got OK are in it, and are kept as long as that name stays. See that it gets its name again"
             ),
             (
                 Change::Nameless {
@@ -91,11 +91,11 @@ impl fmt::Display for ChangeNotice<'_> {
                 false,
             ) => write!(
                 f,
-                "{file} was removed or replaced while it was served, and what is answered by OK is lost with it when this process ends. Copy it before, while no command comes: `cp /proc/{process}/fd/{descriptor} saved.hpb`"
+                "{file} was removed or replaced while it was served, and commands that get OK are lost with it when this process ends. Copy it before, while no command comes: `cp /proc/{process}/fd/{descriptor} saved.hpb`"
             ),
             (Change::Nameless { .. }, true) => write!(
                 f,
-                "{file} was removed or replaced while it was served, and what was answered by OK is lost with it, unless it was copied: go back to your newest backup, and send again, in their order, the commands since then"
+                "{file} was removed or replaced while it was served, and commands that got OK are lost with it, unless it was copied: go back to your newest backup, and send again, in their order, the commands since then"
             ),
         }
     }

@@ -59,11 +59,11 @@ fn faults_of_serving_are_told(rt: HostRuntime) -> Result<(), Fail> {
         ),
         (
             JobFault::Order,
-            "a session was given another answer than the one that it waited for, which is a fault of hpb: see what a.hpb keeps by `hpb check --file a.hpb`, and hold it against what was answered",
+            "a session was given another answer than the one that it waited for, which is a fault of hpb: see what a.hpb keeps by `hpb check --file a.hpb`, and compare it with the answers",
         ),
         (
             JobFault::Counts,
-            "what the sessions were answered isn't what the file keeps, which is a fault of hpb: see what a.hpb keeps by `hpb check --file a.hpb`, and hold it against what was answered",
+            "the answers to the sessions aren't those that the file keeps, which is a fault of hpb: see what a.hpb keeps by `hpb check --file a.hpb`, and compare it with the answers",
         ),
     ] {
         assert_eq!(rt; told_of(rt.alloc(), fault)?.as_str(), wanted);
@@ -247,7 +247,7 @@ fn places_and_their_ends_are_told(rt: HostRuntime) -> Result<(), Fail> {
 }
 
 const SPOILED: &str =
-    "a.hpb was cut, made longer or overwritten while it was served, and may not keep what was answered by OK. See it by `hpb check --file a.hpb`, go back to your newest backup, and send again, in their order, the commands since then";
+    "a.hpb was cut, made longer or overwritten while it was served, and may lack commands that got OK. See it by `hpb check --file a.hpb`, go back to your newest backup, and send again, in their order, the commands since then";
 
 #[test]
 fn a_file_that_others_wrote_is_told_at_the_end(rt: HostRuntime) -> Result<(), Fail> {
