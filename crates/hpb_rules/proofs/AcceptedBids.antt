@@ -16,7 +16,7 @@ use Rattle.hpb_rules.proofs.AcceptedDrafts.{accepted_is_definition}
 use Rattle.hpb_rules.proofs.Openings.{opening_positive}
 
 module _ (rules : Rules) (accepted : draft_refusal rules ≡ None) where
-  -- a bid with which nothing is wrong meets the rules, whatever the high bids are
+  -- a bid without a fault meets the rules, whatever the high bids are
   pub faultless_meets : (bid : ℕ → ℕ) (from ticket node amount : ℕ) (again : Bool) (eligibility activity : ℕ)
       → unknown rules (Bid from ticket node amount) ≡ None → bid_fault rules.step amount (minimum rules bid node) again eligibility activity ≡ None → MeetsRules rules from node amount
   faultless_meets bid from ticket node amount again eligibility activity known faultless =
@@ -35,7 +35,7 @@ module _ (rules : Rules) (accepted : draft_refusal rules ≡ None) where
         possible = ltb-false _ _ high.0;
       }
 
-  -- a bid that is new meets the rules
+  -- a new bid meets the rules
   new_meets : (past : List Command) (from ticket node amount : ℕ) → IsNew rules past (Bid from ticket node amount) → MeetsRules rules from node amount
   new_meets past from ticket node amount new =
       faultless_meets (History.high_bid past) from ticket node amount (History.bid_on past from node) (History.eligibility rules past from) (History.activity rules (Bid from ticket node amount ∷ past) from) new.known new.faultless

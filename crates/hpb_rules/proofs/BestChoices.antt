@@ -1,4 +1,4 @@
--- Of every value the winners are the best choice, and its prices prove it.
+-- In each value the winners are the best choice, and its prices prove it.
 use Rattle.std.proofs.Common.{refl}
 use Rattle.hpb_rules.specs.Tree.{IsTree}
 use Rattle.hpb_rules.specs.Choices.{IsWinners, winners}

@@ -1,4 +1,4 @@
--- What is carried down to a node is its share of what its parent passes down.
+-- A node is carried its share of the dollars that its parent passes down.
 use Rattle.std.proofs.Common.{ℕ, ◌+◌, sym, ◌∙◌, arith}
 use Rattle.std.specs.List.{range_with_len}
 use Rattle.std.proofs.lemmas.List.FromFn.{get_or-map-range_with_len}

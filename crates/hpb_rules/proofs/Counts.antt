@@ -28,7 +28,7 @@ abbrev IsEnded : ClosedRound → Type 0
 IsEnded one = HasNoClose one.commands
 
 -- ---- the rounds of a past
--- what is written before closed rounds is the open round
+-- the commands in front of closed rounds are the open round
 open_is : (open_part : List Command) (closed : List ClosedRound) → HasNoClose open_part → History.open_round (open_part ++ written closed) ≡ open_part
 open_is [] [] none = refl
 open_is [] (one ∷ closed) none = refl
@@ -37,7 +37,7 @@ open_is (Close ticket ∷ rest) closed none = absurd (both_ways _ (all_first Goe
 open_is (Stage ticket ∷ rest) closed none = ap (λ commands. Stage ticket ∷ commands) (open_is rest closed (all_others GoesOn _ rest none))
 open_is (Waive from ticket ∷ rest) closed none = ap (λ commands. Waive from ticket ∷ commands) (open_is rest closed (all_others GoesOn _ rest none))
 
--- what is accepted in a round does not move it on
+-- commands accepted in a round don't change its number
 round_stays : (open_part : List Command) (older : List Command) → HasNoClose open_part → History.round (open_part ++ older) ≡ History.round older
 round_stays [] older none = refl
 round_stays (Bid from ticket node amount ∷ rest) older none = round_stays rest older (all_others GoesOn _ rest none)

@@ -18,11 +18,11 @@ module _ (nodes : List Node) (tree : Ordered nodes) where
   top_of None e = refl
   top_of (Some parent) e = absurd (omega (arith, tree.before 0 parent e))
 
-  -- nothing stands above the first node
+  -- no node stands above the first
   pub first_on_top : parent_of nodes 0 ≡ None
   first_on_top = top_of (parent_of nodes 0) refl
 
-  -- more levels than stand above change nothing
+  -- counting more levels than there are changes nothing
   enough : (k m node : ℕ) → node ≤ k → node ≤ m → depth_within nodes k node ≡ depth_within nodes m node
   enough zero zero node a b = refl
   enough zero (suc m) node a b = let z : node ≡ 0 = omega arith in

@@ -1,4 +1,4 @@
--- The names of a draft are names, and distinct, exactly where no test speaks against them.
+-- The names of a draft are valid and distinct exactly if no test refuses them.
 use Rattle.std.proofs.Common.{◌≡◌, ◌≢◌, ℕ, zero, suc, ◌<◌, Bool, false, true, not, ◌||◌, eqb, List, [], ◌∷◌, map, length, get_or, inl, inr, Some, refl, sym, ap, ◌∙◌, arith}
 use Rattle.std.specs.Prelude.{All, slice_get}
 use Rattle.std.specs.List.{list_any, list_all}

@@ -1,4 +1,4 @@
--- The licences of a draft, how many they are and their terms, keep the rules exactly where no test speaks against them.
+-- The licences of a draft, in number and terms, keep the rules exactly if no test refuses them.
 use Rattle.std.proofs.Common.{◌≡◌, ℕ, zero, suc, ◌+◌, ◌*◌, ◌/◌, ◌%◌, false, not, cond, ◌||◌, eqb, List, [], ◌∷◌, Option, Some, None, refl, sym, ap, ◌∙◌, subst, arith}
 use Rattle.std.specs.Prelude.{is_some}
 use Rattle.std.specs.List.{list_any}

@@ -1,4 +1,4 @@
--- What the tests of a draft say of its numbers and lists.
+-- The tests of a draft, as facts about its numbers and lists.
 use Rattle.std.proofs.Common.{◌≡◌, ℕ, zero, suc, ◌≤◌, Bool, true, false, not, leb, List, [], ◌∷◌, length, refl, ap, arith}
 use Rattle.std.specs.Prelude.{All}
 use Rattle.std.specs.List.{list_any}

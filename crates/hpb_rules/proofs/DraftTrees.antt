@@ -1,4 +1,4 @@
--- The nodes of a draft are a tree whose packages have two children exactly where no test speaks against it.
+-- The nodes of a draft are a tree whose packages have two children exactly if no test refuses it.
 use Rattle.std.proofs.Common.{◌≡◌, ℕ, zero, suc, ◌+◌, ◌-◌, ◌<◌, ◌≤◌, Bool, true, false, cond, ◌&&◌, ltb, List, Option, Some, None, length, refl, ap, ⊎_elim, arith}
 use Rattle.std.specs.Prelude.{is_some, is_none}
 use Rattle.std.specs.List.{range_with_len}
@@ -24,7 +24,7 @@ module _ (nodes : List Node) where
   child_first : (parent a k : ℕ) → children_among nodes parent (range_with_len a (suc k)) ≡ cond (is_node parent (parent_of nodes a)) 1 0 + children_among nodes parent (range_with_len (a + 1) k)
   child_first parent a k = sum_by-cons (λ node. cond (is_node parent (parent_of nodes node)) 1 0) a (range_with_len (a + 1) k)
 
-  -- where children are counted there is one
+  -- if a child is counted, there is one
   some_child : (parent a k : ℕ) → 0 < children_among nodes parent (range_with_len a k) → (node : ℕ) × (a ≤ node) × (parent_of nodes node ≡ Some parent)
   some_child parent a zero h = absurd (omega arith)
   some_child parent a (suc k) h = by (some_child parent (a + 1) k) (is_node parent (parent_of nodes a)) refl
@@ -36,7 +36,7 @@ module _ (nodes : List Node) where
           let r : (node : ℕ) × (a + 1 ≤ node) × (parent_of nodes node ≡ Some parent) = rec (omega (arith, child_first parent a k, ap {B = ℕ} (λ b. cond b 1 0) e)) in
           (r.0, omega (arith, r.1), r.2)
 
-  -- where two are counted there are two
+  -- if two children are counted, there are two
   two_children : (parent a k : ℕ) → 2 ≤ children_among nodes parent (range_with_len a k) → HasTwoChildren nodes parent
   two_children parent a zero h = absurd (omega arith)
   two_children parent a (suc k) h = by (two_children parent (a + 1) k) (is_node parent (parent_of nodes a)) refl
@@ -47,7 +47,7 @@ module _ (nodes : List Node) where
           (a, r.0, (λ same. omega (arith, same, r.1)), is_parent parent (parent_of nodes a) e, r.2)
       by rec false e = rec (omega (arith, child_first parent a k, ap {B = ℕ} (λ b. cond b 1 0) e))
 
-  -- two children are counted
+  -- if there are two children, two are counted
   two_in_order : (parent one other : ℕ) → one < other → parent_of nodes one ≡ Some parent → parent_of nodes other ≡ Some parent → 2 ≤ children_of nodes parent
   two_in_order parent one other less e f =
       let j : suc one + (other - suc one) ≡ other = omega arith in

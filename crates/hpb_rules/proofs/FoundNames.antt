@@ -1,4 +1,4 @@
--- The names of a definition can stand in a line, each is found at its own place, and nothing else is found there.
+-- The names of a definition can stand in a line. Each name is found at its own place, and no other word is found there.
 use Rattle.std.proofs.Common.{◌≡◌, ℕ, zero, suc, ◌<◌, true, false, List, [], ◌∷◌, map, length, get_or, Some, refl, sym, ap, ◌∙◌, subst, arith}
 use Rattle.std.specs.Prelude.{slice_get}
 use Rattle.std.specs.List.{position}
@@ -38,7 +38,7 @@ module _ {A : Type 0} (named : A → List ℕ) where
   item_of [] place h = absurd (omega arith)
   item_of (x ∷ some) place h = x
 
-  -- the first that bears a name is the one that does
+  -- the first item that bears a name is the one that does
   found_at : (some : List A) (place : ℕ) (name : List ℕ) → place < length some → AreDistinct (map named some) → slice_get (map named some) place ≡ Some name → position (λ x. bytes_eq (named x) name) some ≡ Some place
   found_at some place name h distinct at =
       let d : A = item_of some place h in
@@ -53,14 +53,14 @@ module _ {A : Type 0} (named : A → List ℕ) where
           let one : earlier ≡ place = distinct earlier place name (name_at some earlier d (omega arith) ∙ ap Some equal) at in
           omega (arith, one))
 
-  -- what is found bears the name
+  -- an item that is found bears the name
   bears : (some : List A) (place : ℕ) (name : List ℕ) → position (λ x. bytes_eq (named x) name) some ≡ Some place → (place < length some) × (slice_get (map named some) place ≡ Some name)
   bears [] place name e = absurd (cc)
   bears (x ∷ some) place name e =
       let is : (place < length (x ∷ some)) × (bytes_eq (named (get_or (x ∷ some) place x)) name ≡ true) × _ = position-Some (λ x. bytes_eq (named x) name) (x ∷ some) place x e in
       (is.0, name_at (x ∷ some) place x is.0 ∙ ap Some ((bytes_eq-Decides (named (get_or (x ∷ some) place x)) name).0 is.1))
 
--- two names at one place are one
+-- two names at the same place are the same
 same_name : (names : List (List ℕ)) (place : ℕ) (one other : List ℕ) → slice_get names place ≡ Some one → slice_get names place ≡ Some other → one ≡ other
 same_name names place one other e f = let same : ◌≡◌ {A = _} (Some one) (Some other) = sym e ∙ f in cc
 
@@ -75,7 +75,7 @@ bidder_found rules name place e =
     let is : (place < length rules.bidders) × (slice_get (map (λ (bidder : Bidder). bidder.name) rules.bidders) place ≡ Some name) = bears (λ (bidder : Bidder). bidder.name) rules.bidders place name e in
     (is.0, same_name (map (λ (bidder : Bidder). bidder.name) rules.bidders) place name (bidder_name rules.bidders place) is.1 (bidder_name_at rules.bidders place is.0))
 
--- what stands among names is a name
+-- an item of a list of names is a name
 one_name : (names : List (List ℕ)) (place : ℕ) (name : List ℕ) → AreNames names → slice_get names place ≡ Some name → IsName name
 one_name names place name are at = subst IsName (get_or_from_slice_get names place name name at) (are.0 place name (slice_get_within names place name at))
 

@@ -6,7 +6,7 @@ use Rattle.hpb_rules.specs.Laws.{TestDecides, DisjointIsApart}
 use Rattle.hpb_rules.proofs.Under.{under_le, not_under, disjoint_from}
 
 module _ (nodes : List Node) where
-  -- going up from m, n is met only where m is at or under it
+  -- going up from m meets n only if m is at or under n
   within_sound : (k n m : ℕ) → at_or_under_within nodes k n m ≡ true → IsAtOrUnder nodes n m
   within_sound zero n m h = subst (IsAtOrUnder nodes n) (eqb-true n m h) itself
   within_sound (suc k) n m h = ⊎_elim

@@ -1,4 +1,4 @@
--- High bids are the greatest of closed rounds, incoming bids those of the open round.
+-- High bids are the greatest of closed rounds, and incoming bids those of the open round.
 use Rattle.hpb_rules.specs.History.{open_round, before_close}
 use Rattle.hpb_rules.specs.RoundLaws.{HighIsGreatest, IncomingIsGreatest}
 use Rattle.hpb_rules.proofs.Pasts.{closed_past}

@@ -37,7 +37,7 @@ module _ (value : AuctionValue) (command : Command) where
   pub next_old : is_new ≡ false → next_value value command ≡ value
   next_old old = ap (λ b. if b then changed value command else value) old
 
--- its command, where it is newly accepted, and then those of more answers
+-- its command, if it is newly accepted, and then those of the other answers
 pub new_first : (value : AuctionValue) (letter : Letter) (rest : List Answer) (b : Bool) → is_new value letter.command ≡ b
     → new_commands (answer_in value letter ∷ rest) ≡ (if b then letter.command ∷ new_commands rest else new_commands rest)
 new_first value letter rest b is =
@@ -48,7 +48,7 @@ new_first value letter rest b is =
     by true = refl
     by false = refl
 
--- ---- what it is by histories
+-- ---- the same by histories
 pub judged_is_shown : JudgedIsShown
 judged_is_shown value history [] shows = refl
 judged_is_shown value history (letter ∷ letters) shows =
@@ -125,7 +125,7 @@ pub rules_by : (value : AuctionValue) (letters : List Letter) → (value_by valu
 rules_by value [] = refl
 rules_by value (letter ∷ letters) = rules_by (next_value value letter.command) letters ∙ next_rules value letter.command
 
--- ---- what is accepted
+-- ---- the commands that are accepted
 pub new_accepted : (value : AuctionValue) (letters : List Letter) → AllAccepted value (new_commands (judged_in value letters))
 new_accepted value [] = tt
 new_accepted value (letter ∷ letters) =
@@ -138,7 +138,7 @@ new_accepted value (letter ∷ letters) =
         subst (AllAccepted value) (sym (new_first value letter rest false old))
         (subst (λ (v : AuctionValue). AllAccepted v (new_commands rest)) (next_old value letter.command old) more)
 
--- it leads where all of them lead
+-- they lead to the same value as all of them
 pub new_after : (value : AuctionValue) (letters : List Letter) → value_after value (new_commands (judged_in value letters)) ≡ value_by value letters
 new_after value [] = refl
 new_after value (letter ∷ letters) =
@@ -151,7 +151,7 @@ new_after value (letter ∷ letters) =
         ap (value_after value) (new_first value letter rest false old)
         ∙ ap (λ (v : AuctionValue). value_after v (new_commands rest)) (sym (next_old value letter.command old))
 
--- ---- where none is new
+-- ---- if none is new
 pub none_changes : (value : AuctionValue) (letters : List Letter) → new_commands (judged_in value letters) ≡ [] → value_by value letters ≡ value
 none_changes value letters none = sym (new_after value letters) ∙ ap (value_after value) none
 

@@ -1,4 +1,4 @@
--- A sender's last command stands under its number, and no later one is the sender's.
+-- A sender's last command stands in the history under its number, and no later one is the sender's.
 use Rattle.std.proofs.Common.{◌≡◌, ℕ, suc, ◌-◌, Bool, true, false, cond, List, [], ◌∷◌, ◌++◌, reverse, length, Option, Some, None, refl, sym, ap, ◌∙◌, ⊎_elim, arith, subst}
 use Rattle.std.specs.Prelude.{◌≢◌, MatchOption, slice_get}
 use Rattle.std.proofs.lemmas.Bool.{both_ways}

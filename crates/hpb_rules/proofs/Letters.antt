@@ -60,7 +60,7 @@ module _ (rules : Rules) where
   abbrev answer_to : List Command → Letter → Answer
   answer_to history letter = record { letter = letter; at = length history; reply = answer rules history letter.command }
 
-  -- what one answer accepts, and then what more accept
+  -- the commands that one answer accepts, and then those of the other answers
   accepted_first : (history : List Command) (letter : Letter) (rest : List Answer)
       → history ++ new_commands (answer_to history letter ∷ rest) ≡ history_after rules history letter.command ++ new_commands rest
   accepted_first history letter rest = by (is_answer_new (answer_to history letter)) ∙ ap (λ h. h ++ new_commands rest) (sym (history_after_appends rules history letter.command))

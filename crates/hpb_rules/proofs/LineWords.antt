@@ -1,4 +1,4 @@
--- The words of a line: they hold no space and no line feed, and joined they are the line.
+-- The words of a line: they have no space and no line feed, and joined they are the line.
 use Rattle.std.proofs.Common.{◌≡◌, ◌≢◌, ℕ, ◌<◌, ◌≤◌, Bool, true, false, cond, eqb, List, [], ◌∷◌, length, get_or, inl, inr, None, refl, ap, ◌∙◌}
 use Rattle.std.specs.Prelude.{All, if◌then◌else◌}
 use Rattle.std.specs.List.{onto_first, list_any}
@@ -16,7 +16,7 @@ abbrev pub AreClean : List (List ℕ) → Type 0
 AreClean [] = Unit {0}
 AreClean (word ∷ words) = IsClean word × AreClean words
 
--- ---- what stands between the spaces of a line
+-- ---- the words between the spaces of a line
 pub words_clean : (line : List ℕ) → list_any is_line_feed line ≡ false → AreClean (line_words line)
 words_clean [] e = (record { no_space = refl; no_line_feed = refl }, tt)
 words_clean (x ∷ xs) e = by (is_space x) refl (line_words xs) (words_clean xs (or_parts (is_line_feed x) (list_any is_line_feed xs) e).1)
@@ -39,7 +39,7 @@ no_end_joined : (word : List ℕ) (words : List (List ℕ)) → AreClean (word �
 no_end_joined word [] h = h.0.no_line_feed
 no_end_joined word (next ∷ words) h = list_any-append is_line_feed word (space ∷ spaced (next ∷ words)) ∙ or_from (list_any is_line_feed word) _ h.0.no_line_feed (no_end_joined next words h.1)
 
--- a line of such words, not too long, spells what they spell
+-- a line of such words that isn't too long spells what its words spell
 pub spelled_joined : (word : List ℕ) (words : List (List ℕ)) → AreClean (word ∷ words) → length (spaced (word ∷ words)) ≤ most_line_bytes → spelled (spaced (word ∷ words)) ≡ spelled_by (word ∷ words)
 spelled_joined word words h short =
     ap (λ b. if b then None else spelled_by (line_words (spaced (word ∷ words)))) (or_from _ _ (le-ltb most_line_bytes (length (spaced (word ∷ words))) short) (no_end_joined word words h))

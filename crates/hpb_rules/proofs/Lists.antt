@@ -40,14 +40,14 @@ front_self xs = ([], append_nil xs)
 pub front_trans : {A : Type 0} (xs ys zs : List A) → IsFront xs ys → IsFront ys zs → IsFront xs zs
 front_trans xs ys zs a b = (a.0 ++ b.0, b.1 ∙ ap (λ l. l ++ b.0) a.1 ∙ append_assoc xs a.0 b.0)
 
--- what stands in a list with one more at its end stands in the list, or is that one
+-- an item of a list with one more at its end is an item of the list, or that one
 pub get_push : {A : Type 0} (xs : List A) (y : A) (i : ℕ) (x : A) → slice_get (xs ++ y ∷ []) i ≡ Some x → (slice_get xs i ≡ Some x) ⊎ (x ≡ y)
 get_push [] y zero x e = let same : x ≡ y = cc in inr same
 get_push [] y (suc i) x e = absurd (cc)
 get_push (z ∷ xs) y zero x e = inl e
 get_push (z ∷ xs) y (suc i) x e = get_push xs y i x e
 
--- a list in two at what stands in it
+-- cutting a list in two at one of its items
 pub split_at : {A : Type 0} (xs : List A) (i : ℕ) (x : A) → slice_get xs i ≡ Some x → xs ≡ take i xs ++ x ∷ drop (suc i) xs
 split_at [] i x e = absurd (cc)
 split_at (z ∷ xs) zero x e = let same : z ≡ x = cc in ap (λ y. y ∷ xs) same

@@ -1,4 +1,4 @@
--- What the machine without a disk keeps over moves, and how events join.
+-- The invariant of the machine without a disk over moves, and the joining of events.
 use Rattle.std.proofs.Common.{◌≡◌, ℕ, suc, ◌≤◌, Bool, true, false, ◌||◌, eqb, List, [], ◌∷◌, ◌++◌, Option, Some, None, length, refl, sym, ap, ◌∙◌, ⊎_elim, arith, subst, append_assoc}
 use Rattle.std.specs.Prelude.{if◌then◌else◌, All}
 use Rattle.std.proofs.lemmas.Bool.{eqb-false}
@@ -16,7 +16,7 @@ use Rattle.hpb_rules.proofs.Lists.{append_nil, front_self, front_trans}
 use Rattle.hpb_rules.proofs.Letters.{all_fit_more, judged_history, judged_fit}
 
 module _ (rules : Rules) where
-  -- what a move keeps, and that what left fits what is acknowledged then
+  -- a move keeps the machine sound, and the answers that left fit the acknowledged commands
   record Kept (before : Machine) (leaving : List Answer) (after : Machine) : Type 0 where
     sound : IsSound rules after
     grows : IsFront before.acknowledged after.acknowledged
@@ -29,7 +29,7 @@ module _ (rules : Rules) where
   flying : (history : List Command) (flight : Flight) → IsHistory rules history → IsSoundFlight rules history flight → IsSound rules (record { acknowledged = history; flight = Some flight })
   flying history flight is sound = record { history = is; flying = λ other e. let same : flight ≡ other = cc in subst (IsSoundFlight rules history) same sound }
 
-  -- a flight's commands stand behind the acknowledged ones
+  -- a flight's commands continue the acknowledged ones
   flight_history : (history : List Command) (flight : Flight) → IsHistory rules history → IsSoundFlight rules history flight → IsHistory rules (history ++ new_commands flight.answers)
   flight_history history flight is sound = subst (λ answers. IsHistory rules (history ++ new_commands answers)) (sym sound.answers) (judged_history rules sound.letters history is)
 

@@ -1,4 +1,4 @@
--- Flags and the number that they are together: steps that other crates' proofs cite too.
+-- Flags, and the number that they make as bits: steps that other crates' proofs cite too.
 use Rattle.std.proofs.Common.{◌≡◌, ℕ, zero, suc, ◌+◌, ◌*◌, ◌/◌, ◌%◌, ◌^◌, ◌<◌, ◌≤◌, Bool, true, false, cond, eqb, ltb, ⊎_elim, List, [], ◌∷◌, map, get_or, refl, sym, ap, subst, ◌∙◌, arith}
 use Rattle.std.specs.Prelude.{◌==◌}
 use Rattle.std.specs.Int.{bit_at}
@@ -27,7 +27,7 @@ bit_of_mask (flag ∷ flags) zero = ap (λ (k : ℕ). eqb k 1) (bit_at_lowest (c
     lowest false m = let e : (0 + 2 * m) % 2 ≡ 0 = omega arith in ap (λ (k : ℕ). eqb k 1) e
 bit_of_mask (flag ∷ flags) (suc n) = ap (λ (k : ℕ). eqb k 1) (bit_at-suc (cond flag 1 0 + 2 * mask_of flags) n ∙ ap (λ (m : ℕ). bit_at m n) (half flag (mask_of flags))) ∙ bit_of_mask flags n
 
--- no flag is no bit
+-- the number of no flags is 0
 pub no_flags : mask_of [] ≡ 0
 unfolding mask_of
 no_flags = refl
@@ -41,7 +41,7 @@ flag (suc (suc x)) h = absurd (omega arith)
 flag_is : (m i : ℕ) → cond (has_bit m i) 1 0 ≡ m / 2 ^ i % 2
 flag_is m i = flag (m / 2 ^ i % 2) (omega arith)
 
--- the bits from a place on are what is above it
+-- the bits from a place on are the number divided down to that place
 bits_from : (m i k : ℕ) → mask_of (map (has_bit m) (range_with_len i k)) ≡ m / 2 ^ i % 2 ^ k
 unfolding mask_of
 bits_from m i zero = omega arith
@@ -53,7 +53,7 @@ bits_from m i (suc k) =
     let tail : mask_of (map (has_bit m) (range_with_len (i + 1) k)) ≡ y / 2 % 2 ^ k = bits_from m (i + 1) k ∙ ap (λ (x : ℕ). x % 2 ^ k) rest in
     omega (arith, flag_is m i, tail, split, power)
 
--- where no bit stands the number is 0
+-- if no bit is set from a place on, their number is 0
 none_from : (m i k : ℕ) → ((n : ℕ) → i ≤ n → has_bit m n ≡ false) → mask_of (map (has_bit m) (range_with_len i k)) ≡ 0
 unfolding mask_of
 none_from m i zero h = refl
@@ -67,7 +67,7 @@ below_power : (m : ℕ) → m < 2 ^ m
 below_power zero = omega arith
 below_power (suc m) = omega (arith, below_power m, pow-lt {i = m} {j = suc m} (omega arith))
 
--- a number with bits only below a place is that of these bits
+-- a number with bits only below a place is the number of these bits
 pub mask_is : (m k : ℕ) → ((n : ℕ) → has_bit m n ≡ true → n < k) → mask_of (map (has_bit m) (range_with_len 0 k)) ≡ m
 mask_is m k within =
     let none : (n : ℕ) → k ≤ n → has_bit m n ≡ false = λ n l. false_from_ne_true (has_bit m n) (λ e. omega (arith, l, within n e)) in

@@ -1,4 +1,4 @@
--- Of every tree the winners and the prices of its nodes are a certificate.
+-- In every tree the winners and the prices of its nodes are a certificate.
 use Rattle.std.proofs.Common.{◌≡◌, ℕ, zero, suc, ◌+◌, ◌<◌, ◌≤◌, Bool, true, cond, List, Option, Some, None, length, refl, sym, ap, ◌∙◌, arith, subst}
 use Rattle.std.specs.List.{sum_by, range_with_len}
 use Rattle.std.proofs.lemmas.List.Sums.{sum_by-cons}

@@ -1,4 +1,5 @@
--- A node's price is its value and what is carried down to it, so the licences' prices cover every high bid and sum to the revenue.
+-- A node's price is its value and the dollars carried down to it. So the licences' prices cover every high bid and sum
+-- to the revenue.
 use Rattle.std.proofs.Common.{◌≡◌, ℕ, zero, suc, ◌+◌, ◌-◌, ◌*◌, ◌<◌, ◌≤◌, cond, List, Option, Some, None, length, drop, max, refl, sym, ap, ◌∙◌, arith}
 use Rattle.std.specs.List.{sum_by, range_with_len}
 use Rattle.std.proofs.Math.Numerals.{add-one}
@@ -19,11 +20,11 @@ use Rattle.hpb_rules.proofs.GoingUp.{under_sound, under_complete, not_under_earl
 use Rattle.hpb_rules.proofs.PriceSums.{flags, term, total_none, length_flags, part_eq, all_eq, range_split, prices_sum, total_carried}
 
 module _ (nodes : List Node) (bid : ℕ → ℕ) (tree : IsTree nodes) where
-  -- what a licence adds to the price of node n
+  -- the dollars that a licence adds to the price of node n
   abbrev adds : ℕ → ℕ → ℕ
   adds n l = term (terms_of nodes l) (at_or_under nodes n l) (licence_price nodes bid l)
 
-  -- no licence before node n is under it
+  -- no licence in front of node n is under it
   early : (n a k : ℕ) → a + k ≤ n → sum_by (adds n) (range_with_len a k) ≡ 0
   early n a zero h = refl
   early n a (suc k) h = omega (arith, early n (a + 1) k (omega arith), sum_by-cons (adds n) a (range_with_len (a + 1) k), none (terms_of nodes a))
@@ -44,7 +45,7 @@ module _ (nodes : List Node) (bid : ℕ → ℕ) (tree : IsTree nodes) where
       (λ u. member_from_inside nodes tree n ns k f (under_sound nodes n (suc n + k) u)) in
       sym (part_eq nodes (at_or_under nodes n) (licence_price nodes bid) (suc n) ns (is_node n) refl same) ∙ prices_sum nodes bid tree (suc n) ns refl (is_node n) (below_is n)
 
-  -- what node n itself adds, and what is inside it
+  -- the dollars that node n itself adds, and the best inside it
   own : (n : ℕ) (t : Option Terms) → n < length nodes → terms_of nodes n ≡ t → let ns = drop (suc n) nodes in
       term t (at_or_under nodes n n) (licence_price nodes bid n) + total (is_node n) ns (carry_from nodes bid tree (suc n) ns) + best nodes bid n ≡ max (bid n) (best nodes bid n) + carried nodes bid n
   own n None h e =
@@ -62,7 +63,7 @@ module _ (nodes : List Node) (bid : ℕ → ℕ) (tree : IsTree nodes) where
       let c : cond (at_or_under nodes n n) (licence_price nodes bid n) 0 ≡ licence_price nodes bid n = ap (λ t. cond t (licence_price nodes bid n) 0) (under_complete nodes tree n n itself) in
       omega (arith, a, b, c)
 
-  -- a node's price is its value and what is carried down to it
+  -- a node's price is its value and the dollars carried down to it
   pub price_is : (n : ℕ) → n < length nodes → price nodes bid n ≡ max (bid n) (best nodes bid n) + carried nodes bid n
   price_is n h =
       let ns : List Node = drop (suc n) nodes in
@@ -75,7 +76,7 @@ module _ (nodes : List Node) (bid : ℕ → ℕ) (tree : IsTree nodes) where
       let v : best nodes bid n ≡ total (is_node n) ns (values_from (suc n) ns bid) = best_is bid nodes tree n h in
       omega (arith, whole, split, early n 0 n (omega arith), ap (λ a. sum_by (adds n) (range_with_len a (suc (length ns)))) zero_n, sum_by-cons (adds n) n (range_with_len (n + 1) (length ns)), next, late n h, own n (terms_of nodes n) h refl, v)
 
-  -- a licence's price is its bid and what is carried down to it
+  -- a licence's price is its bid and the dollars carried down to it
   pub licence_price_is : (n : ℕ) (t : Terms) → n < length nodes → terms_of nodes n ≡ Some t → price nodes bid n ≡ licence_price nodes bid n
   licence_price_is n t h e =
       let ns : List Node = drop (suc n) nodes in
@@ -93,7 +94,7 @@ module _ (nodes : List Node) (bid : ℕ → ℕ) (tree : IsTree nodes) where
       sym (all_eq nodes f 0 nodes refl) ∙ sym (top_all f nodes tree (flags nodes) (length_flags nodes)) ∙ prices_sum nodes bid tree 0 nodes refl is_top (λ j h. refl)
       ∙ omega (arith, total_carried nodes bid tree 0 nodes (from_all nodes tree), winners_all bid nodes tree)
 
-  -- no price is more than the revenue, so prices, what is carried and what is passed on are bounded as bids are
+  -- no price exceeds the revenue, so prices and the dollars carried and passed on are bounded as bids are
   pub price_bound : (most n : ℕ) → ((m : ℕ) → bid m ≤ most) → price nodes bid n ≤ length nodes * most
   price_bound most n h = omega (
     arith,

@@ -23,7 +23,7 @@ no_zero len first h e f = ⊎_elim
 own : IsNumeralModel (λ digits. all_ascii_digits digits ≡ true) (digits_value 10)
 own = numerals_by_value (λ digits. all_ascii_digits digits ≡ true) tells_all_ascii_digits
 
--- a number is the decimal of what it is worth, and at most the greatest
+-- a word that is a number is the decimal of its value, which is at most the greatest
 pub number_is : (most : ℕ) (word : List ℕ) (number : ℕ) → most < 2 ^ 64 → number_up_to most word ≡ Some number → (word ≡ decimal number) × (number ≤ most)
 number_is most word number small e = by (is_number word && leb (digits_value 10 word) most) refl e
   where
@@ -47,7 +47,7 @@ zero_alone (suc number) small =
     let first = first_decimal (suc number) (omega arith) small in
     grind (arith, nat_tests)
 
--- the decimal of a number that is not too great is read as that number
+-- the decimal of a number within the greatest is read as that number
 pub number_read : (most number : ℕ) → most < 2 ^ 64 → number ≤ most → number_up_to most (decimal number) ≡ Some number
 number_read most number small within =
     let value = digits_value-decimal own number (omega arith) in

@@ -1,4 +1,4 @@
--- Each node of a definition that is not refused has an opening above 0.
+-- Each node of a definition that isn't refused has an opening above 0.
 use Rattle.std.proofs.Common.{◌≡◌, ℕ, zero, suc, ◌<◌, ◌≤◌, Bool, true, false, cond, List, [], ◌∷◌, get_or, Option, Some, None, length, refl, sym, ap, ◌∙◌, arith}
 use Rattle.std.specs.Prelude.{IsSome}
 use Rattle.std.specs.List.{list_any}
@@ -28,7 +28,7 @@ passed_by_none test [] licence terms none e = absurd (cc)
 passed_by_none test (node ∷ nodes) zero terms none e = sym (ap test e) ∙ (or_parts _ _ none).0
 passed_by_none test (node ∷ nodes) (suc licence) terms none e = passed_by_none test nodes licence terms (or_parts (test node.terms) _ none).1 e
 
--- terms that are not bad have an opening above 0
+-- terms that aren't refused have an opening above 0
 opening_of_terms : (step : ℕ) (terms : Terms) → are_bad_terms step (Some terms) ≡ false → 0 < terms.opening
 opening_of_terms step terms e =
     let first : is_within 1 10000000000 terms.opening ≡ true = not-false _ (or_parts _ _ (or_parts _ _ e).0).1 in

@@ -22,7 +22,7 @@ test_more : (test : Bool) (refusal : Refusal) (number : ℕ) (rest : Option Refu
 test_more true refusal number rest other e = refl
 test_more false refusal number rest other e = e
 
--- what a command of its kind must meet
+-- the tests of a command's own kind
 own : (rules : Rules) (past : List Command) (command : Command) (number : ℕ) → ok_or_fault number (fault rules past command) ≡ first_reply (own_tests rules past command) (Ok number)
 own rules past (Bid from ticket node amount) number =
     test_more _ refusals.Step number _ _ (test_more _ refusals.Low number _ _ (test_more _ refusals.High number _ _ (test_more _ refusals.Again number _ _ (test_more _ refusals.Eligibility number None (Ok number) refl))))

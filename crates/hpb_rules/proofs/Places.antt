@@ -17,7 +17,7 @@ range_from a (suc n) = ap (λ xs. a ∷ xs) (range_from (a + 1) n ∙ ap (λ x. 
 pub range_more : (n : ℕ) → range_with_len 0 (n + 1) ≡ range_with_len 0 n ++ n ∷ []
 range_more n = subst (λ m. range_with_len 0 m ≡ range_with_len 0 n ++ n ∷ []) (sym (add-one n)) (range_from 0 n ∙ ap (λ x. range_with_len 0 n ++ x ∷ []) (let e : 0 + n ≡ n = omega arith in e))
 
--- what one place more adds to a sum
+-- one place more in a sum
 pub sum_more : (f : ℕ → ℕ) (n : ℕ) → sum_by f (range_with_len 0 (n + 1)) ≡ sum_by f (range_with_len 0 n) + f n
 sum_more f n = ap (sum_by f) (range_more n) ∙ sum_by_push f (range_with_len 0 n) n
 
@@ -36,7 +36,7 @@ none_from p a (suc n) h =
 pub none_here : (p : ℕ → Bool) (n : ℕ) → ((k : ℕ) → k < n → p k ≡ false) → list_any p (range_with_len 0 n) ≡ false
 none_here p n h = none_from p 0 n (λ k l. let same : 0 + k ≡ k = omega arith in ap p same ∙ h k l)
 
--- a place where a test fails that no place passes
+-- if no place passes a test, the test fails at each place
 pub none_at : (p : ℕ → Bool) (n k : ℕ) → list_any p (range_with_len 0 n) ≡ false → k < n → p k ≡ false
 none_at p n k h l = false_from_ne_true (p k) (λ e. both_ways _ h (any_here p n k l e))
 
@@ -61,11 +61,11 @@ sum_adds f k (suc d) =
 pub sum_grows : (f : ℕ → ℕ) (k n : ℕ) → k ≤ n → sum_by f (range_with_len 0 k) ≤ sum_by f (range_with_len 0 n)
 sum_grows f k n h = let same : k + (n - k) ≡ n = omega arith in omega (arith, sum_adds f k (n - k), ap (λ m. sum_by f (range_with_len 0 m)) same)
 
--- what a place adds is not in the sum before it
+-- the part of a place isn't in the sum before it
 pub sum_has : (f : ℕ → ℕ) (k n : ℕ) → k < n → sum_by f (range_with_len 0 k) + f k ≤ sum_by f (range_with_len 0 n)
 sum_has f k n h = omega (arith, sum_more f k, sum_grows f (k + 1) n (omega arith))
 
--- what has terms stands among the nodes
+-- a place with terms is within the nodes
 pub terms_in : (nodes : List Node) (l : ℕ) → IsSome (terms_of nodes l) → l < length nodes
 terms_in [] l some = absurd (both_ways false refl some)
 terms_in (n ∷ nodes) zero some = omega arith

@@ -1,4 +1,4 @@
--- The licences' prices below a test sum to the values and to what is carried down.
+-- The prices of the licences below a test sum to the values and the dollars carried down.
 use Rattle.std.proofs.Common.{◌≡◌, ℕ, zero, suc, ◌+◌, ◌-◌, ◌<◌, Bool, true, false, cond, ◌&&◌, eqb, List, [], ◌∷◌, Option, Some, None, length, drop, max, refl, sym, ap, ◌∙◌, ⊎_elim, arith, subst}
 use Rattle.std.specs.Prelude.{IsSome}
 use Rattle.std.specs.List.{sum_by, range_with_len}
@@ -57,7 +57,7 @@ length_flags (n ∷ ns) = ap suc (length_flags ns)
 abbrev pub term : Option Terms → Bool → ℕ → ℕ
 term t b x = elim t [ None ↦ 0 | Some u ↦ cond b x 0 ]
 
--- what is below a test, and the sum over the licences that another test passes
+-- the part below a test, and the sum over the licences that another test passes
 pub part_eq : (nodes : List Node) (p : ℕ → Bool) (f : ℕ → ℕ) (i : ℕ) (ns : List Node) (q : Test) → drop i nodes ≡ ns → ((k : ℕ) → k < length ns → member i q ns k ≡ p (i + k))
     → summed f i q ns (flags ns) ≡ sum_by (λ l. term (terms_of nodes l) (p l) (f l)) (range_with_len i (length ns))
 part_eq nodes p f i [] q e h = refl

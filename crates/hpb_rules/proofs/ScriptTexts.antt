@@ -65,7 +65,7 @@ script_text_is define input first rest line parts =
     let lines : (lines : List (List ℕ)) × AreItsLines input first rest line lines = its_lines input first rest line parts in
     ap (text_of_lines define) lines.1.0 ∙ sym (lines.1.1 (define first))
 
--- where each first line is read in one way, a script has one text
+-- if each first line is read in one way, a script has one text
 module _ (reads : List ℕ → Result Rules Refusal → Type 0) (once : (line : List ℕ) (one other : Result Rules Refusal) → reads line one → reads line other → one ≡ other) where
   pub text_is_one : (input one other : List ℕ) → IsText reads input one → IsText reads input other → one ≡ other
   text_is_one input one other is too =

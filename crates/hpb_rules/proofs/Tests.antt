@@ -1,9 +1,9 @@
--- What tests answer, and bits that are tested: small steps that other crates' proofs cite too.
+-- Results of tests, and tests of bits: small steps that other crates' proofs cite too.
 use Rattle.std.proofs.Common.{◌≡◌, ℕ, Bool, true, false, cond, ◌||◌, eqb, refl, sym, ap, ◌∙◌}
 use Rattle.std.specs.Int.{bit_at}
 use Rattle.std.proofs.lemmas.Nat.Bits.{bit_at-zero}
 
--- two tests that follow from one another answer alike
+-- two tests that follow from one another give the same answer
 pub same_answer : (one other : Bool) → (one ≡ true → other ≡ true) → (other ≡ true → one ≡ true) → one ≡ other
 same_answer true other there back = sym (there refl)
 same_answer false true there back = back refl

@@ -23,7 +23,7 @@ past_at_end rules [] past = refl
 past_at_end rules (line ∷ []) past = refl
 past_at_end rules (line ∷ next ∷ lines) past = past_at_end rules (next ∷ lines) (next_past rules past line)
 
--- twice turned, a past is as it was
+-- a past reversed twice is as it was
 whole_past : (rules : Rules) (history : List Command) (front : List ℕ) → reverse (history_after_lines rules history (front ++ line_feed ∷ [])) ≡ past_of rules (reverse history) (slice_split is_line_feed front)
 whole_past rules history front =
     reverse-reverse (state_after (next_past rules) (reverse history) (slice_split is_line_feed (front ++ line_feed ∷ [])))
@@ -39,7 +39,7 @@ lines_text_joins rules history front rest =
     ∙ ap (λ text. text ++ text_after rules (past_of rules past lines) rest) (append_nil (answered rules past lines) ∙ sym (text_at_end rules past front []))
     ∙ ap (λ older. lines_text rules history (front ++ line_feed ∷ []) ++ text_after rules older rest) (sym (whole_past rules history front))
 
--- ---- lines lead from a past to a past with more before it
+-- ---- lines lead from a past to a past that continues it
 module _ (rules : Rules) where
   abbrev GoesOn : List Command → List Command → Type 0
   GoesOn past longer = IsPast rules longer × ((newer : List Command) × (longer ≡ newer ++ past))

@@ -28,7 +28,7 @@ split_filled p (x ∷ xs) = by (p x) (slice_split p xs) (split_filled p xs)
     by true parts h = filled [] parts
     by false parts (filled y ys) = filled (x ∷ y) ys
 
--- what stands before a line feed and what stands behind it are split apart
+-- the bytes in front of a line feed and those behind it are split apart
 pub split_at_end : (front rest : List ℕ) → slice_split is_line_feed (front ++ line_feed ∷ rest) ≡ slice_split is_line_feed front ++ slice_split is_line_feed rest
 split_at_end [] rest = refl
 split_at_end (x ∷ front) rest = ap (λ parts. cond (is_line_feed x) ([] ∷ parts) (onto_first x parts)) (split_at_end front rest) ∙ by (is_line_feed x) (slice_split is_line_feed front) (split_filled is_line_feed front)
@@ -37,7 +37,7 @@ split_at_end (x ∷ front) rest = ap (λ parts. cond (is_line_feed x) ([] ∷ pa
     by true parts h = refl
     by false parts (filled y ys) = refl
 
--- ---- the text of some lines, and what they lead to
+-- ---- the text of some lines, and the past that they lead to
 module _ (rules : Rules) where
   abbrev pub answered : List Command → List (List ℕ) → List ℕ
   answered past [] = []
@@ -84,7 +84,7 @@ lines_text_grows rules history front rest =
     = front_after rules (reverse history) (slice_split is_line_feed front) (slice_split is_line_feed rest) (split_filled is_line_feed rest) in
     (more.0, ap (lines_after rules (reverse history)) (split_at_end front rest) ∙ more.1 ∙ ap (λ text. text ++ more.0) (sym (ap (lines_after rules (reverse history)) (split_at_end front []))))
 
--- what a first line that was read as a definition, or refused, leads to
+-- the text behind a first line that was read as a definition, or refused
 text_front : (read : Result Rules Refusal) (lines more : List (List ℕ)) → IsFilled more → IsFront (text_by read (lines ++ [] ∷ [])) (text_by read (lines ++ more))
 text_front (Err refusal) lines more h = front_self (line_of (refusal_text refusal))
 text_front (Ok rules) lines more h = front_after rules [] lines more h
@@ -102,7 +102,7 @@ script_text_grows define front rest =
 too_long : (line : List ℕ) → most_line_bytes < length line → spelled line ≡ None
 too_long line h = ap (λ b. if b || list_any is_line_feed line then None else spelled_by (line_words line)) (lt-ltb most_line_bytes (length line) h)
 
--- the first 129 bytes of a line tell what it asks for
+-- the first 129 bytes of a line decide its request
 pub request_of_front : (rules : Rules) (line : List ℕ) → request_of rules (take 129 line) ≡ request_of rules line
 request_of_front rules line = ⊎_elim
     (λ short. ap (request_of rules) (take_all 129 line (omega arith)))

@@ -8,7 +8,7 @@ use Rattle.hpb_rules.specs.HistoryLaws.{TicketsCount}
 use Rattle.hpb_rules.proofs.Pasts.{ticket_more, new_after, last_is}
 use Rattle.hpb_rules.proofs.Lists.{split_at, reverse_seam}
 
--- who has no last command has no ticket
+-- a sender without a last command has no ticket
 pub no_ticket : (past : List Command) (sender : Sender) → last_of past sender ≡ None → last_ticket past sender ≡ 0
 no_ticket [] sender e = refl
 no_ticket (newest ∷ past) sender e = ticket_more newest past sender ∙ by (no_ticket past sender) (is_from sender newest) e

@@ -6,7 +6,8 @@ use Rattle.hpb_rules.specs.Answer.{is_reply_new}
 use Rattle.hpb_rules.specs.AuctionValue.{AuctionValue}
 use Rattle.hpb_rules.specs.Values.{reply_in, next_value}
 
--- **Accepted commands.** Which commands a value newly accepts one after another, and that these are what may follow in a history that it shows.
+-- **Accepted commands.** The commands that a value newly accepts one after another. They are the commands that may
+-- follow in a history that it shows.
 --
 -- A value newly accepts a command.
 abbrev pub Accepts : AuctionValue → Command → Type 0

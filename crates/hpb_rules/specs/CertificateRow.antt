@@ -19,7 +19,8 @@ all_wins = true ∷ false ∷ false ∷ false ∷ false ∷ false ∷ []
 abbrev pub parts_win : List Bool
 parts_win = false ∷ false ∷ true ∷ true ∷ true ∷ false ∷ []
 
--- Two ways to split the price certify the package; prices that do not sum to the winners' bids, or leave a bid uncovered, certify nothing.
+-- Two ways to split the price certify the package. Prices that don't sum to the winners' bids, or that leave a bid
+-- uncovered, certify nothing.
 pub record Certificates : Type 0 where
   pub computed : IsCertificate small.nodes highs (priced 138 187 175 0) all_wins
   pub another : IsCertificate small.nodes highs (priced 137 188 175 0) all_wins

@@ -8,14 +8,15 @@ use Rattle.hpb_rules.specs.Drafts.{draft_refusal}
 use Rattle.hpb_rules.specs.History
 use Rattle.hpb_rules.specs.Answer.{IsPast, IsHistory}
 
--- **Rounds one by one.** A past is its open round and then each closed round, before which stands the close that ended it.
+-- **Rounds one by one.** A past is its open round, followed by each closed round with the close that ended it in front.
 --
--- A closed round: what was accepted in it, the newest first, and the ticket of the close that ended it.
+-- A closed round: the commands accepted in it, the newest first, and the ticket of the close that ended it.
 pub record ClosedRound : Type 0 where
   pub commands : List Command
   pub close : ℕ
 
--- Closed rounds as they stand in a past: before what was accepted in each stands the close that ended it, which is newer.
+-- Closed rounds as they stand in a past: in front of the commands of each stands the close that ended it, which is
+-- newer.
 abbrev pub written : List ClosedRound → List Command
 written [] = []
 written (one ∷ closed) = Close one.close ∷ one.commands ++ written closed
@@ -24,7 +25,8 @@ written (one ∷ closed) = Close one.close ∷ one.commands ++ written closed
 abbrev pub HasNoClose : List Command → Type 0
 HasNoClose commands = All (λ command. History.is_close command ≡ false) commands
 
--- A past has these rounds: it is the open round and then each closed round with its close, and there is no close in a round.
+-- A past has these rounds: it is the open round and then each closed round with its close, and no round contains a
+-- close.
 pub record HasRounds (past open_part : List Command) (closed : List ClosedRound) : Type 0 where
   pub goes_on : HasNoClose open_part
   pub ended : All (λ (one : ClosedRound). HasNoClose one.commands) closed
@@ -40,7 +42,8 @@ RoundIsCount = (past : List Command)
     → ((open_part : List Command) × (closed : List ClosedRound) × HasRounds past open_part closed)
     × ((open_part : List Command) (closed : List ClosedRound) → HasRounds past open_part closed → History.round past ≡ suc (count_by was_held_open closed))
 
--- Each accepted close opens a round but the one that ends the auction: the round is one more than the number of closes, less that one.
+-- Each accepted close opens a round, except the one that ends the auction. So the round is one more than the number of
+-- closes, less that one.
 abbrev pub ClosesAreCounted : Type 0
 ClosesAreCounted = (rules : Rules) (past : List Command) → IsPast rules past
     → History.round past + cond (History.is_over past) 1 0 ≡ suc (count_by History.is_close past)
@@ -51,6 +54,6 @@ pub record IsStageCount (rules : Rules) (history : List Command) : Type 0 where
   pub most : History.stage (reverse history) ≤ length rules.stages
   pub percentage : slice_get rules.stages (count_by History.is_stage history) ≡ Some (History.percentage rules (reverse history))
 
--- The stage counts the stage commands, in each history of a definition that is not refused.
+-- The stage counts the stage commands, in each history of a definition that isn't refused.
 abbrev pub StageIsCount : Type 0
 StageIsCount = (rules : Rules) (history : List Command) → draft_refusal rules ≡ None → IsHistory rules history → IsStageCount rules history

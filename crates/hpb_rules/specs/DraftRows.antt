@@ -36,11 +36,11 @@ c = licence (codes "c") (Some 0) 20
 abbrev d : Node
 d = licence (codes "d") None 5
 
--- The small definition with a name of so many bytes for its last licence.
+-- The small definition with a name of this many bytes for its last licence.
 abbrev with_name_of : ℕ → Rules
 with_name_of count = with_nodes (nodes_with east a c (licence (replicate count 97) None 5))
 
--- So many licences at the top; one bidder with so many units.
+-- A definition with this many licences at the top, and one bidder with this many units.
 abbrev flat : ℕ → ℕ → Rules
 flat count units = tens (80 ∷ []) (map (numbered None) (range_with_len 0 count)) (with_units (codes "g") units ∷ [])
 
@@ -52,7 +52,7 @@ inner place = group (codes "p" ++ decimal place) (Some (place - 1))
 abbrev inside : ℕ → Node
 inside place = numbered (Some place) place
 
--- Packages of so many levels, each in the one before it, with a licence in each and one more in the last.
+-- Packages on this many levels, each in the one before it, with a licence in each and one more in the last.
 abbrev nested : ℕ → List Node
 nested levels =
     group (codes "p0") None ∷ map inner (range_with_len 1 (levels - 1))

@@ -1,11 +1,11 @@
--- Fronts of lists, and lists one behind another.
+-- Fronts of lists, and lists joined one after another.
 use Rattle.std.specs.Prelude.{◌≡◌, List, [], ◌∷◌, ◌++◌}
 
--- One list is a front of another where the other goes on from it.
+-- A list is a front of another if the other continues it.
 abbrev pub IsFront : {A : Type 0} → List A → List A → Type 0
 IsFront {A = A} front whole = (rest : List A) × (whole ≡ front ++ rest)
 
--- What lists of lists have, one list behind another: the letters of all batches, in order.
+-- The items of lists, one list after another: for example the letters of all batches, in order.
 abbrev pub joined : {A : Type 0} → List (List A) → List A
 joined [] = []
 joined (list ∷ lists) = list ++ joined lists

@@ -1,4 +1,4 @@
--- The laws of trees, winners and prices: what is defined by a property is one thing, and the computation gives it.
+-- The laws of trees, winners and prices: exactly one thing has each defining property, and the computation gives it.
 use Rattle.std.specs.Prelude.{◌≡◌, ℕ, suc, ◌+◌, ◌<◌, ◌≤◌, ◌↔◌, max, List, Bool, length, slice_index, Some, None}
 use Rattle.std.specs.Bool.{Decides}
 use Rattle.std.specs.List.{range_with_len}
@@ -8,13 +8,13 @@ use Rattle.hpb_rules.specs.Tree.{Node, Rules, IsTree, IsAtOrUnder, Disjoint, par
 use Rattle.hpb_rules.specs.Choices.{IsChoice, IsWinners, IsBest, revenue, winners, best, top_revenue}
 use Rattle.hpb_rules.specs.Prices.{IsShares, shares, IsMinimum, minimum_of, Covers, price_of_all, licence_price, price, children_among, surplus, carried}
 
--- Of a thing that is defined by a property, the laws say that it has the property, and that nothing else has.
+-- If a thing is defined by a property, the laws say that it has the property, and that nothing else has.
 --
--- A property holds of one thing alone where it holds of it, and what else it holds of is equal to it.
+-- A property holds of one thing alone: it holds of that thing, and anything else that has it is equal to it.
 abbrev pub HoldsAlone : {A : Type 0} → (A → Type 0) → A → Type 0
 HoldsAlone {A = A} property value = property value × ((other : A) → property other → other ≡ value)
 
--- Among one or more there is exactly one list of shares, and it is the computed one.
+-- For a count of one or more there is exactly one list of shares, and it is the computed one.
 abbrev pub SharesAreOne : Type 0
 SharesAreOne = (dollars count : ℕ) → 0 < count → HoldsAlone (IsShares dollars count) (shares dollars count)
 
@@ -36,7 +36,7 @@ RevenueIsGreatest = (nodes : List Node) (bid : ℕ → ℕ) → IsTree nodes
     → (top_revenue nodes bid ≡ revenue bid (winners nodes bid))
     × ((choice : List Bool) → IsChoice nodes bid choice → revenue bid choice ≤ top_revenue nodes bid)
 
--- Where prices cover every high bid and sum to the revenue of a choice, no choice has more.
+-- If prices cover every high bid and sum to the revenue of a choice, no choice has more.
 abbrev pub CoverProves : Type 0
 CoverProves = (nodes : List Node) (bid price : ℕ → ℕ) (choice other : List Bool)
     → Covers nodes bid price → IsChoice nodes bid choice → price_of_all nodes price ≡ revenue bid choice
@@ -48,7 +48,7 @@ PricesProve = (nodes : List Node) (bid : ℕ → ℕ) → IsTree nodes
     → Covers nodes bid (licence_price nodes bid)
     × (price_of_all nodes (licence_price nodes bid) ≡ revenue bid (winners nodes bid))
 
--- A node's price is its value, which is the greater of its bid and the best inside, and what is carried down to it.
+-- A node's price is its value, which is the greater of its bid and the best inside, and the dollars carried down to it.
 abbrev pub PriceIsValue : Type 0
 PriceIsValue = (nodes : List Node) (bid : ℕ → ℕ) (node : ℕ) → IsTree nodes → node < length nodes
     → price nodes bid node ≡ max (bid node) (best nodes bid node) + carried nodes bid node
@@ -57,12 +57,13 @@ PriceIsValue = (nodes : List Node) (bid : ℕ → ℕ) (node : ℕ) → IsTree n
 abbrev pub TestDecides : Type 0
 TestDecides = (nodes : List Node) (top node : ℕ) → IsTree nodes → Decides (at_or_under nodes top node) (IsAtOrUnder nodes top node)
 
--- Two nodes share no licence exactly where neither is at or under the other.
+-- Two nodes share no licence exactly if neither is at or under the other.
 abbrev pub DisjointIsApart : Type 0
 DisjointIsApart = (nodes : List Node) (one other : ℕ) → IsTree nodes → one < length nodes → other < length nodes
     → Disjoint nodes one other ↔ ((IsAtOrUnder nodes one other → ⊥) × (IsAtOrUnder nodes other one → ⊥))
 
--- A draft is not refused exactly where it is a definition. So where a law asks that a definition isn't refused, it asks for all of `IsDefinition`.
+-- A draft isn't refused exactly if it is a definition. So a law that asks for a definition that isn't refused asks for
+-- all of `IsDefinition`.
 abbrev pub AcceptedIsDefinition : Type 0
 AcceptedIsDefinition = (rules : Rules) → (draft_refusal rules ≡ None) ↔ IsDefinition rules
 
@@ -72,8 +73,8 @@ DepthIsOneMore = (nodes : List Node) (node : ℕ) → IsTree nodes
     → (parent_of nodes node ≡ None → depth nodes node ≡ 1)
     × ((parent : ℕ) → parent_of nodes node ≡ Some parent → depth nodes node ≡ suc (depth nodes parent))
 
--- In a tree nothing is carried to a top node, and what is carried to another is its share, by its place among its parent's children, of what is
--- carried to the parent and of the parent's surplus.
+-- In a tree no dollars are carried down to a top node. Any other node gets its share, by its place among its parent's
+-- children. The dollars shared are those carried down to the parent and the parent's surplus.
 abbrev pub CarriedIsShare : Type 0
 CarriedIsShare = (nodes : List Node) (bid : ℕ → ℕ) (node : ℕ) → IsTree nodes
     → (parent_of nodes node ≡ None → carried nodes bid node ≡ 0)

@@ -9,21 +9,24 @@ use Rattle.hpb_rules.specs.AuctionValue.{AuctionValue, Shows}
 use Rattle.hpb_rules.specs.Judging.{judged_in}
 use Rattle.hpb_rules.specs.Letters.{Fits, judged, new_commands}
 
--- The history after a command is the history with the command at its end where it is newly accepted, and else the history as it was.
+-- The history after a command is the history with the command at its end if that is newly accepted, else the history as
+-- it was.
 abbrev pub HistoryAfterAppends : Type 0
 HistoryAfterAppends = (rules : Rules) (history : List Command) (command : Command)
     → history_after rules history command ≡ (if is_reply_new (length history) (answer rules history command) then history ++ command ∷ [] else history)
 
--- An answer that fits a list of accepted commands fits it with more behind.
+-- An answer that fits a list of accepted commands fits each longer list that begins with it.
 abbrev pub FitsGrow : Type 0
 FitsGrow = (rules : Rules) (seen more : List Command) (answered : Answer) → Fits rules seen answered → Fits rules (seen ++ more) answered
 
--- Letters and then more are answered as the letters, and then as more after the history with what the letters' answers accept.
+-- Letters followed by more get the answers of the letters, and then those of the others after the history with the
+-- commands that the first answers accept.
 abbrev pub JudgedJoin : Type 0
 JudgedJoin = (rules : Rules) (history : List Command) (letters more : List Letter)
     → judged rules history (letters ++ more) ≡ judged rules history letters ++ judged rules (history ++ new_commands (judged rules history letters)) more
 
--- Letters get the replies that their commands get one after another, and the history with what their answers accept is the history after these commands.
+-- Letters get the replies that their commands get one after another. The history with the commands that their answers
+-- accept is the history after these commands.
 abbrev pub JudgedIsAnswered : Type 0
 JudgedIsAnswered = (rules : Rules) (history : List Command) (letters : List Letter)
     → (map (λ (answered : Answer). answered.reply) (judged rules history letters) ≡ replies_from rules (reverse history) (map (λ (letter : Letter). letter.command) letters))

@@ -1,4 +1,5 @@
--- The worked rows of the machine: two bids of which the second is refused, turn by turn, and what a stop may leave of them.
+-- The worked rows of the machine: two bids of which the second is refused, turn by turn, and the commands that a stop
+-- may leave.
 use Rattle.std.specs.Prelude.{◌≡◌, List, [], ◌∷◌, ◌⊎◌, ◌↔◌}
 use mathlib.Core.Logic.{inr}
 use mathlib.Core.Path.{refl}
@@ -15,7 +16,7 @@ use Rattle.hpb_rules.specs.RowRules.{small}
 abbrev pub from_first_seat : Command → Letter
 from_first_seat command = record { seat = 0; command = command }
 
--- The bid of bidder 0 with ticket 1 on node 2 of 100 dollars.
+-- The bid of bidder 0, with ticket 1, of 100 dollars on node 2.
 abbrev pub first_bid : Command
 first_bid = Bid 0 1 2 100
 
@@ -62,8 +63,8 @@ a_landed_flight_may_outlast_a_stop = further (event two_bids) (further (event co
 its_bid_then_gets_its_number_at_once : run small (at_rest (first_bid ∷ [])) (two_bids ∷ []) ≡ record { leaving = record { letter = from_first_seat first_bid; at = 1; reply = replies.Ok 1 } ∷ record { letter = from_first_seat second_bid; at = 1; reply = replies.Refused refusals.Again } ∷ []; machine = at_rest (first_bid ∷ []) }
 its_bid_then_gets_its_number_at_once = refl
 
--- Of two bids, one of which is newly accepted, a stop leaves nothing before the third turn, nothing or the accepted one from the third turn on,
--- failed or not, and the accepted one once it is acknowledged.
+-- Of two bids one is newly accepted. Before the third turn a stop leaves nothing. From the third turn on, failed or
+-- not, it leaves nothing or the accepted bid. Once that is acknowledged, it leaves it.
 pub record Stops : Type 0 where
   pub when_offered : (history : List Command) → MayStand (machine_after (two_bids ∷ [])) history ↔ (history ≡ [])
   pub before_landing : (history : List Command) → MayStand (machine_after (two_bids ∷ commit ∷ commit ∷ [])) history ↔ (history ≡ [])

@@ -12,10 +12,10 @@ use Rattle.hpb_rules.specs.Prices.{minimum}
 use Rattle.hpb_rules.specs.History
 use Rattle.hpb_rules.specs.Answer.{answer}
 
--- **The order of refusals.** All tests in one list, in the order in which they are looked at, each with what is answered where it applies. A repeat is
--- answered among them. The last ones are those of the command's kind.
+-- **The order of refusals.** All tests in one list, in the order in which they are checked, each with the reply if it
+-- applies. A repeat is answered among them. The last ones are those of the command's kind.
 --
--- Of tests with their replies the reply of the first that applies, and another where none does.
+-- The reply of the first test that applies, or another reply if none does.
 abbrev pub first_reply : List (Bool × Reply) → Reply → Reply
 first_reply [] otherwise = otherwise
 first_reply (test ∷ tests) otherwise = if test.0 then test.1 else first_reply tests otherwise
@@ -25,20 +25,20 @@ abbrev pub is_last_again : Command → Option (Command × ℕ) → Bool
 is_last_again command None = false
 is_last_again command (Some last) = History.same_command command last.0
 
--- The number of a sender's last command, and 0 where there is none.
+-- The number of a sender's last command, or 0 if there is none.
 abbrev pub last_number : Option (Command × ℕ) → ℕ
 last_number None = 0
 last_number (Some last) = last.1
 
 module _ (rules : Rules) where
-  -- Whether a command names a bidder that the definition has not.
+  -- Whether a command names a bidder that the definition doesn't have.
   abbrev pub lacks_bidder : Command → Bool
   lacks_bidder (Bid from ticket node amount) = nat_le (length rules.bidders) from
   lacks_bidder (Close ticket) = false
   lacks_bidder (Stage ticket) = false
   lacks_bidder (Waive from ticket) = nat_le (length rules.bidders) from
 
-  -- Whether a command names a node that the definition has not.
+  -- Whether a command names a node that the definition doesn't have.
   abbrev pub lacks_node : Command → Bool
   lacks_node (Bid from ticket node amount) = nat_le (length rules.nodes) node
   lacks_node (Close ticket) = false
@@ -59,7 +59,7 @@ module _ (rules : Rules) where
       (History.waivers_left rules past from == 0, Refused refusals.Waiver)
       ∷ (History.has_waived past from, Refused refusals.Waived) ∷ []
 
-  -- The order of refusals: all tests, in the order in which they are looked at. A repeat is answered among them.
+  -- The order of refusals: all tests, in the order in which they are checked. A repeat is answered among them.
   abbrev pub order : List Command → Command → List (Bool × Reply)
   order past command =
       let ticket = History.ticket_of command in
@@ -74,7 +74,8 @@ module _ (rules : Rules) where
       ∷ (nat_le MOST_COMMANDS (length past), Refused refusals.Limit)
       ∷ (History.is_over past, Refused refusals.Closed) ∷ own_tests past command
 
--- A command is answered by the first test that applies in the order of refusals, and where none does it is accepted under the next number.
+-- A command is answered by the first test that applies in the order of refusals. If none does, it is accepted under the
+-- next number.
 abbrev pub AnswerIsFirst : Type 0
 AnswerIsFirst = (rules : Rules) (history : List Command) (command : Command)
     → answer rules history command ≡ first_reply (order rules (reverse history) command) (Ok (suc (length history)))

@@ -7,9 +7,9 @@ use crate::limits::MOST_LETTERS;
 use crate::reply::Reply;
 use std::marker::Model;
 
-/// What may stand in a list of fixed size.
+/// Items of a list of fixed size.
 pub trait Blank: Copy + Drop {
-    /// What fills the places that hold nothing yet. It is never seen.
+    /// The item that fills unused places. It is never seen.
     fn blank() -> Self;
 }
 
@@ -57,7 +57,7 @@ pub type Letters = Few<Letter>;
 /// Answers to letters, in their order.
 pub type Answers = Few<Answer>;
 
-/// Commands of one batch, in the order in which they were accepted, or in which they are asked.
+/// Commands of one batch, in the order of their acceptance, or of being asked.
 pub type Commands = Few<Command>;
 
 /// Replies to commands that were asked together, in their order.
@@ -85,7 +85,7 @@ impl<T: Blank> Few<T> {
         }
     }
 
-    /// Puts an item at the end. A full list stays as it is, and the item is handed back.
+    /// Adds an item at the end. A full list stays as it is, and the item is handed back.
     pub fn push(&mut self, item: T) -> Result<(), T>
         ensures room { IsOk result ↔ (length self.old < MOST_LETTERS) }
         ensures pushed { OnOk result (self.new ≡ self.old ++ item ∷ []) }
@@ -100,7 +100,7 @@ impl<T: Blank> Few<T> {
         Ok(())
     }
 
-    /// Takes all items out.
+    /// Removes all items.
     pub fn clear(&mut self)
         ensures { self.new ≡ [] }
     {

@@ -2,7 +2,8 @@ ghost use Rattle.hpb_rules.specs.CertificateRow.{Certificates};
 ghost use Rattle.hpb_rules.specs.Laws.{SharesAreOne, MinimumIsOne, WinnersAreOne, BestIsOne, CoverProves, PricesProve, TestDecides, RevenueIsGreatest, PriceIsValue, DisjointIsApart, AcceptedIsDefinition, DepthIsOneMore, CarriedIsShare};
 ghost use Rattle.hpb_rules.specs.Limits.{LimitsAre};
 
-/// The shares are the one list that never rises, whose first is at most one more than its last, with that sum.
+/// There is exactly one list of shares: it never rises, its first is at most one more than its last, and it has the
+/// right sum.
 pub fn shares_are_one()
     ensures { SharesAreOne }
 {}
@@ -17,7 +18,7 @@ pub fn winners_are_one()
     ensures { WinnersAreOne }
 {}
 
-/// The best inside a node is one number, the greatest revenue inside, and it is the computed one.
+/// The best inside a node is one number: the greatest revenue inside, and the computed one.
 pub fn best_is_one()
     ensures { BestIsOne }
 {}
@@ -42,32 +43,32 @@ pub fn revenue_is_greatest()
     ensures { RevenueIsGreatest }
 {}
 
-/// A node's price is the greater of its bid and the best inside it, and what is carried down to it.
+/// A node's price is the greater of its bid and the best inside it, and the dollars carried down to it.
 pub fn price_is_value()
     ensures { PriceIsValue }
 {}
 
-/// Two nodes share no licence exactly where neither is at or under the other.
+/// Two nodes share no licence exactly if neither is at or under the other.
 pub fn disjoint_is_apart()
     ensures { DisjointIsApart }
 {}
 
-/// Which prices and winners of a worked auction certify each other, and which do not.
+/// Which prices and winners of a worked auction certify each other, and which don't.
 pub fn certificates()
     ensures { Certificates }
 {}
 
-/// A draft is not refused exactly where it keeps all rules on definitions.
+/// A draft isn't refused exactly if it keeps all rules on definitions.
 pub fn accepted_is_definition()
     ensures { AcceptedIsDefinition }
 {}
 
-/// A top node has depth 1, and each other one more than its parent.
+/// A top node has depth 1, and each other node one more than its parent.
 pub fn depth_is_one_more()
     ensures { DepthIsOneMore }
 {}
 
-/// What is carried down to a node is its share of what its parent passes down.
+/// The dollars carried down to a node are its share of those that its parent passes down.
 pub fn carried_is_share()
     ensures { CarriedIsShare }
 {}

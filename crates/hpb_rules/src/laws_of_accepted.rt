@@ -1,21 +1,21 @@
 ghost use Rattle.hpb_rules.specs.AcceptedLaws.{RestIsAccepted, RestIsShown, AcceptedJoin, AcceptedAreCounted};
 
-/// A value that shows the front of a list of commands accepts the rest exactly where the whole list is a history.
+/// A value that shows the front of a list of commands accepts the rest exactly if the whole list is a history.
 pub fn rest_is_accepted()
     ensures { RestIsAccepted }
 {}
 
-/// After what it accepts it shows the whole list.
+/// After accepting that rest the value shows the whole list.
 pub fn rest_is_shown()
     ensures { RestIsShown }
 {}
 
-/// Commands and then more are accepted where the commands are, and then the others by the value after them.
+/// Commands followed by more are accepted exactly if the commands are, and then the others by the value after them.
 pub fn accepted_join()
     ensures { AcceptedJoin }
 {}
 
-/// Each command that is accepted is counted, and the definition stays.
+/// Each accepted command is counted, and the definition stays.
 pub fn accepted_are_counted()
     ensures { AcceptedAreCounted }
 {}

@@ -1,40 +1,40 @@
 ghost use Rattle.hpb_rules.specs.HistoryLaws.{AcceptedIsNew, BidsMeetRules, TicketsCount, LastStands, SameIsEqual, PercentageIsKnown, HistoryGrows, FrontIsHistory, RepeatChangesNothing, AnswerIsShown, ShownIsOne};
 ghost use Rattle.hpb_rules.specs.Order.{AnswerIsFirst};
 
-/// A command is accepted under the next number exactly where its names are known, it bears its sender's next ticket,
-/// there is room for it, the auction is not over, and nothing is wrong with it.
+/// A command is accepted under the next number exactly if it is new: its names are known, it bears its sender's next
+/// ticket, and there is room for it. Besides, the auction isn't over, and the command has no fault.
 pub fn accepted_is_new()
     ensures { AcceptedIsNew }
 {}
 
-/// A command is answered by the first test that applies in the order of refusals, and where none does it is accepted under
+/// A command is answered by the first test that applies in the order of refusals. If none does, it is accepted under
 /// the next number.
 pub fn answer_is_first()
     ensures { AnswerIsFirst }
 {}
 
-/// Each bid's bidder and node are the definition's, and its amount is a multiple of the step, at least the node's
-/// opening, more than 0, and at most the greatest amount that there is.
+/// Each bid's bidder and node are the definition's. Its amount is a multiple of the step, at least the node's opening,
+/// more than 0, and at most the greatest amount.
 pub fn bids_meet_rules()
     ensures { BidsMeetRules }
 {}
 
-/// A sender's tickets count its commands: each bears one more than the last ticket before it.
+/// A sender's tickets count its commands: each is one more than the last ticket before it.
 pub fn tickets_count()
     ensures { TicketsCount }
 {}
 
-/// The last command of a sender stands under its number, and no later one is the sender's.
+/// A sender's last command stands in the history under its number, and no later one is the sender's.
 pub fn last_stands()
     ensures { LastStands }
 {}
 
-/// Two commands are the same exactly where they are equal, and so are two senders.
+/// Two commands are the same exactly if they are equal, and so are two senders.
 pub fn same_is_equal()
     ensures { SameIsEqual }
 {}
 
-/// In a history of a definition that is not refused the stage in force has a percentage from 50 to 100.
+/// In a history of a definition that isn't refused the stage in force has a percentage from 50 to 100.
 pub fn percentage_is_known()
     ensures { PercentageIsKnown }
 {}
@@ -59,7 +59,7 @@ pub fn answer_is_shown()
     ensures { AnswerIsShown }
 {}
 
-/// Two values of one definition that show one history are equal.
+/// Two values of one definition that show the same history are equal.
 pub fn shown_is_one()
     ensures { ShownIsOne }
 {}

@@ -1,22 +1,23 @@
 ghost use Rattle.hpb_rules.specs.LetterLaws.{HistoryAfterAppends, FitsGrow, JudgedJoin, JudgedIsAnswered, JudgedIsShown};
 
-/// The history after a command is the history with it at the end where it is newly accepted, and else as it was.
+/// The history after a command is the history with it at the end if it is newly accepted, else the history as it was.
 pub fn history_after_appends()
     ensures { HistoryAfterAppends }
 {}
 
-/// An answer that fits a list of accepted commands fits it with more behind.
+/// An answer that fits a list of accepted commands fits each longer list that begins with it.
 pub fn fits_grow()
     ensures { FitsGrow }
 {}
 
-/// Letters and then more are answered as the letters, and then as more after what these accept.
+/// Letters followed by more get the answers of the letters, and then those of the others after the commands that the
+/// first accept.
 pub fn judged_join()
     ensures { JudgedJoin }
 {}
 
-/// Letters get the replies that their commands get one after another, and the history with what their answers accept
-/// is the history after these commands.
+/// Letters get the replies that their commands get one after another. The history with the commands that their answers
+/// accept is the history after these commands.
 pub fn judged_is_answered()
     ensures { JudgedIsAnswered }
 {}

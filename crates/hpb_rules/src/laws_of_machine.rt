@@ -1,13 +1,13 @@
 ghost use Rattle.hpb_rules.specs.MachineLaws.{RestIsSound, MachineKeeps, RunIsMoves, RunJoins};
 ghost use Rattle.hpb_rules.specs.MachineRows.{Stops};
 
-/// At rest with a history a machine is sound.
+/// A machine at rest with a history is sound.
 pub fn rest_is_sound()
     ensures { RestIsSound }
 {}
 
-/// Over moves one after another, events and stops, from a sound machine on, the acknowledged commands are a history and
-/// only grow, what may stand after a stop is a history that begins with them, and each answer that has left fits them.
+/// Moves are events and stops. Over moves from a sound machine on, the acknowledged commands are a history and only
+/// grow. The commands that a stop may leave are a history that begins with them. Each answer that has left fits them.
 pub fn machine_keeps()
     ensures { MachineKeeps }
 {}
@@ -17,12 +17,13 @@ pub fn run_is_moves()
     ensures { RunIsMoves }
 {}
 
-/// Events and then more have the effect of the events, and then that of more.
+/// Events followed by more have the effect of the events, and then that of the others.
 pub fn run_joins()
     ensures { RunJoins }
 {}
 
-/// What a stop may leave of two bids: the acknowledged commands, and from the third turn on these or the flight's with them.
+/// The commands that a stop may leave of two bids: the acknowledged ones, and from the third turn on these or the
+/// flight's with them.
 pub fn stops()
     ensures { Stops }
 {}

@@ -5,14 +5,13 @@ pub fn reply_is_answer()
     ensures { ReplyIsAnswer }
 {}
 
-/// After a command a value shows the history with that command where it was newly accepted, and else the same
-/// history.
+/// After a command a value shows the history with that command if it was newly accepted, else the same history.
 pub fn next_is_shown()
     ensures { NextIsShown }
 {}
 
-/// Over a whole run from a value on the replies are those of the history that it shows, and the value at the end
-/// shows the longer history.
+/// Over a whole run from a value on the replies are those of the history that it shows. At the end the value shows the
+/// longer history.
 pub fn run_is_shown()
     ensures { RunIsShown }
 {}
@@ -22,8 +21,8 @@ pub fn text_is_shown()
     ensures { TextIsShown }
 {}
 
-/// Of every value under a definition that is not refused, the winners are disjoint high bids of the greatest
-/// total, and the prices prove it.
+/// In every value under a definition that isn't refused, the winners are disjoint high bids with the greatest sum, and
+/// the prices prove it.
 pub fn value_is_best_choice()
     ensures { ValueIsBestChoice }
 {}

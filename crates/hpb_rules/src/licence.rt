@@ -1,4 +1,4 @@
-/// What a licence is sold by: its bidding units, and its opening, the lowest first bid in whole dollars.
+/// The terms on which a licence is sold: its bidding units, and its opening, the lowest first bid in whole dollars.
 #[derive(Clone, Copy, Debug, PartialEq, Eq)]
 pub struct Terms {
     /// In bidding units.

@@ -1,9 +1,9 @@
 use crate::refusal::Refusal;
 
-/// What a command is answered.
+/// The answer to a command.
 #[derive(Clone, Copy, Debug, PartialEq, Eq)]
 pub enum Reply {
-    /// Accepted: the number of commands accepted so far, this one with them.
+    /// Accepted: the number of commands accepted so far, this one included.
     Ok(u32),
     /// Refused. Nothing has changed.
     Refused(Refusal),

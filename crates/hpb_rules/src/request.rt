@@ -1,15 +1,15 @@
 use crate::command::Command;
 use crate::id::{BidderId, NodeId};
 
-/// What a line asks for.
+/// The request of a line.
 #[derive(Clone, Copy, Debug, PartialEq, Eq)]
 pub enum Request {
     /// A command to the auction: `BID`, `CLOSE`, `STAGE` or `WAIVE`.
     Command(Command),
     /// `SHOW`: the round, the stage, the revenue and the count.
     Show,
-    /// `NODE`: how a node stands.
+    /// `NODE`: the state of a node.
     Node(NodeId),
-    /// `WHO`: how a bidder stands.
+    /// `WHO`: the state of a bidder.
     Who(BidderId),
 }

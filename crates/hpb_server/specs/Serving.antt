@@ -26,8 +26,8 @@ use Rattle.hpb_rules.specs.declared.refusal.Refusal.TheVariants as refusals
 -- state, by which lines are read. `over` says whether the session is over at a state. `asks` has the replies that a
 -- command may get, and the states that follow. `looks` has the auctions that may be shown, or says that none can be
 -- shown any more. Definitions stand in a section over these four. The last ones also stand in a section over the start
--- of a session: the most commands that are asked for together, whether the desk takes memory, the bytes that are
--- unread, and how many may be read. Beside these it is over the streams, and over the states before and after.
+-- of a session: the most commands that are asked for together, and whether the desk takes memory. Beside these it is
+-- over the unread bytes, the budget of bytes that may be read, the streams, and the states before and after.
 --
 -- The view of a desk's auction, or the reply that it can show none any more.
 abbrev pub shown_by : (AuctionValue → List ℕ) → Option AuctionValue → List ℕ
