@@ -73,7 +73,7 @@ placed_are_books {old = old} {new = new} b n a sized i j e past t h = subst (λ 
   bids = λ c m k l. placed_mask old.bids b n c m (bid_on past c m) (omega (arith, sized.bids)) (h.bids c m k l);
 })
 
--- ---- what a bid and a close leave, place by place
+-- ---- the books after a bid and after a close, place by place
 
 pub placed_offers : {old new : BooksView} (b n a : ℕ) → IsBooks old → n < MOST_NODES → new ≡ placed old b n a
     → (m : ℕ) → offer_at new.incoming m ≡ (if n == m then greater (offer_at old.incoming m) (Some (record { amount = a; bidder = b })) else offer_at old.incoming m)

@@ -1,4 +1,4 @@
--- What each entry of a saved auction must meet to be restored.
+-- The conditions under which each entry of a saved auction may be restored.
 use Rattle.std.specs.Prelude.{◌≡◌, ℕ, ◌+◌, ◌<◌, ◌≤◌, true, List, length, IfSome, IsSome, slice_index_or}
 use Rattle.hpb_rules.specs.declared.limits.TheConstants.{MOST_COMMANDS}
 use Rattle.hpb_rules.specs.declared.saved.Saved.{Saved}

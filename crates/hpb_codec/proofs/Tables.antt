@@ -17,7 +17,7 @@ recursion_at P [] i d lt all = absurd (omega arith)
 recursion_at P (x ∷ values) zero d lt all = all.0
 recursion_at P (x ∷ values) (suc i) d lt all = recursion_at P values i d (omega arith) all.1
 
--- and of one more entry
+-- a property of all entries and of one more holds of all with that one
 pub recursion_push : {X : Type 0} (P : X → Type 0) (values : List X) (x : X) → AllByRecursion P values → P x → AllByRecursion P (values ++ x ∷ [])
 recursion_push P [] x all one = (one, tt)
 recursion_push P (y ∷ values) x all one = (all.0, recursion_push P values x all.1 one)

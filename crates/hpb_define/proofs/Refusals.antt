@@ -1,4 +1,4 @@
--- What a refusal of a definition says of its bytes.
+-- The facts about a definition's bytes that follow from its refusal.
 use Rattle.std.proofs.Common.{◌≡◌, ◌≢◌, ℕ, List, Some, Err}
 use Rattle.hpb_rules.specs.Drafts.{draft_refusal}
 use Rattle.hpb_rules.specs.Tree.{Rules}

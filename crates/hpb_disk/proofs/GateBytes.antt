@@ -32,7 +32,7 @@ pub closed_stays : (gate at count : ℕ) (before after : List ℕ → Type 0) �
     → Within after (TornFrom at count before) → Within before (HasClosedGate gate) → Within after (HasClosedGate gate)
 closed_stays gate at count before after apart = stays_elsewhere (λ bytes. bytes ≢ open_byte) gate 1 at count before after apart
 
--- So with a gate that is open in every image.
+-- If a gate is open in every image that a crash may leave, a write elsewhere keeps it so.
 pub open_stays : (gate at count : ℕ) (before after : List ℕ → Type 0) → (gate + 1 ≤ at) ⊎ (at + count ≤ gate)
     → Within after (TornFrom at count before) → Within before (HasOpenGate gate) → Within after (HasOpenGate gate)
 open_stays gate at count before after apart = stays_elsewhere (λ bytes. bytes ≡ open_byte) gate 1 at count before after apart

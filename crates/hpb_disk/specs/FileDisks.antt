@@ -42,6 +42,6 @@ file_is_broken disk = disk.broken
 abbrev pub IsApart : File → Type 0
 IsApart file = pos 3 ≤ℤ file_raw_fd file
 
--- Nor is that of a device's file.
+-- The descriptor of a device's file is none of the standard streams'.
 abbrev pub file_is_apart : FileDisk → Type 0
 file_is_apart disk = IsApart disk.file

@@ -45,7 +45,7 @@ pub trait Disk {
         ensures bytes { OnOk result (out.new ≡ part at (length out.old) (seen self.old)) }
         // It changes no byte, whether it succeeds or not.
         ensures seen { seen self.new ≡ seen self.old }
-        // A crash after it may leave what a crash before it could, no more and no less.
+        // A crash after it may leave the same images as a crash before it, no more and no less.
         ensures crash { Within (may_leave self.new) (may_leave self.old) }
         ensures crash_kept { Within (may_leave self.old) (may_leave self.new) }
         // The same holds for a crash within the read.

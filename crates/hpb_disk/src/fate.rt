@@ -1,6 +1,6 @@
 //! The fates of a write at a stop.
 
-/// What a stop makes of a write that no sync covers.
+/// The fate, at a stop, of a write that no sync covers.
 #[derive(Clone, Copy, Debug, PartialEq, Eq)]
 pub enum Fate {
     /// The write is whole.

@@ -9,7 +9,7 @@ use Rattle.hpb_rules.specs.Prices.{IsShares, share}
 use Rattle.hpb_rules.proofs.TreeLaws.{shares_are_one}
 use Rattle.hpb_rules.proofs.Loops.{share_at}
 
--- a percentage in two parts: of the hundreds, and of the rest
+-- a percentage in two parts: that of the hundreds, and that of the rest
 parts : (a p : ℕ) → a * p ≡ 100 * (a / 100 * p) + a % 100 * p
 parts a p = ap (λ x. x * p) (sym (div-add-mod' a 100)) ∙ add-mul (a / 100 * 100) (a % 100) p ∙ ap (λ x. x + a % 100 * p) (ap (λ x. x * p) (mul_comm (a / 100) 100) ∙ mul_assoc 100 (a / 100) p)
 

@@ -1,7 +1,7 @@
 -- Dollars that are shared out.
 use Rattle.std.specs.Prelude.{ℕ, ◌+◌, ◌/◌, ◌%◌, cond, nat_lt}
 
--- What each gets, and how many get one more.
+-- The dollars that each place gets, and how many places get one dollar more.
 pub record SharesView : Type 0 where
   pub each : ℕ
   pub more : ℕ

@@ -62,7 +62,7 @@ module _ (rules : Rules) where
   pub text_at_end : (past : List Command) (front rest : List ℕ) → text_after rules past (front ++ line_feed ∷ rest) ≡ answered past (slice_split is_line_feed front) ++ text_after rules (past_of past (slice_split is_line_feed front)) rest
   text_at_end past front rest = ap (lines_after rules past) (split_at_end front rest) ∙ lines_filled (slice_split is_line_feed front) (slice_split is_line_feed rest) past (split_filled is_line_feed rest)
 
-  -- one line, and what follows it
+  -- one line, and the lines behind it
   pub text_of_line : (past : List Command) (line more : List ℕ) → All (λ byte. is_line_feed byte ≡ false) line → text_after rules past (line ++ line_feed ∷ more) ≡ answer_line rules past line ++ text_after rules (next_past rules past line) more
   text_of_line past line more h = ap (lines_after rules past) (slice_split_at is_line_feed line line_feed more h refl) ∙ lines_filled (line ∷ []) (slice_split is_line_feed more) past (split_filled is_line_feed more)
       ∙ append_assoc (answer_line rules past line) [] (text_after rules (next_past rules past line) more)

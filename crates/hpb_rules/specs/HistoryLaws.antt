@@ -1,4 +1,4 @@
--- The laws of answers, of histories and of what a value shows.
+-- The laws of answers, of histories and of the histories that a value shows.
 use Rattle.std.specs.Prelude.{◌≡◌, ◌≢◌, ◌↔◌, ℕ, suc, ◌-◌, ◌%◌, ◌<◌, ◌≤◌, false, List, [], ◌∷◌, ◌++◌, reverse, take, length, Some, None, MatchOption, slice_get}
 use Rattle.std.specs.Bool.{Decides}
 use Rattle.hpb_rules.specs.declared.command.Command.{Command}

@@ -13,15 +13,15 @@ use Rattle.hpb_rules.specs.Machine.{Flight, Machine, Event, landed, at_rest, run
 -- there is one, has the answers of letters judged after these, with at least one command newly accepted and at most
 -- three turns behind it.
 --
--- A flight is sound after acknowledged commands. Its answers are those of letters judged after these, at least one of
--- them newly accepts a command, and it has had at most three turns.
+-- A flight is sound after acknowledged commands under three conditions. Its answers are those of letters judged after
+-- these. At least one of them newly accepts a command. It has had at most three turns.
 pub record IsSoundFlight (rules : Rules) (acknowledged : List Command) (flight : Flight) : Type 0 where
   pub letters : List Letter
   pub answers : flight.answers ≡ judged rules acknowledged letters
   pub accepts : 0 < length (new_commands flight.answers)
   pub turns : flight.turns ≤ landed
 
--- A machine is sound: its acknowledged commands are a history, and its flight, if there is one, is sound after these.
+-- A machine is sound if its acknowledged commands are a history, and its flight, if there is one, is sound after these.
 pub record IsSound (rules : Rules) (machine : Machine) : Type 0 where
   pub history : IsHistory rules machine.acknowledged
   pub flying : (flight : Flight) → machine.flight ≡ Some flight → IsSoundFlight rules machine.acknowledged flight
@@ -30,9 +30,9 @@ pub record IsSound (rules : Rules) (machine : Machine) : Type 0 where
 abbrev pub RestIsSound : Type 0
 RestIsSound = (rules : Rules) (history : List Command) → IsHistory rules history → IsSound rules (at_rest history)
 
--- Moves from one machine to another are durable. The machine is sound afterwards, and the acknowledged commands have
--- only grown. The commands that a stop may leave are a history that begins with them, and each answer that has left
--- fits them.
+-- Moves from one machine to another are durable under these conditions. The machine is sound afterwards, and the
+-- acknowledged commands have only grown. The commands that a stop may leave are a history that begins with them, and
+-- each answer that has left fits them.
 pub record IsDurable (rules : Rules) (before : Machine) (leaving : List Answer) (after : Machine) : Type 0 where
   pub sound : IsSound rules after
   pub grows : IsFront before.acknowledged after.acknowledged

@@ -57,7 +57,7 @@ pub type Letters = Few<Letter>;
 /// Answers to letters, in their order.
 pub type Answers = Few<Answer>;
 
-/// Commands of one batch, in the order of their acceptance, or of being asked.
+/// Commands of one batch, in the order of their acceptance; or commands to be asked, in their order.
 pub type Commands = Few<Command>;
 
 /// Replies to commands that were asked together, in their order.

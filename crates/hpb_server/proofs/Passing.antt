@@ -37,7 +37,7 @@ pub passes_weaker : {few most : ℕ} (takes_memory : Bool) (old new : Option (Li
 passes_weaker takes_memory old new bytes left (Ok done) fewer p = p
 passes_weaker takes_memory old new bytes left (Err fault) fewer p = (p.0, p.1, p.2, p.3, left_weaker takes_memory fault p.3.0 fewer p.4)
 
--- a front was written first, and what comes after it passes
+-- a front was written first, and the bytes behind it pass
 pub passes_first : (most : ℕ) (takes_memory : Bool) (old now new : Option (List ℕ)) (bytes output text left : List ℕ) (r : Result ⊤ SessionFault) → Passes 0 false old now bytes output (Ok tt) → Passes most takes_memory now new (output ++ text) left r → Passes most takes_memory old new (bytes ++ text) left r
 passes_first most takes_memory old now new bytes output text left r first p = passed r p
   where

@@ -1,4 +1,4 @@
--- What the sums of a tree need from its nodes.
+-- The properties of nodes on which the kept sums depend.
 use Rattle.std.specs.Prelude.{◌≡◌, ℕ, ◌<◌, ◌≤◌, false, List, length}
 use Rattle.hpb_rules.specs.declared.limits.TheConstants.{MOST_NODES, MOST_LICENCES, MOST_LICENCE_UNITS, MOST_LICENCE_OPENING}
 use Rattle.hpb_rules.specs.Drafts.{has_late_parent, has_thin_package, has_licence_with_child}

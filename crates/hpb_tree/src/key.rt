@@ -4,7 +4,7 @@ ghost use Rattle.hpb_tree.specs.Keys.{number, key_of};
 /// How many bytes of a name one number of a key holds.
 pub(crate) const WORD: usize = 8;
 
-/// What a name is compared by. Names of at most 16 bytes that differ have different keys.
+/// The key that names are compared by. Names of at most 16 bytes that differ have different keys.
 #[derive(Clone, Copy, Debug, PartialEq, Eq)]
 pub(crate) struct NameKey {
     pub(crate) len: usize,

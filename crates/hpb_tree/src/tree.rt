@@ -154,7 +154,7 @@ impl Tree {
         self.nodes[index].terms
     }
 
-    /// The bidding units of a node: of a package the sum over its licences.
+    /// The bidding units of a node. For a package they are the sum over its licences.
     pub fn units(&self, node: NodeId) -> u32
         requires { node < length self.now.nodes }
         ensures value { result ≡ units self.now.nodes node }
@@ -164,7 +164,7 @@ impl Tree {
         self.nodes[index].units
     }
 
-    /// The opening of a node, in whole dollars: of a package the sum over its licences.
+    /// The opening of a node, in whole dollars. For a package it is the sum over its licences.
     pub fn opening(&self, node: NodeId) -> u64
         requires { node < length self.now.nodes }
         ensures value { result ≡ opening self.now.nodes node }

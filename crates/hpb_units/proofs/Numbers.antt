@@ -48,7 +48,7 @@ module _ (nodes : List Node) where
   abbrev pub has_number : ℕ → ℕ → Bool
   has_number number licence = eqb (licence_number nodes licence) number
 
-  -- a sum over the licences of one number has one part
+  -- the sum over the licences with a given number is that of the one licence
   pub sum_numbered : (number l : ℕ) → IsNumbered number l → sum_over nodes (has_number number) (units_at nodes) ≡ units_at nodes l
   sum_numbered number l at =
       sum_one (part_over nodes (has_number number) (units_at nodes)) l (length nodes) (terms_in nodes l at.some) (λ m other. elsewhere m other (is_some (terms_of nodes m)) refl)

@@ -25,7 +25,7 @@ abbrev pub or_top : Option ℕ → (ℕ → Bool) → Bool
 or_top None test = true
 or_top (Some parent) test = test parent
 
--- Whether going up from a node, at most `k` steps, meets no node that passes a test.
+-- Whether going up from a node, by no more steps than a given number, meets no node that passes a test.
 abbrev pub is_free_within : List (Option ℕ) → (ℕ → Bool) → ℕ → ℕ → Bool
 is_free_within parents test zero node = true
 is_free_within parents test (suc steps) node = or_top (slice_index_or parents node None) (λ parent. not (test parent) && is_free_within parents test steps parent)

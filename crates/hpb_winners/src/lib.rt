@@ -1,4 +1,4 @@
-//! The winners: of all choices of high bids the one with the greatest revenue, found from the bottom up.
+//! The winners: the choice of high bids with the greatest revenue, found from the bottom up.
 #![tactic(auto)]
 
 mod forming;

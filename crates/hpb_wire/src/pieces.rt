@@ -53,8 +53,8 @@ fn put_ends<const N: usize>(bytes: &mut [u8], at: usize, text: &[u8]) -> usize
     put_part::<N>(bytes, at + back, text, back)
 }
 
-/// Writes `count` bytes of a text, from one place on. All are read before the first is written, so that they are moved
-/// together.
+/// Writes as many bytes of a text as the piece has, from one place on. All are read before the first is written, so
+/// that they are moved together.
 #[inline(always)]
 fn put_part<const N: usize>(bytes: &mut [u8], at: usize, text: &[u8], from: usize) -> usize
     requires part { from + N ≤ length text.now }
