@@ -5,8 +5,8 @@ use hpb_codec::heads_are_one;
 use hpb_journal::shapes_are_journal;
 use hpb_slots::newest_is_one;
 
-/// An image stands for a list of commands exactly if it can be read, its checkpoint shows a beginning of the list, and
-/// the batches are the rest.
+/// An image stands for a list of commands exactly if it can be read. Its checkpoint must show a beginning of the list,
+/// and its batches must be the rest.
 pub fn stands_is_read()
     ensures { StandsIsRead }
 {}

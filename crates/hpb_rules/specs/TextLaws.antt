@@ -12,8 +12,8 @@ use Rattle.hpb_rules.specs.Lines.{Spelled, spelled, line_spelling, IsSpellable, 
 use Rattle.hpb_rules.specs.RequestLines.{request_line, CanBeAsked}
 use Rattle.hpb_rules.specs.Text.{lines_text, history_after_lines, IsText, script_text, node_name, bidder_name}
 
--- The text of whole lines with more behind them is the text of the lines, followed by that of the rest after the
--- history that the lines lead to.
+-- The text of whole lines with more behind them is the text of the lines, and then that of the rest after the history
+-- that they lead to.
 abbrev pub LinesTextJoins : Type 0
 LinesTextJoins = (rules : Rules) (history : List Command) (front rest : List ℕ)
     → let lines = front ++ line_feed ∷ [] in
