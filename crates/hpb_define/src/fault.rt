@@ -12,19 +12,20 @@ use thiserror::Error;
 /// The refusal by which bytes gave no definition: its number and its word, as in an `ERR` line.
 #[derive(Clone, Copy, Debug, PartialEq, Eq, Error)]
 pub enum DefineCause {
-    /// 90: memory was refused.
+    /// 90 `memory`: memory was refused.
     #[error("memory")]
     Memory,
-    /// 60: the bytes aren't JSON, aren't UTF-8, or are too many.
+    /// 60 `json`: the bytes aren't JSON, aren't UTF-8, or are too many.
     #[error("json")]
     Json,
-    /// 61: a field is missing, unknown or of another type.
+    /// 61 `field`: a field is missing, unknown or of another type.
     #[error("field")]
     Field,
-    /// 62: a number isn't whole, or doesn't fit 64 bits.
+    /// 62 `number`: a number isn't whole, or doesn't fit 64 bits.
     #[error("number")]
     Number,
-    /// 62, or one of 50 to 57: the written definition breaks a rule of definitions.
+    /// 62 `number` or one of 50 to 57, as `DefinitionFault` names them: the written definition breaks a rule of
+    /// definitions.
     #[error("{0}")]
     Refused(DefinitionFault),
 }

@@ -7,17 +7,17 @@ use thiserror::Error;
 /// Why a device wasn't formatted: the number and the word of its refusal, as in an `ERR` line.
 #[derive(Clone, Copy, Debug, PartialEq, Eq, Error)]
 pub enum FormatCause {
-    /// 43: the number names no layout, the number of frames isn't allowed in that layout, or the device doesn't have
-    /// the length for them.
+    /// 43 `length`: the number names no layout, the number of frames isn't allowed in that layout, or the device
+    /// doesn't have the length for them.
     #[error("length")]
     Length,
-    /// 41: the device is formatted already.
+    /// 41 `formatted`: the device is formatted already.
     #[error("formatted")]
     Formatted,
-    /// 91: a call of the device failed.
+    /// 91 `device`: a call of the device failed.
     #[error("device")]
     Device,
-    /// 90: memory was refused.
+    /// 90 `memory`: memory was refused.
     #[error("memory")]
     Memory,
 }

@@ -162,11 +162,11 @@ fn format_shape<D: Disk + Drop>(
 /// Makes a device that stands for the auction of a definition before its first command. Its journal has `frames` frames
 /// of a page each, 4 to 1,024. A device that wasn't formatted is handed back with the cause:
 ///
-/// - 43: the number of frames is out of range, or the device doesn't have the length for them, 13 pages and one for
-///   each frame;
-/// - 90: memory is refused; all of it is taken before the first call of the device;
-/// - 41: the device is formatted already, which is known after a sync; nothing was written;
-/// - 91: a call of the device failed.
+/// - 43 `length`: the number of frames is out of range, or the device doesn't have the length for them, 13 pages and
+///   one for each frame;
+/// - 90 `memory`: memory is refused; all of it is taken before the first call of the device;
+/// - 41 `formatted`: the device is formatted already, which is known after a sync; nothing was written;
+/// - 91 `device`: a call of the device failed.
 ///
 /// It syncs, closes all gates that read open, syncs, writes head and first slot, syncs, opens the slot, syncs, opens
 /// the head, and syncs. A crash at any moment of that leaves a device that isn't formatted, or the new one.
@@ -183,8 +183,8 @@ pub fn format<D: Disk + Drop>(
 }
 
 /// Makes a device as `format` does, in the layout with this number. Layout 1 has a page for each frame, 4 to 1,024 of
-/// them. Layout 2 has three cells for each frame, 16 to 1,024 of them, a multiple of 8. 43 is also reported for any
-/// other number of a layout.
+/// them. Layout 2 has three cells for each frame, 16 to 1,024 of them, a multiple of 8. 43 `length` is also reported
+/// for any other number of a layout.
 pub fn format_layout<D: Disk + Drop>(
     alloc: Global,
     disk: D,

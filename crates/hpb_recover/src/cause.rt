@@ -12,13 +12,13 @@ use thiserror::Error;
 /// Why a device isn't opened: the number and the word of its refusal, as in an `ERR` line.
 #[derive(Clone, Copy, Debug, PartialEq, Eq, Error)]
 pub enum Cause {
-    /// 40, 42, 44 or 45: its bytes have this flaw.
+    /// 40 `unformatted`, 42 `layout`, 44 `checkpoint` or 45 `frame`: its bytes have this flaw.
     #[error(transparent)]
     Flawed(Flaw),
-    /// 90: memory was refused.
+    /// 90 `memory`: memory was refused.
     #[error("memory")]
     Memory,
-    /// 91: a call of the device failed.
+    /// 91 `device`: a call of the device failed.
     #[error("device")]
     Device,
 }

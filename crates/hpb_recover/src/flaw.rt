@@ -8,16 +8,17 @@ use thiserror::Error;
 /// most one flaw.
 #[derive(Clone, Copy, Debug, PartialEq, Eq, Error)]
 pub enum Flaw {
-    /// 40: it doesn't have whole pages, at least 17, or its head's gate isn't open, or the magic isn't there.
+    /// 40 `unformatted`: it doesn't have whole pages, at least 17, or its head's gate isn't open, or the magic isn't
+    /// there.
     #[error("unformatted")]
     Unformatted,
-    /// 42: its head, nodes or bidders aren't in the format, or it doesn't have the length for its layout.
+    /// 42 `layout`: its head, nodes or bidders aren't in the format, or it doesn't have the length for its layout.
     #[error("layout")]
     Layout,
-    /// 44: no slot is open with a body that spells a state.
+    /// 44 `checkpoint`: no slot is open with a body that spells a state.
     #[error("checkpoint")]
     Checkpoint,
-    /// 45: a frame behind the checkpoint is open with its own index and doesn't continue the batches before it.
+    /// 45 `frame`: a frame behind the checkpoint is open with its own index and doesn't continue the batches before it.
     #[error("frame")]
     Frame,
 }

@@ -73,7 +73,8 @@ fn read_plan<D: Disk>(alloc: Global, disk: &mut D) -> Result<Plan, Cause>
 }
 
 /// Opens a device: reads the newest checkpoint, and the batches behind it. It syncs first, and writes nothing. If it
-/// fails, it hands the device back with the cause: 40, 42, 44 or 45 for a flaw, 90 or 91 for the machine.
+/// fails, it hands the device back with the cause. For a flaw that is 40 `unformatted`, 42 `layout`, 44 `checkpoint` or
+/// 45 `frame`; for the machine it is 90 `memory` or 91 `device`.
 pub fn open<D: Disk + Drop>(alloc: Global, disk: D) -> Result<Opened<D>, OpenFault<D>>
     // If the bytes that a read gives stand for a history, the auction shows it, unless the device or memory fails.
     ensures shows { (history : List Command) → Stands history (D.seen disk) → IfOk result (λ opened. Shows opened.plan.auction history) }

@@ -9,13 +9,13 @@ use thiserror::Error;
 /// Why a session ended early. No line of the session reports it: its number is for whoever started the session.
 #[derive(Clone, Copy, Debug, PartialEq, Eq, Error)]
 pub enum SessionFault {
-    /// 90: memory was refused.
+    /// 90 `memory`: memory was refused.
     #[error("memory")]
     Memory,
-    /// 92: the reader failed, or more bytes came than may be read.
+    /// 92 `stream`: the reader failed, or more bytes came than may be read.
     #[error("stream")]
     Reader,
-    /// 92: the writer failed, or took no byte.
+    /// 92 `stream`: the writer failed, or took no byte.
     #[error("stream")]
     Writer,
 }

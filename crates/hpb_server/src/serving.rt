@@ -36,11 +36,11 @@ use std::io::{Read, Write, sink};
 /// A line has at most 128 bytes and a line feed. Any other is refused with `ERR 10 line`; so is a last line without
 /// line feed. No line reports a fault:
 ///
-/// - 90: memory is refused. All lines are answered and written, except the one that memory was refused for and those
-///   behind it that came together with it. If memory is refused at the start, nothing is read.
-/// - 92: the reader fails, or more than 1,000,000,000 bytes are read; at most one byte more is taken, to see that there
-///   is more. Each line that was read is answered, and all answers are written first.
-/// - 92: the writer fails. A front of the answers is written.
+/// - 90 `memory`: memory is refused. All lines are answered and written, except the one that memory was refused for and
+///   those behind it that came together with it. If memory is refused at the start, nothing is read.
+/// - 92 `stream`: the reader fails, or more than 1,000,000,000 bytes are read; at most one byte more is taken, to see
+///   that there is more. Each line that was read is answered, and all answers are written first.
+/// - 92 `stream`: the writer fails. A front of the answers is written.
 ///
 /// Accepted commands stay accepted.
 ///

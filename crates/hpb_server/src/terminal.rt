@@ -16,9 +16,9 @@ use std::io::{Read, Write};
 /// writes and flushes each answer at once. If an answer is a refusal for which some number would do, standard errors
 /// get that number behind the answer, as far as memory and standard errors allow:
 ///
-/// - for 13, 14 and 15 the sender's next ticket;
-/// - for 21 the step, for 22 the least amount, for 23 the greatest;
-/// - for 25 the bidder's eligibility and activity.
+/// - for 13 `old`, 14 `ticket` and 15 `gap` the sender's next ticket;
+/// - for 21 `step` the step, for 22 `low` the least amount, for 23 `high` the greatest;
+/// - for 25 `eligibility` the bidder's eligibility and activity.
 pub fn serve_at_terminal<R: Read, W: Write, E: Write, D: Desk>(
     alloc: Global,
     reader: &mut R,

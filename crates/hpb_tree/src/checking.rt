@@ -22,8 +22,10 @@ use std::alloc::{AllocError, Global};
 use terms::has_bad_terms;
 
 impl Definition {
-    /// The definition that a draft spells. If it has several faults, one is reported: a number out of range (62) first,
-    /// then the fault of the smallest number (50 to 57). If memory is refused, 90 may come in place of any.
+    /// The definition that a draft spells. If the draft has several faults, one is reported: a number out of range (62
+    /// `number`) first, then the fault with the smallest number. These are 50 `empty`, 51 `name`, 52 `duplicate`, 53
+    /// `parent`, 54 `children`, 55 `leaf`, 56 `limits` and 57 `terms`. If memory is refused, 90 `memory` may come in
+    /// place of any.
     pub fn check(alloc: Global, draft: &Draft) -> Result<Definition, DefinitionFault>
         ensures ok { IfOk result (λ d. d ≡ rules_of draft.now) }
         ensures accepted { OnOk result (draft_refusal (rules_of draft.now) ≡ None) }

@@ -10,29 +10,29 @@ use std::fmt;
 /// The number that would do in place of a refused one.
 #[derive(Clone, Copy, Debug, PartialEq, Eq)]
 pub enum Reason<'a> {
-    /// For 13, 14 and 15: a bidder's next ticket.
+    /// For 13 `old`, 14 `ticket` and 15 `gap`: a bidder's next ticket.
     BidderTicket {
         bidder: &'a str,
         ticket: u64,
     },
-    /// For 13, 14 and 15: the auctioneer's next ticket.
+    /// For 13 `old`, 14 `ticket` and 15 `gap`: the auctioneer's next ticket.
     AuctioneerTicket {
         ticket: u64,
     },
-    /// For 21: the step, in whole dollars.
+    /// For 21 `step`: the step, in whole dollars.
     Step {
         dollars: u32,
     },
-    /// For 22: the least amount that may be bid on a node, in whole dollars.
+    /// For 22 `low`: the least amount that may be bid on a node, in whole dollars.
     Least {
         node: &'a str,
         dollars: u64,
     },
-    /// For 23: the greatest amount that may be bid, in whole dollars.
+    /// For 23 `high`: the greatest amount that may be bid, in whole dollars.
     Most {
         dollars: u64,
     },
-    /// For 25: a bidder's eligibility, and its activity without the bid, in bidding units.
+    /// For 25 `eligibility`: a bidder's eligibility, and its activity without the bid, in bidding units.
     Units {
         bidder: &'a str,
         eligibility: u32,
@@ -77,9 +77,9 @@ impl fmt::Display for Reason<'_> {
 
 /// The number that would do in place of the one for which a command is refused, by the auction as it stands:
 ///
-/// - for 13, 14 and 15 the sender's next ticket;
-/// - for 21 the step, for 22 the least amount, for 23 the greatest;
-/// - for 25 the bidder's eligibility with its activity.
+/// - for 13 `old`, 14 `ticket` and 15 `gap` the sender's next ticket;
+/// - for 21 `step` the step, for 22 `low` the least amount, for 23 `high` the greatest;
+/// - for 25 `eligibility` the bidder's eligibility with its activity.
 ///
 /// `None` for any other refusal, and if the definition doesn't have the command's bidder or node.
 pub fn reason_of<'a>(
