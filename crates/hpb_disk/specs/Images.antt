@@ -54,6 +54,6 @@ pub record LeavesOnly (before now : ℕ) (past since : ℕ → List ℕ → Type
   pub keeps : (moment : ℕ) (image : List ℕ) → moment ≤ before → past moment image → since moment image
   pub after : Within left images
 
--- The number of failures rises by one exactly if the call fails.
+-- The number of failures rises if the call fails, and stays the same if it succeeds.
 abbrev pub CountsFailure : {T E : Type 0} → Result T E → ℕ → ℕ → Type 0
 CountsFailure result old new = MatchResult result (λ _. new ≡ old) (λ _. old < new)

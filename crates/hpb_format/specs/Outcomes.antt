@@ -76,7 +76,7 @@ abbrev pub answer_of : {D : Type 0} → Result D (FormatFault D) → Result (Uni
 answer_of (Ok disk) = Ok tt
 answer_of (Err fault) = Err fault.cause
 
--- The number of failures rises by one exactly if the device is the cause of the call's failure.
+-- The number of failures rises if the call fails because of the device, and otherwise stays the same.
 abbrev pub CountsCause : {T : Type 0} → Result T FormatCause → (old new : ℕ) → Type 0
 CountsCause (Ok _) old new = new ≡ old
 CountsCause (Err causes.Device) old new = old < new

@@ -26,7 +26,7 @@ pub fn ceil_percent(amount: Dollars, percent: u64) -> Dollars
 }
 
 /// An amount rounded up to a multiple of the step, which is at least 1. Amount and step together must be below 2^64.
-/// Every amount up to `MOST_DOLLARS` with every step of a definition, 1 to 1,000,000, is.
+/// They are for every amount up to `MOST_DOLLARS` with every step of a definition, 1 to 1,000,000.
 pub fn round_up(amount: Dollars, step: u64) -> Dollars
     requires step { 0 < step }
     requires fits { amount + step < 2 ^ 64 }

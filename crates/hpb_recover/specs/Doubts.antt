@@ -24,7 +24,7 @@ IsSlotTold plan image told = IsToldOf plan.auction.rules (other_of plan.slot) im
 abbrev pub end_of_room : Plan → ℕ
 end_of_room plan = plan.covered + (layout_in plan).count
 
--- The end of the indexes for which a checkpoint has room that is one round of the journal later.
+-- The end of the indexes for which a checkpoint one round of the journal later has room.
 abbrev pub end_of_later : Plan → ℕ
 end_of_later plan = end_of_room plan + (layout_in plan).count
 

@@ -18,8 +18,8 @@ pub record IsTold (history : List Command) (found : Found) : Type 0 where
   pub shows : Shows (checkpoint found) before
   pub cuts : history ≡ before ++ joined found.batches
 
--- An image stands for a list of commands exactly if it can be read. Its checkpoint must show a beginning of the list,
--- and its batches must be the rest.
+-- An image stands for a list of commands exactly under these conditions. It can be read. Its checkpoint shows a
+-- beginning of the list, and its batches are the rest.
 abbrev pub StandsIsRead : Type 0
 StandsIsRead = (history : List Command) (image : List ℕ) → Stands history image ↔ ((found : Found) × Reads found image × IsTold history found)
 
