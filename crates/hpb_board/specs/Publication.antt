@@ -25,8 +25,8 @@ recent answers zero = None
 recent answers (suc i) = if nat_lt (length answers) (i + 17) then slice_get answers i else None
 
 -- **Room.** A seat's answers are counted in 64 bits. Letters have room if no seat's number would pass the greatest. A
--- published list has room for every number, whether it is a seat's or not. Letters are seated if each one's seat is one
--- of the seats.
+-- published list has room for every number, whether it is a seat's or not. Letters are seated if each one's seat is
+-- below the number of seats.
 --
 -- How many letters of a seat there are.
 abbrev pub tally : ℕ → List Letter → ℕ
@@ -40,7 +40,7 @@ HasRoom seats batches letters = (seat : ℕ) → seat < seats → tally seat (jo
 abbrev pub IsRoomy : List (List Letter) → Type 0
 IsRoomy batches = (seat : ℕ) → tally seat (joined batches) < 2 ^ 64
 
--- Each letter's seat is one of the first `seats`.
+-- Each letter's seat is below the number of seats.
 abbrev pub AreSeated : ℕ → List Letter → Type 0
 AreSeated seats letters = All (λ (l : Letter). l.seat < seats) letters
 

@@ -44,7 +44,7 @@ abbrev pub writing : (head state : List ℕ) → List Asked
 writing head state = syncs ∷ opens_slot First ∷ syncs ∷ writes_chunks CHUNKS state ++ writes HEAD_AT head ∷ []
 
 -- First a sync, so that the bytes that are read stay. Then the gates that read open are closed, and a sync follows.
--- Then come head and state, the gate of the head, and a sync.
+-- Then head and state are written as `writing` says, the gate of the head is opened, and a sync follows.
 abbrev pub formatting : (head state : List ℕ) → (closings : List Asked) → List Asked
 formatting head state closings = (syncs ∷ writes HEAD_GATE open_byte ∷ []) ++ writing head state ++ (syncs ∷ closings) ++ syncs ∷ []
 

@@ -42,8 +42,7 @@ KeptIsCut layout = (rules : Rules) (index first : ℕ) (batches others : List (L
     → Kept layout rules index first (batches ++ others) image
     → Kept layout rules index first batches image × Kept layout rules (index + length batches) (first + length (joined batches)) others image
 
--- If a journal contains two lists of batches from the same index and number on, the shorter is the beginning of the
--- longer.
+-- If a journal contains two lists of batches from the same index and number on, the shorter is a front of the longer.
 abbrev pub KeptIsOne : Layout → Type 0
 KeptIsOne layout = (rules : Rules) (index first : ℕ) (batches others : List (List Command)) (image : List ℕ)
     → Kept layout rules index first batches image → Kept layout rules index first others image → length others ≤ length batches

@@ -37,8 +37,7 @@ pub fn kept_is_cut<F: Frames>(_frames: &F)
     ensures { KeptIsCut (F.layout _frames.now) }
 {}
 
-/// If a journal contains two lists of batches from the same index and number on, the shorter is the beginning of the
-/// longer.
+/// If a journal contains two lists of batches from the same index and number on, the shorter is a front of the longer.
 pub fn kept_is_one<F: Frames>(frames: &F)
     ensures { KeptIsOne (F.layout frames.now) }
 {

@@ -1,4 +1,4 @@
--- An image stands for a list of commands if its reading shows a beginning of the list and spells the rest.
+-- An image stands for a list of commands if its reading shows a front of the list and spells the rest.
 use Rattle.std.proofs.Common.{ℕ, suc, List, ◌++◌, sym, subst}
 use Rattle.hpb_rules.specs.declared.command.Command.{Command}
 use Rattle.hpb_rules.specs.Answer.{IsHistory}

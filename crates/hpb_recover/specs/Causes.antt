@@ -26,7 +26,7 @@ pub record LooksFormatted (image : List ℕ) : Type 0 where
   pub least : PAGE_BYTES * LEAST_PAGES ≤ length image
   pub gate : HasOpenGate 0 image
 
--- Memory is refused only if it was asked for.
+-- If memory was refused, the image looks formatted: no memory is asked for before that is known.
 abbrev pub AsksMemory : List ℕ → Cause → Type 0
 AsksMemory image cause = cause ≡ causes.Memory → LooksFormatted image
 

@@ -12,14 +12,14 @@ use Rattle.hpb_recover.specs.Flaws.{HasFlaw}
 abbrev pub ReadingIsOne : Type 0
 ReadingIsOne = (found other : Found) (image : List ℕ) → Reads found image → Reads other image → found ≡ other
 
--- The list is a beginning that the checkpoint shows, followed by the commands of the batches behind it.
+-- The list is a front that the checkpoint shows, followed by the commands of the batches behind it.
 pub record IsTold (history : List Command) (found : Found) : Type 0 where
   pub before : List Command
   pub shows : Shows (checkpoint found) before
   pub cuts : history ≡ before ++ joined found.batches
 
--- An image stands for a list of commands exactly under these conditions. It can be read. Its checkpoint shows a
--- beginning of the list, and its batches are the rest.
+-- An image stands for a list of commands exactly under these conditions. It can be read. Its checkpoint shows a front
+-- of the list, and its batches are the rest.
 abbrev pub StandsIsRead : Type 0
 StandsIsRead = (history : List Command) (image : List ℕ) → Stands history image ↔ ((found : Found) × Reads found image × IsTold history found)
 

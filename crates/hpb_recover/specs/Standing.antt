@@ -12,9 +12,9 @@ use Rattle.hpb_slots.specs.Newest.{IsNewest}
 use Rattle.hpb_codec.specs.declared.head.Head.{Head}
 use Rattle.hpb_recover.specs.Heads.{IsFormatted, IsLaidOut, layout_of}
 
--- **Stands.** An image stands for a list of commands under two conditions. The newest slot shows a beginning of the
--- list. The frames from the slot's index on spell the rest, batch by batch, up to a frame that isn't open with its own
--- index; no later frame is either.
+-- **Stands.** An image stands for a list of commands under two conditions. The newest slot shows a front of the list.
+-- The frames from the slot's index on spell the rest, batch by batch, up to a frame that isn't open with its own index;
+-- no later frame is either.
 pub record Stands (history : List Command) (image : List ℕ) : Type 0 where
   -- The image is that of a formatted device, with the length for its layout.
   pub formatted : IsFormatted image
@@ -22,7 +22,7 @@ pub record Stands (history : List Command) (image : List ℕ) : Type 0 where
   pub laid : IsLaidOut head image
   -- The list is a history under its definition.
   pub allowed : IsHistory head.definition history
-  -- The newest slot covers this many batches, and shows a beginning of the list.
+  -- The newest slot covers this many batches, and shows a front of the list.
   pub slot : Slot
   pub covered : ℕ
   pub saved : Saved

@@ -5,8 +5,8 @@ use hpb_codec::heads_are_one;
 use hpb_journal::shapes_are_journal;
 use hpb_slots::newest_is_one;
 
-/// An image stands for a list of commands exactly under these conditions. It can be read. Its checkpoint shows a
-/// beginning of the list, and its batches are the rest.
+/// An image stands for a list of commands exactly under these conditions. It can be read. Its checkpoint shows a front
+/// of the list, and its batches are the rest.
 pub fn stands_is_read()
     ensures { StandsIsRead }
 {}

@@ -64,7 +64,7 @@ its_bid_then_gets_its_number_at_once : run small (at_rest (first_bid ∷ [])) (t
 its_bid_then_gets_its_number_at_once = refl
 
 -- Of two bids one is newly accepted. Before the third turn a stop leaves nothing. From the third turn on, failed or
--- not, it leaves nothing or the accepted bid. Once that is acknowledged, it leaves it.
+-- not, it leaves nothing or the accepted bid. Once the bid is acknowledged, a stop leaves it.
 pub record Stops : Type 0 where
   pub when_offered : (history : List Command) → MayStand (machine_after (two_bids ∷ [])) history ↔ (history ≡ [])
   pub before_landing : (history : List Command) → MayStand (machine_after (two_bids ∷ commit ∷ commit ∷ [])) history ↔ (history ≡ [])

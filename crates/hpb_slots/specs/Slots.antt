@@ -60,6 +60,6 @@ Holds rules slot index saved image = IsOpen slot image × SpellsState rules (bod
 abbrev pub IsBroken : Rules → Slot → List ℕ → Type 0
 IsBroken rules slot image = IsOpen slot image × ((index : ℕ) (saved : Saved) → Holds rules slot index saved image → ⊥)
 
--- A number of first chunks of the slot's body are those of these bytes.
+-- The slot's body has the first chunks of these bytes, as many as the number says.
 abbrev pub HasChunks : Slot → ℕ → List ℕ → List ℕ → Type 0
 HasChunks slot count body image = (i : ℕ) → i < count → piece_of slot i image ≡ chunk_of i body

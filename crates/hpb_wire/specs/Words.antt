@@ -2,6 +2,6 @@
 use Rattle.std.specs.Prelude.{ℕ, List, take}
 use Rattle.hpb_wire.specs.declared.word.Word.{Word}
 
--- A part of a line, without the bytes that stand behind it.
+-- The bytes of a part of a line, without those behind it.
 abbrev pub bytes_of : Word → List ℕ
 bytes_of word = take word.size word.bytes.now
