@@ -20,8 +20,7 @@ pub record IsNew (rules : Rules) (past : List Command) (command : Command) : Typ
   pub goes_on : History.is_over past ≡ false
   pub faultless : fault rules past command ≡ None
 
--- A command is accepted under the next number exactly if it is new: its names are known, its ticket is its sender's
--- next, and there is room. Besides, the auction isn't over, and the command has no fault.
+-- A command is accepted under the next number exactly if it is new.
 abbrev pub AcceptedIsNew : Type 0
 AcceptedIsNew = (rules : Rules) (history : List Command) (command : Command)
     → (answer rules history command ≡ replies.Ok (suc (length history))) ↔ IsNew rules (reverse history) command

@@ -1,8 +1,8 @@
 ghost use Rattle.hpb_rules.specs.HistoryLaws.{AcceptedIsNew, BidsMeetRules, TicketsCount, LastStands, SameIsEqual, PercentageIsKnown, HistoryGrows, FrontIsHistory, RepeatChangesNothing, AnswerIsShown, ShownIsOne};
 ghost use Rattle.hpb_rules.specs.Order.{AnswerIsFirst};
 
-/// A command is accepted under the next number exactly if it is new: its names are known, its ticket is its sender's
-/// next, and there is room. Besides, the auction isn't over, and the command has no fault.
+/// A command is accepted under the next number exactly if it is new. It is new if its names are known, its ticket is
+/// its sender's next, there is room, the auction isn't over, and it has no fault.
 pub fn accepted_is_new()
     ensures { AcceptedIsNew }
 {}
