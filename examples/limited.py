@@ -90,11 +90,6 @@ def sessions(job):
         job.refuse("94 place")
 
 
-def lines(text):
-    """What stands behind 65,536 bytes of one is the next one."""
-    return b"\n".join(line[at : at + PART] for line in text.split(b"\n") for at in range(0, max(1, len(line)), PART))
-
-
 def commands(answers):
     """A run answers 65,535 at most."""
     return b"".join(answers.splitlines(keepends=True)[:65_535])
@@ -106,7 +101,6 @@ def shown(answers):
 
 
 REFUSING = {limit.__name__: limit for limit in (frames, nodes, bidders, names, batches, slots, sessions)}
-TAKING = {("lines", ""): lines, ("lines", "run"): lines}
 GIVING = {("commands", "run"): commands, ("shown", "check"): shown}
 
 
@@ -158,8 +152,7 @@ def main():
         if not most:
             os.execv(program, [program, *words])
         job.ends(*Between(program, job, int(most)).serve(job.number("--sessions")))
-    text = TAKING.get((name, job.name), as_it_is)(job.text)
-    ran = subprocess.run([program, *words], input=text, stdout=subprocess.PIPE)
+    ran = subprocess.run([program, *words], input=job.text, stdout=subprocess.PIPE)
     job.ends(GIVING.get((name, job.name), as_it_is)(ran.stdout), ran.returncode)
 
 

@@ -34,6 +34,10 @@ class Conditions:
         """These, as another user."""
         return replace(self, user=user)
 
+    def within(self, folder: Path) -> Conditions:
+        """These, in another folder."""
+        return replace(self, folder=folder)
+
     def with_stack(self, kib: int) -> Conditions:
         """These, with `ulimit -s`, in KiB."""
         return replace(self, limits={**self.limits, resource.RLIMIT_STACK: kib * KIB})

@@ -43,6 +43,8 @@ class Program:
     """A built `hpb`, which every user may run."""
 
     path: Path
+    # Within how long it ends, unless a run says otherwise.
+    seconds: float = SECONDS
 
     def start(
         self,
@@ -72,14 +74,14 @@ class Program:
         output: Stream = subprocess.PIPE,
         errors: Stream = subprocess.PIPE,
         conditions: Conditions = NORMAL,
-        seconds: float = SECONDS,
+        seconds: float | None = None,
     ) -> Ran:
         """Runs it on this text, or on an input that is open here, to its end. TookTooLong if that takes longer than so many seconds."""
         began = time.monotonic()
         source = subprocess.PIPE if input is None else input
         process = self.start(*words, input=source, output=output, errors=errors, conditions=conditions)
         try:
-            written, said = process.communicate(text if input is None else None, timeout=seconds)
+            written, said = process.communicate(text if input is None else None, timeout=self.seconds if seconds is None else seconds)
         except subprocess.TimeoutExpired:
             process.kill()
             written, said = process.communicate()
@@ -98,7 +100,7 @@ class Program:
         words = format_words(file, layout, journal)
         return self.run(*words, text=definition() if text is None else text, conditions=conditions)
 
-    def run_lines(self, file: Path, text: bytes, *words: object, conditions: Conditions = NORMAL, seconds: float = SECONDS) -> Ran:
+    def run_lines(self, file: Path, text: bytes, *words: object, conditions: Conditions = NORMAL, seconds: float | None = None) -> Ran:
         """Runs `run` on a file, with these lines and these more words."""
         return self.run("run", "--file", file, *words, text=text, conditions=conditions, seconds=seconds)
 

@@ -6,10 +6,13 @@ import os
 import random
 import select
 import socket
+import struct
 import subprocess
 import tempfile
+import threading
 import time
 from collections.abc import Callable
+from contextlib import suppress
 from pathlib import Path
 from types import TracebackType
 from typing import Protocol
@@ -66,6 +69,26 @@ class Client:
         """Sends a line, and gives its answer."""
         self.send(f"{line}\n".encode())
         return self.line()
+
+    def tell(self, text: bytes) -> str:
+        """Sends all this and then no more, reads the answers meanwhile, up to the end, and gives them."""
+        sender = threading.Thread(target=self._send_last, args=(text,))
+        sender.start()
+        answers = b"".join([self._received, *iter(lambda: self.socket.recv(1 << 20), b"")])
+        sender.join()
+        self.close()
+        return shown(answers)
+
+    def _send_last(self, text: bytes) -> None:
+        """Less of it if the server ends before."""
+        with suppress(OSError):
+            self.send(text)
+            self.socket.shutdown(socket.SHUT_WR)
+
+    def reset(self) -> None:
+        """Breaks the connection off, so that the server's next call of it fails."""
+        self.socket.setsockopt(socket.SOL_SOCKET, socket.SO_LINGER, struct.pack("ii", 1, 0))
+        self.close()
 
     def finish(self) -> list[str]:
         """Sends no more, reads to the end, and gives the lines that still came."""
@@ -139,6 +162,19 @@ class Server:
         """Returns what it has said once these words are in it. AssertionError if that takes longer."""
         wait_until(lambda: words in self.said(), seconds, f"{words!r} in {self.said()!r}")
         return self.said()
+
+    def sleeps(self, calm: int = 20) -> None:
+        """Returns once all its threads were seen asleep so often one after another: one of them then waits for the next connection."""
+        tasks = Path(f"/proc/{self.process.pid}/task")
+        seen = 0
+
+        def is_calm() -> bool:
+            nonlocal seen
+            states = {(task / "stat").read_text().rsplit(")", 1)[1].split()[0] for task in tasks.iterdir()}
+            seen = seen + 1 if states == {"S"} else 0
+            return seen >= calm
+
+        wait_until(is_calm, SECONDS, "its threads don't sleep")
 
     def ended(self, seconds: float = SECONDS) -> Ran:
         """Waits for its end, and gives what it wrote behind LISTENING, what it said and its status."""

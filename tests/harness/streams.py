@@ -77,7 +77,7 @@ def not_waiting(text: bytes) -> Iterator[int]:
 
 @contextmanager
 def terminal() -> Iterator[tuple[int, int]]:
-    """A pair of devices: what is typed at the first one is read from the second, which passes bytes as they are and shows none."""
+    """A pair of devices: a program reads from the second one the bytes that a test writes to the first. None is changed or shown."""
     typing, device = pty.openpty()
     modes = termios.tcgetattr(device)
     modes[1] &= ~termios.OPOST
@@ -119,7 +119,7 @@ class Typed:
     """A program at a terminal: lines are typed there, and what it answers and says comes by pipes. It is killed at the end of `with`."""
 
     def __init__(self, program: Program, *words: object, errors: Stream = subprocess.PIPE) -> None:
-        self._began = time.monotonic()
+        self._began, self._seconds = time.monotonic(), program.seconds
         self._typing, device = pty.openpty()
         self.process = program.start(*words, input=device, errors=errors)
         os.close(device)
@@ -131,17 +131,17 @@ class Typed:
     def answers(self, wanted: str) -> None:
         """AssertionError if what comes next on standard output isn't this."""
         assert self.process.stdout is not None
-        assert shown(read_bytes(self.process.stdout, len(wanted.encode()))) == wanted
+        assert shown(read_bytes(self.process.stdout, len(wanted.encode()), self._seconds)) == wanted
 
     def says(self, wanted: str) -> None:
         """AssertionError if what comes next on standard error isn't this."""
         assert self.process.stderr is not None
-        assert shown(read_bytes(self.process.stderr, len(wanted.encode()))) == wanted
+        assert shown(read_bytes(self.process.stderr, len(wanted.encode()), self._seconds)) == wanted
 
     def ends(self, status: int, answered: str = "", said: str = "") -> None:
         """AssertionError if it doesn't end so, or answers or says something else before."""
         try:
-            written, errors = self.process.communicate(timeout=SECONDS)
+            written, errors = self.process.communicate(timeout=self._seconds)
         except subprocess.TimeoutExpired:
             raise TookTooLong("it doesn't end") from None
         ran = Ran(shown(written), shown(errors), self.process.returncode, time.monotonic() - self._began)
@@ -151,6 +151,6 @@ class Typed:
         return self
 
     def __exit__(self, *_: object) -> None:
+        os.close(self._typing)
         self.process.kill()
         self.process.communicate()
-        os.close(self._typing)

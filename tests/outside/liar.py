@@ -2,86 +2,97 @@
 
     python3 -S -m outside.liar LIE PROGRAM words..
 
-It lets the program do the work, and changes what comes of it. What each lie changes stands at its function.
+It lets the program do the work on the same streams, and changes what comes of it. What each lie changes stands at its function.
 """
 
 from __future__ import annotations
 
+import ctypes
+import signal
 import subprocess
 import sys
 import time
 from collections.abc import Callable
-from dataclasses import dataclass, replace
 
 # Longer than any test may take, in seconds.
 LONG = 3600
+# Of `prctl`: which signal a process gets when its parent ends.
+PARENT_ENDS = 1
 # What a reader of lines may make room for at a time, in bytes.
 PART = 1 << 16
 
-
-@dataclass(frozen=True)
-class Told:
-    """What a program wrote on standard output and standard error, and its status."""
-
-    output: bytes
-    errors: bytes
-    status: int
+Bytes = Callable[[bytes], bytes]
+Status = Callable[[int], int]
 
 
-Lie = Callable[[Told], Told]
-
-
-def wrong(told: Told) -> Told:
+def wrong(output: bytes) -> bytes:
     """The last character of the last answer is another one."""
-    return replace(told, output=told.output[:-2] + b"~\n") if told.output else told
+    return output[:-2] + b"~\n" if output else output
 
 
-def silent(told: Told) -> Told:
+def late(output: bytes) -> bytes:
+    """All answers are written at the end, and not as they come."""
+    return output
+
+
+def silent(errors: bytes) -> bytes:
     """Nothing is said on standard error."""
-    return replace(told, errors=b"")
+    return b""
 
 
-def blamed(told: Told) -> Told:
+def blamed(errors: bytes) -> bytes:
     """Something is said on standard error though all is well."""
-    return replace(told, errors=told.errors or b"hpb: 60 json: the definition is empty\n")
+    return errors or b"hpb: 60 json: the definition is empty\n"
 
 
-def well(told: Told) -> Told:
+def well(status: int) -> int:
     """The status says that all is well."""
-    return replace(told, status=0)
+    return 0
 
 
-def ill(told: Told) -> Told:
+def ill(status: int) -> int:
     """The status says that something was refused."""
-    return replace(told, status=1)
+    return 1
 
 
-def endless(told: Told) -> Told:
+def endless(status: int) -> int:
     """It doesn't end."""
     time.sleep(LONG)
-    return told
+    return status
 
 
 def lines(text: bytes) -> bytes:
-    """What stands behind 65,536 bytes of a line is the next one."""
+    """What stands behind 65,536 bytes of a line is the next one, in a script and a run."""
     return b"\n".join(line[at : at + PART] for line in text.split(b"\n") for at in range(0, max(1, len(line)), PART))
 
 
-ABOUT: dict[str, Lie] = {lie.__name__: lie for lie in (wrong, silent, blamed, well, ill, endless)}
-TAKING: dict[str, Callable[[bytes], bytes]] = {lines.__name__: lines}
+def end_with_parent() -> None:
+    """From here on this process is killed when its parent ends."""
+    ctypes.CDLL(None).prctl(PARENT_ENDS, signal.SIGKILL)
+
+
+TEXTS: dict[str, Bytes] = {"lines": lines}
+OUTPUTS: dict[str, Bytes] = {"wrong": wrong, "late": late}
+ERRORS: dict[str, Bytes] = {"silent": silent, "blamed": blamed}
+STATUSES: dict[str, Status] = {"well": well, "ill": ill, "endless": endless}
 
 
 def main() -> None:
     """Does what the words ask for, but for the lie."""
     lie, program, *words = sys.argv[1:]
-    text = sys.stdin.buffer.read() if not words or words[0] in ("format", "run") else b""
-    ran = subprocess.run([program, *words], input=TAKING.get(lie, bytes)(text), capture_output=True)
-    told = Told(ran.stdout, ran.stderr, ran.returncode)
-    told = ABOUT[lie](told) if lie in ABOUT else told
-    sys.stdout.buffer.write(told.output)
+    takes_text = lie in TEXTS and words[:1] in ([], ["run"])
+    ran = subprocess.run(
+        [program, *words],
+        input=TEXTS[lie](sys.stdin.buffer.read()) if takes_text else None,
+        stdout=subprocess.PIPE if lie in OUTPUTS else None,
+        stderr=subprocess.PIPE if lie in ERRORS else None,
+        preexec_fn=end_with_parent,
+    )
+    sys.stdout.buffer.write(OUTPUTS.get(lie, bytes)(ran.stdout or b""))
     sys.stdout.flush()
-    sys.stderr.buffer.write(told.errors)
-    sys.exit(told.status)
+    sys.stderr.buffer.write(ERRORS.get(lie, bytes)(ran.stderr or b""))
+    sys.stderr.flush()
+    sys.exit(STATUSES.get(lie, int)(ran.returncode))
 
 
 if __name__ == "__main__":

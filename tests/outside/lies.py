@@ -10,6 +10,8 @@ from harness.programs import Program
 
 TESTS = Path(__file__).resolve().parents[1]
 
+# Within how long a stand-in has to end, in seconds.
+PATIENCE = 5
 # Makes the stand-in of a lie, by its name.
 Liar = Callable[[str], Program]
 
@@ -20,4 +22,4 @@ def stand_in(program: Program, folder: Path, lie: str) -> Program:
     words = f'PYTHONPATH={TESTS} exec {sys.executable} -S -m outside.liar {lie} {program.path} "$@"'
     path.write_text(f"#!/bin/sh\n{words}\n")
     path.chmod(0o755)
-    return Program(path)
+    return Program(path, PATIENCE)

@@ -1,4 +1,4 @@
-"""Mistakes in a definition: what each is answered, what is said of it, and what tools/explain warns of."""
+"""Mistakes in a definition: the answer to each, the message about it, and the warnings of tools/explain."""
 
 from __future__ import annotations
 
@@ -10,14 +10,14 @@ from dataclasses import dataclass
 from harness.auctions import EXAMPLES
 
 DEFINITION = (EXAMPLES / "coast.txt").read_bytes().split(b"\n")[0]
-# What is said of a script alone if its first line ends too early.
+# The end of a message about a script whose first line ends too early; `format` says no such thing.
 ONE_LINE = ": a script has the whole definition in its first line, as `jq -c . definition.json` writes it"
 Fields = dict[str, object]
 
 
 @dataclass(frozen=True)
 class Mistake:
-    """A script, or a definition for `format`, and what is wanted of it. Nothing is said of one that is accepted."""
+    """A script, or a definition for `format`, with its answer and messages. One that is accepted has no message."""
 
     title: str
     script: bytes
@@ -49,7 +49,7 @@ def _read(title: str, lines: list[str]) -> Mistake:
 
 
 def spelled(text: str) -> bytes:
-    r"""What is put in: \n is a line feed, \xEF a byte, DEFINITION the definition."""
+    r"""The bytes of such a text: \n is a line feed, \xEF a byte, DEFINITION the definition."""
     found = text.encode().replace(b"\\n", b"\n")
     found = re.sub(rb"\\x([0-9a-f]{2})", lambda at: bytes.fromhex(at.group(1).decode()), found)
     return found.replace(b"DEFINITION", DEFINITION)
@@ -96,7 +96,7 @@ def long_mistakes() -> list[Mistake]:
 
 OVER_LINES = json.dumps(json.loads(DEFINITION), indent=1)
 UNKNOWN = "61 field: nodes[4].Opening: unknown; a node has the fields name, parent, units and opening"
-# What stands in the definition over many lines, what is put in its place, and what is said of it.
+# A part of the definition over many lines, the text in its place, and the message about it.
 CHANGES = [
     ("a word for a number", '"percent": 5,', '"percent": five,', '60 json: line 3 column 13: reading stopped at "f"'),
     ("no comma", "80,\n", "80\n", '60 json: line 6 column 3: reading stopped at "9"'),

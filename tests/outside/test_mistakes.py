@@ -1,4 +1,4 @@
-"""Mistakes in a definition: what they are answered and what is said of them, by a script and by `format`.
+"""Mistakes in a definition: the answers and messages of a script and of `format`.
 
 examples/mistakes has ordinary ones, examples/each-reason one for each thing that may be said.
 """
@@ -28,12 +28,12 @@ def titles(mistakes: list[Mistake]) -> list[str]:
 
 
 def answers_script(program: Program, mistake: Mistake) -> None:
-    """A script with this mistake has its answer, what is said, and the status."""
+    """A script with this mistake has its answer, its message, and the status."""
     assert program.run(text=mistake.script).told() == (mistake.output, mistake.said, int(bool(mistake.said)))
 
 
 def answers_format(program: Program, mistake: Mistake, layout: Layout, file: Path) -> None:
-    """`format` answers and says the same of the definition, but for what is said of a script alone, and makes no file."""
+    """`format` answers and says the same of the definition, but for advice about scripts, and makes no file."""
     text = mistake.script if mistake in OVER_MANY_LINES else mistake.script.split(b"\n")[0]
     said = mistake.said.replace(ONE_LINE, "")
     assert program.format(file, layout, text=text).told() == (mistake.output, said, 1)

@@ -33,15 +33,15 @@ ELSEWHERE: dict[str, str] = {
     """A session sees every .. An `OK` leaves when its command is durable. .. No kill of the program ..""": (
         "def test_a_server_that_is_killed_keeps_what_it_answered(; def test_a_power_cut_loses_nothing_that_was_promised("
     ),
-    """Nobody can connect to ..""": "whether {address} is served",
-    """A session waits for no ..""": "def bad_sessions(folder)",
+    """Nobody can connect to ..""": "if is_served(address, server.port)] == []",
+    """A session waits for no ..""": "def test_a_session_that_misbehaves_stops_nobody_else(",
     """So a client sends one .. It never gives a new ..""": (
         "def test_a_waiver_goes_out_alone_and_bids_go_out_behind_it(; def test_a_waiver_whose_line_was_lost_is_never_numbered_anew("
     ),
     """The clients of CLIENTS ..""": "def test_no_command_is_lost_or_counted_twice_wherever_a_connection_ends(",
     """Of each session, the .. Of each session, the ..""": "The first that was answered by 93 may have been kept,",
     """No answer waits for other .. In a session they are .. Their answers leave together .. A client that sends many .. One that ends its
-    connection ..""": "def first_answers(folder); most_in_flight",
+    connection ..""": "def test_the_first_answers_leave_at_once(; most_in_flight",
     """The program reads at .. At the next one it ends .. too many bytes came | `hpb ..""": "reading: more than 1,000,000,000 bytes",
     """standard output took ..""": "writing: nothing more was taken",
     """In a script, and in a .. If there isn't even memory .. `format` and `check` .. memory was refused to ..""": (
@@ -60,7 +60,7 @@ ELSEWHERE: dict[str, str] = {
     """Control characters of ..""": "\\u202e\\u2028",
     """If standard error is ..""": "def test_no_words_make_errors_of_the_auction(",
     """`F` stands there for ..""": "(400, 100, true)",
-    """If a file opens although .. This line has no number ..""": "def damaged_checkpoints(folder)",
+    """If a file opens although .. This line has no number ..""": "def test_a_damaged_checkpoint(",
     """Pipes and terminals may .. A read that finds nothing ..""": (
         "def test_an_input_that_never_waits_is_waited_for(; def test_an_output_that_never_waits_is_waited_for("
     ),
