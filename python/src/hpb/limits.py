@@ -1,4 +1,4 @@
-"""The limits of docs/RULES.md and docs/PROTOCOL.md. Each stands here once."""
+"""The limits of docs/RULES.md and docs/PROTOCOL.md."""
 import re
 from typing import Final
 
@@ -26,5 +26,5 @@ MOST_LINE_BYTES: Final = 128
 MOST_TICKET: Final = 2**32 - 1
 MOST_AMOUNT: Final = 2**64 - 1
 
-# Of one connection so many lines at most wait for their answers: as many as `hpb serve` makes durable together.
+# How many lines of one connection may wait for their answers: as many as `hpb serve` makes durable together.
 MOST_IN_FLIGHT: Final = 16

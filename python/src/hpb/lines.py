@@ -1,8 +1,8 @@
 """The lines of docs/PROTOCOL.md: commands, questions and answers, read and written.
 
-`format_line(Bid("x", "a", 100, ticket=1))` is `"BID x 1 a 100"`, and `parse_line` reads it again. Amounts are whole dollars, tickets
-numbers from 1. A ticket of 0 stands for none yet: it fits the grammar, and the auction refuses it by 13. Lines are texts without
-their LF; a byte that isn't of ASCII is the character of that number.
+`format_line(Bid("x", "a", 100, ticket=1))` is `"BID x 1 a 100"`, and `parse_line` turns it back. Amounts are whole dollars, and
+tickets are numbers from 1. A ticket of 0 means that there is none yet: it fits the grammar, and the auction refuses it by 13. Lines
+are texts without their LF. A byte beyond ASCII is the character with that number.
 """
 import dataclasses
 import re
@@ -35,7 +35,7 @@ class Waive:
 
 @dataclass(frozen=True, slots=True)
 class Close:
-    """The end of the round. Where nobody bid or waived in it this ends the auction, for good."""
+    """The end of the round. If nobody bid or waived in the round, it ends the auction for good."""
 
     ticket: int = 0
 
@@ -60,14 +60,14 @@ class Show:
 
 @dataclass(frozen=True, slots=True)
 class AskNode:
-    """Asks for a node after the last close; `NodeShown` answers."""
+    """Asks for a node as of the last close; `NodeShown` answers."""
 
     node: str
 
 
 @dataclass(frozen=True, slots=True)
 class AskWho:
-    """Asks for a bidder now; `WhoShown` answers."""
+    """Asks for a bidder as of now; `WhoShown` answers."""
 
     bidder: str
 
@@ -80,10 +80,10 @@ Line: TypeAlias = Command | Question
 
 @dataclass(frozen=True, slots=True)
 class Accepted:
-    """`OK number`: with this command `number` commands have been accepted, 1 to 1,000,000; to a repeat, the number that it got.
+    """`OK number`: this was the `number`-th command to be accepted, 1 to 1,000,000. A repeat gets the number of the first time.
 
-    It is None of a command that is known to be accepted, though its number isn't: a later one of its sender was accepted before
-    its line was sent again.
+    The number is None if it isn't known, though the command is known to be accepted: before its line was sent again, a later
+    command of its sender was accepted.
     """
 
     number: int | None
@@ -91,7 +91,9 @@ class Accepted:
 
 @dataclass(frozen=True, slots=True)
 class Shown:
-    """The answer to SHOW: the round from 1, the stage from 1 to 4, dollars of the last close, and how many commands are accepted."""
+    """The answer to SHOW: the round from 1, the stage from 1 to 4, the revenue of the last close in dollars, and how many commands
+    were accepted.
+    """
 
     round: int
     stage: int
@@ -101,13 +103,13 @@ class Shown:
 
     @property
     def next_ticket(self) -> int:
-        """That of the auctioneer's next command."""
+        """The ticket of the auctioneer's next command."""
         return self.round + self.stage - 1 + self.is_over
 
 
 @dataclass(frozen=True, slots=True)
 class NodeShown:
-    """The answer to NODE, of closed rounds, in dollars. `bidder` is None and `high` 0 where nobody has bid."""
+    """The answer to NODE, for closed rounds, in dollars. If nobody has bid, `bidder` is None and `high` 0."""
 
     name: str
     high: int
@@ -119,7 +121,8 @@ class NodeShown:
 
 @dataclass(frozen=True, slots=True)
 class WhoShown:
-    """The answer to WHO: bidding units, the last ticket that was used, and the waivers left, None where the definition has none."""
+    """The answer to WHO: bidding units, the last used ticket, and the waivers left. If the definition has no waivers, that is None.
+    """
 
     bidder: str
     eligibility: int
@@ -129,7 +132,7 @@ class WhoShown:
 
     @property
     def waivers_left(self) -> int:
-        """How many waivers are left: 0 where the definition has none."""
+        """How many waivers are left; 0 if the definition has none."""
         return self.waivers or 0
 
 
@@ -137,16 +140,17 @@ Answer: TypeAlias = Accepted | Shown | NodeShown | WhoShown | Refused | FrontRef
 
 
 class NoAnswer(HpbError):
-    """A line that is no answer of docs/PROTOCOL.md: what answers isn't `hpb`, nor a front before it."""
+    """A line that is no answer of docs/PROTOCOL.md, so the other end is neither `hpb` nor a front before it."""
 
 
 def numbered(command: AnyCommand, ticket: int) -> AnyCommand:
-    """The same command with a ticket."""
+    """The same command with another ticket."""
     return dataclasses.replace(command, ticket=ticket)
 
 
 def format_line(line: Line) -> str:
-    """The text of a command or a question. ValueError where a name has a space or an LF, or a number is out of its range."""
+    """The text of a command or a question. If a name has a space or an LF, or a number is out of its range, ValueError is raised.
+    """
     match line:
         case Bid(bidder, node, amount, ticket):
             return f"BID {_word(bidder)} {_number(ticket, MOST_TICKET)} {_word(node)} {_number(amount, MOST_AMOUNT)}"
@@ -181,7 +185,7 @@ _DIGITS = re.compile(r"0|[1-9][0-9]*", re.ASCII)
 
 
 def parse_line(text: str) -> Line:
-    """The command or question that a line asks for; refused by `BadLine` (10) where it isn't of the grammar."""
+    """The command or question in a line. Refused by `BadLine` (10), if it isn't of the grammar."""
     if len(text) > MOST_LINE_BYTES:
         raise BadLine(f"more than {MOST_LINE_BYTES} bytes")
     match text.split(" "):
@@ -219,7 +223,7 @@ _FRONT = re.compile(r"ERR front ([a-z]+)")
 
 
 def parse_answer(text: str) -> Answer:
-    """What an answer says. A refusal is handed back, not raised; `NoAnswer` is raised where the line is no answer at all."""
+    """The answer in a line. A refusal is returned, not raised. If the line is no answer at all, `NoAnswer` is raised."""
     if found := _OK.fullmatch(text):
         return _accepted(text, int(found[1]))
     if found := _REFUSED.fullmatch(text):
@@ -251,7 +255,7 @@ def _refused(text: str, number: int, word: str) -> Refused:
 
 
 def format_answer(answer: Answer) -> str:
-    """The text of an answer. ValueError where it is one that is known to be accepted without its number."""
+    """The text of an answer. If it is an `Accepted` without its number, ValueError is raised."""
     match answer:
         case Accepted(None):
             raise ValueError("it has no number")

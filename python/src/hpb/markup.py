@@ -1,21 +1,23 @@
-"""Elements of HTML and SVG. All text is escaped where it is put into one."""
+"""Elements of HTML and SVG. Any text put into an element is escaped."""
 from collections.abc import Iterable
 from typing import TypeAlias
 from xml.sax.saxutils import escape, quoteattr
 
 
 class Markup(str):
-    """A text that is markup already, and isn't escaped again."""
+    """Text that is markup already, and isn't escaped again."""
 
 
 Part: TypeAlias = object
 
-# Elements that have no end of their own.
+# Elements without an end tag.
 _ALONE = {"meta", "br", "rect", "path", "line"}
 
 
 def element(tag: str, *inside: Part, **attributes: object) -> Markup:
-    """An element of HTML or SVG. Of an attribute's name `_` is `-`, and one at its end is left out; one that is None isn't written."""
+    """An element of HTML or SVG. In the name of an attribute, `_` stands for `-`, and one at the end is dropped. Attributes that
+    are None aren't written.
+    """
     words = [tag]
     for name, value in attributes.items():
         if value is not None:
@@ -26,5 +28,5 @@ def element(tag: str, *inside: Part, **attributes: object) -> Markup:
 
 
 def joined(parts: Iterable[Part]) -> Markup:
-    """Parts one behind the other: markup as it is, all else as text."""
+    """Parts one after the other: markup stays as it is, everything else is escaped."""
     return Markup("".join(part if isinstance(part, Markup) else escape(str(part)) for part in parts))

@@ -1,7 +1,7 @@
-"""Files that a front makes for itself: no other user makes one in its stead or may write it, and none takes another file's name.
+"""Files that a front makes for itself. No other user can put one in its place or write it, and none replaces a file that is there.
 
-In a folder that everyone may write, as /tmp is, another user may make a file first under a name that a front is going to use. Then it is
-his: he reads it, and changes or cuts it when he likes.
+In a folder that everyone may write, such as /tmp, another user may make a file first, under the name that a front is going to use.
+Then the file would be his: he could read it, and change or cut it at any time.
 """
 import errno
 import os
@@ -10,13 +10,14 @@ import stat
 MODE = 0o600
 OTHERS_WRITE = 0o022
 SAFELY = os.O_CLOEXEC | os.O_NOFOLLOW | os.O_NONBLOCK
-# What a file system says that has no second names of files.
+# The errors of a file system that doesn't allow a second name for a file.
 NO_LINKS = {errno.EPERM, errno.ENOTSUP, errno.EOPNOTSUPP, errno.ENOSYS}
 
 
 def open_own(path: str, how: int, may_make: bool = True) -> int:
-    """A descriptor of a regular file of this user, which nobody else may write. If there is none it may be made, with mode 600. An OSError
-    says why it isn't opened."""
+    """A descriptor of a regular file of this user that nobody else may write. With `may_make`, the file is made with mode 600 if
+    there is none. If it can't be opened, the OSError says why.
+    """
     if may_make:
         try:
             return os.open(path, how | SAFELY | os.O_CREAT | os.O_EXCL, MODE)
@@ -32,7 +33,7 @@ def open_own(path: str, how: int, may_make: bool = True) -> int:
 
 
 def look_at_owner(path: str, status: os.stat_result) -> None:
-    """An OSError says that it is no regular file, or that somebody else owns it or may write it."""
+    """Raises OSError if it is no regular file, or if somebody else owns it or may write it."""
     if not stat.S_ISREG(status.st_mode):
         raise OSError(errno.EINVAL, "it is no regular file", path)
     if status.st_uid != os.geteuid():
@@ -42,7 +43,9 @@ def look_at_owner(path: str, status: os.stat_result) -> None:
 
 
 def give_name(new: str, path: str) -> None:
-    """Moves a file to a name that no file has: a rename would take the place of one. FileExistsError if one has it."""
+    """Moves a file to a name that isn't taken; if it is, FileExistsError is raised. A plain rename would replace the file of that
+    name.
+    """
     try:
         os.link(new, path)
     except OSError as fault:

@@ -1,4 +1,4 @@
-"""The program `hpb`, which is asked about a copy of an auction's file, or told lines for an auction in memory."""
+"""Runs the program `hpb`: asks it about a copy of an auction's file, or gives it lines for an auction in memory."""
 import os
 import pathlib
 import subprocess
@@ -12,16 +12,18 @@ from hpb.refusals import HpbError
 from hpb.rules.definition import Definition
 from hpb.rules.writing import definition_line
 
-# A folder in memory, where a copy waits for no disk.
+# A folder in memory: a copy there waits for no disk.
 MEMORY: Final = "/dev/shm"
 
 
 class NotAnswered(HpbError):
-    """The program can't be started, refuses a file, or doesn't answer each line."""
+    """The program can't be started, refuses the file, or leaves a line without an answer."""
 
 
 class Copy:
-    """An auction's file in a folder of its own, which is removed at the end of `with`, and a program that is asked about it."""
+    """A copy of an auction's file, which the program is asked about. It lies in a folder of its own, which is removed at the end of
+    `with`.
+    """
 
     def __init__(self, program: str | PathLike[str], image: bytes) -> None:
         self._program, self._image = program, image
@@ -36,12 +38,13 @@ class Copy:
         self._room.cleanup()
 
     def check(self) -> list[str]:
-        """The answers to SHOW, and to NODE of each node. `NotAnswered` is raised where the file is refused."""
+        """The answers to SHOW, and to NODE for each node. If the file is refused, `NotAnswered` is raised."""
         return self._told(["check", "--file", str(self._file)])
 
     def run(self, lines: Sequence[str]) -> list[str]:
-        """The answer to each line. What they change stays in the copy. `NotAnswered` is raised where the file is refused, or an answer is
-        missing."""
+        """The answer to each line. Changes stay in the copy. If the file is refused, or an answer is missing, `NotAnswered` is
+        raised.
+        """
         answers = self._told(["run", "--file", str(self._file)], "".join(f"{line}\n" for line in lines))
         if len(answers) != len(lines):
             raise NotAnswered(f"{len(lines)} lines got {len(answers)} answers")
@@ -60,7 +63,7 @@ class Copy:
 
 
 def answers_in_memory(program: str | PathLike[str], definition: Definition, lines: Sequence[str]) -> list[str]:
-    """What a new auction in memory answers to each line. `NotAnswered` is raised where an answer is missing."""
+    """A new auction in memory, and its answer to each line. If an answer is missing, `NotAnswered` is raised."""
     text = definition_line(definition) + "".join(f"{line}\n" for line in lines)
     try:
         ran = subprocess.run([program], input=text.encode("latin-1"), capture_output=True)

@@ -1,6 +1,7 @@
-"""The refusals of docs/PROTOCOL.md, each an exception with its number, its word, what it means and what to do.
+"""The refusals of docs/PROTOCOL.md: for each an exception with its number, its word, what it means and what to do.
 
-`refusal(22)` is an instance of `TooLow`, and so is what reads the line `ERR 22 low`. The classes below are the one table of them.
+`refusal(22)` is an instance of `TooLow`, and so is the answer read from the line `ERR 22 low`. The classes below are the package's
+only table of refusals.
 """
 from typing import ClassVar
 
@@ -12,7 +13,7 @@ class HpbError(Exception):
 class Refused(HpbError):
     """An auction, or `hpb`, refused something. Each number has a class of its own.
 
-    `number` and `word` are those of the line `ERR number word`; `meaning` says why, `advice` what to do. `detail` has more where
+    `number` and `word` are those of the line `ERR number word`. `meaning` says why, and `advice` what to do. `detail` adds more, if
     more is known.
     """
 
@@ -31,7 +32,7 @@ class Refused(HpbError):
         super().__init__(f"{self.number} {self.word}: {detail or self.meaning}. What to do: {self.advice}")
 
     def __eq__(self, other: object) -> bool:
-        """Two refusals of one number are equal, whatever their details say."""
+        """Two refusals with the same number are equal, whatever their details."""
         return type(self) is type(other)
 
     def __hash__(self) -> int:
@@ -44,17 +45,17 @@ class Refused(HpbError):
 
     @property
     def brief(self) -> str:
-        """Number, word and what is known of it, without what to do."""
+        """Number, word and detail or meaning, without the advice."""
         return f"{self.number} {self.word}: {self.detail or self.meaning}"
 
 
 def refusal(number: int, detail: str = "") -> Refused:
-    """The refusal of a number of the table; KeyError where there is none."""
+    """The refusal with a number of the table. If there is no such number, KeyError is raised."""
     return Refused.by_number[number](detail)
 
 
 def says(fault: HpbError) -> str:
-    """A fault in a line: a refusal by its number and word, any other one by its text."""
+    """A fault in one line: for a refusal its number and word too, for anything else its text."""
     return fault.brief if isinstance(fault, Refused) else str(fault)
 
 
@@ -271,7 +272,7 @@ class CountsDiffer(Refused, number=96, word="counts"):
 
 
 class FrontRefused(HpbError):
-    """The front that stands before the server refused a line, which the server never saw: `ERR front word` of docs/FRONT.md."""
+    """The front before the server refused a line, and the server never saw it: `ERR front word` of docs/FRONT.md."""
 
     MEANINGS: ClassVar[dict[str, str]] = {
         "token": "the first line has no token that is known",

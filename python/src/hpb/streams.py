@@ -1,4 +1,4 @@
-"""Standard streams as a script finds them: closed, or set not to block by another program."""
+"""Standard streams as a script may find them: closed, or made non-blocking by another program."""
 import os
 import select
 
@@ -6,7 +6,9 @@ STANDARD_OUTPUT, STANDARD_ERROR = 1, 2
 
 
 def hold_closed_streams() -> None:
-    """Nothing that is opened gets the number of a stream that is closed. What is written there fails, as before."""
+    """Fills the numbers of closed streams, so that no file opened later gets one of them. Writing to such a stream fails, as
+    before.
+    """
     for number in range(STANDARD_ERROR + 1):
         try:
             os.fstat(number)
@@ -15,7 +17,7 @@ def hold_closed_streams() -> None:
 
 
 def write_all(stream: int, data: bytes) -> None:
-    """Waits for a stream that takes nothing now and is set not to block. An OSError says that it can't be written."""
+    """Writes all bytes, and waits if a non-blocking stream takes none for now. If it can't be written, OSError is raised."""
     while data:
         try:
             data = data[os.write(stream, data) :]

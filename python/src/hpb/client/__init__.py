@@ -1,4 +1,4 @@
-"""Clients of an auction: `Client` waits, `AsyncClient` is awaited; both are shells of one core without input or output."""
+"""Clients of an auction: `Client` blocks, `AsyncClient` is awaited. Both are shells round one core without input or output."""
 from hpb.client.aio import AsyncClient
 from hpb.client.following import View
 from hpb.client.outcomes import Ended, NotWelcome, Outcome, TicketsNotKept, Unanswered

@@ -1,4 +1,4 @@
-"""The client of asyncio: calls that wait at the same time are in flight together."""
+"""The client for asyncio: calls that wait at the same time are in flight together."""
 import asyncio
 import contextlib
 import os
@@ -20,13 +20,13 @@ _MOST_BYTES = 65536
 
 
 class AsyncClient:
-    """A client as `hpb.Client`, with the same words and calls, each of which is awaited.
+    """The client for asyncio: the same words and calls as `hpb.Client`, but each call is awaited.
 
         async with AsyncClient("localhost", 6000, token=token, ca="front.pem") as client:
             await asyncio.gather(client.bid("x", "a", 100), client.bid("x", "b", 150))
 
-    It belongs to the loop in which it is first called. A call that is cancelled is given up: its command may be accepted or not.
-    A file of tickets is synced within the loop.
+    It belongs to the loop in which it is first called. A cancelled call is given up: its command may be accepted or not. A file of
+    tickets is synced within the loop.
     """
 
     def __init__(
@@ -57,7 +57,7 @@ class AsyncClient:
         await self.end()
 
     async def end(self) -> None:
-        """Ends the connection and the use of the file of tickets. Calls that wait end by `Ended`."""
+        """Ends the connection and the use of the file of tickets. Calls that still wait raise `Ended`."""
         if self._has_ended:
             return
         self._has_ended = True
@@ -78,21 +78,27 @@ class AsyncClient:
         return told((await self._asked([Bid(bidder, node, amount)]))[0], Accepted)
 
     async def waive(self, bidder: str) -> Accepted:
-        """Sends a waiver, which keeps the bidder's eligibility at the close of this round; refused by 28 and 29 besides."""
+        """Sends a waiver, which keeps the bidder's eligibility at the close of this round; refused by 11, 13 to 15, 20, 26, 28 and
+        29.
+        """
         return told((await self._asked([Waive(bidder)]))[0], Accepted)
 
     async def close(self) -> Accepted:
-        """Closes the round: the auctioneer's. Where nobody bid or waived in it this ends the auction, for good."""
+        """Closes the round, as the auctioneer; refused by 13 to 15, 20 and 26.
+
+        If nobody bid or waived in the round, this ends the auction for good.
+        """
         return told((await self._asked([Close()]))[0], Accepted)
 
     async def stage(self) -> Accepted:
-        """Moves on to the next stage percentage: the auctioneer's; refused by 27 after the last one."""
+        """Moves on to the next stage percentage, as the auctioneer; refused by 13 to 15, 20, 26, and by 27 after the last stage."""
         return told((await self._asked([Stage()]))[0], Accepted)
 
     async def send(self, commands: Sequence[Command]) -> list[Outcome]:
-        """Sends commands ahead, up to 16 in flight, and gives what became of each, in their order; it raises no refusal.
+        """Sends commands ahead, up to 16 in flight, and returns the outcome of each in order. No refusal is raised.
 
-        A refused command holds up none: those of the same bidder behind it are numbered anew. ValueError where one has a ticket.
+        A refused command doesn't hold up the others: later ones of the same bidder get new tickets. If a command has a ticket
+        already, ValueError is raised.
         """
         check_commands(commands)
         return [outcome(answer) for answer in await self._asked(commands)]
@@ -104,17 +110,17 @@ class AsyncClient:
         return told((await self._asked([Show()]))[0], Shown)
 
     async def node(self, node: str) -> NodeShown:
-        """A node after the last close; refused by 12."""
+        """A node as of the last close; refused by 12."""
         return told((await self._asked([AskNode(node)]))[0], NodeShown)
 
     async def who(self, bidder: str) -> WhoShown:
-        """A bidder now; refused by 11."""
+        """A bidder as of now; refused by 11."""
         return told((await self._asked([AskWho(bidder)]))[0], WhoShown)
 
     async def follow(self, nodes: Sequence[str] = (), bidders: Sequence[str] = (), every: float = 1.0) -> AsyncIterator[View]:
-        """Views of these nodes and bidders: one at once, and one whenever the auction has changed, up to its end.
+        """Views of these nodes and bidders: one at once, and another whenever the auction has changed, up to its end.
 
-        It asks SHOW every so many seconds, and the rest only where that has changed.
+        It asks SHOW every `every` seconds, and the rest only if that answer has changed.
         """
         view: View | None = None
         while view is None or not view.shown.is_over:
@@ -125,7 +131,7 @@ class AsyncClient:
                 await asyncio.sleep(every)
 
     async def earlier(self) -> list[tuple[Command, bool]]:
-        """The commands that an earlier client with the same file of tickets had no answer to, and whether each was accepted."""
+        """The commands that an earlier client with the same file of tickets got no answer to, and whether each was accepted."""
         return self._calls.earlier(await self._asked(self._calls.earlier_questions()))
 
     async def _looked(self, nodes: Sequence[str], bidders: Sequence[str], before: View | None) -> View | None:
@@ -141,7 +147,7 @@ class AsyncClient:
     # Input and output.
 
     async def _asked(self, lines: Sequence[Command | Question]) -> list[Answer | HpbError]:
-        """The outcomes of lines, in their order. What has none in time is given up, and comes to `Unanswered`."""
+        """The outcomes of lines, in their order. A line without an outcome in time is given up, and gets `Unanswered`."""
         if self._has_ended:
             raise Ended("this client was ended")
         loop = asyncio.get_running_loop()
@@ -168,7 +174,7 @@ class AsyncClient:
         return future.result() if future.done() else Unanswered(self._calls.reason, self._calls.give_up(number))
 
     async def _drive(self) -> None:
-        """Has a connection as long as something waits for one."""
+        """Keeps a connection up as long as something waits for one."""
         while True:
             await self._wanted.wait()
             self._wanted.clear()
@@ -198,7 +204,9 @@ class AsyncClient:
         return reader
 
     async def _read(self, reader: asyncio.StreamReader) -> None:
-        """Reads until the connection has ended. One that is silent where it has to answer is taken for lost."""
+        """Reads until the connection ends. If the other end owes an answer and stays silent for too long, the connection counts as
+        lost.
+        """
         loop, silence = asyncio.get_running_loop(), self._calls.settings.silence
         while self._writer is not None:
             begun = self._heard if self._calls.core.waits_for_answer else loop.time()
@@ -216,7 +224,7 @@ class AsyncClient:
             self._perform()
 
     def _perform(self) -> None:
-        """Does what the core says, until it says no more."""
+        """Carries out the core's effects until there are none left."""
         while effects := self._calls.core.effects():
             for effect in effects:
                 if isinstance(effect, Send):

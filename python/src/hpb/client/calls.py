@@ -1,4 +1,4 @@
-"""What both clients share: the words of a client, its core, and what an outcome is to the one that called."""
+"""The part that both clients share: their settings, the core, and how the caller sees an outcome."""
 import os
 from collections.abc import Sequence
 from typing import TypeVar
@@ -14,7 +14,7 @@ Told = TypeVar("Told", Accepted, Shown, NodeShown, WhoShown)
 
 
 class Calls:
-    """A core with its file of tickets, its addresses, and the outcomes that have come. A shell reads and writes."""
+    """A core with its file of tickets, its addresses, and the outcomes that have come. A shell does the reading and writing."""
 
     def __init__(self, known: Settings, tickets: str | os.PathLike[str] | None) -> None:
         self.settings = known
@@ -27,7 +27,9 @@ class Calls:
         self._has_heard = False
 
     def ask(self, lines: Sequence[Command | Question]) -> list[int]:
-        """Asks for lines, and keeps their outcomes until they are taken. ValueError, and none is asked for, where one can't be a line."""
+        """Asks for lines, and keeps their outcomes until they are taken. If any can't be a line, ValueError is raised and none is
+        asked for.
+        """
         for line in lines:
             format_line(line)
         numbers = [self.core.ask(line) for line in lines]
@@ -35,20 +37,21 @@ class Calls:
         return numbers
 
     def give_up(self, number: int) -> bool:
-        """Its outcome isn't wanted any more; says whether its command may count."""
+        """The caller no longer wants this line's outcome. Returns whether its command may count."""
         self.wanted.discard(number)
         self.outcomes.pop(number, None)
         return self.core.abandon(number)
 
     def take(self, number: int) -> Answer | HpbError:
-        """An outcome that has come."""
+        """Hands out an outcome that has come."""
         self.wanted.discard(number)
         return self.outcomes.pop(number)
 
     def happened(self, effect: Effect) -> bool:
-        """An effect that isn't bytes for the connection. Says whether the connection is of use still.
+        """Handles an effect other than bytes for the connection. Returns whether the connection can still be used.
 
-        Nothing is sent that can't be noted: where a note can't be made durable all that waits ends by `TicketsNotKept`.
+        Nothing is sent before its note is durable. If a note can't be made durable, everything that waits ends with
+        `TicketsNotKept`.
         """
         match effect:
             case Keep(note, is_urgent) if self.tickets:
@@ -67,17 +70,17 @@ class Calls:
         return True
 
     def connected(self) -> None:
-        """There is a connection."""
+        """A connection was made."""
         self._has_heard = False
         self.core.connected()
 
     def received(self, data: bytes) -> None:
-        """Bytes came by it."""
+        """Bytes came over the connection."""
         self._has_heard = True
         self.core.received(data)
 
     def lost(self, reason: str) -> None:
-        """It has ended, or none could be made. An address that said nothing is left for the next one."""
+        """The connection ended, or couldn't be made. If its address said nothing, the next address is tried."""
         self.reason = reason
         if not self._has_heard:
             self.turns.failed()
@@ -85,14 +88,14 @@ class Calls:
         self.core.lost()
 
     def earlier_questions(self) -> list[Question]:
-        """What has to be asked, so that it is known which commands of an earlier client were accepted."""
+        """The questions whose answers show which commands of an earlier client were accepted."""
         commands = self.tickets.unanswered if self.tickets else ()
         return [Show() if (bidder := sender_of(command)) is None else AskWho(bidder) for command in commands]
 
     def earlier(self, answers: Sequence[Answer | HpbError]) -> list[tuple[Command, bool]]:
-        """Those commands, and whether each was accepted, by the answers to these questions: whether its ticket is used.
+        """The unanswered commands of an earlier client, and whether each was accepted: it was if its ticket is used.
 
-        It rests on this: nobody else gives that sender's tickets.
+        This assumes that nobody else uses that sender's tickets.
         """
         kept: list[tuple[Command, bool]] = []
         for command, answer in zip(self.tickets.unanswered if self.tickets else (), answers):
@@ -102,7 +105,7 @@ class Calls:
 
 
 def told(answer: Answer | HpbError, kind: type[Told]) -> Told:
-    """The answer of the kind that was asked for; a refusal is raised, and so is what is no answer to that."""
+    """The answer, if it is of the kind that was asked for. A refusal is raised; any other answer raises `NoAnswer`."""
     if isinstance(answer, HpbError):
         raise answer
     if not isinstance(answer, kind):
@@ -111,7 +114,7 @@ def told(answer: Answer | HpbError, kind: type[Told]) -> Told:
 
 
 def answers_of(found: Sequence[Answer | HpbError]) -> list[Answer]:
-    """All answers, refusals among them; what has none is raised."""
+    """All answers, refusals included. An outcome that isn't an answer is raised."""
     answers: list[Answer] = []
     for answer in found:
         if isinstance(answer, HpbError) and not isinstance(answer, Refused | FrontRefused):
@@ -121,12 +124,12 @@ def answers_of(found: Sequence[Answer | HpbError]) -> list[Answer]:
 
 
 def outcome(answer: Answer | HpbError) -> Outcome:
-    """What became of a command."""
+    """The outcome of a command."""
     return answer if isinstance(answer, HpbError) else told(answer, Accepted)
 
 
 def check_commands(commands: Sequence[Command]) -> None:
-    """A ticket is the client's to give: ValueError where a command has one."""
+    """Raises ValueError if a command has a ticket: the client gives the tickets."""
     for command in commands:
         if command.ticket:
             raise ValueError(f"{command} has a ticket, which is the client's to give")

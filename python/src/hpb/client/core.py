@@ -1,9 +1,9 @@
-"""What a client does, without input and output: events in, effects out. Shells connect, read, write and wait.
+"""The client's logic, without input and output: events in, effects out. Shells connect, read, write and wait.
 
-Up to 16 lines are in flight at once. Tickets are given when a line goes out. Bids go out behind others of their bidder; a waiver, a
-close and a stage go out only while nothing else of their sender is in flight, so that their ticket is certain. When a command is
-refused those behind it get 15, and are numbered anew once all of them have their answers. After a loss each line without an answer
-goes out again under its ticket, so that it counts once.
+Up to 16 lines are in flight at once. A line gets its ticket when it goes out. A bid may go out behind other bids of its bidder. A
+waiver, a close or a stage goes out only while nothing else of its sender is in flight, so that its ticket is certain. After a
+refused command, the commands behind it get 15; once all of them have their answers, they get new tickets. After a loss each line
+without an answer goes out again under its ticket, so that it counts once.
 """
 import itertools
 from collections import deque
@@ -36,7 +36,8 @@ from hpb.lines import (
 )
 from hpb.refusals import FrontRefused, HpbError, Refused
 
-# A ticket that is wrong for no reason that is known is looked up so often; then somebody else sends under the same name.
+# After so many refusals of a command's tickets for no known reason, the refusal is its answer: somebody else must be sending under the
+# same name.
 _MOST_WRONG = 3
 # The longest answer has 104 bytes.
 _MOST_ANSWER = 256
@@ -46,7 +47,7 @@ _ENDS = ("idle", "many")
 
 @dataclass(frozen=True, slots=True)
 class Keep:
-    """A note for a file of tickets, to be made durable before what is sent next."""
+    """A note for the file of tickets. An urgent one has to be durable before anything more is sent."""
 
     note: str
     is_urgent: bool
@@ -61,7 +62,7 @@ class Send:
 
 @dataclass(frozen=True, slots=True)
 class Done:
-    """What became of a line that was asked for."""
+    """The outcome of a line that was asked for."""
 
     number: int
     outcome: Answer | HpbError
@@ -69,7 +70,7 @@ class Done:
 
 @dataclass(frozen=True, slots=True)
 class Drop:
-    """The connection is of no use any more, and has to be closed. With `is_fatal` trying again can't help."""
+    """The connection is useless, and has to be closed. With `is_fatal` trying again can't help."""
 
     reason: str
     is_fatal: bool = False
@@ -80,7 +81,7 @@ Effect = Keep | Send | Done | Drop
 
 @dataclass(frozen=True, slots=True)
 class _LookUp:
-    """A question that a row asks for its tickets."""
+    """A question that the core asks by itself, to find out a row's tickets."""
 
     row: Row
 
@@ -90,10 +91,10 @@ class _LookUp:
 
 
 class Core:
-    """A client's state. `ask`, `abandon`, `connected`, `received` and `lost` tell it what happens; `effects` says what to do."""
+    """A client's state. Report events by `ask`, `abandon`, `connected`, `received` and `lost`; then do what `effects` returns."""
 
     def __init__(self, token: str | None = None, known: Iterable[tuple[str | None, int]] = ()) -> None:
-        """`known` has the last used ticket of bidders, where a file of tickets has it."""
+        """`known` has the last used ticket of each bidder, as far as a file of tickets has it."""
         self._token = token
         self._numbers = itertools.count(1)
         self._rows: dict[str | None, Row] = {}
@@ -105,10 +106,12 @@ class Core:
         self._rest = b""
         self._is_connected = self._is_ready = False
 
-    # What happens.
+    # Events.
 
     def ask(self, line: Line) -> int:
-        """Asks for a line, whose ticket is given later. Gives the number that `Done` bears. ValueError where it can't be a line."""
+        """Asks for a line, which gets its ticket later. Returns the number that `Done` will bear. If it can't be a line, ValueError
+        is raised.
+        """
         command = line if isinstance(line, Show | AskNode | AskWho) else numbered(line, 0)
         format_line(command)
         asked = Asked(next(self._numbers), command)
@@ -117,7 +120,7 @@ class Core:
         return asked.number
 
     def abandon(self, number: int) -> bool:
-        """Nobody waits for this line any more. Says whether its command may count: one that wasn't sent never does."""
+        """Nobody waits for this line any more. Returns whether its command may count: one that wasn't sent never does."""
         for sent in self._flight:
             if isinstance(sent, Asked) and sent.number == number:
                 sent.is_abandoned = True
@@ -130,14 +133,14 @@ class Core:
         return False
 
     def connected(self) -> None:
-        """There is a connection."""
+        """A connection was made."""
         self._is_connected, self._is_ready, self._rest = True, self._token is None, b""
         if self._token is not None:
             self._effects.append(Send(f"TOKEN {self._token}\n".encode("latin-1")))
         self._pump()
 
     def received(self, data: bytes) -> None:
-        """Bytes came by the connection."""
+        """Bytes came over the connection."""
         *lines, self._rest = (self._rest + data).split(b"\n")
         for line in lines:
             if self._is_connected:
@@ -147,50 +150,50 @@ class Core:
         self._pump()
 
     def lost(self) -> None:
-        """The connection has ended, or isn't trusted any more. What has no answer goes out again by the next one."""
+        """The connection ended, or isn't trusted any more. Lines without an answer go out again over the next one."""
         if not self._is_connected:
             return
         self._is_connected = self._is_ready = False
-        # What wasn't written to it yet is nothing for the next one.
+        # Bytes that weren't written to this connection yet must not go to the next one.
         self._effects = [effect for effect in self._effects if not isinstance(effect, Send)]
         sent, self._flight = list(self._flight), deque()
         back = [asked for asked in sent if isinstance(asked, Asked) and self._goes_out_again(asked)]
         again: list[Asked] = []
         for row in self._rows.values():
-            # Of a row those that were refused by 15 stood before those that have no answer.
+            # In each row, the commands refused by 15 come before those without an answer.
             again += row.again
             row.end_flight()
         self._waiting.extendleft(reversed(again + back))
 
     def fail(self, error: HpbError) -> None:
-        """Ends all that waits by an error: nothing more can be done for it."""
+        """Ends everything that waits with an error, because nothing more can be done for it."""
         self.lost()
         for asked in self._waiting:
             self._effects.append(Done(asked.number, error))
             self._doubt(asked)
         self._waiting.clear()
 
-    # What to do.
+    # Effects.
 
     def effects(self) -> list[Effect]:
-        """What has to be done now, in this order, each once."""
+        """The effects to carry out now, in this order. Each is returned once."""
         effects, self._effects = self._effects, []
         return effects
 
     @property
     def wants_connection(self) -> bool:
-        """Whether something waits to be sent or answered."""
+        """Whether a line waits to be sent or answered."""
         return bool(self._waiting or self._flight)
 
     @property
     def waits_for_answer(self) -> bool:
-        """Whether the other end has to say something."""
+        """Whether the other end owes an answer."""
         return self._is_connected and (not self._is_ready or bool(self._flight))
 
     # Sending.
 
     def _pump(self) -> None:
-        """Sends what may go out now, in the order in which it was asked for; a row that has to wait holds up none but itself."""
+        """Sends whatever may go out now, in the order of asking. A row that has to wait holds up only itself."""
         if not self._is_ready:
             return
         data, held = b"", set[str | None]()
@@ -211,7 +214,7 @@ class Core:
             self._effects.append(Send(data))
 
     def _is_numbered(self, row: Row, asked: Asked, command: Command) -> bool:
-        """Whether a command may go out, with its ticket: the one that it has, or the next one where that is known."""
+        """Whether a command may go out. It keeps its ticket, or gets the row's next one if that is known."""
         if command.ticket:
             return not row.is_stalled
         if not row.may_send_now(command) or row.next is None:
@@ -220,7 +223,7 @@ class Core:
         return True
 
     def _looked_up(self, row: Row) -> bytes:
-        """Asks for a row's tickets, where they aren't known and nothing else of it is in flight."""
+        """Asks for a row's tickets, if they aren't known and nothing else of the row is in flight."""
         if row.next is not None or row.is_looked_up or row.in_flight or len(self._flight) >= MOST_IN_FLIGHT:
             return b""
         row.is_looked_up = True
@@ -314,7 +317,7 @@ class Core:
             self._settle(row)
 
     def _take_old(self, row: Row, asked: Asked, command: Command, answer: Refused) -> None:
-        """13: of a line that was sent before it says that it was kept, with a later one behind it. Else the ticket was wrong."""
+        """For 13. If the line was sent before, it was accepted, and so was a later one. Otherwise its ticket was wrong."""
         row.forget()
         if asked.was_lost and not row.was_told_otherwise(command):
             self._done(asked, Accepted(None))
@@ -322,7 +325,7 @@ class Core:
             self._number_anew(row, asked, command, answer)
 
     def _take_gap(self, row: Row, asked: Asked, command: Command, answer: Refused) -> None:
-        """15: a command before it was refused. Where none is known to be, its ticket was wrong."""
+        """For 15: a command before it was refused. If none is known to have been, the ticket was wrong."""
         if row.is_stalled:
             self._again(row, asked, command)
         else:
@@ -332,7 +335,7 @@ class Core:
     def _number_anew(self, row: Row, asked: Asked, command: Command, answer: Refused) -> None:
         asked.wrong += 1
         row.is_stalled = bool(row.in_flight)
-        # The rules take one bid once, whatever its tickets are. Anything else that was lost may count twice.
+        # The rules count the same bid once, whatever tickets it has. Any other command that was lost might count twice.
         if asked.wrong >= _MOST_WRONG or (asked.was_lost and not isinstance(command, Bid)):
             self._done(asked, answer)
         else:
@@ -360,7 +363,7 @@ class Core:
     # Losses.
 
     def _goes_out_again(self, asked: Asked) -> bool:
-        """Whether a line that was lost is sent again: under its ticket, or under a new one where it would have got 15."""
+        """Whether a lost line is sent again: under its ticket, or under a new one if it would have got 15."""
         if isinstance(asked.line, Show | AskNode | AskWho):
             return not asked.is_abandoned
         row = self._row_of(asked.line)
@@ -373,7 +376,7 @@ class Core:
         return not asked.is_abandoned
 
     def _doubt(self, asked: Asked) -> None:
-        """Whether a command counts isn't known, and so the next ticket of its row isn't."""
+        """It isn't known whether this command counts, so its row's next ticket isn't known either."""
         if not isinstance(asked.line, Show | AskNode | AskWho):
             self._row_of(asked.line).forget()
 

@@ -1,4 +1,4 @@
-"""How a client follows an auction: which questions it asks, and what makes a view of them. No input or output."""
+"""How a client follows an auction: which questions to ask, and how a view is made of the answers. No input or output."""
 from collections.abc import Generator, Sequence
 from dataclasses import dataclass
 from typing import TypeVar
@@ -12,7 +12,7 @@ Told = TypeVar("Told", Shown, NodeShown, WhoShown)
 
 @dataclass(frozen=True)
 class View:
-    """An auction at a moment: all nodes are of the round that `shown` has."""
+    """An auction at one moment: all nodes belong to the round of `shown`."""
 
     shown: Shown
     nodes: dict[str, NodeShown]
@@ -20,10 +20,10 @@ class View:
 
 
 def look(nodes: Sequence[str], bidders: Sequence[str], before: View | None) -> Generator[list[Question], list[Answer], View | None]:
-    """Asks for a view, and gives it where it differs from the one before, else None.
+    """Asks for a view. Returns it if it differs from the one before, else None.
 
-    It yields questions and is sent their answers. Nodes are asked when a round was closed; they are of one round where SHOW has the
-    same round and state before and after them. A refusal among the answers is raised.
+    It yields questions and is sent their answers. Nodes are asked about again after a close. They belong to one round if SHOW gives
+    the same round and state before and after them. A refusal among the answers is raised.
     """
     shown = (yield from _asked([Show()], Shown))[0]
     if before and shown == before.shown:

@@ -1,13 +1,13 @@
-"""What a client is told besides answers: why there is none."""
+"""The outcomes besides answers: why a client got none."""
 from hpb.lines import Accepted
 from hpb.refusals import HpbError
 
 
 class Unanswered(HpbError):
-    """A line got no answer in the time that it had.
+    """A line got no answer in time.
 
-    `may_count` says whether its command may be accepted, now or a little later: it was sent. Whoever asks again for the same bid
-    does no harm, as the rules take a bid once; of a waiver, a close or a stage look first (`who`, `show`).
+    `may_count` says whether the command was sent, so that it may be accepted, now or a little later. Sending the same bid again
+    does no harm, as the rules count a bid once. For a waiver, a close or a stage, look first (`who`, `show`).
     """
 
     def __init__(self, reason: str, may_count: bool) -> None:
@@ -17,16 +17,16 @@ class Unanswered(HpbError):
 
 
 class NotWelcome(HpbError):
-    """A front doesn't know the token, or the certificate isn't one that is trusted: trying again can't help."""
+    """The front doesn't know the token, or the certificate isn't trusted. Trying again can't help."""
 
 
 class TicketsNotKept(HpbError):
-    """The file of tickets can't be written, and nothing is sent that isn't noted there."""
+    """The file of tickets can't be written, and nothing is sent without a note there."""
 
 
 class Ended(HpbError):
     """The client was ended, so it asks for nothing any more."""
 
 
-# What became of a command: accepted, or why not.
+# The outcome of a command: accepted, or why not.
 Outcome = Accepted | HpbError

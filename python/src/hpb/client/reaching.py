@@ -1,4 +1,4 @@
-"""Where an auction is and how it is reached: addresses in turn, TLS, the token, and how long to wait. Times are in seconds."""
+"""How a client reaches its auction: addresses in turn, TLS, the token, and how long to wait. Times are in seconds."""
 import os
 import pathlib
 import re
@@ -12,16 +12,17 @@ from hpb.client.outcomes import NotWelcome
 
 _TOKEN: Final = re.compile(r"[!-~]{16,128}")
 _FIRST_PAUSE, _MOST_PAUSE = 0.05, 2.0
-# A system that misses the other end asks after so many silent seconds, so often and so many times.
+# If the other end is silent, the system probes it: after how many seconds, then how often, and how many times.
 _KEEPALIVE: Final = {socket.TCP_KEEPIDLE: 30, socket.TCP_KEEPINTVL: 10, socket.TCP_KEEPCNT: 3}
 
 
 @dataclass(frozen=True)
 class Settings:
-    """How a client reaches its auction.
+    """How a client reaches its auction, with times in seconds.
 
-    `timeout` is how long a call waits in all; `silence` after how long without an answer a connection is taken for lost, and
-    `connecting` how long one may take to be made.
+    - `timeout`: how long a call waits in all.
+    - `silence`: how long the other end may owe an answer before the connection counts as lost.
+    - `connecting`: how long making a connection may take.
     """
 
     addresses: tuple[tuple[str, int], ...]
@@ -42,8 +43,10 @@ def settings(
     timeout: float = 150.0,
     silence: float = 60.0,
 ) -> Settings:
-    """The settings of a client's words. With a token all is TLS, but with `plain`; `ca` is the certificate that is trusted, else
-    those of the system are. ValueError where the words don't fit, OSError where `ca` can't be read."""
+    """The settings for a client's arguments. With a token everything goes over TLS, unless `plain` is set. `ca` is the certificate
+    to trust (default: those that the system trusts). If the arguments don't fit together, ValueError is raised; if `ca` can't be
+    read, OSError.
+    """
     if token is not None and not _TOKEN.fullmatch(token):
         raise ValueError("a token has 16 to 128 characters, none of them a space")
     if plain and ca is not None:
@@ -57,8 +60,9 @@ def settings(
 
 
 def read_token(path: str | os.PathLike[str], name: str | None = None) -> str:
-    """The token of a file with one, or that of a name in a file of all. ValueError where others may read the file, or where it
-    has no such token."""
+    """The token in a file of one token, or the token of a name in a file of all. ValueError is raised if others may read the file,
+    or if it has no such token.
+    """
     with open(path, encoding="ascii") as file:
         status = os.fstat(file.fileno())
         if stat.S_ISREG(status.st_mode) and status.st_mode & 0o077:
@@ -72,14 +76,14 @@ def read_token(path: str | os.PathLike[str], name: str | None = None) -> str:
 
 @dataclass
 class Turns:
-    """Which address is tried next, and how long to wait before: they are taken in turn, and with each turn the pause doubles."""
+    """Which address to try next, and how long to wait before that. Addresses take turns, and the pause doubles after each turn."""
 
     addresses: tuple[tuple[str, int], ...]
     _tried: int = field(default=0, init=False)
     _place: int = field(default=0, init=False)
 
     def next(self) -> tuple[tuple[str, int], float]:
-        """The next address, and the pause before it, up to two seconds."""
+        """The next address, and the pause before it, at most two seconds."""
         turn, first = divmod(self._tried, len(self.addresses))
         pause = 0.0 if turn == 0 else min(_MOST_PAUSE, _FIRST_PAUSE * 2 ** min(turn, 10)) if first == 0 else 0.0
         address = self.addresses[self._place % len(self.addresses)]
@@ -87,18 +91,20 @@ class Turns:
         return address, pause
 
     def failed(self) -> None:
-        """The address that was taken last doesn't answer: another one is next."""
+        """The address that was taken last doesn't answer, so another one is next."""
         self._place += 1
 
     def answered(self) -> None:
-        """It answers: it stays the first, and the pauses begin anew."""
+        """The address answers. It stays the first, and the pauses start over."""
         self._tried = 0
 
 
 def set_up(connection: socket.socket) -> None:
-    """Sends at once, and asks after a silent other end. ConnectionError where the connection leads to itself.
+    """Makes the connection send at once, and probe a silent other end. If the connection leads to itself, ConnectionError is
+    raised.
 
-    A port of this machine that nobody serves may be given to the connection itself, and then all that is sent comes back.
+    If nobody listens at a port of this machine, the system may give that port to the connection itself. Then everything that is
+    sent comes back.
     """
     if connection.getsockname() == connection.getpeername():
         raise ConnectionRefusedError("nobody listens there, and the connection led to itself")
@@ -109,5 +115,5 @@ def set_up(connection: socket.socket) -> None:
 
 
 def not_trusted(fault: ssl.SSLCertVerificationError, host: str) -> NotWelcome:
-    """What a certificate that isn't trusted comes to."""
+    """The error for a certificate that isn't trusted."""
     return NotWelcome(f"{host} isn't known by its certificate: {fault.verify_message}")

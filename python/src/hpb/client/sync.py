@@ -1,4 +1,4 @@
-"""The client that waits: each call returns when its answer is there."""
+"""The client that blocks: each call returns when its answer is there."""
 import os
 import select
 import socket
@@ -27,13 +27,20 @@ class Client:
         with Client("localhost", 6000, token=token, ca="front.pem") as client:
             client.bid("x", "a", 100)
 
-    It connects with the first call, and again where its connection is lost; what has no answer is sent again, so that each command
-    counts once. `others` are more addresses of the same auction, which are tried in turn. With `tickets`, a file of its own, it
-    knows after a crash which commands it had sent. `timeout` is how many seconds a call waits in all, `silence` after how many
-    without an answer a connection is taken for lost.
+    It connects with the first call, and again if its connection is lost. Lines without an answer are then sent again, and each
+    command still counts once. Several threads may call.
 
-    Each call may raise a refusal (`hpb.Refused`, `hpb.FrontRefused`), `Unanswered` where no answer came in time, `NotWelcome` where
-    token or certificate aren't right, and ValueError where a word or a number can't be sent. Several threads may call.
+    - `others`: more addresses of the same auction, tried in turn.
+    - `tickets`: a file of its own, by which it knows after a crash which commands it had sent.
+    - `timeout`: how many seconds a call waits in all.
+    - `silence`: after how many seconds without an answer a connection counts as lost.
+
+    Each call may raise:
+
+    - a refusal (`hpb.Refused`, `hpb.FrontRefused`);
+    - `Unanswered`, if no answer came in time;
+    - `NotWelcome`, if the token or the certificate is wrong;
+    - ValueError, if a word or a number can't be sent.
     """
 
     def __init__(
@@ -62,7 +69,7 @@ class Client:
         self.end()
 
     def end(self) -> None:
-        """Ends the connection and the use of the file of tickets. No call is answered any more."""
+        """Ends the connection and the use of the file of tickets. Later calls raise `Ended`."""
         with self._lock:
             self._lose("it was ended here")
             if self._calls.tickets and not self._has_ended:
@@ -76,21 +83,27 @@ class Client:
         return told(self._asked([Bid(bidder, node, amount)])[0], Accepted)
 
     def waive(self, bidder: str) -> Accepted:
-        """Sends a waiver, which keeps the bidder's eligibility at the close of this round; refused by 28 and 29 besides."""
+        """Sends a waiver, which keeps the bidder's eligibility at the close of this round; refused by 11, 13 to 15, 20, 26, 28 and
+        29.
+        """
         return told(self._asked([Waive(bidder)])[0], Accepted)
 
     def close(self) -> Accepted:
-        """Closes the round: the auctioneer's. Where nobody bid or waived in it this ends the auction, for good."""
+        """Closes the round, as the auctioneer; refused by 13 to 15, 20 and 26.
+
+        If nobody bid or waived in the round, this ends the auction for good.
+        """
         return told(self._asked([Close()])[0], Accepted)
 
     def stage(self) -> Accepted:
-        """Moves on to the next stage percentage: the auctioneer's; refused by 27 after the last one."""
+        """Moves on to the next stage percentage, as the auctioneer; refused by 13 to 15, 20, 26, and by 27 after the last stage."""
         return told(self._asked([Stage()])[0], Accepted)
 
     def send(self, commands: Sequence[Command]) -> list[Outcome]:
-        """Sends commands ahead, up to 16 in flight, and gives what became of each, in their order; it raises no refusal.
+        """Sends commands ahead, up to 16 in flight, and returns the outcome of each in order. No refusal is raised.
 
-        A refused command holds up none: those of the same bidder behind it are numbered anew. ValueError where one has a ticket.
+        A refused command doesn't hold up the others: later ones of the same bidder get new tickets. If a command has a ticket
+        already, ValueError is raised.
         """
         check_commands(commands)
         return [outcome(answer) for answer in self._asked(commands)]
@@ -102,17 +115,17 @@ class Client:
         return told(self._asked([Show()])[0], Shown)
 
     def node(self, node: str) -> NodeShown:
-        """A node after the last close; refused by 12."""
+        """A node as of the last close; refused by 12."""
         return told(self._asked([AskNode(node)])[0], NodeShown)
 
     def who(self, bidder: str) -> WhoShown:
-        """A bidder now; refused by 11."""
+        """A bidder as of now; refused by 11."""
         return told(self._asked([AskWho(bidder)])[0], WhoShown)
 
     def follow(self, nodes: Sequence[str] = (), bidders: Sequence[str] = (), every: float = 1.0) -> Iterator[View]:
-        """Views of these nodes and bidders: one at once, and one whenever the auction has changed, up to its end.
+        """Views of these nodes and bidders: one at once, and another whenever the auction has changed, up to its end.
 
-        It asks SHOW every so many seconds, and the rest only where that has changed.
+        It asks SHOW every `every` seconds, and the rest only if that answer has changed.
         """
         view: View | None = None
         while view is None or not view.shown.is_over:
@@ -123,7 +136,7 @@ class Client:
                 time.sleep(every)
 
     def earlier(self) -> list[tuple[Command, bool]]:
-        """The commands that an earlier client with the same file of tickets had no answer to, and whether each was accepted."""
+        """The commands that an earlier client with the same file of tickets got no answer to, and whether each was accepted."""
         return self._calls.earlier(self._asked(self._calls.earlier_questions()))
 
     def _looked(self, nodes: Sequence[str], bidders: Sequence[str], before: View | None) -> View | None:
@@ -139,7 +152,7 @@ class Client:
     # Input and output.
 
     def _asked(self, lines: Sequence[Command | Question]) -> list[Answer | HpbError]:
-        """The outcomes of lines, in their order. What has none in time is given up, and comes to `Unanswered`."""
+        """The outcomes of lines, in their order. A line without an outcome in time is given up, and gets `Unanswered`."""
         with self._lock:
             if self._has_ended:
                 raise Ended("this client was ended")
@@ -164,7 +177,7 @@ class Client:
         return Unanswered(self._calls.reason, self._calls.give_up(number))
 
     def _look_for_end(self) -> None:
-        """A connection that was silent for long may have ended meanwhile."""
+        """A connection that wasn't used for long may have ended meanwhile."""
         if self._connection is None or self._calls.core.waits_for_answer:
             return
         self._heard = time.monotonic()
@@ -174,7 +187,7 @@ class Client:
             self._lose("it ended while nothing was asked")
 
     def _go_on(self, end: float) -> None:
-        """Connects or reads, as far as that gets without waiting for too long."""
+        """Connects or reads, but doesn't wait beyond `end`."""
         try:
             if self._connection is None:
                 self._connect(end)
@@ -204,7 +217,7 @@ class Client:
         self._calls.connected()
 
     def _perform(self) -> None:
-        """Does what the core says, until it says no more."""
+        """Carries out the core's effects until there are none left."""
         while effects := self._calls.core.effects():
             for effect in effects:
                 if isinstance(effect, Send):
@@ -213,7 +226,7 @@ class Client:
                     self._close_connection()
 
     def _send(self, data: bytes) -> None:
-        """What can't be sent is lost with its connection, and goes out again by the next one."""
+        """If the bytes can't be sent, the connection counts as lost, and its lines go out again over the next one."""
         if self._connection is None:
             return
         try:

@@ -1,7 +1,8 @@
-"""A file in which a client notes its tickets, so that it knows after a crash of its own what it sent.
+"""A file in which a client notes its tickets, so that it knows after a crash of its own which commands it had sent.
 
-A line `SENT BID x 3 b 210` is made durable before the line goes out, and `DONE BID x 3 b 210 = OK 7` is written with its answer. A last
-line without LF is half a line and isn't looked at. When the file is opened it is written anew with what still matters.
+A line `SENT BID x 3 b 210` is made durable before the command goes out, and `DONE BID x 3 b 210 = OK 7` is written with its answer.
+A last line without LF is an unfinished one, and is ignored. When the file is opened, it is written anew with the lines that still
+matter.
 """
 import errno
 import fcntl
@@ -13,21 +14,21 @@ from hpb.refusals import HpbError
 
 
 class TicketsInUse(HpbError):
-    """Another program has the file of tickets: two programs can't number one bidder's commands."""
+    """Another program uses the file of tickets, and two programs can't number one bidder's commands."""
 
 
 class TicketFile:
-    """The tickets that a client gave, by their senders; one client has the file at a time.
+    """The tickets that a client used, by their senders. One client at a time has the file.
 
-    `unanswered` are the commands that an earlier client sent and had no answer to, in their order. OSError where the file can't be
-    read or written, `ValueError` where it is no file of tickets.
+    `unanswered` are the commands that an earlier client sent without getting an answer, in their order. If the file can't be read
+    or written, OSError is raised; if it is no file of tickets, ValueError.
     """
 
     def __init__(self, path: str | os.PathLike[str]) -> None:
         self.path = pathlib.Path(path)
         self._last: dict[str | None, int] = {}
         self._sent: dict[str, Command] = {}
-        # Half a line may stand at its end.
+        # The file may end with half a line.
         self._is_torn = False
         self._file = os.open(self.path, os.O_RDWR | os.O_CREAT | os.O_APPEND | os.O_CLOEXEC, 0o600)
         try:
@@ -46,12 +47,14 @@ class TicketFile:
         self.unanswered = tuple(self._sent.values())
 
     def known(self) -> list[tuple[str | None, int]]:
-        """The last used ticket of each bidder of whom no command is unanswered."""
+        """The last used ticket of each bidder all of whose commands were answered."""
         unsure = {sender_of(command) for command in self.unanswered}
         return [(bidder, last) for bidder, last in self._last.items() if bidder is not None and bidder not in unsure]
 
     def note(self, text: str, is_urgent: bool) -> None:
-        """Adds a line, and with `is_urgent` returns once it is durable. OSError where it can't be, and from then on."""
+        """Adds a line. With `is_urgent` it returns once the line is durable. If a line can't be written, OSError is raised, then
+        and by every later call.
+        """
         if self._is_torn:
             raise OSError(errno.EIO, "an earlier line couldn't be written")
         self._is_torn = True
@@ -80,7 +83,7 @@ class TicketFile:
             self._last[sender] = max(self._last.get(sender, 0), command.ticket)
 
     def _write_anew(self) -> None:
-        """What still matters stands in a file of its own, which then takes the place of the old one."""
+        """Writes the lines that still matter to a new file, which then replaces the old one."""
         known = [f"DONE {format_line(_command_of(sender, last))} = OK" for sender, last in self._last.items()]
         lines = known + [f"SENT {line}" for line in self._sent]
         fresh = self.path.with_name(self.path.name + ".new")
@@ -99,7 +102,7 @@ class TicketFile:
 
 
 def sender_of(command: Command) -> str | None:
-    """The bidder whose row a ticket is of; None is the auctioneer's."""
+    """The bidder to whom a command's row of tickets belongs, or None for the auctioneer."""
     return command.bidder if isinstance(command, Bid | Waive) else None
 
 
@@ -108,7 +111,7 @@ def _command_of(sender: str | None, ticket: int) -> Command:
 
 
 def _write(file: int, text: str) -> None:
-    """All of a text, however the system cuts it."""
+    """Writes the whole text, however many calls that takes."""
     data = text.encode("latin-1")
     while data:
         data = data[os.write(file, data) :]

@@ -1,4 +1,4 @@
-"""What is called from a shell: `tools/NAME` of a checkout, `hpb-NAME` where the package is installed."""
+"""The commands of a shell: `tools/NAME` in a checkout, `hpb-NAME` if the package is installed."""
 import argparse
 import pathlib
 import sys
@@ -9,17 +9,19 @@ _STANDARD_OUTPUT = 1
 
 
 def program_name() -> str:
-    """By which name this command was called."""
+    """The name by which this command was called."""
     return pathlib.PurePath(sys.argv[0]).stem
 
 
 def parser(text: str) -> argparse.ArgumentParser:
-    """What reads a command's words. Its help is the text, as it is laid out."""
+    """A parser for a command's arguments. Its help is the text, laid out as it stands."""
     return argparse.ArgumentParser(prog=program_name(), description=text, formatter_class=argparse.RawDescriptionHelpFormatter)
 
 
 def the_file(text: str) -> str | int:
-    """The one word of a command that takes a file; or the status to end with, once the text was shown that tells of its words."""
+    """The one argument of a command that takes a file. Otherwise it prints the text, and returns the status to end with: 0 if help
+    was asked for, else 2.
+    """
     if len(sys.argv) == 2 and sys.argv[1] not in ("-h", "--help"):
         return sys.argv[1]
     print(text, end="")
@@ -27,7 +29,7 @@ def the_file(text: str) -> str | int:
 
 
 def write_out(text: str) -> None:
-    """To standard output, whole; else refused by `StreamFault` (92)."""
+    """Writes all of a text to standard output, or raises `StreamFault` (92)."""
     try:
         with open(_STANDARD_OUTPUT, "wb", closefd=False) as stream:
             stream.write(text.encode())

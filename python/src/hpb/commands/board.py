@@ -1,12 +1,12 @@
-"""A page that shows an auction which `hpb serve` serves, and follows it.
+"""Shows an auction that `hpb serve` serves on a web page, and follows it.
 
     tools/board --port 5000 --definition definition.json --bidders x,y
     tools/board --port 5000 --definition definition.json --listen 127.0.0.1:8080 --places 3
 
-Writes `BOARD` and the address of the page once it can be opened. It asks questions alone, over one connection, which is one of those
-that `--sessions` of `hpb serve` counts; where it is lost, and more than one was given by --places, it connects again. Who can reach
-the address sees the page: nobody is asked who he is. A front serves the page itself, over TLS and to those who have a token.
-docs/BOARD.md tells of what stands on it.
+Once the page can be opened, it writes `BOARD` and the page's address. It asks questions only, over one connection, which takes one
+of the places of `hpb serve --sessions`. If the connection is lost, it connects again, provided that --places gave it more than one.
+Anyone who can reach the address sees the page, without a password. A front serves the page itself, over TLS and only to holders of
+a token. docs/BOARD.md describes the page.
 """
 import argparse
 import signal
@@ -23,7 +23,7 @@ from hpb.refusals import HpbError, says
 
 
 def main() -> int:
-    """Reads the words, and returns the status."""
+    """Reads the arguments, and returns the status."""
     signal.signal(signal.SIGTERM, lambda *_: sys.exit(0))
     try:
         _serve(_read_words())
@@ -54,9 +54,9 @@ def _listen_address(text: str) -> tuple[str, int]:
 
 
 def _serve(given: argparse.Namespace) -> None:
-    """Serves the page until it can't be followed any more, which is raised then."""
+    """Serves the page until the auction can't be followed any more; then raises the reason."""
     auction = followed(given)
-    # The follower makes the first view, which the wall is hung with; the wall takes all others.
+    # The follower makes the first view, with which the wall begins; the wall gets each later view.
     follower = Follower(auction.tree, auction.bidders, at_port(given.port), lambda view: guests.hang(view), auction.places, auction.pace)
     guests = Anybody(Wall(auction.tree, auction.bidders, follower.view))
     faults: list[HpbError] = []
@@ -75,13 +75,15 @@ def _listening(given: argparse.Namespace, guests: Anybody) -> Server:
 
 
 def _keep_following(follower: Follower, end: Callable[[], None], faults: list[HpbError]) -> None:
-    """Asks until there is nothing more to ask. Another auction's definition ends the board, as anything does that goes wrong here."""
+    """Asks until there is nothing more to ask. If the served auction has another definition, or anything fails here, the board
+    ends.
+    """
     try:
         follower.follow()
     except HpbError as fault:
         faults.append(fault)
         end()
-    except Exception as fault:  # Whatever it is: a page that stands still in silence would be worse.
+    except Exception as fault:  # Any fault at all: a page that stops changing without a word would be worse.
         faults.append(NotFollowed(f"following ended: {fault!r}"))
         end()
 

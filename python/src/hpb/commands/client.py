@@ -4,12 +4,18 @@
     tools/client localhost:6000 --token ann.token --ca front.pem < lines             to a front, over TLS
     tools/client localhost:6000 --token auction.tokens --name ann --ca front.pem     the same, by a file of all tokens
 
-Where the connection is lost it connects again, says the token again, and sends the line again that has no answer, for a minute. A
-command bears a ticket, so it is accepted once, and gets its number again. It connects with the first line. Where its tries fail for
-more than two seconds standard error says so, once for a line. A terminal is shown what is no printable character of ASCII escaped.
+It connects when the first line comes. If the connection is lost, it connects again for up to a minute, says the token again, and
+sends the line that has no answer again. A command's ticket makes sure that it is accepted once; a repeat gets the same number. If
+its tries fail for more than two seconds, standard error says so, once for each line. On a terminal, all but the printable
+characters of ASCII are escaped.
 
-It ends with 0 when each line has its answer, with 1 where it gives up, which standard error tells, and with 2 where its words are
-wrong. docs/FRONT.md has more of fronts and tokens. Needs Python 3.11.
+The status is:
+
+- 0, when each line has its answer;
+- 1, if it gives up, for the reason on standard error;
+- 2, if its arguments are wrong.
+
+docs/FRONT.md has more about fronts and tokens. Needs Python 3.11.
 """
 import argparse
 import os
@@ -24,22 +30,22 @@ from hpb.pages.reaching import ENDS, GivesUp, add_options, connected, context_of
 from hpb.plain import plain
 from hpb.streams import STANDARD_OUTPUT, hold_closed_streams, write_all
 
-# Of an answer, with its LF: docs/PROTOCOL.md.
+# The longest answer, with its LF: docs/PROTOCOL.md.
 MOST_ANSWER = 104 + 1
 PATIENCE, SILENCE, PAUSE = 60, 2, 0.1
 
 
 class Client:
-    """A connection that is made anew where it is lost."""
+    """A connection that is made again whenever it is lost."""
 
     def __init__(self, place: tuple[str, int], token: str | None = None, context: ssl.SSLContext | None = None) -> None:
-        """At a host and a port; with a token it is said first."""
+        """To a host and a port. If there is a token, it is sent first."""
         self.place, self.token, self.context = place, token, context
         self.socket: socket.socket | None = None
         self.stream: BinaryIO | None = None
 
     def ask(self, line: bytes) -> bytes:
-        """The answer to a line, both with their LF. A GivesUp says why there is none."""
+        """The answer to a line, both with their LF. If there is none, the GivesUp that is raised says why."""
         begun, silent = time.monotonic(), True
         while True:
             try:
@@ -55,7 +61,7 @@ class Client:
             time.sleep(PAUSE)
 
     def told(self, line: bytes) -> bytes:
-        """The answer, by the connection that there is or by a new one."""
+        """The answer over the current connection, or over a new one if there is none."""
         if self.socket is None or self.stream is None:
             self.socket = connected(self.place, self.token, self.context, PATIENCE)
             self.stream = self.socket.makefile("rb")
@@ -77,7 +83,7 @@ class Client:
 
 
 def shown(answer: bytes) -> bytes:
-    """An answer as standard output may have it: a terminal does what some characters say."""
+    """An answer as it may be written to standard output: a terminal obeys some characters, so they are escaped for one."""
     return f"{plain(answer[:-1].decode('latin-1'))}\n".encode() if os.isatty(STANDARD_OUTPUT) else answer
 
 
@@ -91,7 +97,7 @@ def read_words() -> argparse.Namespace:
 
 
 def main() -> int:
-    """Reads the words, and returns the status."""
+    """Reads the arguments, and returns the status."""
     hold_closed_streams()
     given = read_words()
     try:

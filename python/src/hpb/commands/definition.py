@@ -2,8 +2,8 @@
 
     tools/definition FILE > definition.json
 
-The file is only read, and its head alone counts: it never changes, so the file may be in use. It ends with 0, and with 1 where the
-file is none that `hpb` would open by its head; standard error then has the number and word by which `hpb` refuses it, and why.
+The file is only read, and only its head. The head never changes, so the file may be in use. The status is 0, or 1 if `hpb` wouldn't
+open a file with this head. Standard error then says why, with the number and word by which `hpb` refuses it.
 """
 import sys
 
@@ -14,7 +14,7 @@ from hpb.rules.writing import definition_line
 
 
 def main() -> int:
-    """Reads the words, and returns the status."""
+    """Reads the arguments, and returns the status."""
     path = the_file(__doc__)
     if isinstance(path, int):
         return path

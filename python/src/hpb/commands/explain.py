@@ -1,10 +1,14 @@
-"""Warns of what a definition may say and can hardly mean.
+"""Warns about things in a definition that are allowed but hardly meant.
 
     tools/explain definition.json
 
-The file has the definition: JSON, or a script whose first line it is. It ends with 0 if there is nothing to warn of,
-with 1 if there is, and with 2 if the file has no definition that could be looked at. Whether a definition is accepted
-it doesn't tell: the program does.
+The file holds the definition as JSON, or is a script whose first line is the definition. The status is:
+
+- 0, if there is nothing to warn about;
+- 1, if there is;
+- 2, if the file has no definition that could be examined.
+
+It doesn't say whether the definition is accepted: the program does.
 """
 import json
 import sys
@@ -15,16 +19,16 @@ from hpb.commands import the_file
 from hpb.plain import plain
 from hpb.rules.activity import activity_needed
 
-# As JSON has it; nothing is sure of it.
+# An object of JSON, whose fields aren't checked yet.
 Object = dict[str, Any]
 
 
 class NoDefinition(Exception):
-    """The file has none."""
+    """The file holds no definition."""
 
 
 def pairs_once(warnings: list[str]) -> Callable[[list[tuple[str, Any]]], Object]:
-    """Makes an object, and warns of each key that it has twice."""
+    """A hook that makes an object, and warns about each key that occurs twice in it."""
 
     def made(pairs: list[tuple[str, Any]]) -> Object:
         fields = dict(pairs)
@@ -54,7 +58,7 @@ def read(text: str, warnings: list[str]) -> Any:
 
 
 def units(definition: Object) -> dict[str, int]:
-    """The units of each node: those of a licence, and of a package those of the licences under it."""
+    """The bidding units of each node. A package has those of the licences under it."""
     own: dict[str, int] = {node["name"]: node.get("units", 0) for node in definition["nodes"]}
     for node in reversed(definition["nodes"]):
         if node["parent"] is not None:
@@ -63,7 +67,7 @@ def units(definition: Object) -> dict[str, int]:
 
 
 def warn(definition: Object, warnings: list[str]) -> None:
-    """Adds what there is to warn of. What is no definition at all raises what comes of that."""
+    """Adds the warnings. If the object is no definition at all, whatever exception comes of that is raised."""
     warn_of_stages(definition["stages"], warnings)
     nodes = units(definition)
     warn_of_units(definition["bidders"], nodes, warnings)
@@ -89,7 +93,7 @@ def warn_of_units(bidders: list[Object], nodes: Mapping[str, int], warnings: lis
 
 
 def warn_of_activity(definition: Object, licences: int, warnings: list[str]) -> None:
-    """No activity is greater than the units of all licences, of which each counts once."""
+    """The most activity is that of all licences together, each counted once."""
     for bidder in definition["bidders"]:
         for place, percentage in enumerate(definition["stages"], 1):
             wanted = activity_needed(percentage, bidder["units"])
@@ -103,7 +107,7 @@ def warn_of_activity(definition: Object, licences: int, warnings: list[str]) -> 
 
 
 def main() -> int:
-    """Reads the words, and returns the status."""
+    """Reads the arguments, and returns the status."""
     path = the_file(__doc__)
     if isinstance(path, int):
         return path

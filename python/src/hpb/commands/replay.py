@@ -1,4 +1,4 @@
-"""Tells the commands of a front's record to an auction in memory, and shows who bid what.
+"""Replays a front's record to an auction in memory, and shows who bid what.
 
     tools/replay RECORD                              checks the record, and prints each bid by its round
     tools/replay RECORD --file auction.hpb           compares with what the file keeps, too
@@ -6,12 +6,19 @@
     tools/replay RECORD --svg rounds.svg             draws revenue, prices and eligibility by round
     tools/replay RECORD --commands 41                prints nothing but the commands from number 41 on, for a copy of the file
 
-RECORD is the record's first segment; the others stand beside it, as RECORD.2, RECORD.3, and all are read. What is checked: each entry's
-hash, and that it names the one before; each segment's seal; that numbers of commands follow one another; that each bid was sent by a
-name that may bid for its bidder; and that the auction in memory accepts each command with the number that it got. docs/FRONT.md says
-what that proves and what it doesn't.
+RECORD is the record's first segment; the others stand beside it, as RECORD.2, RECORD.3, and all are read. It checks that:
 
-It ends with 0 if all is so, with 1 if something differs or the record is damaged, and with 2 if its words are wrong.
+- each entry's hash is right, and each entry names the hash of the one before;
+- each segment's seal is right;
+- the numbers of commands follow one another;
+- each bid was sent by a name that may bid for its bidder;
+- the auction in memory accepts each command under the number that it got.
+
+docs/FRONT.md says what that proves and what it doesn't. The status is:
+
+- 0, if all of this holds;
+- 1, if something differs or the record is damaged;
+- 2, if the arguments are wrong.
 """
 import argparse
 import json
@@ -31,7 +38,7 @@ _MOST_TOLD = 20
 
 
 def main() -> int:
-    """Reads the words, and returns the status."""
+    """Reads the arguments, and returns the status."""
     given = _read_words()
     faults: Sequence[str]
     try:
@@ -65,7 +72,7 @@ def _read_words() -> argparse.Namespace:
 
 
 def _found_wrong(given: argparse.Namespace) -> Sequence[str]:
-    """What is found wrong. All else is printed."""
+    """The faults that were found. Everything else is printed."""
     story = read_story(record_entries(given.record))
     if given.commands is not None:
         for command in story.commands[max(given.commands, 1) - 1 :]:
@@ -97,7 +104,7 @@ def _print_sum(story: Story, file: str | None) -> None:
 
 
 def _table(head: Sequence[str], rows: Sequence[Sequence[str | int]]) -> Iterator[str]:
-    """Columns of texts, those of numbers to the right."""
+    """Texts in columns. Columns of numbers are aligned to the right."""
     is_number = [bool(rows) and all(isinstance(row[place], int) or row[place] == "-" for row in rows) for place in range(len(head))]
     texts = [[plain(cell) for cell in row] for row in [head, *rows]]
     widths = [max(len(row[place]) for row in texts) for place in range(len(head))]
@@ -121,7 +128,7 @@ def _bids_by_round(story: Story) -> Iterator[str]:
 
 
 def _rounds(told: Replay) -> Iterator[str]:
-    """Each close, with what it came to."""
+    """Each close, with its result."""
     closes = [command for command in told.story.commands if command.words[0] == "CLOSE"]
     rows, before = list[tuple[str | int, ...]](), 0
     for place, close in enumerate(closes, 1):
@@ -143,8 +150,9 @@ def _drawn(told: Replay) -> str:
 
 
 def _shown_by(path: str) -> Iterator[tuple[int, str]]:
-    """What SHOW was answered by a log of the front, each with the number of its line. Lines of other kinds are passed over, and such as a full
-    disk or a crash cut short."""
+    """The answers to SHOW in a log of the front, each with its line number. Lines of other kinds are skipped, and so are lines that
+    a full disk or a crash cut short.
+    """
     with open(path, encoding="utf-8", errors="replace") as file:
         for number, line in enumerate(file, 1):
             entry = _object_in(line)
@@ -153,7 +161,7 @@ def _shown_by(path: str) -> Iterator[tuple[int, str]]:
 
 
 def _object_in(line: str) -> Entry:
-    """That of a line of a log; an empty one if it isn't whole."""
+    """The object in a line of a log; an empty one if the line isn't whole."""
     try:
         found = json.loads(line) if line.endswith("\n") else {}
     except (ValueError, RecursionError):

@@ -1,15 +1,21 @@
-"""Makes a page of an auction from a copy of its file alone, to be read, printed and checked by sums.
+"""Makes a page about an auction from nothing but a copy of its file. The page can be read, printed, and checked by adding up.
 
     tools/report FILE [--program hpb] > report.html
     tools/report FILE [--program hpb] --picture > tree.svg
 
-The file is opened to read alone and isn't changed: what `hpb` is asked, it is asked about a copy in a folder of its own. The page has
-no script, needs no other file, and is the same for the same bytes. It has the tree with high bids, prices, minima and winners; the
-sums that show the result, and winners and prices found once more from the high bids; what each bidder needs and what a close now would
-leave to it, which is held against a close of the copy; stages, definition, and SHA-256 of file and definition.
+The file is only read and never changed: `hpb` is run on a copy in a folder of its own. The page has no script, needs no other file,
+and is the same for the same bytes. It shows:
 
-It ends with 0; with 1 where the file is refused, or in use by a program, and no page is written; and with 3 where the page is written
-and something in it isn't right, which it names at its top.
+- the tree with high bids, prices, minima and winners;
+- the sums that show the result, and winners and prices calculated again from the high bids;
+- what each bidder needs, and what a close now would leave to it, compared with a close of the copy;
+- stages, definition, and SHA-256 of file and definition.
+
+The status is:
+
+- 0, if all is right;
+- 1, if the file is refused, or in use by a program: then no page is written;
+- 3, if the page is written but something in it isn't right: the top of the page says what.
 """
 import sys
 
@@ -24,7 +30,7 @@ _NOT_RIGHT = 3
 
 
 def main() -> int:
-    """Reads the words, and returns the status."""
+    """Reads the arguments, and returns the status."""
     words = parser(__doc__)
     words.add_argument("file", metavar="FILE", help="a copy of an auction's file")
     words.add_argument("--program", default="hpb", help="what is asked (default hpb)")

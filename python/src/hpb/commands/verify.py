@@ -2,12 +2,16 @@
 
     hpb check --file auction.hpb | tools/verify definition.json
 
-The first file has the definition: JSON, or a script whose first line it is. Standard input has the answer to SHOW and
-the answers to NODE for each node, in any order, and may have answers to WHO; other answers are passed over, and of several the last
-counts. Nodes, bidders and the stage have to be those of the definition, and each bid one that it allows. docs/RULES.md explains the
-sums ("How to check a result").
+The argument is a file with the definition: JSON, or a script whose first line it is. Standard input has the answer to SHOW and the
+answers to NODE for each node, in any order. It may have answers to WHO. Other answers are ignored, and of several to one question
+the last counts. Nodes, bidders and the stage have to be those of the definition, and each bid one that it allows. docs/RULES.md
+explains the sums ("How to check a result").
 
-It ends with 0 where all of them are right, with 1 where one isn't, which it names, and with 2 where something is missing.
+The status is:
+
+- 0, if all sums are right;
+- 1, if one isn't: it is named;
+- 2, if something is missing.
 """
 import pathlib
 import sys
@@ -21,7 +25,7 @@ from hpb.rules.writing import read_script
 
 
 def main() -> int:
-    """Reads the words, and returns the status."""
+    """Reads the arguments, and returns the status."""
     path = the_file(__doc__)
     if isinstance(path, int):
         return path

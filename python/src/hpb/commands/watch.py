@@ -4,10 +4,10 @@
     tools/watch --port 5000 --definition definition.json --once
     tools/watch --front localhost:6000 --token ann.token --ca front.pem --definition definition.json --bidders x
 
-In a terminal the picture is drawn anew whenever something changes: arrows, page keys, g and G move it, q ends it. Where standard
-output is no terminal it is written once, and then a line comes for each change. It asks questions alone, over one connection, which
-is one of those that `--sessions` of `hpb serve` counts; a front counts none, and it connects again as often as it has to.
-docs/BOARD.md tells of what it shows.
+In a terminal the picture is drawn again whenever something changes. Arrows, page keys, g and G move it, and q ends it. If standard
+output is no terminal, the picture is written once, followed by a line for each change. It asks questions only, over one connection,
+which takes one of the places of `hpb serve --sessions`. A front has no such places, so it connects again as often as it has to.
+docs/BOARD.md describes what it shows.
 """
 import argparse
 import os
@@ -41,7 +41,7 @@ _KEY = re.compile(r"\x1b\[[0-9;]*[A-Za-z~]|.", re.S)
 
 
 class Watch:
-    """What was seen last, and whether there is something new of it. `fault` is what keeps it from following."""
+    """The views that were seen, and whether there are new ones. `fault` is the reason why it can't go on following."""
 
     def __init__(self, given: argparse.Namespace) -> None:
         auction = followed(given)
@@ -53,18 +53,18 @@ class Watch:
         self._views, self._lock = [self.follower.view], threading.Lock()
 
     def start(self) -> None:
-        """Follows in a thread of its own."""
+        """Starts following, in a thread of its own."""
         threading.Thread(target=self._follow, daemon=True).start()
 
     def taken(self) -> list[View]:
-        """The views that came since the last time."""
+        """The views that came since the last call."""
         with self._lock:
             self.changed.clear()
             views, self._views = self._views, []
         return views
 
     def newest(self, view: View) -> View:
-        """The last view that came, or the given one where none did."""
+        """The last view that came, or the given one if none did."""
         return [view, *self.taken()][-1]
 
     def _take(self, view: View) -> None:
@@ -77,14 +77,14 @@ class Watch:
             self.follower.follow()
         except HpbError as fault:
             self.fault = fault
-        except Exception as fault:  # Whatever it is: a picture that stands still in silence would be worse.
+        except Exception as fault:  # Any fault at all: a picture that stops changing without a word would be worse.
             self.fault = NotFollowed(f"following ended: {fault!r}")
         self.ended.set()
         self.changed.set()
 
 
 def once(watch: Watch, style: Style) -> int:
-    """Writes what there is. Where there is no server, or it doesn't answer, that is a failure."""
+    """Writes the first view. It fails if there is no server, or if the server doesn't answer."""
     end = time.monotonic() + _ONCE_SECONDS
     view = watch.follower.view
     while view.seen is None and time.monotonic() < end and not watch.ended.is_set():
@@ -102,7 +102,7 @@ def once(watch: Watch, style: Style) -> int:
 
 
 def as_lines(watch: Watch, style: Style) -> int:
-    """The picture once, and a line for each change, until nothing more can come."""
+    """Writes the picture once, and then a line for each change, until nothing more can come."""
     known: View | None = None
     while not watch.ended.is_set() or watch.changed.is_set():
         watch.changed.wait()
@@ -119,15 +119,15 @@ def as_lines(watch: Watch, style: Style) -> int:
 
 
 class Screen:
-    """The picture in a terminal, which can be moved where it is higher than that."""
+    """The picture in a terminal. If it is higher than the terminal, it can be scrolled."""
 
     def __init__(self, watch: Watch, style: Style) -> None:
         self._watch, self._style, self._view = watch, style, watch.follower.view
-        # The first line that is shown, how many are, and the greatest number that the first one may have.
+        # The first line on the screen, the number of lines on it, and the greatest first line.
         self._top, self._room, self._most = 0, 1, 0
 
     def run(self) -> int:
-        """Draws it until `q` is typed; raises what keeps it from following."""
+        """Draws the picture until `q` is typed. If following fails, the reason is raised."""
         before = termios.tcgetattr(sys.stdin)
         sys.stdout.write(_ALTERNATE)
         try:
@@ -161,14 +161,14 @@ class Screen:
         sys.stdout.flush()
 
     def _obeys(self, key: str) -> bool:
-        """Whether it goes on after this key."""
+        """Obeys a key, and returns whether to go on."""
         move = _LINES.get(key, 0) + _PAGES.get(key, 0) * self._room + _ENDS.get(key, 0) * self._most
         self._top = min(max(0, self._top + move), self._most)
         return key != "q"
 
 
 def _keys() -> list[str]:
-    """What was typed within a second."""
+    """The keys that were typed within a second."""
     ready, _, _ = select.select([sys.stdin], [], [], 1)
     return _KEY.findall(os.read(sys.stdin.fileno(), 1_024).decode(errors="replace")) if ready else []
 
@@ -195,7 +195,7 @@ def _shown(given: argparse.Namespace) -> int:
 
 
 def main() -> int:
-    """Reads the words, and returns the status."""
+    """Reads the arguments, and returns the status."""
     given = _read_words()
     signal.signal(signal.SIGTERM, lambda *_: sys.exit(0))
     try:

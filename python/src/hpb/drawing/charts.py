@@ -21,17 +21,18 @@ _STYLE: Final = """
 
 
 class Panel:
-    """A chart: of each series its values, from before the first close to the last one. They are whole numbers from 0 on."""
+    """A chart. Each series has one value from before the first close, and one for each close. Values are whole numbers from 0 up.
+    """
 
     def __init__(self, title: str, unit: str, series: Mapping[str, Sequence[int]]) -> None:
-        """Each series has as many values, at least one."""
+        """All series have the same number of values, at least one."""
         self.title, self.unit, self.series = title, unit, series
         self.height = max(_LEAST_HEIGHT, _LABEL * len(series))
         self._most = _rounded_up(max((value for values in series.values() for value in values), default=0))
         self._last = max(len(values) for values in series.values()) - 1
 
     def drawn(self, at: int) -> Markup:
-        """The chart, so many pixels below the top of a picture."""
+        """The chart, `at` pixels below the top of a picture."""
         parts = [element("text", f"{self.title}, in {self.unit}", x=_LEFT, y=18, class_="title")]
         parts += [*self._amounts(), *self._rounds()]
         ends = self._label_places()
@@ -65,7 +66,7 @@ class Panel:
             yield element("text", text, x=self._x(place), y=_TOP + self.height + 18, text_anchor="middle")
 
     def _label_places(self) -> dict[str, int]:
-        """Each name stands beside the end of its line, or as near as the others leave room."""
+        """Each name stands beside the end of its line, or as near to it as the other names allow."""
         order = sorted(self.series, key=lambda name: self._y(self.series[name][-1]))
         places, free = dict[str, int](), _TOP
         for left, name in zip(range(len(order), 0, -1), order):
@@ -76,7 +77,7 @@ class Panel:
 
 
 def picture(title: str, panels: Sequence[Panel]) -> str:
-    """Panels one below the other: a file of SVG."""
+    """Panels one below the other, as an SVG file."""
     at, parts = 0, list[Markup]()
     for panel in panels:
         parts.append(panel.drawn(at))
@@ -91,7 +92,7 @@ def _colour(place: int) -> str:
 
 
 def _rounded_up(value: int) -> int:
-    """The least of 5, 10, 20, 50, 100, .. that is as much."""
+    """The least number of 5, 10, 20, 50, 100 and so on that is at least the value."""
     most = 5
     while most < value:
         most = most * 5 // 2 if str(most).startswith("2") else most * 2

@@ -1,4 +1,4 @@
-"""A tree of packages and licences as a picture, in columns or as an outline. A page may make it smaller."""
+"""A picture of the tree of packages and licences, in columns or as an outline. A page may show it smaller."""
 from collections.abc import Iterator
 from typing import ClassVar, Final
 
@@ -8,7 +8,7 @@ from hpb.markup import Markup, element
 from hpb.rules.told import Told
 from hpb.rules.tree import Tree
 
-# So many rows fit on a sheet of paper.
+# The number of rows that fit on a sheet of paper.
 MOST_ROWS: Final = 20
 STYLE: Final = """
 .tree-picture { font: 12px ui-monospace, "DejaVu Sans Mono", monospace; color: #1a1f24; }
@@ -25,7 +25,7 @@ STYLE: Final = """
 
 # In pixels.
 _CHARACTER, _LINE, _ROW, _GAP, _MARGIN, _INDENT = 7.3, 16, 42, 4, 8, 14
-# So wide may a tree in columns be on a narrow screen, and on paper.
+# How wide a tree in columns may be on a narrow screen, and on paper.
 _MOST_NARROW, _MOST_WIDE = 440, 900
 _WINS, _GOES_ON = " \N{CHECK MARK} wins", " \N{HORIZONTAL ELLIPSIS}"
 
@@ -34,16 +34,16 @@ _Texts = tuple[str, str, str, str]
 
 
 class Picture:
-    """A tree in rows. It is cut into parts, each of which fits on a sheet of paper."""
+    """A tree in rows, cut into parts that each fit on a sheet of paper."""
 
     kind: ClassVar[str] = ""
     width: int
 
     def __init__(self, tree: Tree, told: Told, most_rows: int = MOST_ROWS) -> None:
-        """`told` is of the tree's definition."""
+        """`told` has to be of the tree's definition."""
         self.tree, self.told = tree, told
         self.texts = {name: _texts_of(node) for name, node in told.nodes.items()}
-        # The first row of each node, and the one behind its last.
+        # For each node, its first row and the row after its last.
         self.rows: dict[str, tuple[int, int]] = {}
         self.count = 0
         for name in tree.tops:
@@ -52,12 +52,12 @@ class Picture:
         self._spans = list(zip(cuts, cuts[1:]))
 
     def parts(self) -> Iterator[Markup]:
-        """An element of SVG for each part, from above."""
+        """Each part as an SVG element, from the top down."""
         for number in range(1, len(self._spans) + 1):
             yield self.part(number)
 
     def part(self, number: int, style: str | None = None) -> Markup:
-        """The part of a number from 1 on, which may have a style of its own."""
+        """One part, counted from 1. It may have a style of its own."""
         first, last = self._spans[number - 1]
         height = (last - first) * _ROW - _GAP
         title = "The tree of packages and licences" + (f", part {number} of {len(self._spans)}" if len(self._spans) > 1 else "")
@@ -72,11 +72,11 @@ class Picture:
         )
 
     def _place(self, name: str, first: int) -> int:
-        """Gives a node and what is under it their rows, and tells the one behind."""
+        """Gives rows to a node and to all nodes under it, and returns the row after them."""
         raise NotImplementedError
 
     def _sides(self, name: str) -> tuple[int, int]:
-        """Where a node's box begins and ends, from the left."""
+        """The left and right edges of a node's box."""
         raise NotImplementedError
 
     def _lines(self, name: str, top: int) -> Iterator[Markup]:
@@ -84,7 +84,7 @@ class Picture:
         raise NotImplementedError
 
     def _cuts(self, most_rows: int) -> list[int]:
-        """The first row of each part, and the one behind the last. A cut goes where it hurts the least."""
+        """The first row of each part, and the row after the last part. Each cut is made at the row with the least harm (`_harm`)."""
         cuts = [0]
         while self.count - cuts[-1] > most_rows:
             choices = range(cuts[-1] + most_rows // 2, cuts[-1] + most_rows + 1)
@@ -99,7 +99,7 @@ class Picture:
         return max(0, min(last, self.rows[name][1]) - max(first, self.rows[name][0]))
 
     def _is_told(self, name: str, first: int, last: int) -> bool:
-        """Whether this part has the texts of a node: of several the one in which it is highest."""
+        """Whether a node's texts stand in this part: they stand in the part that has most of its rows."""
         return first == max(self._spans, key=lambda span: (self._overlap(name, *span), -span[0]))[0]
 
     def _box(self, name: str, first: int, last: int) -> Markup:
@@ -111,7 +111,7 @@ class Picture:
         return element("g", rect, *texts, class_="wins" if self.told.nodes[name].wins else None)
 
     def _two_lines(self, name: str, left: int, top: int) -> Iterator[Markup]:
-        """Name and bid, price and minimum, to both sides."""
+        """Two lines, each with a text at the left and one at the right: name and bid, price and minimum."""
         for place, (first, second) in enumerate(_pairs(self.texts[name])):
             yield _text(left, top, place, first)
             yield element("text", second, x=self.width - _MARGIN, y=top + _LINE * (place + 1), text_anchor="end")
@@ -121,7 +121,7 @@ class Picture:
 
 
 class Columns(Picture):
-    """A column for each level, a row for each licence, and a package as high as its licences."""
+    """A column for each level and a row for each licence. A package is as high as its licences together."""
 
     kind = "columns"
 
@@ -142,7 +142,7 @@ class Columns(Picture):
         return behind
 
     def _harm(self, row: int) -> int:
-        """A package of two licences has no room for its texts in either part."""
+        """A cut through a package of two licences leaves no room for its texts in either part, so it counts 100."""
         return sum(100 if last - first == 2 else 1 for first, last in self.rows.values() if first < row < last)
 
     def _sides(self, name: str) -> tuple[int, int]:
@@ -158,7 +158,7 @@ class Columns(Picture):
 
 
 class Outline(Picture):
-    """A row for each node, and what is under a package below it, set in."""
+    """A row for each node. The nodes under a package stand below it, indented."""
 
     kind = "outline"
 
@@ -184,7 +184,8 @@ class Outline(Picture):
 
 
 def pictures(tree: Tree, told: Told) -> list[Picture]:
-    """The tree in columns, as an outline where they are too wide, and in both ways where only a narrow screen can't have them."""
+    """The tree in columns, or as an outline if the columns are too wide. If only a narrow screen has no room for the columns, both.
+    """
     columns = Columns(tree, told)
     if columns.width <= _MOST_NARROW:
         return [columns]
@@ -193,7 +194,7 @@ def pictures(tree: Tree, told: Told) -> list[Picture]:
 
 
 def whole_picture(tree: Tree, told: Told) -> str:
-    """The tree in one part, with its own style: a file of SVG."""
+    """The whole tree in one part with its own style, as an SVG file."""
     kind = type(pictures(tree, told)[0])
     return kind(tree, told, most_rows=len(tree.nodes)).part(1, STYLE) + "\n"
 

@@ -1,4 +1,4 @@
-"""The frames of an auction's journal: batches of commands that were accepted together (docs/FORMATS.md)."""
+"""The frames of an auction's journal. Each holds a batch: commands that were accepted together (docs/FORMATS.md)."""
 import struct
 from collections.abc import Iterator
 from dataclasses import dataclass
@@ -18,12 +18,12 @@ _BID, _CLOSE, _STAGE, _WAIVE = 1, 2, 3, 4
 
 
 class NoRecord(ValueError):
-    """Bytes that are no record of a command under a definition."""
+    """These bytes aren't the record of a command under the definition."""
 
 
 @dataclass(frozen=True, slots=True)
 class Batch:
-    """Commands that were accepted together: the batch's index from 0, and the number of its first command, from 1."""
+    """Commands that were accepted together, with the batch's index from 0 and the number of its first command from 1."""
 
     index: int
     first: int
@@ -31,7 +31,9 @@ class Batch:
 
 
 def read_record(definition: Definition, record: bytes) -> Command:
-    """The command of 16 bytes; `NoRecord` where they are none. Whether it is accepted is the auction's matter."""
+    """The command in a record of 16 bytes. If it holds none, `NoRecord` is raised. Whether the command is accepted isn't checked
+    here.
+    """
     kind, bidder, node, zero, ticket, amount = RECORD.unpack(record)
     is_bid, has_bidder = kind == _BID, kind in (_BID, _WAIVE)
     if zero or not ticket or (not is_bid and (node or amount)) or (not has_bidder and bidder):
@@ -52,13 +54,13 @@ def read_record(definition: Definition, record: bytes) -> Command:
 
 
 def index_in(image: bytes, head: Head, batch: int) -> int | None:
-    """The index that stands in the frame of a batch; None where its gate is closed."""
+    """The index in the frame of a batch, or None if the frame's gate is closed."""
     at = head.layout.frame_at(head.frames, batch)
     return int.from_bytes(image[at + BODY : at + BODY + 8], "big") if gate_is_open(image, at) else None
 
 
 def read_batch(image: bytes, head: Head, batch: int) -> Batch:
-    """The batch in its frame, whose gate is open and which has its index; else refused by `BadFrame` (45)."""
+    """The batch in its frame. The frame's gate has to be open, and its index that of the batch. Else refused by `BadFrame` (45)."""
     at = head.layout.frame_at(head.frames, batch)
     index, first, count, zero = _BATCH.unpack_from(image, at + BODY)
     if not 1 <= count <= _MOST_RECORDS or any(zero):
@@ -77,7 +79,7 @@ def _in_a_page(frame: bytes, index: int, count: int) -> Iterator[bytes]:
 
 
 def _in_cells(frame: bytes, index: int, count: int) -> Iterator[bytes]:
-    """29 records in the first cell, 31 in each one behind it; what stands in a cell that isn't taken decides nothing."""
+    """Records in cells: 29 in the first, 31 in each further one. The bytes of unused cells don't matter."""
     room = (CELL - BODY - _BATCH.size) // RECORD.size
     yield from _records(frame[BODY + _BATCH.size : CELL], min(count, room))
     left, cell = count - room, 1
@@ -91,7 +93,7 @@ def _in_cells(frame: bytes, index: int, count: int) -> Iterator[bytes]:
 
 
 def _records(part: bytes, count: int) -> Iterator[bytes]:
-    """So many records, behind which the part is zero."""
+    """The first `count` records of a part. The rest of the part has to be zero."""
     end = count * RECORD.size
     if any(part[end:]):
         raise NoRecord("what stands behind the last record isn't zero")

@@ -18,7 +18,8 @@ _NO_PARENT: Final = 255
 
 @dataclass(frozen=True, slots=True)
 class Head:
-    """What the first three pages say. `state_format` is that of formatting, 1 or 2, and decides nothing."""
+    """The contents of the first three pages. `state_format` is the format of states at formatting, 1 or 2; nothing depends on it.
+    """
 
     definition: Definition
     layout: Layout
@@ -27,7 +28,7 @@ class Head:
 
 
 def read_head(image: bytes) -> Head:
-    """The head of a whole file; refused by `Unformatted` (40) or `BadHead` (42), as `hpb` refuses it."""
+    """The head of a whole file. Refused by `Unformatted` (40) or `BadHead` (42), as `hpb` refuses it."""
     if len(image) % PAGE or len(image) < LEAST_PAGES * PAGE:
         raise Unformatted(f"{len(image):,} bytes are not {LEAST_PAGES} pages of {PAGE:,} bytes or more")
     if not gate_is_open(image, 0) or image[_MAGIC_AT : _MAGIC_AT + len(_MAGIC)] != _MAGIC:
@@ -82,7 +83,7 @@ def _bidders(page: bytes, count: int) -> tuple[Bidder, ...]:
 
 
 def _entries(page: bytes, form: struct.Struct, count: int, what: str) -> Iterator[tuple[Any, ...]]:
-    """So many entries of a page, behind which it is zero."""
+    """The first `count` entries of a page. The rest of the page has to be zero."""
     end = count * form.size
     if end > PAGE or any(page[end:]):
         raise BadHead(f"behind its {count} {what} their page isn't zero")

@@ -1,4 +1,4 @@
-"""The bytes of an auction's file, which is opened to be read alone."""
+"""The bytes of an auction's file, which is opened only for reading."""
 import fcntl
 import os
 import stat
@@ -12,13 +12,19 @@ _STANDARD_OUTPUT, _STANDARD_ERROR = 1, 2
 
 
 def read_image(path: str | PathLike[str], is_quiet: bool = True) -> bytes:
-    """All bytes of a file. Where it has to be quiet one that `hpb` is running or serving is refused.
+    """All bytes of a file. With `is_quiet`, a file that `hpb` is running or serving is refused.
 
-    Refused by `DeviceFault` (91) where it can't be opened or read, is in use, is no regular file or one of the standard streams; and by
-    `Unformatted` (40) where it is longer than any auction's file.
+    Refused by `DeviceFault` (91), if the file
+
+    - can't be opened or read,
+    - is in use,
+    - is no regular file, or
+    - is standard output or standard error.
+
+    Refused by `Unformatted` (40), if it is longer than any auction's file.
     """
     try:
-        # A pipe would wait for its other end, and isn't read.
+        # Opening a pipe this way doesn't wait for its other end; then it is refused.
         descriptor = os.open(path, os.O_RDONLY | os.O_NONBLOCK | os.O_CLOEXEC)
         try:
             _look_at_kind(os.fstat(descriptor))
@@ -38,7 +44,7 @@ def read_image(path: str | PathLike[str], is_quiet: bool = True) -> bytes:
 
 
 def _look_at_kind(found: os.stat_result) -> None:
-    """What is written to a standard stream would be written into the file that it leads to."""
+    """Refuses all but regular files, and the files of the standard streams: output would be written into the file that is read."""
     if not stat.S_ISREG(found.st_mode):
         raise DeviceFault("it is no regular file")
     for stream in (_STANDARD_OUTPUT, _STANDARD_ERROR):

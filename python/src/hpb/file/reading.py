@@ -1,4 +1,4 @@
-"""An auction's file read whole, as `hpb` opens it, and never written (docs/DEVICE.md, how a device is opened)."""
+"""Reads a whole auction's file, as `hpb` opens it, and never writes it (docs/DEVICE.md, how a device is opened)."""
 from dataclasses import dataclass
 
 from hpb.file.frames import Batch, index_in, read_batch
@@ -11,7 +11,7 @@ from hpb.rules.auction import Auction, apply
 
 @dataclass(frozen=True, slots=True)
 class AuctionFile:
-    """What a file keeps: its head, its newest checkpoint, the batches behind that, and the auction after all of them."""
+    """The contents of a file: its head, its newest checkpoint, the batches after that, and the auction after all of them."""
 
     head: Head
     checkpoint: Checkpoint
@@ -20,10 +20,10 @@ class AuctionFile:
 
 
 def read_auction(image: bytes) -> AuctionFile:
-    """What all bytes of a file keep. Refused as `hpb` refuses them: by `Unformatted` (40), `BadHead` (42), `NoCheckpoint` (44)
-    or `BadFrame` (45).
+    """The contents of a file, from all its bytes. Refused as `hpb` refuses them: by `Unformatted` (40), `BadHead` (42),
+    `NoCheckpoint` (44) or `BadFrame` (45).
 
-    Give it a copy that was made while nothing wrote to the file, or `BadFrame` may come of a batch that was being written.
+    Use a copy that was made while nothing wrote to the file. Otherwise a batch that was just being written may give `BadFrame`.
     """
     head = read_head(image)
     checkpoint = read_newest(image, head.definition)

@@ -21,12 +21,12 @@ _FIRST_FORMAT, _WAIVERS_FORMAT = 1, 2
 
 
 class NoState(ValueError):
-    """Bytes that are no state of an auction under a definition."""
+    """These bytes aren't the state of an auction under the definition."""
 
 
 @dataclass(frozen=True, slots=True)
 class Checkpoint:
-    """An auction as a slot keeps it, how many batches it covers, and the format of the state, 1 or 2."""
+    """An auction as a slot keeps it, the number of batches that it covers, and the format of the state, 1 or 2."""
 
     auction: Auction
     batches: int
@@ -34,7 +34,9 @@ class Checkpoint:
 
 
 def read_newest(image: bytes, definition: Definition) -> Checkpoint:
-    """Of the slots that have a state the one that covers more batches, of two equal ones the first; else `NoCheckpoint` (44)."""
+    """Of the slots that hold a state, the one that covers more batches; if both cover as many, the first. If neither does, refused
+    by `NoCheckpoint` (44).
+    """
     found, faults = [], []
     for number, at in enumerate(SLOTS, 1):
         if not gate_is_open(image, at):
@@ -50,7 +52,7 @@ def read_newest(image: bytes, definition: Definition) -> Checkpoint:
 
 
 def read_state(body: bytes, definition: Definition) -> Checkpoint:
-    """The auction of a slot's body, 16,384 bytes, in either format; `NoState` where they are none."""
+    """The auction in a slot's body of 16,384 bytes, in either format. If the bytes hold none, `NoState` is raised."""
     form, stage, over, spare, round_, count, zero, batches, ticket, number, record = _FRONT.unpack_from(body)
     _look(form == _WAIVERS_FORMAT or (form == _FIRST_FORMAT and not definition.waivers), f"its format is {form}")
     _look(1 <= stage <= len(definition.stages) and over <= 1 and not spare and not any(zero), "its front isn't of its format")

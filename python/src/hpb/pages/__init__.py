@@ -1,1 +1,1 @@
-"""What shows an auction while it runs: it follows the server, says how it stands, and serves a page of that (docs/BOARD.md)."""
+"""Shows an auction while it runs: follows the server, describes the auction, and serves a page about it (docs/BOARD.md)."""

@@ -1,8 +1,7 @@
-"""Follows an auction that `hpb serve` serves, over one session, by questions alone: what tools/board and tools/watch show. The session
-may also be one that a front gives.
+"""Follows an auction that `hpb serve` or a front serves, over one session, by questions only. tools/board and tools/watch show it.
 
-A `Follower` asks SHOW at a pace, and NODE and WHO where the answer is another one than before, or a bid came between the last answers.
-What it knows is a `View`, of which a new one is made whenever it changes. Nothing here writes a command.
+A `Follower` asks SHOW regularly. If that answer has changed, or a bid came during the last questions, it asks NODE and WHO too. Its
+knowledge is a `View`, and each change makes a new one. Nothing here sends a command.
 """
 import dataclasses
 import socket
@@ -19,22 +18,22 @@ from hpb.rules.told import NotTold, Told, look_whose, read_standing, read_told
 from hpb.rules.tree import Tree
 
 ADDRESS: Final = "127.0.0.1"
-# In seconds: between two questions, and for how long an answer is waited for before that is told.
+# In seconds: the pause between two questions, and how long to wait for an answer before the server is reported silent.
 PACE: Final = 1.0
 PATIENCE: Final = 5.0
 _QUESTIONS = ("SHOW", "NODE", "WHO")
 _MOST_LINE = 65_536
-# How often a state is asked for again that a close went through the middle of.
+# How many times to ask again for a state, if a close came between the answers.
 _ATTEMPTS = 4
 _LONGEST_PAUSE = 10.0
 _ENDS = {line.decode() for line in reaching.ENDS}
 
-# Makes a connection on which an answer is waited for so many seconds.
+# Makes a connection. The number is how many seconds to wait for an answer.
 Opens = Callable[[float], socket.socket]
 
 
 class NotFollowed(HpbError):
-    """An auction that can't be followed: another one than the definition is of, or none."""
+    """The auction can't be followed: the definition is another auction's, or no auction is there."""
 
 
 class Lost(Exception):
@@ -42,18 +41,20 @@ class Lost(Exception):
 
 
 def at_port(port: int) -> Opens:
-    """What makes a connection to a port of this machine."""
+    """A function that makes connections to a port of this machine."""
     return lambda patience: reaching.dialled((ADDRESS, port), patience)
 
 
 class Session:
-    """One connection. Of an answer that doesn't come it tells, and goes on waiting for it: another connection would take a place."""
+    """One connection. If an answer doesn't come in time, it reports that and goes on waiting: another connection would take another
+    place.
+    """
 
     def __init__(self, connection: socket.socket, is_told: Callable[[], None]) -> None:
         self._socket, self._is_told, self._received = connection, is_told, b""
 
     def ask(self, questions: Sequence[str]) -> list[str]:
-        """The answer to each question, in order. `Lost` is raised where the session has ended, `NotFollowed` where no line comes."""
+        """The answer to each question, in order. If the session has ended, `Lost` is raised; if no line comes, `NotFollowed`."""
         for question in questions:
             if question.split(" ")[0] not in _QUESTIONS:
                 raise ValueError(f"{question!r} is no question")
@@ -64,7 +65,7 @@ class Session:
             raise Lost(str(fault)) from None
 
     def close(self) -> None:
-        """Ends it."""
+        """Ends the connection."""
         self._socket.close()
 
     def _line(self) -> str:
@@ -87,14 +88,15 @@ class Session:
 
 
 class Follower:
-    """Asks until it is stopped, or the auction is over. Each new view is handed to `publish`. `opens` makes a connection, on which an
-    answer is waited for `patience` seconds before that is told."""
+    """Asks until it is stopped, or the auction is over. Each new view is passed to `publish`. `opens` makes a connection. If an
+    answer takes more than `patience` seconds, the view says so.
+    """
 
     def __init__(
         self, tree: Tree, bidders: Sequence[str], opens: Opens, publish: Callable[[View], None], places: float = 1, pace: float = PACE,
         patience: float = PATIENCE,
     ) -> None:
-        """`places` is how many connections may be made, `pace` the seconds between two questions."""
+        """`places` is how many connections may be made; `pace` is the pause between two questions, in seconds."""
         self._tree, self._bidders, self._opens, self._publish = tree, bidders, opens, publish
         self._pace, self._patience, self._stopped = pace, patience, threading.Event()
         self._node_lines: list[str] = []
@@ -102,11 +104,12 @@ class Follower:
         self.view = View(None, Contact(State.WAITING, time.time(), places))
 
     def stop(self) -> None:
-        """Lets it end soon, from any thread."""
+        """Makes it end soon. May be called from any thread."""
         self._stopped.set()
 
     def follow(self) -> None:
-        """Returns when there is nothing more to be asked. `NotFollowed` and `NotTold` are raised where it isn't this definition's auction."""
+        """Returns when there is nothing more to ask. If the auction isn't the definition's, `NotFollowed` or `NotTold` is raised.
+        """
         pause = self._pace
         while not self._stopped.is_set() and self.view.contact.places > 0:
             session = self._connect()
@@ -125,19 +128,19 @@ class Follower:
             self._stopped.wait(self._pace)
 
     def _connect(self) -> Session | None:
-        """A session, or none where nobody listens. Only one that was taken uses up a place."""
+        """A session, or None if nobody listens. Only a connection that was made uses up a place."""
         try:
             session = Session(self._opens(self._patience), self._is_silent)
         except OSError:
             return None
         contact = self.view.contact
         self.view = self.view._replace(contact=contact._replace(places=contact.places - 1))
-        # Another auction may be served than before, so nodes are asked about again.
+        # Perhaps another auction is served now, so nodes are asked about again.
         self._node_lines = []
         return session
 
     def _keep_asking(self, session: Session) -> None:
-        """Until the auction is over: after that nothing changes."""
+        """Asks until the auction is over; nothing changes after that."""
         while not self._stopped.is_set():
             self._ask(session)
             if self.view.seen and self.view.seen.standing.shown.is_over:
@@ -157,17 +160,17 @@ class Follower:
             self._tell(State.LIVE)
 
     def _read(self, session: Session, shown: Shown, old: Told | None) -> Told | None:
-        """What all questions are answered at one moment. None where closes came between, time and again."""
+        """The answers to all questions at one moment. If closes came between them at each attempt, None."""
         whos, nodes = [f"WHO {name}" for name in self._bidders], [f"NODE {name}" for name in self._tree.nodes]
         for _ in range(_ATTEMPTS):
-            # NODE is answered anew by a close alone.
+            # Only a close changes an answer to NODE.
             known = period(old.shown) if old and self._node_lines else None
             is_same = period(shown) == known
             first, *lines, last = self._answers(session, ["SHOW", *whos, *([] if is_same else nodes), "SHOW"])
             before, shown = _read_shown(first), _read_shown(last)
             if _is_one_moment(before, shown) and (not is_same or period(shown) == known):
                 self._node_lines = self._node_lines if is_same else lines[len(whos) :]
-                # A bid between the two may be that of a bidder who was asked about before it.
+                # If a bid came between the two, its bidder may have been asked about before it.
                 self._is_settled = before == shown
                 return read_told(self._tree, [*self._node_lines, *lines[: len(whos)], last])
         return None
@@ -200,7 +203,7 @@ class Follower:
 
 
 def _read_shown(line: str) -> Shown:
-    """What SHOW was answered."""
+    """The answer to SHOW."""
     shown = read_standing(line)
     if not isinstance(shown, Shown):
         raise NotFollowed(f"SHOW is answered {line[:100]!a}: is it the port of hpb serve?")
@@ -208,5 +211,5 @@ def _read_shown(line: str) -> Shown:
 
 
 def _is_one_moment(first: Shown, last: Shown) -> bool:
-    """Whether no close and no stage came between two answers to SHOW."""
+    """Whether neither a close nor a stage came between two answers to SHOW."""
     return dataclasses.replace(first, count=0) == dataclasses.replace(last, count=0)

@@ -1,4 +1,4 @@
-"""What may change on the page of an auction: texts, marks and lists, by the names of elements."""
+"""Everything that may change on an auction's page: texts, marks and lists, by the names of elements."""
 import hashlib
 from collections.abc import Mapping, Sequence
 from typing import Final, NamedTuple
@@ -17,13 +17,13 @@ BIDDER_FIELDS: Final = {
     "ticket": "Next ticket",
 }
 SUMMARY: Final = {"round": "Round", "stage": "Stage", "status": "State", "revenue": "Revenue", "count": "Commands"}
-# So many characters of a digest tell one text from another.
+# How many characters of a digest are enough to tell texts apart.
 DIGEST: Final = 16
 _WINS, _CHANGED = "wins", "changed"
 
 
 class Model(NamedTuple):
-    """What stands in the elements of the page, by their names. `picture` is another text where the picture is another one."""
+    """The contents of the page's elements, by their names. `picture` changes whenever the picture does."""
 
     texts: Mapping[str, str]
     marks: Mapping[str, str]
@@ -32,7 +32,7 @@ class Model(NamedTuple):
 
 
 def model_of(tree: Tree, bidders: Sequence[str], view: View) -> Model:
-    """The model of a view, with the standing of these bidders, whom the view shows."""
+    """The model of a view, with the standing of these bidders; the view has to show them."""
     texts, marks = {"contact": contact_says(view.contact)}, {"contact": str(view.contact.state)}
     if view.seen is None:
         return Model({**_blank(tree, bidders), **texts}, marks, {"close-list": [], "round-list": []}, "0")
@@ -53,7 +53,7 @@ def model_of(tree: Tree, bidders: Sequence[str], view: View) -> Model:
 
 
 def digest(data: bytes) -> str:
-    """A short text that is another one for other bytes."""
+    """A short text that differs for different bytes."""
     return hashlib.sha256(data).hexdigest()[:DIGEST]
 
 
@@ -71,7 +71,7 @@ def _summary(tree: Tree, seen: Seen) -> dict[str, str]:
 
 
 def _blank(tree: Tree, bidders: Sequence[str]) -> dict[str, str]:
-    """The same elements before anything is known."""
+    """The same elements while nothing is known yet."""
     nodes = [f"node-{name}-{field}{part}" for name in tree.nodes for field in NODE_FIELDS for part in ("", "-was")]
     own = [f"bidder-{name}-{field}" for name in bidders for field in [*BIDDER_FIELDS, "outlook"]]
     return dict.fromkeys(["outlook", "closes", *nodes, *own], "") | dict.fromkeys(SUMMARY, NOBODY)

@@ -1,4 +1,4 @@
-"""What tools/board and tools/watch are told alike: where the auction is, its definition, and whose standing is shown."""
+"""The options that tools/board and tools/watch share: the auction's place, its definition, and the bidders to show."""
 import argparse
 import pathlib
 import socket
@@ -17,8 +17,9 @@ _MOST_PORT: Final = 65_535
 
 
 class Followed(NamedTuple):
-    """An auction by its definition, the bidders whose standing is shown, how many connections may be made, and the seconds between two
-    questions."""
+    """The options' values: the auction's tree, the bidders to show, how many connections may be made, and the seconds between two
+    questions.
+    """
 
     tree: Tree
     bidders: list[str]
@@ -27,7 +28,7 @@ class Followed(NamedTuple):
 
 
 def add_options(words: argparse.ArgumentParser, with_front: bool = False) -> None:
-    """Adds these options, with those of a front where it may be one."""
+    """Adds these options. With `with_front`, it adds those of a front too."""
     where = words.add_mutually_exclusive_group(required=True)
     where.add_argument("--port", type=int, help="the port of 127.0.0.1 at which hpb serve listens")
     if with_front:
@@ -44,7 +45,7 @@ def add_options(words: argparse.ArgumentParser, with_front: bool = False) -> Non
 
 
 def followed(given: argparse.Namespace) -> Followed:
-    """What the options name; `NotFollowed` is raised where they can't be meant."""
+    """The options' values. If they make no sense, `NotFollowed` is raised."""
     try:
         tree = tree_of(read_script(pathlib.Path(given.definition).read_bytes()))
     except OSError as fault:
@@ -64,7 +65,9 @@ def followed(given: argparse.Namespace) -> Followed:
 
 
 def at_front(given: argparse.Namespace) -> Opens:
-    """What makes a connection to a front, as somebody who has a token; `NotFollowed` is raised where that can't be."""
+    """A function that makes connections to a front, as the owner of a token. If the token or certificate can't be used,
+    `NotFollowed` is raised.
+    """
     try:
         token, context = reaching.read_token(given.token, given.name), reaching.context_of(given)
     except (reaching.GivesUp, OSError, UnicodeDecodeError) as fault:

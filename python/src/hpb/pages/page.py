@@ -1,8 +1,9 @@
 """The page of tools/board: its HTML, the events that keep it up to date, and the picture of the tree.
 
-All that may change on the page is a `Model`: texts, marks and lists by the names of elements. The page is written from a model, and
-an event brings what differs in the next one, so that the script of the page knows nothing of auctions. All text is escaped, and the
-page gets nothing from elsewhere (`HEADERS`). Whoever serves it gives `Page.html`, `Page.assets`, `Page.picture` and `Page.event`.
+Everything that may change on the page is in a `Model`: texts, marks and lists by the names of elements. The page is written from a
+model. An event carries the differences to the next model, so the page's script knows nothing about auctions. All text is escaped,
+and the page loads nothing from elsewhere (`HEADERS`). A server of the page uses `Page.html`, `Page.assets`, `Page.picture` and
+`Page.event`.
 """
 import base64
 import hashlib
@@ -24,7 +25,7 @@ from hpb.rules.writing import definition_line
 STATIC: Final = pathlib.Path(__file__).resolve().parent / "static"
 _ASSETS = {"board.css": "text/css; charset=utf-8", "board.js": "text/javascript; charset=utf-8", "board.svg": "image/svg+xml"}
 _ICON = "board.svg"
-# A picture that is opened alone has no link to its icon, and a browser then asks for this one.
+# A picture that is opened alone has no link to its icon; browsers then ask for this one.
 ICONS: Final = {"favicon.ico": _ICON}
 _POLICY = (
     "default-src 'none'; script-src 'self'; style-src 'self'; img-src 'self'; connect-src 'self'; base-uri 'none'; form-action 'none'; "
@@ -45,27 +46,27 @@ _NODE_COLUMNS = ("High bid", "Minimum", "Price", "Wins")
 
 
 def _without_end(tag: str, **attributes: object) -> Markup:
-    """An element of HTML that has no end, and isn't among those of `element`."""
+    """An element of HTML without an end tag, besides those that `element` knows."""
     return Markup(element(tag, **attributes).removesuffix(f"</{tag}>"))
 
 
 class Page:
-    """The page of one definition and these bidders."""
+    """The page for one definition and these bidders."""
 
     def __init__(self, tree: Tree, bidders: Sequence[str]) -> None:
         self.tree, self.bidders = tree, bidders
         self.assets = {name: (kind, (STATIC / name).read_bytes()) for name, kind in _ASSETS.items()}
         told = json.dumps([definition_line(tree.definition), list(bidders)]).encode()
-        # A page that was loaded from another program, or of another auction, loads itself anew.
+        # If a page was loaded from another program or for another auction, it reloads itself.
         parts = [pathlib.Path(__file__).read_bytes(), told, *(data for _, data in self.assets.values())]
         self.mark = digest(b"".join(parts))
 
     def picture(self, view: View) -> bytes | None:
-        """The tree as a file of SVG, once something is known."""
+        """The tree as an SVG file, or None while nothing is known."""
         return whole_picture(self.tree, view.seen.standing).encode() if view.seen else None
 
     def event(self, old: Model | None, new: Model, said: str = "") -> bytes:
-        """What tells the page what differs, or all of it where it knows nothing yet."""
+        """The event that tells the page what differs. Without an old model, it carries everything."""
         told: dict[str, object] = {"page": self.mark, "picture": new.picture, "said": said}
         for part in ("texts", "marks", "lists"):
             known = getattr(old, part) if old else {}
@@ -73,7 +74,7 @@ class Page:
         return f"event: change\ndata: {json.dumps(told)}\n\n".encode()
 
     def html(self, model: Model) -> bytes:
-        """The page of a model, whole."""
+        """The whole page for a model."""
         head = element(
             "head",
             element("meta", charset="utf-8"),
@@ -150,7 +151,7 @@ class Page:
         return _section("tree", "The tree", table)
 
     def _row(self, model: Model, name: str) -> Markup:
-        """Levels are told by words too. The roles keep it a table where it is laid out as cards."""
+        """Levels are given in words too. The roles keep it a table even when it is laid out as cards."""
         node = self.tree.nodes[name]
         kind = f"{'licence' if node.is_licence else 'package'}, {counted(self.tree.units[name], 'unit')}"
         within = element("span", f" in {node.parent}" if node.parent else " at the top", class_="quiet")
@@ -179,7 +180,7 @@ class Page:
     def _picture_of(self, model: Model) -> Markup:
         alt = "The tree as a picture; the table has all that it shows"
         image = _without_end("img", src=f"{PICTURE}?{model.picture}", alt=alt, id="picture-image")
-        # A picture that is higher than a screen is shown to whom asks for it.
+        # A picture higher than a screen is shown only on request.
         is_open = "open" if len(self.tree.all_licences) <= MOST_ROWS else None
         scrolled = element("div", image, class_="picture", role="region", aria_label="Picture", tabindex="0")
         return _section(
@@ -196,5 +197,5 @@ def _marked(model: Model, tag: str, name: str, **attributes: str) -> Markup:
 
 
 def _listed(model: Model, name: str, label: str) -> Markup:
-    """A list that can be scrolled by keys."""
+    """A list that can be scrolled with the keyboard."""
     return element("ul", *(element("li", text) for text in model.lists[name]), id=name, aria_label=label, tabindex="0")

@@ -1,4 +1,4 @@
-"""How a client reaches a front: its place, its certificate, and the token that is said first (docs/FRONT.md)."""
+"""How a client reaches a front: its address, its certificate, and the token that is sent first (docs/FRONT.md)."""
 import argparse
 import errno
 import os
@@ -9,13 +9,13 @@ import stat
 
 ADDRESS = "127.0.0.1"
 TOKEN = re.compile(r"[!-~]{16,128}")
-# Answered to no line: a connection, or its session, is ended by them.
+# These lines answer no question: with them a connection, or its session, is ended.
 ENDS = (b"ERR 95 order", b"ERR front idle", b"ERR front many")
 MOST_WELCOME = 256
 
 
 class GivesUp(Exception):
-    """What trying again can't help."""
+    """A fault that trying again can't mend."""
 
 
 def read_place(text: str) -> tuple[str, int]:
@@ -27,7 +27,7 @@ def read_place(text: str) -> tuple[str, int]:
 
 
 def add_options(words: argparse.ArgumentParser) -> None:
-    """What is told of a front besides its place."""
+    """Adds the options for a front, besides its address."""
     words.add_argument("--token", metavar="FILE", help="of a front: a file with the token, which nobody else may read")
     words.add_argument("--name", help="whose token it is, where the file has several")
     words.add_argument("--ca", metavar="FILE", help="the certificate by which a front is known (default: those that the system knows)")
@@ -35,7 +35,7 @@ def add_options(words: argparse.ArgumentParser) -> None:
 
 
 def look_at_options(words: argparse.ArgumentParser, given: argparse.Namespace) -> None:
-    """Ends the program where they don't go together."""
+    """If the options don't go together, ends the program."""
     if not given.token and (given.name or given.ca or given.plain):
         words.error("--name, --ca and --plain go with --token")
     if given.ca and given.plain:
@@ -43,7 +43,7 @@ def look_at_options(words: argparse.ArgumentParser, given: argparse.Namespace) -
 
 
 def read_token(path: str, name: str | None) -> str:
-    """The token that stands in a file, which nobody but its owner may read: alone in a line, or behind its name."""
+    """The token in a file, alone in a line or after its name. Only the file's owner may have the right to read it."""
     with open(path, encoding="ascii") as file:
         status = os.fstat(file.fileno())
         if stat.S_ISREG(status.st_mode) and status.st_mode & 0o077:
@@ -58,7 +58,7 @@ def read_token(path: str, name: str | None) -> str:
 
 
 def context_of(given: argparse.Namespace) -> ssl.SSLContext | None:
-    """That of TLS, or nothing where all is in clear."""
+    """The settings of TLS, or None if everything is sent in clear."""
     if given.plain:
         return None
     try:
@@ -68,7 +68,7 @@ def context_of(given: argparse.Namespace) -> ssl.SSLContext | None:
 
 
 def connected(place: tuple[str, int], token: str | None, context: ssl.SSLContext | None, patience: float) -> socket.socket:
-    """A connection, which has been welcomed where there is a token. An OSError may pass."""
+    """A connection. If there is a token, the front has welcomed it. After an OSError, another try may succeed."""
     connection = dialled(place, patience)
     try:
         if context:
@@ -82,8 +82,9 @@ def connected(place: tuple[str, int], token: str | None, context: ssl.SSLContext
 
 
 def dialled(place: tuple[str, int], patience: float) -> socket.socket:
-    """A connection to a place. If nobody listens at a port that the system gives to connections, it may give that one to this connection,
-    which is then its own other end. That is refused as by a port at which nobody listens."""
+    """A connection to a place. If nobody listens at the port, the system may give the connection that very port, so that it leads
+    to itself. Then it is refused, as by a port where nobody listens.
+    """
     connection = socket.create_connection(place, patience)
     if connection.getsockname() == connection.getpeername():
         connection.close()
@@ -97,7 +98,7 @@ def over_tls(connection: socket.socket, place: tuple[str, int], context: ssl.SSL
     except ssl.SSLCertVerificationError as fault:
         raise GivesUp(f"{place[0]} isn't known by its certificate: {fault.verify_message}") from None
     except (ssl.SSLEOFError, ssl.SSLZeroReturnError):
-        # It was ended in the middle, and may be there again.
+        # It was broken off, and may work later.
         raise
     except ssl.SSLError as fault:
         raise GivesUp(f"no TLS with {place[0]}, port {place[1]}: {fault.reason or fault}") from None
@@ -106,7 +107,7 @@ def over_tls(connection: socket.socket, place: tuple[str, int], context: ssl.SSL
 def be_welcome(connection: socket.socket, token: str) -> None:
     connection.sendall(f"TOKEN {token}\n".encode())
     line = b""
-    # Byte by byte: what comes behind is for others to read.
+    # Byte by byte, because the bytes after the welcome are for others to read.
     while not line.endswith(b"\n") and len(line) < MOST_WELCOME:
         if not (part := connection.recv(1)):
             raise ConnectionError("it ends the connection")

@@ -1,4 +1,4 @@
-"""What a browser asks for: the method, the path and the fields of a request."""
+"""A browser's request: its method, path and fields."""
 import ipaddress
 import socket
 import time
@@ -10,7 +10,7 @@ _MOST_REQUEST = 8_192
 
 
 class Bad(Exception):
-    """A request that gets a status and a line in place of a page."""
+    """A request that gets a status and a line instead of a page."""
 
     def __init__(self, status: int) -> None:
         super().__init__(status)
@@ -18,10 +18,10 @@ class Bad(Exception):
 
 
 class Request:
-    """The method, the path and the fields that are asked for."""
+    """The method, path and fields of a request."""
 
     def __init__(self, text: str) -> None:
-        """The text without the empty line at its end. `Bad` is raised where it is no request."""
+        """The text excludes the empty line at its end. If it is no request, `Bad` is raised."""
         first, *lines = text.split("\r\n")
         words = first.split(" ")
         if len(words) != 3 or not words[2].startswith("HTTP/1."):
@@ -30,19 +30,19 @@ class Request:
         self._fields = [(name.lower(), value.strip()) for name, _, value in (line.partition(":") for line in lines)]
 
     def one(self, name: str) -> str:
-        """The value of a field that has to stand there once; else `Bad`."""
+        """The value of a field that has to occur exactly once; else `Bad` is raised."""
         values = self.all(name)
         if len(values) != 1:
             raise Bad(400)
         return values[0]
 
     def all(self, name: str) -> list[str]:
-        """The values of a field, as often as it stands there. The name is in small letters."""
+        """All values of a field. The name is in lower case."""
         return [value for known, value in self._fields if known == name]
 
 
 def read_request(connection: socket.socket) -> Request:
-    """A request, all of which has to come in time; else `Bad`."""
+    """A request. If it doesn't come whole and in time, `Bad` is raised."""
     end, received = time.monotonic() + REQUEST_SECONDS, b""
     while b"\r\n\r\n" not in received:
         connection.settimeout(max(0.001, end - time.monotonic()))
@@ -57,7 +57,7 @@ def read_request(connection: socket.socket) -> Request:
 
 
 def is_own(host: str, names: Collection[str]) -> bool:
-    """Whether a page was asked for by an address, or by a name that the operator gave: no other name may be made to lead here."""
+    """Whether the page was asked for by an address, or by a name that the operator gave: no other name may lead here."""
     name = host.rsplit(":", 1)[0] if not host.endswith("]") else host
     name = name.strip("[]").lower()
     try:
@@ -68,7 +68,7 @@ def is_own(host: str, names: Collection[str]) -> bool:
 
 
 def _path_of(target: str) -> str:
-    """Behind a proxy a whole address may stand in the path's place."""
+    """Behind a proxy, a whole address may stand instead of the path."""
     for scheme in ("http://", "https://"):
         if target.lower().startswith(scheme):
             target = "/" + target[len(scheme) :].partition("/")[2]

@@ -1,4 +1,4 @@
-"""Serves the page of an auction to browsers: whoever may see it, its events, and what a viewer may take up (docs/BOARD.md)."""
+"""Serves an auction's page to browsers: who may see it, its events, and how much a viewer may use (docs/BOARD.md)."""
 import collections
 import contextlib
 import socket
@@ -16,12 +16,12 @@ from hpb.pages.requests import REQUEST_SECONDS, Bad, Request, is_own, read_reque
 from hpb.pages.walls import MOST_VIEWERS, Guests, Wall
 
 MOST_CONNECTIONS: Final = 256
-# An event that isn't taken for so long ends its page's connection, which then asks for another one.
+# If a viewer doesn't take an event for so long, the connection ends, and the page makes another one.
 _VIEWER_SECONDS = 20
 _BEAT_SECONDS = 5
-# What the system keeps of events that a viewer doesn't take.
+# How many bytes of events the system keeps for a viewer that doesn't take them.
 _MOST_UNREAD = 65_536
-# How long a connection that has to make room may take to be gone.
+# How long a connection may take to close, when it has to make room.
 _ROOM_SECONDS = 0.2
 _REASONS: Final = {
     200: "OK",
@@ -34,17 +34,17 @@ _REASONS: Final = {
     503: "Service Unavailable",
 }
 _TEXT = "text/plain; charset=utf-8"
-# A browser asks for name and token by this.
+# This makes a browser ask for name and token.
 _WHO_ARE_YOU: Final = {"WWW-Authenticate": 'Basic realm="Auction: name and token", charset="UTF-8"'}
-# A proxy that keeps what comes until there is more of it would keep events.
+# Without this, a proxy that collects output would hold events back.
 _EVENT_HEADERS: Final = {**HEADERS, "Content-Type": "text/event-stream; charset=utf-8", "X-Accel-Buffering": "no", "Connection": "close"}
 
-# Is given each request: who sent it, the name that signed in, the path, and the status.
+# Called for each request, with the address it came from, the name that signed in, the path, and the status.
 Note = Callable[[str, str | None, str | None, int], None]
 
 
 def _no_note(peer: str, name: str | None, path: str | None, status: int) -> None:
-    """Of requests to this server nothing is kept."""
+    """This server keeps no notes about requests."""
 
 
 class Viewer(socketserver.BaseRequestHandler):
@@ -54,7 +54,7 @@ class Viewer(socketserver.BaseRequestHandler):
     request: socket.socket
 
     def handle(self) -> None:
-        """As `socketserver` wants it."""
+        """For `socketserver`."""
         try:
             self._begin()
             self._answer_or_refuse()
@@ -122,7 +122,7 @@ class Viewer(socketserver.BaseRequestHandler):
 
 
 class _Taken:
-    """One of so many places, given back in the end; where none is left the request is refused."""
+    """One of a number of places, given back at the end. If none is left, the request is refused."""
 
     def __init__(self, places: threading.Semaphore) -> None:
         self._places = places
@@ -136,7 +136,7 @@ class _Taken:
 
 
 def _found(wall: Wall, name: str) -> tuple[str, bytes, Mapping[str, str]]:
-    """What stands under a path, its kind, and fields of its own."""
+    """The contents at a path, their type, and fields of their own."""
     view, model, _ = wall.now()
     if name == "":
         return "text/html; charset=utf-8", wall.page.html(model), {}
@@ -155,8 +155,9 @@ def _head_of(status: int, fields: Mapping[str, str]) -> bytes:
 
 
 class Server(socketserver.ThreadingTCPServer):
-    """A thread for each connection, and so many at most. Where one more comes, of those that haven't asked for anything yet the first
-    one of the address ends that has the most of them; where there is none the new one does."""
+    """A server with a thread for each connection, up to a limit. At the limit, a new connection makes it close an idle one, which
+    hasn't asked for anything yet: the oldest of the address that has the most. If there is none, the new connection is closed.
+    """
 
     daemon_threads = allow_reuse_address = True
     block_on_close = False
@@ -166,7 +167,7 @@ class Server(socketserver.ThreadingTCPServer):
         self, address: tuple[str, int], names: Iterable[str], guests: Guests, context: ssl.SSLContext | None = None,
         listener: socket.socket | None = None, note: Note = _no_note,
     ) -> None:
-        """At an address, or on a socket that listens already. It may be asked for by `names`, too."""
+        """Listens at an address, or uses a socket that listens already. The page may be asked for by `names`, too."""
         self.note = note
         self.address_family = listener.family if listener else socket.AF_INET6 if ":" in address[0] else socket.AF_INET
         self.names, self.guests, self._context = {"localhost", *(name.lower() for name in names)}, guests, context
@@ -186,11 +187,11 @@ class Server(socketserver.ThreadingTCPServer):
         return f"http{'s' if self._context else ''}://{f'[{host}]' if ':' in host else host}:{port}/"
 
     def get_request(self) -> tuple[socket.socket, Any]:
-        """As `socketserver` wants it."""
+        """For `socketserver`."""
         try:
             request, address = super().get_request()
         except BlockingIOError:
-            raise  # Who came is gone again.
+            raise  # The caller is gone again.
         except OSError as fault:
             self._wait_after(fault)
             raise
@@ -200,14 +201,16 @@ class Server(socketserver.ThreadingTCPServer):
         return request, address
 
     def _wait_after(self, fault: OSError) -> None:
-        """It stays to be taken, as where there are no descriptors left: that is told once, and tried again."""
+        """The connection still waits to be taken, for example because there are no descriptors left. That is reported once, and
+        then tried again.
+        """
         if not self._is_refused:
             print(f"board: a connection can't be taken: {fault.strerror or fault}", file=sys.stderr)
         self._is_refused = True
         time.sleep(_ROOM_SECONDS)
 
     def process_request(self, request: Any, address: Any) -> None:
-        """As `socketserver` wants it."""
+        """For `socketserver`."""
         if not self._room.acquire(blocking=False) and not (self._end_silent() and self._room.acquire(timeout=_ROOM_SECONDS)):
             self.shutdown_request(request)
             return
@@ -217,19 +220,19 @@ class Server(socketserver.ThreadingTCPServer):
                 self._silent[request] = address[0]
             super().process_request(request, address)
         except BaseException:
-            # It has no thread, which would give its place back.
+            # No thread runs for it that would give its place back.
             self._give_back(request)
             raise
 
     def process_request_thread(self, request: Any, address: Any) -> None:
-        """As `socketserver` wants it."""
+        """For `socketserver`."""
         try:
             super().process_request_thread(request, address)
         finally:
             self._give_back(request)
 
     def _give_back(self, request: socket.socket) -> None:
-        """Its place, once."""
+        """Gives a connection's place back, once."""
         with self._lock:
             self._silent.pop(request, None)
             if request not in self._inside:
@@ -238,12 +241,12 @@ class Server(socketserver.ThreadingTCPServer):
         self._room.release()
 
     def has_asked(self, request: socket.socket) -> None:
-        """A connection has asked for something, and isn't ended to make room."""
+        """A connection has asked for something, so it won't be ended to make room."""
         with self._lock:
             self._silent.pop(request, None)
 
     def _end_silent(self) -> bool:
-        """Whether there was one that could be ended."""
+        """Ends the oldest idle connection of the address that has the most of them. Returns whether there was one."""
         with self._lock:
             if not self._silent:
                 return False
@@ -251,10 +254,10 @@ class Server(socketserver.ThreadingTCPServer):
             first = next(request for request, address in self._silent.items() if address == crowd)
             del self._silent[first]
         with contextlib.suppress(OSError):
-            # Its thread then reads an end; one over TLS is ended below that.
+            # Its thread then reads the end. A connection over TLS is ended below TLS.
             socket.socket.shutdown(first, socket.SHUT_RDWR)
         return True
 
     def handle_error(self, request: object, address: object) -> None:
-        """As `socketserver` wants it."""
+        """For `socketserver`."""
         print(f"board: {sys.exc_info()[1]!r}", file=sys.stderr)

@@ -1,4 +1,4 @@
-"""What tools/board and tools/watch say of an auction that is followed: the same words in a page and in a terminal."""
+"""The words of tools/board and tools/watch about an auction that is followed: the same on a page and in a terminal."""
 import time
 from collections.abc import Callable
 from typing import Final, NamedTuple
@@ -12,12 +12,12 @@ from hpb.rules.tree import Tree
 NOBODY: Final = "\N{EN DASH}"
 _RISES = "\N{RIGHTWARDS ARROW}"
 _WINS = "\N{CHECK MARK} wins"
-# Marks of a bidder: what a close now leaves to it.
+# A bidder's mark: the effect of a close now.
 ENOUGH, SHORT, FALLS = "enough", "short", "falls"
 
 
 class NodeTexts(NamedTuple):
-    """A node in words, and what was before the last close."""
+    """A node in words, with its values before the last close."""
 
     bid: str
     bid_was: str
@@ -31,7 +31,7 @@ class NodeTexts(NamedTuple):
 
 
 class BidderTexts(NamedTuple):
-    """A bidder's standing in words; `mark` is one of the three above, or empty once the auction is over."""
+    """A bidder's standing in words. `mark` is one of the three above, or empty once the auction is over."""
 
     eligibility: str
     activity: str
@@ -43,12 +43,12 @@ class BidderTexts(NamedTuple):
 
 
 def clock(seconds: float) -> str:
-    """A time in seconds of the system's clock, with the day: these words may stand for days."""
+    """A time of the system's clock, given in seconds, with its date: these words may stand for days."""
     return time.strftime("%Y-%m-%d %H:%M:%S", time.localtime(seconds))
 
 
 def contact_says(contact: Contact) -> str:
-    """How it stands with the server."""
+    """The state of the connection to the server."""
     since, places = clock(contact.since), contact.places
     left = f" ({counted(int(places), 'place')} left)" if places != ENDLESS else ""
     again = f"It connects again by itself{left}." if places else "No place is left: start it again to go on."
@@ -68,7 +68,7 @@ def stage_says(tree: Tree, shown: Shown) -> str:
 
 
 def outlook(seen: Seen) -> str:
-    """What a close now would do, as far as it is known."""
+    """The effect of a close now, as far as it is known."""
     shown, accepted, is_exact = seen.standing.shown, seen.accepted(), seen.begin.is_exact
     if shown.is_over:
         return f"The auction ended with round {shown.round}."
@@ -82,7 +82,7 @@ def outlook(seen: Seen) -> str:
 
 
 def closes_say(seen: Seen) -> str:
-    """Which closes came between what was seen before and now."""
+    """Which closes came between the last view and now."""
     shown = seen.standing.shown
     if shown.round == 1 and not shown.is_over:
         return "No round has been closed yet."
@@ -97,7 +97,7 @@ def _bid_of(node: NodeShown) -> str:
 
 
 def _was(then: NodeShown | None, now: NodeShown, told: Callable[[NodeShown], str]) -> str:
-    """What a value was before the last close, where it was another one."""
+    """A value before the last close, if it has changed."""
     return "" if then is None or told(then) == told(now) else f"was {told(then)}"
 
 
@@ -121,7 +121,7 @@ def _step_says(what: str, then: object, now: object) -> list[str]:
 
 
 def close_says(seen: Seen) -> list[str]:
-    """What the last close changed: of each node that has another winner or high bid, and how many have another minimum alone."""
+    """What the last close changed: each node with a new winner or high bid, and how many other nodes have a new minimum."""
     if seen.before is None:
         return []
     lines, others = list[str](), 0
@@ -142,7 +142,7 @@ def close_says(seen: Seen) -> list[str]:
 
 
 def _bidder_close_says(seen: Seen, name: str) -> list[str]:
-    """What closes alone change of a bidder, and waivers that were used since the round before was last seen."""
+    """For a bidder, the changes that only closes make, and the waivers used since the round before was last seen."""
     if seen.before is None or name not in seen.before.whos:
         return []
     then, now = seen.before.whos[name], seen.begin.whos[name]
@@ -151,7 +151,7 @@ def _bidder_close_says(seen: Seen, name: str) -> list[str]:
 
 
 def round_says(seen: Seen) -> list[str]:
-    """What was seen to change since the round began."""
+    """The changes seen since the round began."""
     then, now = seen.begin, seen.standing
     lines = _step_says("stage", then.shown.stage, now.shown.stage)
     for name, who in now.whos.items():
@@ -164,7 +164,7 @@ def round_says(seen: Seen) -> list[str]:
 
 
 def _has_waived(seen: Seen, name: str) -> bool | None:
-    """Whether a bidder sent a waiver in this round; None where that can't be known."""
+    """Whether a bidder sent a waiver in this round, or None if that can't be known."""
     if seen.standing.whos[name].waivers_left < seen.begin.whos[name].waivers_left:
         return True
     return False if seen.begin.is_exact else None
@@ -178,7 +178,7 @@ def _room_says(who: WhoShown) -> str:
 
 
 def bidder_outlook(tree: Tree, seen: Seen, name: str) -> tuple[str, str]:
-    """What a close now would leave to a bidder who is seen, and the mark of that."""
+    """The effect of a close now on a bidder who is shown, in words, and its mark."""
     shown, who = seen.standing.shown, seen.standing.whos[name]
     if shown.is_over:
         return "The auction is over.", ""
@@ -203,7 +203,7 @@ def _short_outlook(tree: Tree, seen: Seen, who: WhoShown, missing: int, left: in
 
 
 def bidder_texts(tree: Tree, seen: Seen, name: str) -> BidderTexts:
-    """A bidder who is seen, in words."""
+    """A bidder who is shown, in words."""
     shown, who = seen.standing.shown, seen.standing.whos[name]
     definition = tree.definition
     outlook_text, mark = bidder_outlook(tree, seen, name)
@@ -219,7 +219,7 @@ def bidder_texts(tree: Tree, seen: Seen, name: str) -> BidderTexts:
 
 
 def announcement(old: View, new: View) -> str:
-    """What a listener is told where one view follows another: a few words, or nothing."""
+    """A few words for listeners about the change from one view to another, or none."""
     if new.seen is None or old.seen is None or old.contact.state != new.contact.state:
         return contact_says(new.contact)
     before, after = old.seen.standing, new.seen.standing

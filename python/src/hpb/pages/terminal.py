@@ -1,4 +1,4 @@
-"""An auction that is followed, as lines of a terminal."""
+"""An auction that is followed, as lines for a terminal."""
 from collections.abc import Collection, Iterator, Sequence
 from typing import Final
 
@@ -21,7 +21,7 @@ from hpb.pages.view import Seen, State, View
 from hpb.rules.tree import Tree
 
 BOLD, DIM, GREEN, YELLOW, RED, PLAIN = "\x1b[1m", "\x1b[2m", "\x1b[32m", "\x1b[33m", "\x1b[31m", "\x1b[0m"
-# What stands before what a close now leaves to a bidder, and its colour.
+# The sign and the colour of each mark.
 _SIGNS: Final = {ENOUGH: ("+", GREEN), SHORT: ("!", YELLOW), FALLS: ("!!", RED), "": (" ", "")}
 _NODE_COLUMNS = ("NODE", "HIGH BID", "MINIMUM", "PRICE", "WINS", "BEFORE THE LAST CLOSE")
 _BIDDER_COLUMNS = ("BIDDER", "ELIGIBILITY", "ACTIVITY", "NEEDED", "WAIVERS", "NEXT TICKET", "AT A CLOSE NOW")
@@ -29,7 +29,7 @@ _OF_NUMBERS = (2, 3)
 
 
 class Style:
-    """Colours where there is a terminal that wants them. No line says by its colour alone what it says."""
+    """Colours, if the terminal wants them. No line depends on its colour to be understood."""
 
     def __init__(self, is_on: bool) -> None:
         self._is_on = is_on
@@ -41,7 +41,7 @@ class Style:
 
 
 def picture(tree: Tree, view: View, style: Style) -> Iterator[str]:
-    """All lines of what is shown."""
+    """All lines of the picture."""
     contact = contact_says(view.contact)
     yield style.of(contact, GREEN) if view.contact.state in (State.LIVE, State.OVER) else style.of(contact, RED, BOLD)
     if view.seen:
@@ -49,7 +49,7 @@ def picture(tree: Tree, view: View, style: Style) -> Iterator[str]:
 
 
 def changes(tree: Tree, old: View, new: View) -> Iterator[str]:
-    """A line for each thing that is new."""
+    """A line for each change."""
     if old.contact.state != new.contact.state:
         yield contact_says(new.contact)
     before, after = old.seen, new.seen
@@ -115,7 +115,7 @@ def _bidder_lines(tree: Tree, seen: Seen, style: Style) -> Iterator[str]:
 
 
 def _in_columns(rows: Sequence[Sequence[str]], right: Collection[int] = ()) -> list[str]:
-    """Rows of texts, each column as wide as its widest text."""
+    """Rows of texts. Each column is as wide as its widest text."""
     widths = [max(len(row[place]) for row in rows) for place in range(len(rows[0]))]
     cells = [[text.rjust(width) if place in right else text.ljust(width) for place, (text, width) in enumerate(zip(row, widths))] for row in rows]
     return ["  ".join(row).rstrip() for row in cells]

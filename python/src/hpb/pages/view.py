@@ -1,4 +1,4 @@
-"""What is known of an auction that is followed: how it stands, how it stood before the last close, and how the round began."""
+"""Everything known about an auction that is followed: its state now, its state before the last close, and how the round began."""
 from collections.abc import Iterable, Mapping
 from dataclasses import replace
 from enum import StrEnum
@@ -8,12 +8,12 @@ from hpb.lines import Shown, WhoShown
 from hpb.rules.told import Told
 from hpb.rules.tree import Tree
 
-# A front counts no connections.
+# A front doesn't limit the number of connections.
 ENDLESS: Final = float("inf")
 
 
 class State(StrEnum):
-    """How it stands with the server."""
+    """The state of the connection to the server."""
 
     WAITING = "waiting"
     LIVE = "live"
@@ -23,7 +23,9 @@ class State(StrEnum):
 
 
 class Contact(NamedTuple):
-    """How it stands with the server, since when in seconds of the system's clock, and how many more connections may be made."""
+    """The state of the connection to the server, since when in seconds of the system's clock, and how many more connections may be
+    made.
+    """
 
     state: State
     since: float
@@ -31,7 +33,7 @@ class Contact(NamedTuple):
 
 
 class Begin(NamedTuple):
-    """How a round stood when it was first seen. It is exact where nothing had been accepted in the round by then."""
+    """A round as it was first seen. It is exact if nothing had been accepted in the round before that."""
 
     shown: Shown
     whos: Mapping[str, WhoShown]
@@ -39,7 +41,7 @@ class Begin(NamedTuple):
 
 
 class Seen(NamedTuple):
-    """How an auction stands. `before` is what was last seen before the last close, or None where no close was seen."""
+    """The state of an auction. `before` is the last state seen before the last close, or None if no close was seen."""
 
     standing: Told
     before: Told | None
@@ -51,26 +53,26 @@ class Seen(NamedTuple):
         return now.count - then.count - (now.stage - then.stage)
 
     def would_end(self) -> bool | None:
-        """Whether a close now would end the auction; None where that can't be known."""
+        """Whether a close now would end the auction, or None if that can't be known."""
         if self.standing.shown.is_over or self.accepted() > 0:
             return False
         return True if self.begin.is_exact else None
 
     def only(self, bidders: Iterable[str]) -> "Seen":
-        """The same to whom these bidders alone are shown."""
+        """The same, with these bidders only."""
         names = list(bidders)
         before = self.before and _only(self.before, names)
         return Seen(_only(self.standing, names), before, self.begin._replace(whos=_kept(self.begin.whos, names)))
 
 
 class View(NamedTuple):
-    """What is known: None of the auction before anything was answered."""
+    """Everything known. `seen` is None until the first answers."""
 
     seen: Seen | None
     contact: Contact
 
     def only(self, bidders: Iterable[str]) -> "View":
-        """The same to whom these bidders alone are shown."""
+        """The same, with these bidders only."""
         return self._replace(seen=self.seen and self.seen.only(bidders))
 
 
@@ -83,7 +85,7 @@ def _kept(whos: Mapping[str, WhoShown], bidders: Iterable[str]) -> dict[str, Who
 
 
 def taken(tree: Tree, bidders: Iterable[str], old: Seen | None, now: Told) -> Seen:
-    """What is known once an auction stands so; `old` is what was known before."""
+    """The knowledge after new answers. `old` is the knowledge before them."""
     if old is None or _is_another(old.standing, now):
         return Seen(now, None, _begin_of(tree, bidders, None, now))
     if period(old.standing.shown) != period(now.shown):
@@ -92,18 +94,18 @@ def taken(tree: Tree, bidders: Iterable[str], old: Seen | None, now: Told) -> Se
 
 
 def period(shown: Shown) -> tuple[int, bool]:
-    """What nodes and winners are the same in."""
+    """The period between two closes: nodes and winners don't change within it."""
     return shown.round, shown.is_over
 
 
 def _is_another(old: Told, now: Told) -> bool:
-    """Whether what is served doesn't go on from what was seen, as where an older copy was taken back."""
+    """Whether the answers don't continue what was seen before: for example, an older copy of the file is served now."""
     same_period = period(now.shown) == period(old.shown)
     return now.shown.count < old.shown.count or (same_period and now.nodes != old.nodes)
 
 
 def _begin_of(tree: Tree, bidders: Iterable[str], old: Told | None, now: Told) -> Begin:
-    """How the round began that this standing is of; `old` is what was last seen before it, if anything was."""
+    """How this round began. `old` is the last state seen before it, if any was."""
     shown = now.shown
     if shown.round == 1 and not shown.is_over:
         waivers = tree.definition.waivers

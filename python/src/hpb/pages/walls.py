@@ -1,4 +1,4 @@
-"""Who sees what of an auction that is followed: a wall for each set of bidders, and the guests who may look at it."""
+"""Which viewers see which bidders of an auction: a wall for each set of bidders, and the guests who may look at it."""
 import base64
 import binascii
 import threading
@@ -16,11 +16,12 @@ MOST_VIEWERS: Final = 200
 
 
 class Wall:
-    """The newest model for some bidders, which each viewer looks at when it likes: nobody waits for a viewer. It is made when somebody
-    looks."""
+    """The newest model for some bidders. Viewers look at it whenever they like, so nothing waits for a viewer. The model is made on
+    demand.
+    """
 
     def __init__(self, tree: Tree, bidders: Sequence[str], view: View, most: int = MOST_VIEWERS, name: str | None = None) -> None:
-        """`most` is how many viewers may follow it at once, and `name` whose it is, if it is somebody's."""
+        """`most` is how many viewers may follow the wall at once. `name` is its owner, if it has one."""
         self.name = name
         self.page = Page(tree, bidders)
         self.viewers = threading.BoundedSemaphore(most)
@@ -30,7 +31,7 @@ class Wall:
         self._hung = threading.Condition()
 
     def hang(self, view: View) -> None:
-        """Puts a newer view in the place of the one that hangs."""
+        """Replaces the current view by a newer one."""
         own = view.only(self._bidders)
         with self._hung:
             self._said = announcement(self._view, own)
@@ -38,12 +39,14 @@ class Wall:
             self._hung.notify_all()
 
     def now(self) -> tuple[View, Model, int]:
-        """The view that hangs, its model and its number."""
+        """The current view, its model and its number."""
         with self._hung:
             return self._view, self._made(), self._number
 
     def next(self, number: int, seconds: float) -> tuple[Model, int, str]:
-        """The model that came after this one, its number and what is said of it, or the same after some seconds."""
+        """The model after number `number`, its own number, and its announcement. If none comes within `seconds`, it is the current
+        one.
+        """
         with self._hung:
             self._hung.wait_for(lambda: self._number != number, seconds)
             return self._made(), self._number, self._said
@@ -55,58 +58,60 @@ class Wall:
 
 
 class Guests(Protocol):
-    """Who may look at which wall."""
+    """Decides who may look at which wall."""
 
     def wall_of(self, said: str) -> Wall:
-        """The wall of whoever says this in the field `Authorization`, which is empty where it isn't there; else `Bad`."""
+        """The wall for the text of the field `Authorization`, which is empty if the field is missing. If there is none, `Bad` is
+        raised.
+        """
 
     def hang(self, view: View) -> None:
         """Hangs a newer view on each wall."""
 
 
 class Anybody:
-    """Whoever reaches the address sees the one wall."""
+    """Lets anyone who reaches the address see the one wall."""
 
     def __init__(self, wall: Wall) -> None:
         self._wall = wall
 
     def wall_of(self, said: str) -> Wall:
-        """As `Guests`."""
+        """See `Guests`."""
         return self._wall
 
     def hang(self, view: View) -> None:
-        """As `Guests`."""
+        """See `Guests`."""
         self._wall.hang(view)
 
 
 class KnownTokens(Protocol):
-    """Which name has which token."""
+    """The tokens and their names."""
 
     def name_of(self, token: bytes) -> str | None:
-        """The name that has a token, or none."""
+        """The name to which a token belongs, or None."""
 
 
 class Known:
-    """Who says a name and its token sees the wall of that name."""
+    """Anyone who gives a name and its token sees the wall of that name."""
 
     def __init__(self, tokens: KnownTokens, walls: Mapping[str, Wall]) -> None:
         self._tokens, self._walls = tokens, walls
 
     def wall_of(self, said: str) -> Wall:
-        """As `Guests`."""
+        """See `Guests`."""
         name, token = _read_basic(said)
         if self._tokens.name_of(token) != name:
             raise Bad(401)
         return self._walls[name]
 
     def hang(self, view: View) -> None:
-        """As `Guests`."""
+        """See `Guests`."""
         for wall in self._walls.values():
             wall.hang(view)
 
 
 def _read_basic(said: str) -> tuple[str, bytes]:
-    """Name and token of a field `Authorization`; where it says none, such as are nobody's."""
+    """Name and token in a field `Authorization`. If it has none, the name and the token are empty, and match nobody."""
     kind, _, coded = said.partition(" ")
     try:
         name, _, token = base64.b64decode(coded.strip(), validate=True).partition(b":")

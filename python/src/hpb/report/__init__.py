@@ -1,1 +1,1 @@
-"""What is written of an auction: pictures, and the page of an auction's file (docs/REPORT.md)."""
+"""Documents about an auction: pictures, and the page about an auction's file (docs/REPORT.md)."""

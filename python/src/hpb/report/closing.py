@@ -1,4 +1,4 @@
-"""What a file keeps, and what a close now would make of it: the values that a report shows, compared with one another."""
+"""The contents of a file, and the effect of a close now: the values of a report, compared with one another."""
 from collections.abc import Iterator, Sequence
 from dataclasses import dataclass
 from functools import cached_property
@@ -16,13 +16,13 @@ from hpb.rules.standing import Standing, standing_of
 from hpb.rules.told import Told, read_told
 from hpb.rules.tree import Tree, tree_of
 
-# What a close does to a bidder's eligibility.
+# The effect of a close on a bidder's eligibility.
 KEEPS, WAIVED, TAKEN, FALLS = "keeps {}", "keeps {} by its own waiver", "keeps {}, a waiver is taken", "falls to {}"
 
 
 @dataclass(frozen=True, slots=True)
 class Prospect:
-    """What a close now would leave to a bidder, in units and waivers, and how: one of the four texts above."""
+    """The effect of a close now on a bidder: units and waivers left, and which of the four texts above applies."""
 
     needed: int
     missing: int
@@ -38,8 +38,9 @@ class Prospect:
 
 @dataclass(frozen=True)
 class Report:
-    """What a file keeps. `told` is what the program tells of it, and `closed` of a copy that was closed: None where no close is accepted
-    any more. `prospects` has each bidder, and is empty then."""
+    """The contents of a file. `told` are the program's answers about it, and `closed` those about a copy after a close. If no close
+    is accepted any more, `closed` is None and `prospects` empty; else `prospects` has each bidder.
+    """
 
     image: bytes
     tree: Tree
@@ -48,7 +49,7 @@ class Report:
 
     @property
     def percentage(self) -> int:
-        """That of the stage in force."""
+        """The percentage of the stage in force."""
         return self.tree.definition.stages[self.told.shown.stage - 1]
 
     @property
@@ -58,26 +59,26 @@ class Report:
 
     @cached_property
     def found(self) -> Standing:
-        """Winners, prices and revenue, found from the high bids alone."""
+        """Winners, prices and revenue, calculated from the high bids alone."""
         return standing_of(self.tree, self.told.high)
 
     @cached_property
     def passed_down(self) -> dict[str, int]:
-        """The dollars of surpluses that come to each node from above."""
+        """The dollars of surpluses that each node gets from above."""
         return passed_down(self.tree, self.found.values)
 
     @cached_property
     def prospects(self) -> dict[str, Prospect]:
-        """What a close now would leave to each bidder."""
+        """The effect of a close now on each bidder."""
         return {who.bidder: self._prospect(who, self.closed.whos[who.bidder]) for who in self.told.whos.values()} if self.closed else {}
 
     @cached_property
     def faults(self) -> list[str]:
-        """What isn't right in what the program tells."""
+        """Everything that is wrong in the program's answers."""
         return [*self._closing_faults(), *self._sum_faults(), *self._result_faults()]
 
     def _prospect(self, who: WhoShown, after: WhoShown) -> Prospect:
-        """By the rules; whether the bidder has sent a waiver in this round only the close of the copy tells."""
+        """The effect by the rules. Only the close of the copy shows whether the bidder has sent a waiver in this round."""
         needed, left = activity_needed(self.percentage, who.eligibility), who.waivers_left
         missing = max(0, needed - who.activity)
         stays = (after.eligibility, after.waivers_left) == (who.eligibility, left)
@@ -119,8 +120,11 @@ class Report:
 
 
 def read_report(program: str | PathLike[str], image: bytes) -> Report:
-    """What a file of these bytes keeps, by a program that is asked about a copy. Raises what `read_head` and `Copy` raise, `NotTold` where
-    an answer is missing, and `NotAnswered` where the program tells of another auction than the file has."""
+    """The report on a file with these bytes, by a program that is asked about a copy.
+
+    Raises whatever `read_head` and `Copy` raise. If an answer is missing, `NotTold` is raised; if the program's auction isn't the
+    file's, `NotAnswered`.
+    """
     tree = tree_of(read_head(image).definition)
     with Copy(program, image) as copy:
         told, closed = _ask(copy, tree)
@@ -130,7 +134,7 @@ def read_report(program: str | PathLike[str], image: bytes) -> Report:
 
 
 def _ask(copy: Copy, tree: Tree) -> tuple[Told, Told | None]:
-    """What stands now, and after a close of the copy; of the second nothing where none is accepted any more."""
+    """The state now, and the state after a close of the copy. If no close is accepted any more, the second is None."""
     lines, questions = copy.check(), [f"WHO {bidder}" for bidder in tree.bidders]
     shown = read_told(tree, lines).shown
     closes = not shown.is_over and shown.count < MOST_COMMANDS
@@ -145,5 +149,5 @@ def _ask(copy: Copy, tree: Tree) -> tuple[Told, Told | None]:
 
 
 def listed(names: Sequence[str]) -> str:
-    """Names in a sentence."""
+    """Names for a sentence."""
     return ", ".join(names) if names else "none"

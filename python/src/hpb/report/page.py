@@ -1,4 +1,4 @@
-"""The page of an auction's file (docs/REPORT.md). It has no script and needs no other file."""
+"""The page about an auction's file (docs/REPORT.md). It has no script and needs no other file."""
 import pathlib
 from collections.abc import Iterator
 from typing import Final
@@ -21,7 +21,7 @@ _SECTIONS = (
 
 
 def page(report: Report) -> str:
-    """The whole page: the same for the same bytes of a file."""
+    """The whole page. Equal bytes of a file give an equal page."""
     shown = report.told.shown
     title = f"Auction, round {money(shown.round)}, {_state_of(shown)}"
     head = element(

@@ -1,4 +1,5 @@
-"""Pieces of a page that is read, printed and checked by sums: tables, sections and paragraphs, as `report.css` lays them out."""
+"""Parts of a page that is read, printed and checked by adding up: tables, sections and paragraphs. `report.css` gives their layout.
+"""
 from collections.abc import Collection, Iterator, Mapping, Sequence
 from dataclasses import dataclass
 from typing import TypeAlias
@@ -6,18 +7,20 @@ from typing import TypeAlias
 from hpb.amounts import money
 from hpb.markup import Markup, element
 
-# A table of so many rows isn't broken over two sheets.
+# Tables with at most so many rows aren't broken over two sheets.
 _MOST_SHORT = 12
-# One whose words have more characters side by side is set in small letters.
+# If a table's longest words need more characters than this side by side, it is set in small letters.
 _MOST_BROAD = 75
 
-# Begins with what it is of.
+# The first cell names the row's subject.
 Row: TypeAlias = Sequence[str | int]
 
 
 @dataclass(frozen=True, slots=True)
 class Column:
-    """Of a table: its title, and whether it has numbers, names and other text, or a few words that are better not broken (`phrase`)."""
+    """A table's column: its title and kind. The kinds are numbers, names and other text, and a few words that are better not broken
+    (`phrase`).
+    """
 
     title: str
     kind: str = "number"
@@ -29,8 +32,9 @@ def text_column(title: str) -> Column:
 
 
 def table(caption: str, columns: Sequence[Column], rows: Sequence[Row], last: Row | None = None, marked: Collection[str] = ()) -> Markup:
-    """A table with one row or more, of which those that begin with a marked text stand out; `last` is a row below the others. On a narrow
-    screen a row is a list, with the titles before the values."""
+    """A table with at least one row. Rows whose first text is in `marked` stand out; `last` is a row below the others. On a narrow
+    screen a row becomes a list, with the titles before the values.
+    """
     head = element("tr", *(_cell("th", column, column.title, scope="col", role="columnheader") for column in columns), role="row")
     body = (element("tr", *_cells(columns, row), role="row", class_="marked" if row[0] in marked else None) for row in rows)
     parts = [
@@ -42,7 +46,7 @@ def table(caption: str, columns: Sequence[Column], rows: Sequence[Row], last: Ro
 
 
 def _breadth_of(columns: Sequence[Column], rows: Sequence[Row]) -> int:
-    """How many characters the longest words of its columns have together."""
+    """The number of characters in the longest words of all columns together."""
     return sum(max(len(word) for row in rows for word in str(row[place]).split()) for place in range(len(columns)))
 
 
@@ -59,12 +63,12 @@ def _cell(tag: str, column: Column, value: str | int, **attributes: str) -> Mark
 
 
 def section(name: str, title: str, *parts: object) -> Markup:
-    """A part of the page with a heading, which has the name."""
+    """A part of the page, with a heading and a name for links."""
     return element("section", element("h2", title, id=name), *parts, aria_labelledby=name)
 
 
 def paragraph(*parts: object, **attributes: object) -> Markup:
-    """Texts one behind the other."""
+    """Texts one after the other."""
     return element("p", *parts, **attributes)
 
 
@@ -74,7 +78,7 @@ def strong(text: str) -> Markup:
 
 
 def notice(*parts: object, is_fault: bool) -> Markup:
-    """What a reader has to see first: what isn't right, or a warning."""
+    """Something that a reader has to see first: a fault, or a warning."""
     return paragraph(*parts, class_="notice fault" if is_fault else "notice warning", role="note")
 
 
@@ -84,7 +88,7 @@ def sum_of(amounts: Mapping[str, int]) -> str:
 
 
 def equation(amounts: Mapping[str, int], wanted: int) -> Markup:
-    """What these amounts come to, and what they should where that is something else."""
+    """The sum of these amounts. If it should be another number, that is said too."""
     together = sum(amounts.values())
     is_right = together == wanted
     told = f"{sum_of(amounts)} = {money(together)}"

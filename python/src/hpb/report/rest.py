@@ -1,4 +1,4 @@
-"""The sections of a report on bidders, stages and the definition."""
+"""The sections of a report about bidders, stages and the definition."""
 import hashlib
 from collections.abc import Iterator, Sequence
 
@@ -10,7 +10,7 @@ from hpb.rules.writing import definition_line
 
 
 def bidders_section(report: Report) -> Markup:
-    """What each bidder has, and what a close now would leave to it."""
+    """Each bidder's state, and the effect of a close now on it."""
     waivers = report.tree.definition.waivers
     columns = [text_column("Bidder"), Column("Units at the start"), Column("Eligibility"), Column("Activity")]
     if report.closed:
@@ -59,7 +59,7 @@ def stages_section(report: Report) -> Markup:
 
 
 def definition_section(report: Report) -> Markup:
-    """The definition, and sums of bytes."""
+    """The definition, and the SHA-256 sums of its bytes and the file's."""
     definition = report.tree.definition
     line = definition_line(definition)
     waivers = "no waivers" if not definition.waivers else counted(definition.waivers, "waiver")

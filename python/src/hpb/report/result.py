@@ -1,4 +1,6 @@
-"""The sections of a report on the result: the tree, all nodes, who wins, the sums that show it, and how it follows from the bids."""
+"""The sections of a report about the result: the tree, all nodes, the winners, the sums that show the result, and how it follows
+from the bids.
+"""
 from collections.abc import Mapping
 from typing import Final
 
@@ -19,7 +21,7 @@ _HOW_DRAWN: Final = {
 
 
 def tree_section(report: Report) -> Markup:
-    """The tree as pictures, in one way or in two."""
+    """The tree as pictures, in one form or in two."""
     drawn = pictures(report.tree, report.told)
     parts: list[Markup] = []
     for picture in drawn:
@@ -48,7 +50,7 @@ def nodes_section(report: Report) -> Markup:
 
 
 def result_section(report: Report) -> Markup:
-    """Who wins what, and what they bid together."""
+    """The winning nodes, their bidders and licences, and the sum of their bids."""
     tree, nodes = report.tree, report.told.nodes
     columns = [text_column("Winner"), text_column("Bidder"), text_column("Licences that it sells"), Column("Bid")]
     rows: list[Row] = []
@@ -61,7 +63,7 @@ def result_section(report: Report) -> Markup:
 
 
 def certificate_section(report: Report) -> Markup:
-    """The sums that anybody can check with pencil and paper."""
+    """The sums that anyone can check with pencil and paper."""
     tree, nodes, revenue = report.tree, report.told.nodes, report.told.shown.revenue
     winners = {name: nodes[name].high for name in report.told.winners}
     licences = {name: nodes[name].price for name in tree.all_licences}

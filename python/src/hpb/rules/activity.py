@@ -1,4 +1,4 @@
-"""Activity, eligibility and waivers, by docs/RULES.md. Units are bidding units, percentages those of stages, 50 to 100."""
+"""Activity, eligibility and waivers, by docs/RULES.md. Units are bidding units. Percentages are those of stages, 50 to 100."""
 from dataclasses import dataclass
 
 
@@ -8,13 +8,13 @@ def activity_needed(percentage: int, eligibility: int) -> int:
 
 
 def eligibility_left(percentage: int, activity: int) -> int:
-    """What a short activity leaves of the eligibility."""
+    """The eligibility left after a close with too little activity."""
     return activity * 100 // percentage
 
 
 @dataclass(frozen=True, slots=True)
 class Settled:
-    """A bidder's eligibility and waivers behind a close, and whether the close took a waiver."""
+    """A bidder's eligibility and waivers after a close, and whether the close took a waiver."""
 
     eligibility: int
     waivers: int
@@ -22,7 +22,9 @@ class Settled:
 
 
 def settle(percentage: int, activity: int, eligibility: int, waivers: int, has_waived: bool) -> Settled:
-    """What a close makes of a bidder that is so active, has so many waivers left, and sent one in this round or not."""
+    """The effect of a close on a bidder with this activity, eligibility and number of waivers. `has_waived`: it sent a waiver in
+    this round.
+    """
     if has_waived or activity * 100 >= percentage * eligibility:
         return Settled(eligibility, waivers, took_waiver=False)
     if waivers:

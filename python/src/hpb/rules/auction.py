@@ -1,9 +1,9 @@
-"""An auction as a value, and what each command and question is answered, by docs/RULES.md.
+"""An auction as a value, and the answer to each command and question, by docs/RULES.md.
 
     auction = begin(read_definition(text))
     auction, answered = apply(auction, Bid("x", "a", 100, ticket=1))
 
-`apply` changes nothing: it gives the next value. A refusal is an answer, and leaves the auction as it was.
+`apply` changes nothing: it returns a new value. A refusal is an answer too, and leaves the auction as it was.
 """
 from collections.abc import Mapping
 from dataclasses import dataclass, replace
@@ -60,7 +60,7 @@ class HighBid:
 
 @dataclass(frozen=True, slots=True)
 class LastCommand:
-    """A sender's last accepted command, which bears its ticket, and its number among all accepted commands, from 1."""
+    """A sender's last accepted command, with its ticket, and its number among all accepted commands, from 1."""
 
     command: Command
     number: int
@@ -79,8 +79,9 @@ class BidderState:
 
 @dataclass(frozen=True)
 class Auction:
-    """An auction after some commands. `high` are the high bids of closed rounds, `incoming` those of the open one, by node;
-    `standing` is what follows from `high`: winners, prices and minima."""
+    """An auction after some commands. `high` are the high bids of closed rounds by node, and `incoming` those of the open round.
+    `standing` follows from `high`: winners, prices and minima.
+    """
 
     tree: Tree
     bidders: Mapping[str, BidderState]
@@ -95,7 +96,7 @@ class Auction:
 
     @property
     def percentage(self) -> int:
-        """That of the stage in force."""
+        """The percentage of the stage in force."""
         return self.tree.definition.stages[self.stage - 1]
 
     def won_by(self, bidder: str) -> frozenset[str]:
@@ -103,7 +104,7 @@ class Auction:
         return frozenset(name for name in self.standing.winners if self.high[name].bidder == bidder)
 
     def active_on(self, bidder: str) -> frozenset[str]:
-        """The nodes that count for a bidder's activity: those that it bid on in the open round, and those that it won."""
+        """The nodes that count towards a bidder's activity: those that it bid on in the open round, and those that it won."""
         return self.bidders[bidder].bid_on | self.won_by(bidder)
 
     def activity(self, bidder: str) -> int:
@@ -123,12 +124,13 @@ def sender_of(command: Command) -> str | None:
     return command.bidder if isinstance(command, Bid | Waive) else None
 
 
-# What a command is answered.
+# Answers to commands.
 
 
 def apply(auction: Auction, command: Command) -> tuple[Auction, Accepted | Refused]:
-    """The auction after a command, and its answer: the first refusal of docs/RULES.md that holds, the old number of a repeat,
-    or the new one."""
+    """The auction after a command, and its answer: the first refusal of docs/RULES.md that holds, the old number if it is a repeat,
+    or else a new one.
+    """
     if refused := refusal_of(auction, command):
         return auction, refused
     last = _last_of(auction, command)
@@ -139,7 +141,7 @@ def apply(auction: Auction, command: Command) -> tuple[Auction, Accepted | Refus
 
 
 def refusal_of(auction: Auction, command: Command) -> Refused | None:
-    """The first refusal that holds, or None where the command is accepted or a repeat."""
+    """The first refusal that holds. If the command is accepted, or is a repeat, None."""
     sender = sender_of(command)
     if sender is not None and sender not in auction.bidders:
         return UnknownBidder()
@@ -177,7 +179,9 @@ def _refusal_of_kind(auction: Auction, command: Command) -> Refused | None:
 
 
 def refusal_of_bid(auction: Auction, bid: Bid) -> Refused | None:
-    """Which of 21 to 25 a bid of a bidder and a node of the definition gets in an open auction, whatever its ticket is."""
+    """The refusal of a bid in an open auction, 21 to 25, whatever its ticket; None if it is accepted. Bidder and node have to be
+    the definition's.
+    """
     state = auction.bidders[bid.bidder]
     if bid.amount % auction.tree.definition.step:
         return NotAStep()
@@ -192,7 +196,7 @@ def refusal_of_bid(auction: Auction, bid: Bid) -> Refused | None:
     return None
 
 
-# What an accepted command does.
+# The auction after an accepted command.
 
 
 def _taken(auction: Auction, command: Command) -> Auction:
@@ -217,7 +221,7 @@ def _with(auction: Auction, bidder: str, state: BidderState) -> Auction:
 
 
 def _closed(auction: Auction) -> Auction:
-    """A round with a bid or a bidder's own waiver opens the next one; another one ends the auction."""
+    """After a close. If the round had a bid or a bidder's own waiver, the next round opens; otherwise the auction ends."""
     goes_on = bool(auction.incoming) or any(state.has_waived for state in auction.bidders.values())
     high = {**auction.high, **auction.incoming}
     return replace(
@@ -243,11 +247,11 @@ def _numbered(auction: Auction, command: Command, number: int) -> Auction:
     return replace(counted, auctioneer=last) if sender is None else _with(counted, sender, replace(counted.bidders[sender], last=last))
 
 
-# What a question is answered.
+# Answers to questions.
 
 
 def answer(auction: Auction, line: str) -> tuple[Auction, Answer]:
-    """The auction after a line, without its LF, and its answer; 10 where the line isn't of the grammar."""
+    """The auction after a line without its LF, and its answer. If the line isn't of the grammar, the answer is 10."""
     try:
         asked: Line = parse_line(line)
     except Refused as refused:
@@ -263,19 +267,19 @@ def answer(auction: Auction, line: str) -> tuple[Auction, Answer]:
 
 
 def show(auction: Auction) -> Shown:
-    """What SHOW is answered."""
+    """The answer to SHOW."""
     return Shown(auction.round, auction.stage, auction.is_over, auction.standing.revenue, auction.count)
 
 
 def show_node(auction: Auction, node: str) -> NodeShown:
-    """What NODE is answered for a node of the definition."""
+    """The answer to NODE, for a node of the definition."""
     found, bid = auction.standing, auction.high.get(node)
     told = (bid.amount, bid.bidder) if bid else (0, None)
     return NodeShown(node, *told, found.prices[node], found.minima[node], node in found.winners)
 
 
 def show_bidder(auction: Auction, bidder: str) -> WhoShown:
-    """What WHO is answered for a bidder of the definition."""
+    """The answer to WHO, for a bidder of the definition."""
     state = auction.bidders[bidder]
     ticket = state.last.command.ticket if state.last else 0
     waivers = state.waivers if auction.tree.definition.waivers else None

@@ -1,4 +1,4 @@
-"""The sums that show a result, by docs/RULES.md, "How to check a result": by the answers alone, without the bids."""
+"""The sums that show a result, by docs/RULES.md, "How to check a result". They need only the answers, not the bids."""
 from collections.abc import Iterator
 
 from hpb.limits import MOST_BID
@@ -10,17 +10,17 @@ from hpb.rules.tree import Tree
 
 
 class Wrong(HpbError):
-    """A sum that isn't right, or an answer that the definition doesn't allow."""
+    """A sum is wrong, or the definition doesn't allow an answer."""
 
 
 def check_sums(tree: Tree, told: Told) -> Iterator[str]:
-    """Says of each step that it is right; raises `Wrong` at the first one that isn't."""
+    """Names each step that is right. At the first one that isn't, `Wrong` is raised."""
     for check in (_definition, _winners, _licences, _nodes, _bids, _minima):
         yield check(tree, told)
 
 
 def _definition(tree: Tree, told: Told) -> str:
-    """Whether stage, bids and bidders are such as the definition allows."""
+    """Checks that the definition allows the stage, the bids and the bidders."""
     definition = tree.definition
     if told.shown.stage > len(definition.stages):
         raise Wrong(f"the stage is {told.shown.stage}, and the definition has {len(definition.stages)}")

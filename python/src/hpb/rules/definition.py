@@ -1,7 +1,7 @@
-"""A definition of an auction, by docs/RULES.md: what it has, and which one is accepted.
+"""An auction's definition, by docs/RULES.md: its contents, and which definitions are accepted.
 
-`read_definition` reads JSON as `hpb` does and raises the refusal that `hpb` answers, 50 to 57 and 60 to 62; `check` is the part of it
-that looks at values. Money is in whole dollars, units are bidding units.
+`read_definition` reads JSON as `hpb` does, and raises the refusal that `hpb` gives: 50 to 57 or 60 to 62. `check` is the part that
+examines values. Money is in whole dollars, units are bidding units.
 """
 import itertools
 import json
@@ -46,7 +46,7 @@ from hpb.refusals import (
 
 @dataclass(frozen=True, slots=True)
 class Terms:
-    """Of a licence its bidding units, 1 to 1,000,000, and its opening in dollars, the least first bid: a multiple of the step."""
+    """A licence's bidding units, 1 to 1,000,000, and its opening: the least first bid in dollars, a multiple of the step."""
 
     units: int
     opening: int
@@ -54,7 +54,8 @@ class Terms:
 
 @dataclass(frozen=True, slots=True)
 class Node:
-    """A licence, which has terms, or a package, which has none. A top node has no parent; another one's stands before it."""
+    """A licence, which has terms, or a package, which has none. A top node has no parent; any other node's parent stands before it.
+    """
 
     name: str
     parent: str | None = None
@@ -62,7 +63,7 @@ class Node:
 
     @property
     def is_licence(self) -> bool:
-        """Whether it is one thing to sell, and no bundle."""
+        """Whether it is sold by itself and isn't a package."""
         return self.terms is not None
 
 
@@ -76,7 +77,7 @@ class Bidder:
 
 @dataclass(frozen=True, slots=True)
 class Definition:
-    """What an auction sells, to whom and by which numbers. `check` says whether it is one that `hpb` accepts."""
+    """What an auction sells, to which bidders, and its numbers. `check` says whether `hpb` accepts it."""
 
     step: int
     percent: int
@@ -87,7 +88,7 @@ class Definition:
 
 
 def check(definition: Definition) -> None:
-    """Returns where the definition is accepted. Else it raises 62, or the smallest of 50 to 57 that holds."""
+    """Returns if the definition is accepted. Otherwise raises 62, or else the smallest of 50 to 57 that holds."""
     _check_ranges(definition)
     for look in _LOOKS:
         for fault in look(definition):
@@ -171,7 +172,7 @@ def _look_at_terms(definition: Definition) -> Iterator[Refused]:
 # In the order of their numbers, 50 to 57.
 _LOOKS = (_look_for_empty, _look_at_names, _look_for_duplicates, _look_at_parents, _look_at_children, _look_at_limits, _look_at_terms)
 
-# JSON. A number is kept as the text that stands there until all types are known: 61 comes before 62.
+# JSON. Numbers are kept as text until all types are known, because 61 comes before 62.
 
 
 class _Digits(str):
@@ -179,7 +180,7 @@ class _Digits(str):
 
 
 def read_definition(text: bytes) -> Definition:
-    """The definition of a JSON text that has it whole; refused by 60, 61, 62 or 50 to 57 as `hpb format` refuses it."""
+    """The definition in a JSON text that contains nothing else. Refused by 60, 61, 62 or 50 to 57, as `hpb format` refuses it."""
     found = _fields(_load(text), "the definition", {"step", "percent", "stages", "nodes", "bidders"}, {"waivers"})
     numbers = {field: _typed(found[field], _Digits, field) for field in ("step", "percent")}
     numbers["waivers"] = _typed(found.get("waivers", _Digits("0")), _Digits, "waivers")
@@ -210,7 +211,7 @@ def _load(text: bytes) -> Any:
 
 
 def _depth(text: bytes) -> int:
-    """How deep brackets are nested, outside of texts."""
+    """How deep brackets are nested, not counting those in strings."""
     brackets = re.findall(rb"[][{}]", re.sub(rb'"(?:[^"\\\\]|\\\\.)*"', b"", text, flags=re.DOTALL))
     return max(itertools.accumulate((1 if bracket in b"[{" else -1 for bracket in brackets), initial=0))
 
@@ -235,7 +236,7 @@ def _fields(value: Any, where: str, needed: set[str], allowed: set[str]) -> dict
 
 
 def _typed(value: Any, kind: type[Any], where: str) -> Any:
-    # A number is kept as a text of its own kind, and is none where a text has to be.
+    # Numbers are kept as a text type of their own, so a number isn't accepted as a string.
     if type(value) is not kind:
         raise BadField(f"{where}: of another type")
     return value
@@ -250,7 +251,7 @@ def _whole(digits: str, where: str) -> int:
 
 
 def _node(value: Any, where: str) -> Callable[[], Node]:
-    """What makes the node once all types are known."""
+    """A function that makes the node, to be called when all types are known."""
     found = _fields(value, where, {"name", "parent"}, {"units", "opening"})
     name, parent = _typed(found["name"], str, f"{where}.name"), found["parent"]
     if parent is not None:

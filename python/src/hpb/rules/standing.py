@@ -1,4 +1,4 @@
-"""What follows from the high bids of closed rounds: winners, revenue, prices and minima."""
+"""Everything that follows from the high bids of closed rounds: winners, revenue, prices and minima."""
 from collections.abc import Mapping
 from dataclasses import dataclass
 
@@ -9,7 +9,7 @@ from hpb.rules.winners import Values, revenue_of, values_of, winners_of
 
 @dataclass(frozen=True)
 class Standing:
-    """Where the nodes stand after a close, in dollars. Each mapping has all nodes."""
+    """The state of all nodes after a close, in dollars. Each mapping has all nodes."""
 
     values: Values
     revenue: int
@@ -19,7 +19,7 @@ class Standing:
 
 
 def standing_of(tree: Tree, high: Mapping[str, int]) -> Standing:
-    """The standing by the high bids in dollars; a node that isn't there, or has 0, has no bid."""
+    """The standing for these high bids in dollars. A node that is missing, or has 0, has no bid."""
     found = values_of(tree, high)
     of_nodes = prices_of(tree, found)
     return Standing(found, revenue_of(tree, found), winners_of(tree, found), of_nodes, minima_of(tree, of_nodes))

@@ -1,4 +1,4 @@
-"""How an auction stands by what was answered: SHOW, NODE of each node, and WHO of those who were asked about."""
+"""The state of an auction by its answers: to SHOW, to NODE for each node, and to WHO for some bidders."""
 from collections.abc import Iterable, Mapping
 from dataclasses import dataclass
 
@@ -11,13 +11,14 @@ _BEGINNINGS = ("ROUND ", "NODE ", "WHO ")
 
 
 class NotTold(HpbError):
-    """Answers that don't say how an auction of a definition stands: one is missing, or is no whole one."""
+    """The answers don't give the state of an auction with this definition: one is missing or isn't whole."""
 
 
 @dataclass(frozen=True)
 class Told:
-    """What was answered, in dollars and bidding units. `nodes` has each node, in the definition's order; `whos` those who were asked
-    about."""
+    """The answers, in dollars and bidding units. `nodes` has each node, in the definition's order; `whos` has the bidders that were
+    asked about.
+    """
 
     shown: Shown
     nodes: Mapping[str, NodeShown]
@@ -30,13 +31,14 @@ class Told:
 
     @property
     def high(self) -> dict[str, int]:
-        """The high bid of each node in dollars, 0 without one."""
+        """The high bid of each node in dollars; 0 if it has none."""
         return {name: node.high for name, node in self.nodes.items()}
 
 
 def read_told(tree: Tree, lines: Iterable[str]) -> Told:
-    """What lines say, without their LF. Of several answers the last counts, and other lines are passed over; `NotTold` is raised where
-    one is missing, isn't whole, or names a node that the definition hasn't."""
+    """The answers in some lines without LF. Of several answers to one question the last counts; other lines are ignored. If an
+    answer is missing, isn't whole, or names a node that the definition lacks, `NotTold` is raised.
+    """
     shown: Shown | None = None
     nodes: dict[str, NodeShown] = {}
     whos: dict[str, WhoShown] = {}
@@ -60,7 +62,9 @@ def read_told(tree: Tree, lines: Iterable[str]) -> Told:
 
 
 def read_standing(line: str) -> Shown | NodeShown | WhoShown | None:
-    """What an answer to SHOW, NODE or WHO says, and None of another line. `NotTold` is raised where it begins as one and isn't."""
+    """The answer to SHOW, NODE or WHO in a line; None for any other line. If the line begins like one but isn't whole, `NotTold` is
+    raised.
+    """
     if not line.startswith(_BEGINNINGS):
         return None
     try:
@@ -72,7 +76,7 @@ def read_standing(line: str) -> Shown | NodeShown | WhoShown | None:
 
 
 def look_whose(tree: Tree, told: Told) -> None:
-    """Returns where answers may be those of an auction of this definition; else `NotTold` is raised."""
+    """Returns if the answers may be those of an auction with this definition. Otherwise raises `NotTold`."""
     for name, node in told.nodes.items():
         least = minimum(tree, name, node.price)
         if node.minimum != least:

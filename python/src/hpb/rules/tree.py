@@ -8,10 +8,10 @@ from hpb.rules.definition import Bidder, Definition, Node
 
 @dataclass(frozen=True)
 class Tree:
-    """A definition that `check` accepts, with what follows for each node: children, licences, bidding units, opening and level.
+    """A definition that `check` accepts, and for each node what follows: children, licences, bidding units, opening and level.
 
-    Each mapping has all nodes, in the definition's order; a licence is at itself. Of a package units and opening are the sums over
-    its licences. Don't change them.
+    Each mapping has all nodes, in the definition's order. A licence's own licence is itself. A package's units and opening are the
+    sums over its licences. Don't change the mappings.
     """
 
     definition: Definition
@@ -34,18 +34,18 @@ class Tree:
         return tuple(licence for licence in self.all_licences if licence in self.licences[name])
 
     def above(self, name: str) -> Iterator[str]:
-        """The packages that a node lies in, from the nearest one up."""
+        """The packages around a node, from the nearest one up."""
         parent = self.nodes[name].parent
         while parent is not None:
             yield parent
             parent = self.nodes[parent].parent
 
     def from_the_bottom(self) -> Iterator[str]:
-        """All nodes, each behind its children."""
+        """All nodes, each after its children."""
         return reversed(self.nodes)
 
     def units_of(self, names: Iterable[str]) -> int:
-        """The bidding units of all licences at or under some nodes, no licence twice."""
+        """The bidding units of all licences at or under these nodes, each licence counted once."""
         covered = frozenset[str]().union(*(self.licences[name] for name in names))
         return sum(self.units[licence] for licence in covered)
 

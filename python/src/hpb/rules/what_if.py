@@ -1,7 +1,8 @@
-"""What a bidder may ask before it bids: what keeps its eligibility, and by how much a node or its parts have to rise to win.
+"""Questions that a bidder may ask before it bids: how to keep its eligibility, and by how much a node or its parts must rise to
+win.
 
-All is by the last close, whose high bids and minima count until the next one; what others bid in the open round nobody is shown.
-Money is in whole dollars, units are bidding units.
+Everything follows from the last close, whose high bids and minima count until the next one. The other bids of the open round aren't
+shown to anyone. Money is in whole dollars, units are bidding units.
 """
 from collections.abc import Iterable, Mapping
 from dataclasses import dataclass
@@ -15,10 +16,11 @@ from hpb.rules.tree import Tree
 
 @dataclass(frozen=True, slots=True)
 class Keeping:
-    """What keeps an eligibility at the next close.
+    """A way to keep an eligibility at the next close.
 
-    `bids` are the nodes to bid on with the least amounts that are accepted now, in the order of the definition; `spending` is what
-    they come to. `activity` is what the bidder then has, and `needed` what keeps its eligibility. Without `bids` it has enough.
+    `bids` are the nodes to bid on, with the least amounts that are accepted now, in the order of the definition. `spending` is
+    their sum. `activity` is the bidder's activity after these bids, and `needed` the least that keeps its eligibility. If `bids` is
+    empty, it is active enough already.
     """
 
     bids: Mapping[str, int]
@@ -30,11 +32,14 @@ class Keeping:
 def keep_eligibility(
     tree: Tree, minima: Mapping[str, int], percentage: int, eligibility: int, won: Iterable[str] = (), bid_on: Iterable[str] = ()
 ) -> Keeping | None:
-    """The bids of least spending that keep an eligibility, or None where no bids do: then a waiver does, or it falls.
+    """The bids of least spending that keep an eligibility. If no bids can, None: then only a waiver keeps it.
 
-    `percentage` is that of the stage in force, 50 to 100; `won` are the nodes that the bidder won at the last close, `bid_on` those
-    that it bid on in the open round. Each of the bids is accepted, in any order, while nothing else changes: none takes the activity
-    above the eligibility. Of several ways with the least spending it is one of the fewest bids.
+    - `percentage` is that of the stage in force, 50 to 100.
+    - `won` are the nodes that the bidder won at the last close.
+    - `bid_on` are the nodes that it bid on in the open round.
+
+    While nothing else changes, each of the bids is accepted, in any order: none takes the activity above the eligibility. Of
+    several ways with the least spending it is one of those with the fewest bids.
     """
     has_bid = frozenset(bid_on)
     active = has_bid | frozenset(won)
@@ -51,15 +56,15 @@ def keep_eligibility(
     return Keeping({name: minima[name] for name in tree.nodes if name in chosen}, spending, base + units, needed)
 
 
-# A choice of nodes, none within another: what it costs, how many bids it has, the units that it adds, and the nodes.
+# A choice of nodes, none within another: its cost, the number of bids, the units that it adds, and the nodes.
 _Choice = tuple[int, int, int, tuple[str, ...]]
 
 
 class _Cheapest:
-    """The cheapest choice of nodes that adds from `least` to `most` units to licences that are covered already.
+    """The cheapest choice of nodes that adds `least` to `most` units to the licences that are covered already.
 
-    From the bottom of the tree up each node gets its choices, the cheapest one for each number of units up to `most`. So it takes as
-    many steps as there are sums of units, squared at worst.
+    From the bottom of the tree up, each node gets its choices: for each number of units up to `most`, the cheapest one. The number
+    of steps is at worst the square of the number of sums of units.
     """
 
     def __init__(self, tree: Tree, costs: Mapping[str, int], covered: frozenset[str], least: int, most: int) -> None:
@@ -98,12 +103,13 @@ class _Cheapest:
 
 @dataclass(frozen=True, slots=True)
 class Rise:
-    """What makes a node win while all other high bids stay, in dollars.
+    """The ways to make a node win while all other high bids stay, in dollars.
 
-    `amount` is the least bid on the node itself with which it wins and which isn't refused as too low; it may be above the greatest
-    bid that is accepted. `rise` is how far that is above the node's high bid, 0 where it wins. `parts_rise` is how far the values
-    of a package's children have to rise together so that parts of it win, and neither it nor a package above it; 0 where nothing
-    stands in their way, and None of a licence.
+    - `amount` is the least bid on the node itself that wins and isn't refused as too low. It may be above the greatest bid that is
+      accepted.
+    - `rise` is how far `amount` is above the node's high bid; 0 if the node wins.
+    - `parts_rise` is for packages only, and None for a licence. It is how far the values of the children must rise together so that
+      parts of the package win, and neither the package nor one above it. If nothing stands in their way, it is 0.
     """
 
     node: str
@@ -113,7 +119,7 @@ class Rise:
 
 
 def rise_to_win(tree: Tree, found: Standing, name: str) -> Rise:
-    """By how much a node, or its parts, must rise to win, by the standing after the last close."""
+    """By how much a node, or its parts, must rise to win, given the standing after the last close."""
     values, is_licence = found.values, tree.nodes[name].is_licence
     wanted = _wanted_by_those_above(tree, found, name)
     high, inside = values.high[name], values.inside[name]
@@ -127,7 +133,7 @@ def rise_to_win(tree: Tree, found: Standing, name: str) -> Rise:
 
 
 def _wanted_by_those_above(tree: Tree, found: Standing, name: str) -> int:
-    """The least value of a node with which no package above it wins, while all else stays."""
+    """The least value of a node with which no package above it wins, while everything else stays."""
     wanted, beside, below = 0, 0, name
     for package in tree.above(name):
         beside += found.values.inside[package] - found.values.value[below]

@@ -1,4 +1,4 @@
-"""Who wins, by docs/RULES.md: the best choice of the high bids, and on a tie the parts."""
+"""The winners, by docs/RULES.md: the best choice of the high bids. On a tie the parts win."""
 from collections.abc import Mapping
 from dataclasses import dataclass
 
@@ -7,7 +7,7 @@ from hpb.rules.tree import Tree
 
 @dataclass(frozen=True)
 class Values:
-    """What the high bids come to, in dollars: `inside` each package, and each node's `value`. Both have all nodes."""
+    """The values of the high bids, in dollars: of each node (`value`), and inside each package (`inside`). Both have all nodes."""
 
     high: Mapping[str, int]
     inside: Mapping[str, int]
@@ -15,7 +15,7 @@ class Values:
 
 
 def values_of(tree: Tree, high: Mapping[str, int]) -> Values:
-    """The values by the high bids in dollars; a node that isn't there, or has 0, has no bid."""
+    """The values of these high bids in dollars. A node that is missing, or has 0, has no bid."""
     inside: dict[str, int] = {}
     value: dict[str, int] = {}
     for name in tree.from_the_bottom():
@@ -25,12 +25,12 @@ def values_of(tree: Tree, high: Mapping[str, int]) -> Values:
 
 
 def revenue_of(tree: Tree, found: Values) -> int:
-    """What the winners bid, in dollars: the values of the top nodes together."""
+    """The sum of the winning bids in dollars, which is the sum of the top nodes' values."""
     return sum(found.value[name] for name in tree.tops)
 
 
 def winners_of(tree: Tree, found: Values) -> frozenset[str]:
-    """The nodes that win. A package wins where its bid is more than what is inside, and then nothing under it does."""
+    """The nodes that win. A package wins if its bid is more than the value inside it, and then nothing under it wins."""
     won: set[str] = set()
     looked_at = list(tree.tops)
     while looked_at:

@@ -7,7 +7,7 @@ from hpb.rules.definition import Bidder, Definition, Node, read_definition
 
 
 def fields_of(definition: Definition) -> dict[str, Any]:
-    """The fields of its JSON, in the order of docs/PROTOCOL.md. Without waivers it has no such field."""
+    """The fields of its JSON, in the order of docs/PROTOCOL.md. If the definition has no waivers, that field is left out."""
     fields: dict[str, Any] = {"step": definition.step, "percent": definition.percent, "stages": list(definition.stages)}
     if definition.waivers:
         fields["waivers"] = definition.waivers
@@ -26,17 +26,19 @@ def _bidder(bidder: Bidder) -> dict[str, Any]:
 
 
 def definition_line(definition: Definition) -> str:
-    """The one line, with its LF, that `hpb` takes as this definition, and by which it is summed."""
+    """The line, with its LF, that `hpb` takes as this definition. The definition's checksum is that of this line."""
     return json.dumps(fields_of(definition), separators=(",", ":")) + "\n"
 
 
 def read_fields(fields: Any) -> Definition:
-    """The definition of its fields, as JSON has them; refused as `read_definition` refuses it."""
+    """The definition in fields, as JSON has them; refused as `read_definition` refuses it."""
     return read_definition(json.dumps(fields).encode())
 
 
 def read_script(text: bytes) -> Definition:
-    """The definition of a file that is its JSON, or a script whose first line it is; refused as `read_definition` refuses it."""
+    """The definition in a file: either JSON, or a script whose first line is the definition. Refused as `read_definition` refuses
+    it.
+    """
     try:
         return read_definition(text)
     except NotJson:
