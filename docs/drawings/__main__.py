@@ -1,4 +1,4 @@
-"""Makes the drawings of docs/pictures, or compares those that stand there."""
+"""Makes the drawings of docs/pictures. With `--check`, it compares them with those that are there."""
 import sys
 from collections.abc import Callable
 from pathlib import Path
@@ -18,7 +18,7 @@ DRAWINGS: Final[dict[str, Callable[[], str]]] = {
 
 
 def main(words: list[str]) -> int:
-    """Status 0; 1 if a drawing isn't as it would be made, and 2 for other words."""
+    """Returns the status: 0, or 1 if a drawing isn't as it would be made, or 2 if the arguments are wrong."""
     if words not in ([], ["--check"]):
         print("usage: docs/make-drawings [--check]", file=sys.stderr)
         return 2

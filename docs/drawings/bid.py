@@ -59,7 +59,7 @@ def _lane(canvas: Canvas, lane: Box, names: tuple[str, str], kind: str) -> None:
 
 
 def _hop(canvas: Canvas, lane: Box, row: tuple[float, float], hops: str, text: str) -> Box:
-    """A step in a lane, from one row to another, with its hops' numbers before its text."""
+    """A step in a lane, from one row to another. The numbers of its hops stand before its text."""
     box = canvas.box(Box(lane.left, _row(row[0]), lane.width, (row[1] - row[0]) * _STEP - 8), "plain")
     _numbered(canvas, box, hops, text)
     return box
@@ -89,7 +89,7 @@ def _way_in(canvas: Canvas) -> None:
 
 
 def _locked(canvas: Canvas, first: float, height: float) -> Box:
-    """A time with the lock held, so many rows high."""
+    """A period with the lock held, `height` rows high."""
     return canvas.box(Box(_COMMITTER.left - 10, _row(first), _COMMITTER.width + 20, height * _STEP - 8), "lock")
 
 

@@ -6,7 +6,7 @@ from typing import Final
 from drawings.measure import SIZES, breadth, size_of, wrapped
 from hpb.markup import Markup, element, joined
 
-# As wide as the text of a page.
+# The width of a page's text.
 WIDTH: Final = 800
 MARGIN: Final = 16
 _LINE: Final = 1.35
@@ -14,7 +14,7 @@ _HEAD: Final = 7
 _SANS: Final = 'system-ui, -apple-system, "Segoe UI", Roboto, "DejaVu Sans", sans-serif'
 _MONO: Final = 'ui-monospace, "SFMono-Regular", Menlo, Consolas, "DejaVu Sans Mono", monospace'
 
-# Of each kind its fill and its edge, in the light scheme and in the dark one.
+# The fill and the edge of each kind, in the light scheme and in the dark one.
 _KINDS: Final = {
     "plain": ("#f3f5f7", "#7d8894", "#232a32", "#76828f"),
     "faint": ("#ffffff", "#a4aeb8", "#161b21", "#5c6873"),
@@ -50,35 +50,35 @@ class Box:
 
     @property
     def middle(self) -> float:
-        """Half way from the left to the right."""
+        """Halfway from the left to the right."""
         return self.left + self.width / 2
 
     @property
     def centre(self) -> float:
-        """Half way from the top to the bottom."""
+        """Halfway from the top to the bottom."""
         return self.top + self.height / 2
 
     def inset(self, by: float) -> "Box":
-        """The box that is smaller by so much at each side."""
+        """A box that is smaller by so many pixels on each side."""
         return Box(self.left + by, self.top + by, self.width - 2 * by, self.height - 2 * by)
 
 
 class Canvas:
-    """A drawing that grows downwards. Its title and description are for readers who don't see it."""
+    """A drawing that grows downwards. Title and description are for readers who don't see it."""
 
     def __init__(self, name: str, title: str, description: str) -> None:
-        """`name` is that of its file, without `.svg`."""
+        """`name` is the name of its file, without `.svg`."""
         self.name, self._title, self._description = name, title, description
         self._parts: list[Markup] = []
 
     def box(self, box: Box, kind: str = "plain", looks: str = "", radius: int = 4) -> Box:
-        """A rectangle of a kind; `dashed` may be among its looks."""
+        """A rectangle of a kind. With `dashed` among its looks, its edge is dashed."""
         classes = f"{kind} {looks}".strip()
         self._parts.append(element("rect", **_numbers(x=box.left, y=box.top, width=box.width, height=box.height, rx=radius), class_=classes))
         return box
 
     def text(self, left: float, base: float, text: str, looks: str = "") -> None:
-        """One line, from the left, or with `middle` or `end` among its looks around or before that place."""
+        """One line of text that begins at `left`. With `middle` or `end` among its looks, it stands around or before that place."""
         width = breadth(text, looks)
         before = width / 2 if "middle" in looks.split() else width if "end" in looks.split() else 0
         if left - before < 0 or left - before + width > WIDTH:
@@ -86,7 +86,7 @@ class Canvas:
         self._parts.append(element("text", text, **_numbers(x=left, y=base), class_=looks or None))
 
     def paragraph(self, box: Box, text: str, looks: str = "") -> float:
-        """A text from the top of a box on, in as many lines as it takes; returns the top of the next one."""
+        """A text that begins at the top of a box and takes as many lines as it needs. Returns the top of the next line."""
         step = round(size_of(looks) * _LINE)
         left = box.middle if "middle" in looks.split() else box.left
         base = box.top + size_of(looks)
@@ -98,7 +98,9 @@ class Canvas:
         return base - size_of(looks)
 
     def label(self, box: Box, text: str, looks: str = "") -> None:
-        """A text in the middle of a box, in lines that fit into it; with `beginning` among its looks from the box's left side on."""
+        """A text in the middle of a box, in lines that fit into it. With `beginning` among its looks, the lines start at the box's
+        left side.
+        """
         is_middle = "beginning" not in looks.split()
         lines = list(wrapped(text, box.width - (6 if is_middle else 0), looks))
         step = round(size_of(looks) * _LINE)
@@ -122,7 +124,7 @@ class Canvas:
         self._parts.append(element("path", d=f"M{path}", class_=f"line {looks}".strip()))
 
     def arrow(self, points: Sequence[tuple[float, float]], looks: str = "") -> None:
-        """A line with a head at its last point. The last stretch is level or upright."""
+        """A line with a head at its last point. Its last stretch is level or upright."""
         (x, y), (end, low) = points[-2], points[-1]
         dx, dy = (end > x) - (end < x), (low > y) - (low < y)
         self.line([*points[:-1], (end - dx * (_HEAD - 2), low - dy * (_HEAD - 2))], looks)
@@ -133,14 +135,14 @@ class Canvas:
         self._parts.append(element("path", d=f"M{path} Z", class_=f"head {head}".strip()))
 
     def badge(self, left: float, centre: float, text: str) -> float:
-        """A number in a circle, which begins at the left; returns the left edge of a text behind it."""
+        """A number in a circle, whose left edge is given. Returns the left edge of a text behind it."""
         width = max(18.0, breadth(text, "small") + 10)
         self.box(Box(left, centre - 9, width, 18), "badge", radius=9)
         self.text(left + width / 2, centre + 4, text, "small middle")
         return left + width + 7
 
     def legend(self, top: float, entries: Sequence[tuple[str, str]]) -> None:
-        """What each kind of box stands for, in a row."""
+        """The meaning of each kind of box, in a row."""
         left = float(MARGIN)
         for kind, text in entries:
             self.box(Box(left, top, 16, 12), kind, radius=2)
@@ -148,7 +150,7 @@ class Canvas:
             left += 22 + breadth(text, "small") + 20
 
     def drawn(self, height: float) -> str:
-        """The file of SVG, so many pixels high."""
+        """The SVG file, `height` pixels high."""
         ids = {part: f"{self.name}-{part}" for part in ("title", "desc")}
         head = [
             element("title", self._title, id=ids["title"]), element("desc", self._description, id=ids["desc"]),

@@ -1,4 +1,4 @@
-"""A checkpoint, step by step: its calls, and what stands in the two slots and in the frames."""
+"""A checkpoint, step by step: its calls, and the contents of the two slots and of the frames."""
 from dataclasses import dataclass
 from typing import Final
 
@@ -38,7 +38,7 @@ STEPS: Final = (
     Step("10 to 9 + m", "m writes: a frame's gate closed", _OPEN, _NEW, "new", "AAOOCC", "any byte in such a gate: its batch is covered"),
     Step("10 + m", "sync", _OPEN, _NEW, "new", "CCCCCC", "the new slot counts, and m more frames are clean"),
 )
-# Of a frame: an opening needs its batch, an older batch is in it, its gate is any byte, or it is clean.
+# The states of a frame: an opening needs its batch, it holds an older batch, its gate may be any byte, or it is clean.
 _FRAME_KINDS: Final = {"N": "kept", "O": "plain", "A": "torn", "C": "faint"}
 
 

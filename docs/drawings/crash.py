@@ -15,7 +15,9 @@ _CARD: Final = (WIDTH - 2 * MARGIN - 2 * _GAP) / 3
 
 @dataclass(frozen=True, slots=True)
 class Crash:
-    """The time of a crash, as a stretch of the line of time; the fourth frame then; the batches that are opened; the client's next step."""
+    """A crash: its stretch on the line of time, the fourth frame at that time, the batches that the opening finds, and the client's
+    next step.
+    """
 
     name: str
     span: tuple[float, float]
@@ -100,7 +102,7 @@ def _draw(canvas: Canvas, crash: Crash, left: float) -> float:
 
 
 def _frames(canvas: Canvas, box: Box, crash: Crash) -> None:
-    """Three frames that are open, and the fourth with its gate and its body."""
+    """Three open frames, and the fourth with its gate and its body."""
     left = box.left
     for number in range(3):
         canvas.label(canvas.box(Box(left, box.top, 24, box.height), "kept", radius=2), str(number + 1), "small")

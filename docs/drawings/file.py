@@ -1,4 +1,4 @@
-"""The file of an auction in both layouts, byte by byte; the numbers are those of the package's reader."""
+"""An auction's file in both layouts, byte by byte, with the numbers of the package's reader."""
 from typing import Final
 
 from drawings.canvas import MARGIN, WIDTH, Box, Canvas
@@ -11,7 +11,7 @@ _IN_NEXT: Final = (CELL - _CELL_HEAD) // RECORD.size
 _LEFT, _INNER = 132, WIDTH - 132 - MARGIN
 _SLOT_PAGES: Final = 1 + SLOT_BODY // PAGE
 
-# A part of a strip: its words, how wide it is against the others, and its kind.
+# A part of a strip: its words, its width in proportion to the others, and its kind.
 _Part = tuple[str, float, str]
 
 
@@ -31,7 +31,7 @@ def drawn() -> str:
 
 
 def _strip(canvas: Canvas, top: float, name: str, parts: list[_Part], about: str) -> float:
-    """A row of parts behind its name, with a line below that says more; returns the top of the next row."""
+    """A row of parts after its name, with an explanation below it. Returns the top of the next row."""
     canvas.text(MARGIN, top + 22, name, "name")
     unit = _INNER / sum(part[1] for part in parts)
     left = float(_LEFT)

@@ -54,7 +54,7 @@ def _files(canvas: Canvas) -> None:
 
 
 def _ways(canvas: Canvas) -> None:
-    """The arrows; those of a command have numbers."""
+    """The arrows. Those of a command have numbers."""
     canvas.arrow([(_CLIENTS.right, 118), (_FRONT.left, 118)])
     canvas.text((_CLIENTS.right + _NETWORK.left) / 2 - 2, 112, "TLS, line", "small middle")
     canvas.arrow([(_FRONT.left, 152), (_CLIENTS.right, 152)], "kept")

@@ -15,7 +15,7 @@ _CARD: Final = (WIDTH - _LEFT - MARGIN - _GAP * (_COLUMNS + 1)) / _COLUMNS
 
 @dataclass(frozen=True, slots=True)
 class Storey:
-    """Some crates, in which kind of box they stand, and what they are for."""
+    """Some crates, the kind of their box, and what they are for."""
 
     name: str
     about: str
@@ -23,7 +23,7 @@ class Storey:
     crates: tuple[str, ...]
 
 
-# From above. Each crate stands in one of them, and stands on crates of its own storey and of those below.
+# From the top down. Each crate stands in one of them, and depends only on crates of its own storey and of those below.
 STOREYS: Final = (
     Storey("text", "lines and files in, answers out", "thread", (
         "hpb", "hpb_program", "hpb_words", "hpb_run", "hpb_serve", "hpb_server", "hpb_define", "hpb_reasons", "hpb_wire")),
@@ -40,7 +40,7 @@ STOREYS: Final = (
 
 
 def crates() -> dict[str, list[str]]:
-    """Of each crate those of the repository that it stands on."""
+    """For each crate, the crates of this repository that it depends on."""
     found = {}
     for line in (_TOP / "crates.txt").read_text(encoding="utf-8").splitlines():
         if ":" in line and not line.startswith("#"):
@@ -50,7 +50,7 @@ def crates() -> dict[str, list[str]]:
 
 
 def check_storeys(known: Mapping[str, list[str]]) -> None:
-    """Refuses by `ValueError` a crate that stands in no storey or in two, and one that stands on a crate above it."""
+    """Raises `ValueError` if a crate stands in no storey or in two, or if it depends on a crate above it."""
     place = {name: number for number, storey in enumerate(STOREYS) for name in storey.crates}
     placed = [name for storey in STOREYS for name in storey.crates]
     if sorted(placed) != sorted(known):
@@ -62,7 +62,7 @@ def check_storeys(known: Mapping[str, list[str]]) -> None:
 
 
 def nearest(known: Mapping[str, list[str]], name: str) -> list[str]:
-    """Those that a crate stands on, without those that one of these stands on."""
+    """The crates that a crate depends on, without those that one of them depends on too."""
     @cache
     def below(crate: str) -> frozenset[str]:
         return frozenset(known[crate]).union(*(below(other) for other in known[crate]))

@@ -1,4 +1,4 @@
-"""Fixtures of the package's tests. The program is that of the variable HPB_PROGRAM, or that which is built here, or `hpb` of the path."""
+"""Fixtures of the package's tests. The program is the one named by HPB_PROGRAM, or the one built here, or `hpb` on the path."""
 import os
 import pathlib
 import shutil
@@ -14,7 +14,7 @@ MEMORY = pathlib.Path("/dev/shm")
 TOP = pathlib.Path(__file__).resolve().parents[2]
 BUILT = TOP / "crates" / "hpb" / "out" / "hpb"
 
-# The same examples at each run; `--hypothesis-profile=long` takes other ones each time, and many more.
+# The same examples in each run. With `--hypothesis-profile=long`, other ones each time, and many more.
 hypothesis.settings.register_profile("quick", max_examples=60, deadline=None, derandomize=True)
 hypothesis.settings.register_profile("long", max_examples=2000, deadline=None)
 hypothesis.settings.load_profile("quick")
@@ -28,13 +28,13 @@ def documents() -> pathlib.Path:
 
 @pytest.fixture(scope="session")
 def examples() -> pathlib.Path:
-    """The folder of the scripts with their answers."""
+    """The folder of the scripts and their answers."""
     return TOP / "examples"
 
 
 @pytest.fixture(scope="session")
 def program() -> Program:
-    """The program that the package is compared with."""
+    """The program with which the package is compared."""
     named = os.environ.get("HPB_PROGRAM") or (str(BUILT) if BUILT.exists() else shutil.which("hpb"))
     if not named:
         pytest.fail("there is no hpb: name one by HPB_PROGRAM, build it, or put it on the path")
@@ -51,14 +51,14 @@ def new_file(program: Program, tmp_path_factory: pytest.TempPathFactory) -> byte
 
 @pytest.fixture
 def room() -> Iterator[pathlib.Path]:
-    """A folder in memory, where nothing waits for a disk."""
+    """A folder in memory, so that nothing waits for a disk."""
     with tempfile.TemporaryDirectory(dir=MEMORY if MEMORY.is_dir() else None) as folder:
         yield pathlib.Path(folder)
 
 
 @pytest.fixture
 def server(program: Program, room: pathlib.Path, new_file: bytes) -> Iterator[Server]:
-    """`hpb serve` of the first example's auction, with 32 places, which may be killed and started again."""
+    """`hpb serve` for the first example's auction, with 32 places. A test may kill it and start it again."""
     file = room / "auction.hpb"
     file.write_bytes(new_file)
     with Server(program, file) as served:

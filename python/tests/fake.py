@@ -1,4 +1,4 @@
-"""A server that answers by the package's rules and fails as a test says: in memory, and over TCP in threads of its own."""
+"""A server that answers by the package's rules and fails as a test says: in memory, or over TCP in threads of its own."""
 import socket
 import threading
 from collections import deque
@@ -9,14 +9,15 @@ from hpb.lines import format_answer
 from hpb.rules import Auction, answer, begin, read_definition
 from serving import ADDRESS, DEFINITION, SECONDS
 
-# How a connection fails: its end before a line is judged, behind that, in the middle of its answer; or what it answers in place of it.
+# Ways for a connection to fail: it ends before a line is judged, after that, or in the middle of the answer; or the line gets
+# another answer instead.
 BEFORE, BEHIND, HALF, SILENT = "before", "behind", "half", "silent"
 ENDING_LINES = ("ERR 93 failed", "ERR 95 order", "ERR front idle", "ERR front many", "HTTP/1.1 400 Bad Request")
 
 
 @dataclass
 class Fault:
-    """Of one connection the line, from 1, with which it fails, and how."""
+    """The line of one connection, counted from 1, with which it fails, and the way in which it fails."""
 
     line: int
     kind: str
@@ -24,7 +25,7 @@ class Fault:
 
 @dataclass
 class Fake:
-    """The auction of the first example, and the faults of the connections to come, one each; after them all is well."""
+    """The auction of the first example, and one fault for each connection to come. Once the faults are used up, nothing fails."""
 
     faults: deque[Fault] = field(default_factory=deque)
     auction: Auction = field(default_factory=lambda: begin(read_definition(DEFINITION)))
@@ -33,7 +34,7 @@ class Fake:
     lock: threading.Lock = field(default_factory=threading.Lock)
 
     def judge(self, line: str) -> str:
-        """What a line is answered."""
+        """The answer to a line."""
         with self.lock:
             before = self.auction.count
             self.auction, answered = answer(self.auction, line)
@@ -50,7 +51,7 @@ class Fake:
 
 @dataclass
 class Connection:
-    """What one connection does with the bytes that it is sent."""
+    """The server's side of one connection."""
 
     fake: Fake
     fault: Fault | None
@@ -59,7 +60,7 @@ class Connection:
     has_ended: bool = False
 
     def take(self, data: bytes) -> bytes:
-        """What is answered to these bytes."""
+        """The answers to these bytes."""
         *lines, self.rest = (self.rest + data).split(b"\n")
         answered = b""
         for line in lines:

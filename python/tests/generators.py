@@ -1,4 +1,4 @@
-"""Auctions by seed: definitions that are accepted, and lines of which many are."""
+"""Auctions from a seed: definitions that are accepted, and lines, many of which are."""
 import json
 import random
 from typing import Any
@@ -36,7 +36,7 @@ def _add_node(dice: random.Random, nodes: list[dict[str, Any]], parent: str | No
 
 
 def command_of(dice: random.Random, auction: Auction) -> Command:
-    """A command that is often accepted, with the next ticket mostly."""
+    """A command that is often accepted. Mostly it has the next ticket."""
     definition = auction.tree.definition
     ticket_shift = dice.choice([0] * 12 + [-1, -2, 1])
     kind = dice.random()
@@ -59,7 +59,7 @@ def _next(auction: Auction, bidder: str | None, shift: int) -> int:
 
 
 def auction_of(seed: int, commands: int = 60) -> tuple[bytes, list[Command], Auction]:
-    """A definition, commands of which some are refused, and the auction after them, by the package's rules."""
+    """A definition, commands of which some are refused, and the auction after them by the package's rules."""
     dice = random.Random(seed)
     text = definition_of(dice)
     auction, told = begin(read_definition(text)), []
@@ -71,7 +71,7 @@ def auction_of(seed: int, commands: int = 60) -> tuple[bytes, list[Command], Auc
 
 
 def questions_of(definition: Definition) -> list[str]:
-    """SHOW, NODE of each node and WHO of each bidder."""
+    """SHOW, NODE for each node and WHO for each bidder."""
     return ["SHOW", *(f"NODE {node.name}" for node in definition.nodes), *(f"WHO {bidder.name}" for bidder in definition.bidders)]
 
 

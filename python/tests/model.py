@@ -1,7 +1,7 @@
 """A server in memory for the core: an auction by the package's rules, and connections whose lines are judged when a test says so.
 
-What was written to a connection stays there when the client leaves it, and may be judged at any later time, as by a server whose
-client gave up waiting.
+Lines written to a connection stay there when the client leaves it, and may be judged at any later time. So a server does that
+doesn't notice that its client has gone.
 """
 from collections import deque
 from dataclasses import dataclass, field
@@ -14,7 +14,7 @@ from hpb.rules import Auction, answer
 
 @dataclass
 class Wire:
-    """A connection: lines that aren't judged yet, and answers that aren't read yet."""
+    """A connection: its lines that aren't judged yet, and its answers that aren't read yet."""
 
     lines: deque[str] = field(default_factory=deque)
     answers: deque[str] = field(default_factory=deque)
@@ -22,7 +22,7 @@ class Wire:
 
 @dataclass
 class World:
-    """A client's core, its present connection, those that it left, and the auction."""
+    """A client's core, its present connection, the connections that it left, and the auction."""
 
     core: Core
     auction: Auction
@@ -33,7 +33,7 @@ class World:
     most_in_flight: int = 0
 
     def perform(self) -> None:
-        """Does what the core says."""
+        """Carries out the core's effects."""
         while effects := self.core.effects():
             for effect in effects:
                 if isinstance(effect, Send) and self.wire:
@@ -52,7 +52,7 @@ class World:
         self.perform()
 
     def leave(self) -> None:
-        """The connection is given up; what was sent by it may be judged yet."""
+        """Gives the connection up. Lines that were sent over it may still be judged."""
         if self.wire:
             self.left.append(self.wire)
         self.wire = None
@@ -60,7 +60,7 @@ class World:
         self.perform()
 
     def judge(self, wire: Wire) -> None:
-        """The server takes the next line of a connection."""
+        """The server judges the next line of a connection."""
         line = wire.lines.popleft()
         before = self.auction.count
         self.auction, answered = answer(self.auction, line)
@@ -69,14 +69,14 @@ class World:
         wire.answers.append(format_answer(answered))
 
     def read(self, count: int = 1) -> None:
-        """So many answers reach the client."""
+        """This number of answers reaches the client."""
         assert self.wire
         answers = [self.wire.answers.popleft() for _ in range(min(count, len(self.wire.answers)))]
         self.core.received("".join(f"{text}\n" for text in answers).encode())
         self.perform()
 
     def settle(self) -> None:
-        """All goes well from here on, until each line has its outcome."""
+        """From here on nothing fails, until each line has its outcome."""
         for _ in range(10_000):
             self.perform()
             if not self.core.wants_connection:
@@ -91,7 +91,7 @@ class World:
 
 
 def is_same(first: Line, second: Line) -> bool:
-    """Whether two commands ask for the same, whatever their tickets are."""
+    """Whether two commands ask for the same thing, whatever their tickets are."""
     if isinstance(first, Show | AskNode | AskWho) or isinstance(second, Show | AskNode | AskWho):
         return False
     return numbered(first, 0) == numbered(second, 0)

@@ -9,14 +9,15 @@ import hypothesis
 
 ADDRESS = "127.0.0.1"
 SECONDS = 60
-# Ports below those that the system gives to connections by itself.
+# Ports below those that the system hands out by itself.
 PORTS = range(10_000, 32_000)
 EXAMPLES = pathlib.Path(__file__).resolve().parents[2] / "examples"
 DEFINITION = EXAMPLES.joinpath("package-beats-parts.txt").read_bytes().split(b"\n")[0] + b"\n"
 
 
 def few(examples: int) -> hypothesis.settings:
-    """So many examples of a test that runs the program, which takes its time; 30 times as many by the long profile."""
+    """Settings for tests that run the program, which takes time: this number of examples, or 30 times as many in the long profile.
+    """
     is_long = hypothesis.settings.default.max_examples > 1000
     return hypothesis.settings(max_examples=examples * (30 if is_long else 1))
 
@@ -33,18 +34,18 @@ class Program:
         return ran.stdout.decode("latin-1").split("\n")[:-1], ran.returncode
 
     def script(self, definition: bytes, lines: list[str]) -> list[str]:
-        """What each line is answered; a definition that is refused has one answer."""
+        """The answer to each line. A definition that is refused has one answer."""
         text = definition.rstrip(b"\n") + b"\n" + "".join(line + "\n" for line in lines).encode("latin-1")
         return self.run(text=text)[0]
 
     def format(self, file: pathlib.Path, definition: bytes, layout: int = 1, journal: int = 16) -> None:
-        """Makes a file that keeps the auction of a definition."""
+        """Makes a file that holds an auction with this definition."""
         written, status = self.run("format", "--file", file, "--journal", journal, "--layout", layout, text=definition)
         assert (written[0].split()[0], status) == ("FORMATTED", 0), written
 
 
 def free_port() -> int:
-    """One below those that the system gives to connections."""
+    """A free port below those that the system hands out by itself."""
     while True:
         port = random.choice(PORTS)
         with socket.socket() as probe:
@@ -56,7 +57,7 @@ def free_port() -> int:
 
 
 class Server:
-    """`hpb serve` of a file that it makes where there is none. It is killed at the end."""
+    """`hpb serve` on a file, which is made if there is none. It is killed at the end."""
 
     def __init__(self, program: Program, file: pathlib.Path, definition: bytes = DEFINITION, sessions: int = 32) -> None:
         self.program, self.file, self.sessions = program, file, sessions
@@ -73,7 +74,7 @@ class Server:
         self.kill()
 
     def start(self) -> None:
-        """Serves the file, at the same port each time."""
+        """Serves the file, on the same port each time."""
         words = ["serve", "--file", str(self.file), "--port", str(self.port), "--sessions", str(self.sessions)]
         self.process = subprocess.Popen(
             [str(self.program.path), *words], stdin=subprocess.DEVNULL, stdout=subprocess.PIPE, stderr=subprocess.DEVNULL
@@ -83,7 +84,7 @@ class Server:
         assert line == f"LISTENING {self.port}\n".encode(), line
 
     def kill(self) -> None:
-        """Kills it, as by `kill -9`; nothing where it isn't running."""
+        """Kills it, as by `kill -9`. If it isn't running, nothing happens."""
         if self.process:
             self.process.kill()
             self.process.wait(SECONDS)
@@ -92,7 +93,7 @@ class Server:
             self.process = None
 
     def lines(self, *lines: str) -> list[str]:
-        """What lines are answered by a connection of their own."""
+        """The answers to lines that are sent over a connection of their own."""
         with socket.create_connection((ADDRESS, self.port), SECONDS) as connection:
             connection.sendall("".join(line + "\n" for line in lines).encode())
             connection.shutdown(socket.SHUT_WR)

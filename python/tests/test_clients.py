@@ -1,4 +1,4 @@
-"""The same rows for the core alone, for `Client` and for `AsyncClient`: what each command comes to, whatever connections do."""
+"""The same rows for the core alone, for `Client` and for `AsyncClient`: the outcome of each command, whatever connections do."""
 import asyncio
 import itertools
 import socket
@@ -47,20 +47,20 @@ def by_core(fake: Fake, commands: Sequence[Command]) -> list[Outcome]:
             answers, told = b"", answers
             core.received(told)
         elif not effects:
-            # It ended, or is silent for too long.
+            # It ended, or was silent for too long.
             connection = None
             core.lost()
     raise AssertionError("it doesn't come to an end")
 
 
 def by_client(fake: Fake, commands: Sequence[Command]) -> list[Outcome]:
-    """The client that waits, over TCP."""
+    """The client that blocks, over TCP."""
     with Listener(fake) as listener, Client(ADDRESS, listener.port, timeout=20, silence=SILENCE) as client:
         return client.send(commands)
 
 
 def by_async_client(fake: Fake, commands: Sequence[Command]) -> list[Outcome]:
-    """The client of asyncio, over TCP."""
+    """The client for asyncio, over TCP."""
 
     async def send(port: int) -> list[Outcome]:
         async with AsyncClient(ADDRESS, port, timeout=20, silence=SILENCE) as client:
@@ -99,7 +99,7 @@ def test_what_commands_come_to(send: Sends, commands: list[Command], wanted: lis
     fake = Fake()
     found = texts(send(fake, commands))
     if {Close, Stage} & {type(command) for command in commands}:
-        # The auctioneer's commands wait for a question of their own, and so others may be numbered before them.
+        # The auctioneer's commands wait for a question of their own, so others may get their tickets before them.
         assert sorted(text[:3] for text in found) == sorted(text[:3] for text in wanted)
     else:
         assert found == wanted
@@ -107,7 +107,7 @@ def test_what_commands_come_to(send: Sends, commands: list[Command], wanted: lis
 
 @pytest.mark.parametrize("line, kind", itertools.product(range(1, 11), (BEFORE, BEHIND, HALF)))
 def test_no_command_is_lost_or_counted_twice_wherever_a_connection_ends(send: Sends, line: int, kind: str) -> None:
-    """The lines are WHO of three bidders and six bids; then the next connection fails with its third line."""
+    """The lines are WHO for three bidders and six bids; then the next connection fails at its third line."""
     fake = Fake()
     fake.faults.extend([Fault(line, kind), Fault(3, kind)])
     assert [type(outcome) for outcome in send(fake, MANY)] == [Accepted] * len(MANY)
@@ -129,7 +129,7 @@ def test_a_refusal_that_was_lost_is_judged_anew(send: Sends) -> None:
     assert texts(send(fake, [Bid("z", "a", 100), Bid("z", "b", 90), Bid("z", "c", 100)])) == ["OK 1", "ERR 22", "OK 2"]
 
 
-# What the shells do besides.
+# Other things that the shells do.
 
 
 def test_calls_give_answers_and_raise_refusals() -> None:
@@ -225,7 +225,7 @@ def test_addresses_are_tried_in_turn() -> None:
 
 @pytest.mark.parametrize("is_async", [False, True])
 def test_no_client_talks_to_itself(is_async: bool, monkeypatch: pytest.MonkeyPatch) -> None:
-    """A port from which the system makes a connection to itself is refused, and not taken for an auction."""
+    """If a port makes the system connect it to itself, it is refused, and not taken for an auction."""
 
     def leads_to_itself(connection: socket.socket, *_: object) -> tuple[str, int]:
         return connection.getsockname()  # type: ignore[no-any-return]

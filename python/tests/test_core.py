@@ -1,4 +1,4 @@
-"""The core of a client: what it sends, and what a refusal and a loss do, without any connection."""
+"""The core of a client: what it sends, and the effects of a refusal and of a loss, without any connection."""
 import random
 
 import pytest
@@ -17,7 +17,7 @@ WITH_WAIVERS = DEFINITION.replace(b'"stages"', b'"waivers":2,"stages"')
 
 
 def ready(known: list[tuple[str | None, int]] | None = None) -> Core:
-    """A core with a connection, and the tickets of x and y used up to 1."""
+    """A core with a connection. For x and y, ticket 1 is the last used one."""
     core = Core(known=[("x", 1), ("y", 1)] if known is None else known)
     core.connected()
     return core
@@ -278,7 +278,7 @@ def test_what_can_not_be_sent_is_refused_at_once(line: Line) -> None:
     assert not core.wants_connection
 
 
-# Any order of what may happen.
+# Events in any order.
 
 
 def started(text: bytes) -> Auction:
@@ -299,8 +299,11 @@ def any_command(dice: random.Random, auction: Auction) -> Command:
 
 
 def play(seed: int, may_linger: bool) -> tuple[World, dict[int, Command]]:
-    """A client that is told any things in any order, and then is left in peace. With `may_linger` what was sent by a connection that
-    it left may be judged much later; else it is judged before the next connection, or never, as when a server dies."""
+    """A client to which anything happens in any order, until it is left in peace.
+
+    With `may_linger`, lines sent over a connection that it left may be judged much later. Otherwise they are judged before the next
+    connection is made, or never, as when a server dies.
+    """
     dice = random.Random(seed)
     world = World(Core(), started(WITH_WAIVERS))
     asked: dict[int, Command] = {}
@@ -346,7 +349,8 @@ def test_in_any_order_no_command_is_lost_and_none_counts_twice(seed: int, may_li
         told = [world.outcomes[number] for number, other in asked.items() if is_same(command, other)]
         assert kept <= len(told)
         accepted = sum(isinstance(outcome, Accepted) for outcome in told)
-        # What is told as accepted counts, once; what is told as refused doesn't, if no line of a connection that was left lingers.
+        # A command reported as accepted counts once. If no line of an abandoned connection lingers, one reported as refused doesn't
+        # count.
         assert accepted <= kept
         if not may_linger:
             assert accepted == kept
@@ -354,7 +358,7 @@ def test_in_any_order_no_command_is_lost_and_none_counts_twice(seed: int, may_li
 
 @given(some.integers(0, 2**32))
 def test_in_any_order_refusals_are_those_of_the_rules(seed: int) -> None:
-    """Nobody is told 13, 14 or 15 where one client gives all tickets and no line of a lost connection lingers."""
+    """If one client uses all tickets, and no line of a lost connection lingers, no outcome is 13, 14 or 15."""
     world, _ = play(seed, may_linger=False)
     told = {outcome.number for outcome in world.outcomes.values() if isinstance(outcome, Refused)}
     assert not told & {10, 11, 12, 13, 14, 15}

@@ -1,4 +1,4 @@
-"""docs/CLIENTS.md: its programs, in their order, print what it says; and what it names is there."""
+"""docs/CLIENTS.md: its programs, run in order, print what it says; and everything that it names exists."""
 import inspect
 import os
 import pathlib
@@ -14,7 +14,7 @@ from serving import ADDRESS, SECONDS, Server
 
 TOP = pathlib.Path(__file__).resolve().parents[2]
 
-# The program of a bidder that runs until the auction is over is tried by itself.
+# The bidder's program that runs until the auction is over is tested separately.
 ENDLESS = "me = "
 WANTED: list[list[str]] = [
     ["Accepted(number=1)", "10 1"],
@@ -49,15 +49,17 @@ def programs_of(text: str) -> list[str]:
 
 
 def started(program: str, server: Server, folder: pathlib.Path) -> subprocess.Popen[str]:
-    """A program of the document, at the port of a server."""
+    """Starts a program of the document, with a server's port."""
     words = [sys.executable, "-B", "-c", program.replace("5000", str(server.port))]
     environment = {**os.environ, "PYTHONPATH": str(TOP / "python" / "src")}
     return subprocess.Popen(words, stdout=subprocess.PIPE, stderr=subprocess.PIPE, text=True, cwd=folder, env=environment)
 
 
 def test_a_bidder_stays_eligible_with_the_least_spending(server: Server, documents: pathlib.Path, room: pathlib.Path) -> None:
-    """In round 1 c, with the 20 units that w needs, costs 100. Then z outbids it by 500 on all: c costs 330, and east 220 for as many
-    units. In round 3 z has still won: all passes 500 - 320 = 180 down, 90 to c, which then costs 210, and 90 to east, which costs 350."""
+    """In round 1 c, with the 20 units that w needs, costs 100. Then z outbids it by 500 on all: c costs 330, and east 220 for as
+    many units. In round 3 z has still won: all passes 500 - 320 = 180 down, 90 to c, which then costs 210, and 90 to east, which
+    costs 350.
+    """
     (program,) = [program for program in programs_of((documents / "CLIENTS.md").read_text(encoding="utf-8")) if ENDLESS in program]
     (room / "examples").symlink_to(TOP / "examples")
     process = started(program, server, room)
@@ -83,7 +85,7 @@ def test_a_bidder_stays_eligible_with_the_least_spending(server: Server, documen
 
 
 def wait_for(client: hpb.Client, count: int) -> None:
-    """Until so many commands are accepted."""
+    """Waits until so many commands are accepted."""
     end = time.monotonic() + SECONDS
     while client.show().count < count:
         assert time.monotonic() < end

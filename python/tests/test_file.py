@@ -1,4 +1,4 @@
-"""Files: random auctions that the program keeps, in both layouts, read by the package; and each damage that is refused."""
+"""Files: random auctions that the program keeps, in both layouts, read by the package; and each kind of damage that is refused."""
 import pathlib
 import random
 import tempfile
@@ -27,7 +27,7 @@ def kept_by(program: Program, definition: bytes, lines: list[str], layout: Layou
 
 
 def shown_by(program: Program, image: bytes, auction: Auction) -> tuple[list[str], list[str]]:
-    """What the program answers each question by a file, and what the package does."""
+    """The answers to each question: the program's from the file, and the package's from the auction."""
     questions = questions_of(auction.tree.definition)
     with tempfile.TemporaryDirectory(dir="/dev/shm") as folder:
         file = pathlib.Path(folder, "auction.hpb")
@@ -49,7 +49,7 @@ def test_what_the_program_keeps_is_read(program: Program, seed: int, layout: Lay
 
 
 def test_a_long_auction_wraps_its_journal_and_checkpoints(program: Program) -> None:
-    """Forty batches of a command each, by sixteen frames."""
+    """Forty batches of one command each, in sixteen frames."""
     auction = begin(read_definition(DEFINITION))
     lines = [line for round_ in range(1, 5) for line in round_of(round_)]
     for line in lines:
@@ -73,7 +73,7 @@ def round_of(number: int) -> list[str]:
 
 
 def first_file(program: Program, layout: Layout = Layout.PAGES) -> bytearray:
-    """The file of the first round, one batch a command."""
+    """The file of the first round, with one command in each batch."""
     lines = ["BID x 1 a 100", "BID y 1 b 150", "BID z 1 all 500", "BID w 1 c 100", "CLOSE 1"]
     return bytearray(kept_by(program, DEFINITION, lines, layout, 1))
 
@@ -90,7 +90,7 @@ def test_the_first_batch_is_the_one_of_the_documents(program: Program) -> None:
 
 
 def in_first_format(image: bytearray) -> bytearray:
-    """As a file of an `hpb` without waivers: byte 25 of the head, and the first byte of the first slot's state, are 1."""
+    """The file as an `hpb` without waivers writes it: byte 25 of the head, and the first byte of the first slot's state, are 1."""
     image[25] = image[4 * PAGE] = 1
     return image
 

@@ -1,4 +1,4 @@
-"""Wheel and source distribution are built without a network, and what they install bids on a server."""
+"""Wheel and source distribution are built without a network, and each installed package can bid on a server."""
 import pathlib
 import shutil
 import subprocess
@@ -16,7 +16,7 @@ BIDS = 'from hpb import Client; print(Client("127.0.0.1", {}).bid("x", "a", 100)
 
 
 def run(*words: object, folder: pathlib.Path, text: str = "") -> str:
-    """What a command writes; it has to succeed."""
+    """The output of a command, which has to succeed."""
     ran = subprocess.run([str(word) for word in words], input=text, capture_output=True, text=True, timeout=SECONDS, cwd=folder)
     assert ran.returncode == 0, ran.stdout + ran.stderr
     return ran.stdout
@@ -51,7 +51,7 @@ def test_what_is_built_is_installed_and_bids(
 
 
 def run_commands(scripts: pathlib.Path, program: Program, image: bytes, folder: pathlib.Path) -> None:
-    """The commands that were installed, of which those that need neither server nor front do their work."""
+    """Runs the installed commands. Those that need neither server nor front do some work."""
     file, definition = folder / "F", folder / "definition.json"
     file.write_bytes(image)
     definition.write_text(run(scripts / "hpb-definition", file, folder=folder))

@@ -1,4 +1,4 @@
-"""Lines and refusals against docs/PROTOCOL.md, and the grammar against the program."""
+"""Lines and refusals compared with docs/PROTOCOL.md, and the grammar compared with the program."""
 import pathlib
 import re
 
@@ -74,7 +74,7 @@ def test_what_can_not_be_a_line_is_not_written(line: Bid | Close) -> None:
 
 
 def plain(cell: str) -> str:
-    """The text of a cell of a table, without marks and links."""
+    """The text of a table's cell, without marks and links."""
     return re.sub(r"\[([^\]]*)\]\([^)]*\)", r"\1", cell).replace("`", "")
 
 

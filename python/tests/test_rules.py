@@ -1,4 +1,4 @@
-"""The rules: the examples of docs/RULES.md, and random auctions against the program."""
+"""The rules, compared with the examples of docs/RULES.md, and on random auctions with the program."""
 import itertools
 import pathlib
 import random
@@ -20,7 +20,7 @@ SEEDS = some.integers(0, 2**32)
 
 
 def answers_of(script: bytes) -> list[str]:
-    """What the package answers a script, whose first line is the definition."""
+    """The package's answers to a script, whose first line is the definition."""
     first, *lines = script.decode("latin-1").split("\n")
     try:
         auction = begin(read_definition(first.encode("latin-1")))
@@ -93,7 +93,7 @@ def test_shares_of_two_in_three() -> None:
     assert shares(2, 3) == [1, 1, 0]
 
 
-# What if.
+# What a bidder may ask before it bids.
 
 
 def first_example(*lines: str) -> Auction:
@@ -104,7 +104,9 @@ def first_example(*lines: str) -> Auction:
 
 
 def test_by_how_much_nodes_must_rise_in_the_first_example() -> None:
-    """`all` wins by 500, and its parts have 250 and 100: east needs 400 beside the 100 on c, c needs 250 beside 250 of east."""
+    """`all` wins by 500, and its parts have 250 and 100. East needs 400 beside the 100 on c, and c needs 250 beside the 250 of
+    east.
+    """
     auction = first_example()
     rises = {name: rise_to_win(auction.tree, auction.standing, name) for name in auction.tree.nodes}
     assert {name: (rise.amount, rise.rise, rise.parts_rise) for name, rise in rises.items()} == {
@@ -118,7 +120,8 @@ def test_by_how_much_nodes_must_rise_in_the_first_example() -> None:
 
 
 def test_what_keeps_eligibility_in_the_first_example() -> None:
-    """After close 1 minima are a 160, b 210, c 200, d 100; of w's 25 units 20 are needed: c has 20, and so have a and b for 370."""
+    """After close 1 minima are a 160, b 210, c 200, d 100. Of w's 25 units 20 are needed: c has 20; a and b have 20 too, for 370.
+    """
     auction = first_example()
     minima = auction.standing.minima
     kept = keep_eligibility(auction.tree, minima, 80, 25)

@@ -1,4 +1,4 @@
-"""Both clients and a real server, which is killed: no command is lost, and none counts twice."""
+"""Both clients with a real server that is killed: no command is lost, and none counts twice."""
 import asyncio
 import pathlib
 import random
@@ -13,13 +13,13 @@ from hpb.refusals import TooLow
 from relay import Relay
 from serving import ADDRESS, Program, Server
 
-# The rounds of the first example's auction: z's five bids, and one or two of each other bidder, all of which are accepted.
+# The rounds of the first example's auction: z's five bids, and one or two from each other bidder. All are accepted.
 NODES_OF = {"x": ["a"], "y": ["b"], "z": ["all", "east", "a", "b", "c"], "w": ["c", "d"]}
 LICENCES = {"all": 3, "east": 2}
 
 
 def bids_of(round_: int) -> list[Bid]:
-    """The nine bids of a round from 1, each twice as high as in the round before."""
+    """The nine bids of a round, counted from 1. Each amount is twice that of the round before."""
     return [Bid(bidder, node, 1000 * 2**round_ * LICENCES.get(node, 1)) for bidder, nodes in NODES_OF.items() for node in nodes]
 
 
@@ -27,13 +27,13 @@ Sends = Callable[[int, Sequence[Command]], list[Outcome]]
 
 
 def by_client(port: int, commands: Sequence[Command]) -> list[Outcome]:
-    """The client that waits."""
+    """The client that blocks."""
     with Client(ADDRESS, port, timeout=60, silence=10) as client:
         return client.send(commands)
 
 
 def by_async_client(port: int, commands: Sequence[Command]) -> list[Outcome]:
-    """The client of asyncio."""
+    """The client for asyncio."""
 
     async def send() -> list[Outcome]:
         async with AsyncClient(ADDRESS, port, timeout=60, silence=10) as client:
@@ -77,7 +77,7 @@ def kills(server: Server) -> Callable[[], None]:
 @pytest.mark.parametrize("behind", [False, True], ids=["before", "behind"])
 @pytest.mark.parametrize("at", [pytest.param(at, marks=[] if at in (5, 9) else pytest.mark.slow) for at in range(1, 14)])
 def test_no_kill_of_the_server_loses_or_doubles_a_command(server: Server, send: Sends, at: int, behind: bool) -> None:
-    """It is killed at each of the lines: four questions for tickets, and nine bids."""
+    """The server is killed at each of the lines in turn: four questions for tickets, and nine bids."""
     with Relay(server.port, at, behind, kills(server)) as relay:
         outcomes = send(relay.port, bids_of(1))
         assert relay.has_acted
@@ -88,7 +88,7 @@ def test_no_kill_of_the_server_loses_or_doubles_a_command(server: Server, send: 
 @pytest.mark.slow
 @pytest.mark.parametrize("seed", range(3))
 def test_kills_at_random_moments_lose_and_double_nothing(server: Server, send: Sends, seed: int) -> None:
-    """Eight rounds, in which it is killed up to ten times."""
+    """Eight rounds, in which the server is killed up to ten times."""
     dice, ended, killed = random.Random(seed), threading.Event(), list[bool]()
 
     def kill() -> None:
@@ -116,7 +116,7 @@ def test_a_file_of_tickets_tells_after_a_crash_what_was_kept(server: Server, tmp
     tickets = tmp_path / "tickets"
     with Client(ADDRESS, server.port, tickets=tickets, timeout=60) as client:
         assert client.bid("z", "a", 100) == Accepted(1)
-    # As if it had been killed with two bids on their way, of which one was kept.
+    # As if it had been killed while two bids were on their way, of which one was kept.
     with tickets.open("a", encoding="ascii") as file:
         file.write("SENT BID z 2 b 100\nSENT BID z 3 c 100\nSENT BID z 4 d 1")
     assert server.lines("BID z 2 b 100") == ["OK 2"]
@@ -133,7 +133,7 @@ def test_what_a_file_keeps_is_what_was_sent(server: Server, send: Sends) -> None
 
 
 def test_a_thousand_bids_ahead(server: Server, program: Program) -> None:
-    """Each behind the first is refused by 24, and those in flight behind it are numbered anew: none is lost or hangs."""
+    """All but the first are refused by 24, and those in flight behind them get new tickets. None is lost or hangs."""
     commands = [Bid("z", "d", 100 + 10 * more) for more in range(300)]
     outcomes = by_client(server.port, commands)
     assert outcomes[0] == Accepted(1)

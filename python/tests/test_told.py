@@ -1,4 +1,4 @@
-"""What answers tell of an auction: how it stands, whether the sums show it, and what is known of it while it is followed."""
+"""The state of an auction by its answers, whether the sums show it, and the knowledge of an auction that is followed."""
 import dataclasses
 import random
 
@@ -40,7 +40,7 @@ SAID = [
 
 
 def told_of(seed: int) -> Told:
-    """What the package's rules answer of a random auction."""
+    """The answers of the package's rules for a random auction."""
     _, _, auction = auction_of(seed)
     lines = [format_answer(answer(auction, line)[1]) for line in questions_of(auction.tree.definition)]
     return read_told(auction.tree, lines)
@@ -123,7 +123,7 @@ def seen_of(old: Seen | None, shown: Shown, **nodes: NodeShown) -> Seen:
 
 
 def test_what_is_known_of_a_round_that_was_seen_from_its_beginning() -> None:
-    """By hand: a close was command 5; a bid and a stage are no close, and two bids are two."""
+    """By hand: the close was command 5. A bid and a stage aren't closes, and two bids count as two."""
     begun = seen_of(seen_of(None, Shown(1, 1, False, 0, 4)), Shown(2, 1, False, 500, 5))
     assert (begun.begin.is_exact, begun.accepted(), begun.would_end()) == (True, 0, True)
     bid = seen_of(begun, Shown(2, 2, False, 500, 7))
