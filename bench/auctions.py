@@ -5,8 +5,10 @@ STEP, PERCENT, OPENING = 1, 1, 100
 
 
 class Auction:
-    """A full binary tree of so many levels, the nodes n0, n1, .. from the top; and so many bidders b0, b1, .., each with so many
-    waivers."""
+    """An auction with a full binary tree of `levels` levels and some bidders.
+
+    The nodes are n0, n1, .. from the top, the bidders b0, b1, .., and each bidder has `waivers` waivers.
+    """
 
     def __init__(self, levels, bidders, stages=(50,), waivers=0):
         self.nodes = 2**levels - 1
@@ -30,7 +32,7 @@ class Auction:
         return json.dumps(rules, separators=(",", ":"))
 
     def minima(self, high):
-        """The least next bid on each node, by the high bids of closed rounds."""
+        """The least next bid on each node, given the high bids of closed rounds."""
         inside = [0] * self.nodes
         for n in range(self.nodes - 1, 0, -1):
             inside[(n - 1) // 2] += max(high[n], inside[n])

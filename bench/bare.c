@@ -1,11 +1,11 @@
-/* A server that answers each line `OK n` once it is on the disk, and knows no rules: what sockets and the calls of the device allow
- * to one thread that hands nothing over.
+/* A server without rules that answers each line `OK n` once it is on the disk. It shows how much the sockets and the device's calls
+ * allow to a single thread.
  *
  *     bare FILE JOURNAL PORT SESSIONS
  *
  * FILE has just been formatted in pages, with a journal of JOURNAL frames. It takes SESSIONS connections at PORT of 127.0.0.1, and
- * ends once all are closed. All lines that wait, up to 64, are a batch: a write of a page's body, a sync of the data, a write of one
- * byte, a sync of the data. No checkpoint is ever made. It says LISTENING and the port, and at its end CLOSED and the lines. */
+ * ends once all are closed. Up to 64 waiting lines make a batch: a write of a page's body, a sync of the data, a write of one byte,
+ * a sync of the data. No checkpoint is ever made. It prints LISTENING and the port, and at its end CLOSED and the number of lines. */
 #include <arpa/inet.h>
 #include <fcntl.h>
 #include <netinet/tcp.h>
@@ -19,7 +19,7 @@
 enum { PAGE = 4096, BODY_AT = 16, JOURNAL_PAGE = 13, MOST_RECORDS = 64, MOST_SESSIONS = 32, ROOM = 8192, ANSWER = 16 };
 
 struct session {
-    size_t lines;       /* that wait */
+    size_t lines;       /* lines without an answer */
     char answers[MOST_RECORDS * ANSWER];
     size_t written;
 };
@@ -64,7 +64,7 @@ static void take(int listener, int count) {
     }
 }
 
-/* Reads what has come. `0` where the connection is closed. */
+/* Reads what has come. Returns 0 if the connection is closed. */
 static int read_lines(int i) {
     char bytes[ROOM];
     ssize_t count = read(sockets[i].fd, bytes, sizeof bytes);
@@ -72,7 +72,7 @@ static int read_lines(int i) {
     return count > 0;
 }
 
-/* A batch of the lines that wait, and their answers. */
+/* Makes a batch of the waiting lines, and answers them. */
 static long answer(int count) {
     long taken = 0;
     for (int i = 0; i < count; i++)
@@ -107,7 +107,7 @@ int main(int count, char **words) {
     fflush(stdout);
     take(listener, all);
     for (int left = all; left > 0;) {
-        /* Where lines are left over from the last batch nothing is waited for. */
+        /* If lines are left over from the last batch, nothing is waited for. */
         int waits = 1;
         for (int i = 0; i < all; i++) waits = waits && sessions[i].lines == 0;
         if (poll(sockets, all, waits ? -1 : 0) < 0) fail("poll");

@@ -1,11 +1,11 @@
-/* The calls of the device that an engine makes for so many batches, and nothing else.
+/* Makes the device's calls of an engine for a number of batches, and nothing else.
  *
  *     device FILE LAYOUT JOURNAL BATCHES RECORDS EVERY
  *
- * FILE has just been formatted in this layout, 1 pages or 2 cells, with a journal of JOURNAL frames. A batch has RECORDS
- * records. EVERY is the number of batches between two checkpoints, 0 where one is made only when the journal is full, and -1
- * where none is ever made. Written are the number of calls, the seconds that they took, and those of the first JOURNAL
- * batches. docs/FORMATS.md has the order of the calls, docs/DEVICE.md the pages and cells. */
+ * FILE has just been formatted in this layout, 1 pages or 2 cells, with a journal of JOURNAL frames. A batch has RECORDS records.
+ * EVERY is the number of batches between two checkpoints. With 0, one is made only when the journal is full; with -1, none is ever
+ * made. It prints the number of calls, the seconds that they took, and the seconds of the first JOURNAL batches. docs/FORMATS.md
+ * has the order of the calls, docs/DEVICE.md the pages and cells. */
 #include <fcntl.h>
 #include <stdio.h>
 #include <stdlib.h>
@@ -52,7 +52,7 @@ static void batch(void) {
     next_batch++;
 }
 
-/* Frames that hold a covered batch are closed, and then clean. */
+/* Closes the frames of covered batches; then they are clean. */
 static void retire(void) {
     if (clean_end == covered + journal) return;
     for (; clean_end < covered + journal; clean_end++) {
@@ -84,7 +84,7 @@ static double now(void) {
     return time.tv_sec + time.tv_nsec / 1e9;
 }
 
-/* Those of the bodies of a layout, of which a batch of cells takes as many as it needs. */
+/* The sizes of a layout's frames and bodies. A batch in cells takes as many cells as it needs. */
 static void lay_out(long layout, long records) {
     stride = layout == 1 ? PAGE : CELLS * CELL;
     body = layout == 1 ? PAGE - BODY_AT : CELL - BODY_AT + (records + 1) / 31 * CELL;

@@ -1,10 +1,12 @@
-"""Counts the bids that a front acknowledges, beside `hpb serve` alone: the same sessions, bids and closes on both, in turns.
+"""Counts the bids that a front acknowledges, and compares with `hpb serve` alone: the same sessions, bids and closes on both, in
+turns.
 
     bench/front crates/hpb/out/hpb                          files in the current folder
     bench/front crates/hpb/out/hpb --sessions 32 --runs 1   one run with 32 sessions
     bench/front crates/hpb/out/hpb --sessions 1 8 32 --runs 3 --rows     rows of the table in bench/README.md, in two minutes
 
-Each session has one bid outstanding, and at the front it is a name of its own, in clear. Needs a C compiler and Linux.
+Each session has one bid outstanding. At the front each session is a name of its own, and connects without TLS. Needs a C compiler
+and Linux.
 """
 import argparse
 import os
@@ -21,7 +23,7 @@ BUSY = 1.0
 
 
 def names_of(sessions, bidders):
-    """As the load shares them out; the name behind the last is the auctioneer."""
+    """The names, with the bidders shared out as in the load. The name after the last one is the auctioneer."""
     names = {}
     for place in range(sessions):
         names[f"s{place}"] = [f"b{bidder}" for bidder in range(bidders * place // sessions, bidders * (place + 1) // sessions)]
@@ -29,7 +31,7 @@ def names_of(sessions, bidders):
 
 
 def of_front(load, sessions):
-    """Its figures, with `cost`: the microseconds of the processor that the front uses for a command."""
+    """The figures of the front. `cost` is how many microseconds of the processor it uses for a command."""
     file = pathlib.Path(load.new_file())
     names = names_of(sessions, load.given.bidders)
     front = Front(load.given.program, file.parent, names, limits=FASTEST, file=file.name).start()
@@ -53,7 +55,7 @@ def told(what, runs):
 
 
 def row(sessions, alone, behind):
-    """One of the table in bench/README.md: times are milliseconds, by the 50th and the 99th percentile."""
+    """A row of the table in bench/README.md. Times are milliseconds, the 50th and the 99th percentile."""
     rates = [median(run.rate for run in runs) for runs in (alone, behind)]
     times = [f"{median(run.middle for run in runs) / 1000:.2f}, {median(run.late for run in runs) / 1000:.2f}" for runs in (alone, behind)]
     cost = f"{median(run.cost for run in behind):,.0f}"

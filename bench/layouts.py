@@ -1,4 +1,4 @@
-"""The layouts of a journal, by their numbers, and how a file is made that has one."""
+"""The layouts of a journal by their numbers, and the making of a file in each."""
 import subprocess
 
 PAGE_BYTES = 4_096
@@ -7,13 +7,13 @@ OPEN = 0xA5
 
 
 class Layout:
-    """So many bytes has each frame, and so many frames a journal at least."""
+    """A layout: the number of bytes in a frame, and the least number of frames in a journal."""
 
     def __init__(self, number, name, frame_bytes, least):
         self.number, self.name, self.frame_bytes, self.least = number, name, frame_bytes, least
 
     def bytes(self, journal):
-        """Those of a file whose journal has so many frames."""
+        """The bytes in a file whose journal has so many frames."""
         return JOURNAL_AT + self.frame_bytes * journal
 
     def gates(self, image):
@@ -21,12 +21,12 @@ class Layout:
         return image[JOURNAL_AT::self.frame_bytes]
 
     def words(self, program, file, journal):
-        """What makes a file. The first layout needs no word."""
+        """The command that makes a file. The first layout needs no option."""
         chosen = ["--layout", str(self.number)] if self.number > 1 else []
         return [program, "format", "--file", file, "--journal", str(journal), *chosen]
 
     def format(self, program, definition, file, journal):
-        """How the making of a file ended, and whether it is made as it should be."""
+        """Makes a file. Returns the ended process, and whether its output is right."""
         words = self.words(program, file, journal)
         made = subprocess.run(words, input=definition, capture_output=True, text=True)
         line = f"FORMATTED {self.bytes(journal) // PAGE_BYTES}\n"
@@ -37,7 +37,7 @@ LAYOUTS = {1: Layout(1, "pages", PAGE_BYTES, 4), 2: Layout(2, "cells", 3 * 512, 
 
 
 def add_layouts(words, both):
-    """The option that chooses among them; where none is chosen it is both, or the first."""
+    """Adds the option that chooses layouts. Its default is both, or else the first."""
     default = list(LAYOUTS) if both else [1]
     words.add_argument(
         "--layout", type=int, choices=LAYOUTS, nargs="+" if both else None, default=default if both else 1,

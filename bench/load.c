@@ -1,22 +1,28 @@
-/* The load of so many sessions on a server: one thread, up to PIPELINE commands outstanding in each session.
+/* Puts load on a server: one thread with many sessions, and up to PIPELINE commands outstanding in each.
  *
  *     load KIND PORT SESSIONS SECONDS WARM MOST LEVELS BIDDERS [PIPELINE [FLOOD]]
  *
- * KIND is hpb, front, redis-incr, redis-set, redis-rpush, postgres or postgres-prepared. The server listens at 127.0.0.1. Each
- * kind is sent the same bids: those of an auction that is a full binary tree of LEVELS levels (bench/auctions.py), in
- * which each session speaks for its share of the BIDDERS. hpb is sent them as lines, Redis each as one write, with the
- * line as its value, and PostgreSQL each as one row. At a front the sessions are the names s0, s1, .., and one more, which bids
- * nothing, is the auctioneer. PIPELINE is 1 to 16, and 1 where it isn't given: as soon as an answer frees a place the next bid is
- * sent, by one send with others where several places are free.
+ * KIND is hpb, front, redis-incr, redis-set, redis-rpush, postgres or postgres-prepared. The server listens at 127.0.0.1. Each kind
+ * gets the same bids. They are from an auction with a full binary tree of LEVELS levels (bench/auctions.py), in which each session
+ * bids for its share of the BIDDERS. To hpb a bid is a line, to Redis a write with the line as its value, and to PostgreSQL a row.
+ * At a front the sessions are the names s0, s1, .., and one more, which bids nothing, is the auctioneer.
  *
- * FLOOD is for hpb alone, and none where it isn't given. With questions or bids one session more has 16 of these outstanding,
- * whatever PIPELINE is; with silent it is connected and says nothing. In all three half of the bidders are that session's. Its
- * answers aren't among those that are counted.
+ * PIPELINE is 1 to 16 (default 1). As soon as an answer frees a place, the next bid is sent. If several places are free, one send
+ * fills them.
  *
- * What is answered in the first WARM seconds isn't counted; after SECONDS more, or MOST bids in all, it ends. Written are the
- * number of answers that are counted, the seconds that they took, and their 50th and 99th percentile from sending to reading, in
- * microseconds; then how many requests were answered in all, closes, floods and the first seconds among them; and how many of a
- * flood in the seconds that count. All stay connected until standard input ends. */
+ * FLOOD is for hpb alone (default none). With questions or bids, one more session has 16 of these outstanding, whatever PIPELINE
+ * is. With silent, it is connected and says nothing. In all three cases that session has half of the bidders, and its answers don't
+ * count among the others.
+ *
+ * Answers of the first WARM seconds aren't counted. It ends SECONDS after that, or after MOST bids in all. It prints six numbers:
+ *
+ * - how many answers were counted;
+ * - how many seconds they took;
+ * - their 50th and 99th percentile from sending to reading, in microseconds;
+ * - how many requests were answered in all, including closes, floods and the first seconds;
+ * - how many of them were a flood's, in the seconds that count.
+ *
+ * All sessions stay connected until standard input ends. */
 #include <arpa/inet.h>
 #include <errno.h>
 #include <fcntl.h>
@@ -33,8 +39,8 @@
 enum { MOST_SESSIONS = 1024, MOST_BIDDERS = 64, MOST_NODES = 127, MOST_OUTSTANDING = 16 };
 enum { ROOM = 8192, REQUEST = 512, LINE = 128 };
 
-/* What a bid on one licence pays in the first round, and by how many percent it pays more in the next. The rules of the
- * auction want one percent more. */
+/* The price of a bid on one licence in the first round, and by how many percent it rises with each round. The auction's rules want
+ * one percent more. */
 enum { FIRST_PRICE = 1000, RAISE = 3 };
 
 enum flood { NONE, SILENT, QUESTIONS, BIDS };
@@ -45,7 +51,7 @@ struct session {
     int bids;       /* in this round */
     int questions;  /* that it has asked */
     int places;     /* how many requests it may have outstanding */
-    int oldest, outstanding;    /* those that are, in the ring of the times when they were sent */
+    int oldest, outstanding;    /* outstanding requests, in the ring of the times when they were sent */
     double sent[MOST_OUTSTANDING];
     size_t read;
     char answer[ROOM];
@@ -58,11 +64,11 @@ struct bid {
 
 struct kind {
     const char *name;
-    /* Reads and writes what a session begins with. */
+    /* Exchanges the first messages of a session. */
     void (*begin)(struct session *);
-    /* Writes a bid as a request, and gives its length. */
+    /* Writes a bid as a request, and returns its length. */
     int (*write)(char *, struct bid);
-    /* The length of the whole answer that stands in front, or 0 where more has to come. */
+    /* The length of the first answer if it is whole, or 0 if more of it has to come. */
     size_t (*whole)(const char *, size_t);
     /* Whether that answer says that the bid is kept. */
     int (*is_kept)(const char *, size_t);
@@ -70,7 +76,7 @@ struct kind {
     int has_auctioneer;
 };
 
-/* From when to when is counted, and up to how many bids; and what came of it. */
+/* The time that counts, the greatest number of bids, and the results. */
 struct figures {
     double from, end, last;
     long most, bids, counted, all, flooded;
@@ -80,12 +86,12 @@ struct figures {
 static const char *const floods[] = {[NONE] = "none", [SILENT] = "silent", [QUESTIONS] = "questions", [BIDS] = "bids"};
 
 static struct session sessions[MOST_SESSIONS];
-/* The session that floods, and the one that closes a round just now. */
+/* The session that floods, and the one that is closing a round. */
 static struct session *flooder, *closer;
 static enum flood flood;
 static int tickets[MOST_BIDDERS];
 static int count, connections, nodes, round_number = 1, must_close;
-static int commands, questions; /* that are outstanding, of all sessions */
+static int commands, questions; /* outstanding ones, of all sessions */
 static long price = FIRST_PRICE;
 static struct figures figures;
 
@@ -134,7 +140,7 @@ static int write_rpush(char *text, struct bid bid) {
 
 static int is_no_error(const char *text, size_t length) { return length > 1 && (text[0] == ':' || text[0] == '+'); }
 
-/* PostgreSQL, by its protocol 3: a message is a letter, four bytes of length, and what it says. */
+/* PostgreSQL, by its protocol 3. A message has a letter, four bytes of length, and its contents. */
 
 static char *put_word(char *at, unsigned word) {
     unsigned wire = htonl(word);
@@ -150,7 +156,7 @@ static char *put_half(char *at, unsigned half) {
 
 static char *put_text(char *at, const char *text) { return stpcpy(at, text) + 1; }
 
-/* Leaves room for the head of a message, and fills it in at the end. */
+/* Leaves room for the head of a message, to be filled in at the end. */
 static char *open_message(char *at, char letter) {
     *at = letter;
     return at + 5;
@@ -191,7 +197,7 @@ static size_t message_length(const char *message) {
     return 1 + (size_t)ntohl(wire);
 }
 
-/* An answer ends with the message that says that the server is ready for the next request. */
+/* An answer ends with the message that the server is ready for the next request. */
 static size_t whole_answer(const char *text, size_t length) {
     size_t at = 0;
     while (at + 5 <= length && at + message_length(text + at) <= length) {
@@ -202,7 +208,7 @@ static size_t whole_answer(const char *text, size_t length) {
     return 0;
 }
 
-/* The row was inserted where the command is told to be complete. An error comes in its place. */
+/* The row was inserted if the answer has a message that the command is complete. After a failure it has an error instead. */
 static int is_complete(const char *text, size_t length) {
     int found = 0;
     for (size_t at = 0; at < length; at += message_length(text + at)) {
@@ -230,7 +236,7 @@ static void await_ready(struct session *session) {
     session->read = 0;
 }
 
-/* A front is told who each session is, by a token as tests/tools/front_trial.py has it. */
+/* A front learns each session's name from a token, as tests/tools/front_trial.py makes them. */
 static void begin_front(struct session *session) {
     char text[LINE];
     send_all(session, text, (size_t)snprintf(text, sizeof text, "TOKEN token-of-s%d-in-a-trial\n", (int)(session - sessions)));
@@ -283,7 +289,7 @@ static int licences_of(int node) {
     return licences;
 }
 
-/* Each bidder of a session bids on all licences, and then each on the next node: so all keep their eligibility. */
+/* Each bidder of a session bids on all licences, then each on the next node, and so on. So all keep their eligibility. */
 static struct bid next_bid(struct session *session) {
     struct bid bid;
     bid.bidder = session->first_bidder + session->bids % session->bidders;
@@ -298,10 +304,10 @@ static int has_bid_all(const struct session *session) { return session->bids == 
 
 static int asks(const struct session *session) { return session == flooder && flood == QUESTIONS; }
 
-/* Where a session's requests are counted that are outstanding. */
+/* The counter of outstanding requests to which a session belongs. */
 static int *outstanding_of(const struct session *session) { return asks(session) ? &questions : &commands; }
 
-/* In turn the auction and one of its nodes. */
+/* Asks about the auction and about one of its nodes, in turn. */
 static int write_question(char *text, int number) {
     if (number % 2 == 0) return snprintf(text, REQUEST, "SHOW\n");
     return snprintf(text, REQUEST, "NODE n%d\n", number / 2 % nodes);
@@ -315,7 +321,7 @@ static int write_next(const struct kind *kind, struct session *session, char *te
     return asks(session) ? write_question(text, session->questions++) : kind->write(text, next_bid(session));
 }
 
-/* Whether a session has a request to send. Where the round has to be closed these are bids on all licences alone, so that all
+/* Whether a session has a request to send. If the round has to be closed, it sends bids on all licences alone, so that all bidders
  * keep their eligibility. */
 static int has_next(const struct kind *kind, struct session *session) {
     if (asks(session)) return 1;
@@ -340,7 +346,7 @@ static void send_requests(struct session *session, const char *text, int length,
     send_all(session, text, (size_t)length);
 }
 
-/* Takes all places that are free, by one send. */
+/* Fills all free places by one send. */
 static void fill(const struct kind *kind, struct session *session, double at) {
     char text[MOST_OUTSTANDING * REQUEST];
     int length = 0, requests = 0, places = free_places(session, at);
@@ -429,7 +435,7 @@ static void count_answer(const struct session *session, double sent, double at) 
     figures.last = at;
 }
 
-/* The answer to the oldest request of a session has to say that this was kept, or to tell what was asked. */
+/* The answer to a session's oldest request. It has to say that the bid was kept, or to answer the question. */
 static void take_answer(const struct kind *kind, struct session *session, const char *text, size_t length, double at) {
     int is_right = asks(session) ? is_told(text, length) : kind->is_kept(text, length);
     if (session->outstanding == 0 || !is_right) refuse(text, length);
@@ -440,7 +446,7 @@ static void take_answer(const struct kind *kind, struct session *session, const 
     count_answer(session, sent, at);
 }
 
-/* One after another, those that are whole. What has come of the next one stays. */
+/* Takes all whole answers, one after another. The beginning of the next one stays. */
 static void take_answers(const struct kind *kind, struct session *session, double at) {
     size_t taken = 0, whole;
     while ((whole = kind->whole(session->answer + taken, session->read - taken)) > 0) {
@@ -463,7 +469,7 @@ static void serve_session(const struct kind *kind, struct session *session) {
     }
     if (kind->has_rounds && session->outstanding == 0 && has_bid_all(session)) must_close = 1;
     fill(kind, session, at);
-    /* Before a round is closed all its bids are answered: an amount is right in its own round alone. */
+    /* Before a round is closed, all its bids are answered: an amount is right only in its own round. */
     if (must_close && commands == 0 && free_places(session, at) > 0)
         send_close(kind->has_auctioneer ? &sessions[count] : session);
 }
@@ -505,13 +511,13 @@ static void run(const struct kind *kind, int poll, double warm, double seconds, 
     free(figures.times);
 }
 
-/* While all are still connected, whoever started this can see what the server has used. */
+/* While all sessions are still connected, the program that started this one can see how much the server has used. */
 static void hold(void) {
     char byte;
     while (read(STDIN_FILENO, &byte, 1) > 0) {}
 }
 
-/* What is asked for */
+/* Arguments */
 
 static const struct kind *find_kind(const char *name) {
     for (size_t k = 0; k < sizeof kinds / sizeof *kinds; k++)
@@ -525,7 +531,7 @@ static int find_flood(const char *name) {
     return -1;
 }
 
-/* The sessions that are counted come first; behind them the auctioneer, or the one that floods. */
+/* First come the sessions that are counted; after them the auctioneer, or the session that floods. */
 static void give_places(const struct kind *kind, int pipeline) {
     connections = count + kind->has_auctioneer;
     for (int s = 0; s < count; s++) sessions[s].places = pipeline;

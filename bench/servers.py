@@ -1,5 +1,6 @@
-"""Servers for the benchmarks: hpb, Redis and PostgreSQL at a free port of 127.0.0.1, each with its data in a folder of its
-own; and the load that is put on them."""
+"""Servers for the benchmarks, and the load that is put on them: hpb, Redis and PostgreSQL. Each listens at a free port of
+127.0.0.1, and has its data in a folder of its own.
+"""
 import contextlib
 import os
 import pathlib
@@ -19,7 +20,7 @@ from layouts import LAYOUTS, add_layouts
 HERE = pathlib.Path(__file__).resolve().parent
 ADDRESS = "127.0.0.1"
 PATIENCE = 60
-# An auction accepts no more than 1,000,000 commands; some are closes.
+# An auction accepts 1,000,000 commands at most, and some of these are closes.
 MOST_ANSWERS = 950_000
 TICKS = os.sysconf("SC_CLK_TCK")
 PIPES = {"stdin": subprocess.PIPE, "stdout": subprocess.PIPE, "stderr": subprocess.PIPE, "text": True}
@@ -27,7 +28,7 @@ REDIS_KINDS = ["redis-incr", "redis-set", "redis-rpush"]
 POSTGRES_KINDS = ["postgres", "postgres-prepared"]
 # How many bids of a session may be in flight.
 PIPELINES = [1, 4, 16]
-# Neither of the two may, or wants to, be run by root.
+# Neither of the two servers may, or wants to, be run by root.
 UNPRIVILEGED = ["postgres", "nobody"]
 # Takes a core as long as the process that started it is there.
 NOISE = """
@@ -43,7 +44,7 @@ class Fails(Exception):
 
 
 def build(name, folder):
-    """The program of a C file that stands here."""
+    """Builds a C file of this folder, and returns the program."""
     program = os.path.join(folder, name)
     subprocess.run([os.environ.get("CC", "cc"), "-O2", "-o", program, HERE / f"{name}.c"], check=True)
     return program
@@ -68,18 +69,18 @@ def await_port(process, port):
 
 
 def without_places(said):
-    """What a server says but for the places that are taken, who has them, and how their sessions ended."""
+    """A server's messages, except those about places: which are taken, by which session, and how each session ended."""
     return re.sub(r"hpb: (\d+ of \d+ places taken|place \d+ of \d+ (is held by|\(\S+\) has ended:)[^\n]+)\n", "", said)
 
 
 def seconds_used(process):
-    """The processor's time that a process has used, by all its threads."""
+    """The processor's time that a process has used, in all its threads."""
     fields = pathlib.Path(f"/proc/{process.pid}/stat").read_text().rsplit(")", 1)[1].split()
     return (int(fields[11]) + int(fields[12])) / TICKS
 
 
 def switches(process):
-    """How often threads of a process that haven't ended were switched voluntarily, and how often not."""
+    """How often the living threads of a process were switched voluntarily, and how often involuntarily."""
     voluntary = involuntary = 0
     for status in pathlib.Path(f"/proc/{process.pid}/task").glob("*/status"):
         rows = dict(row.split(":", 1) for row in status.read_text().splitlines())
@@ -89,13 +90,13 @@ def switches(process):
 
 
 def used(process):
-    """Seconds of the processor, and switches of both sorts."""
+    """Seconds of the processor, and both kinds of switches."""
     return seconds_used(process), *switches(process)
 
 
 @contextlib.contextmanager
 def noise(count):
-    """So many processes beside, each of which takes a core."""
+    """Runs so many processes beside, each of which takes a core."""
     words = [sys.executable, "-c", NOISE, str(os.getpid())]
     beside = [subprocess.Popen(words, stdin=subprocess.DEVNULL) for _ in range(count)]
     try:
@@ -107,14 +108,14 @@ def noise(count):
 
 
 def format_file(program, auction, file, journal, layout):
-    """A new file that keeps an auction before its first command."""
+    """Makes a new file with an auction before its first command."""
     made, is_made = LAYOUTS[layout].format(program, auction.definition(), file, journal)
     if not is_made:
         raise Fails(f"format ended with {made.returncode}: {made.stdout}{made.stderr}")
 
 
 class Hpb:
-    """`hpb serve` of a file, to so many sessions."""
+    """`hpb serve` on a file, for so many sessions."""
 
     def __init__(self, program, file, sessions):
         self.port = free_port()
@@ -125,14 +126,14 @@ class Hpb:
         return [program, "serve", "--file", file, "--port", port, "--sessions", sessions]
 
     def listens(self):
-        """Waits for its first line. `False` where it was killed before."""
+        """Waits for its first line. Returns `False` if it was killed before that."""
         line = self.process.stdout.readline()
         if line not in ("", f"LISTENING {self.port}\n"):
             raise Fails(f"serve began with {line!r} {self.stop()}")
         return line != ""
 
     def end(self):
-        """How many commands are accepted in all, once all sessions have ended."""
+        """The number of accepted commands, once all sessions have ended."""
         written, said = self.process.communicate(timeout=PATIENCE)
         said = without_places(said)
         if self.process.returncode != 0 or not written.startswith("CLOSED ") or said:
@@ -140,7 +141,7 @@ class Hpb:
         return int(written.split()[1])
 
     def stop(self):
-        """Kills it if it still runs. What it has said."""
+        """Kills it if it still runs, and returns its messages."""
         if self.process.returncode is not None:
             return ""
         self.process.kill()
@@ -148,7 +149,7 @@ class Hpb:
 
 
 class Bare(Hpb):
-    """A server in C of one thread that makes the same calls of the device, and knows no rules."""
+    """A server in C with one thread, which makes the same calls of the device, and has no rules."""
 
     def __init__(self, program, file, sessions, journal):
         self.journal = journal
@@ -178,13 +179,13 @@ class Redis:
 
 
 def postgres_tool(name):
-    """The newest of these programs, on the path or where Debian has it."""
+    """The newest program of this name, on the path or in Debian's folder."""
     places = sorted(pathlib.Path("/usr/lib/postgresql").glob(f"*/bin/{name}"), key=lambda place: int(place.parts[4]))
     return shutil.which(name) or (str(places[-1]) if places else None)
 
 
 def unprivileged():
-    """Whom PostgreSQL is run by where this is run by root."""
+    """If this is run by root: the user by whom PostgreSQL is run."""
     if os.getuid() != 0:
         return {}
     user = next(found for name in UNPRIVILEGED for found in pwd.getpwall() if found.pw_name == name)
@@ -192,7 +193,7 @@ def unprivileged():
 
 
 class Postgres:
-    """A PostgreSQL that answers an insert once it is on the disk. Else it is as it comes."""
+    """A PostgreSQL that answers an insert once it is on the disk. All other settings are the defaults."""
 
     def __init__(self, folder):
         self.port = free_port()
@@ -217,13 +218,13 @@ class Postgres:
             time.sleep(0.1)
 
     def stop(self):
-        # Open connections are ended, and all is written.
+        # This signal ends open connections, and everything is written.
         self.process.send_signal(signal.SIGINT)
         self.process.wait(PATIENCE)
 
 
 class Figures:
-    """What one run came to."""
+    """The figures of one run."""
 
     def __init__(self, text):
         answers, seconds, middle, late, requests, flooded = text.split()
@@ -232,13 +233,14 @@ class Figures:
         self.requests = int(requests)
 
     def take_cost(self, before, after):
-        """What a command cost, by what the server had used before all of them and behind: microseconds, and switches."""
+        """Sets the cost of a command, from what the server had used before all commands and after them: microseconds, and switches.
+        """
         seconds, self.voluntary, self.involuntary = [(now - then) / self.requests for then, now in zip(before, after)]
         self.cost = seconds * 1e6
 
 
 class Load:
-    """Puts the same bids on servers of each kind, on new data in this folder each time, so many of each session in flight."""
+    """Puts the same bids on servers of each kind, each time on new data in this folder, with so many of each session in flight."""
 
     def __init__(self, given, folder, pipeline=1):
         self.given, self.folder, self.pipeline = given, folder, pipeline
@@ -252,7 +254,7 @@ class Load:
         return path
 
     def measure(self, kind, port, sessions, flood="none", process=None):
-        """What a load comes to, and what it costs this process, which is looked at while all are still connected."""
+        """The figures of a load and its cost for a process, which is measured while all sessions are still connected."""
         given = self.given
         words = [kind, port, sessions, given.seconds, given.warm, MOST_ANSWERS, given.levels, given.bidders, self.pipeline, flood]
         before = used(process) if process else None
@@ -268,13 +270,13 @@ class Load:
         return figures
 
     def new_file(self, layout=None):
-        """In the layout that is measured, if no other is named."""
+        """A new file, in the layout that is measured unless another is named."""
         file = os.path.join(self.new_folder(), "auction")
         format_file(self.given.program, self.auction, file, self.given.journal, layout or self.given.layout)
         return file
 
     def serve(self, sessions):
-        """hpb with a new file, that can be connected to."""
+        """hpb with a new file, ready for connections."""
         return self.listening(Hpb(self.given.program, self.new_file(), sessions))
 
     def listening(self, server):
@@ -283,11 +285,11 @@ class Load:
         return server
 
     def of_hpb(self, sessions, flood="none"):
-        """Beside these sessions one more floods it, or is silent."""
+        """The figures of hpb with these sessions, and perhaps one more that floods it or is silent."""
         return self.of_lines(self.serve(sessions if flood == "none" else sessions + 1), sessions, flood)
 
     def of_bare(self, sessions):
-        """What the sockets and the calls of the device allow to one thread, in pages."""
+        """How much the sockets and the device's calls allow to one thread, in pages."""
         return self.of_lines(self.listening(Bare(self.bare, self.new_file(layout=1), sessions, self.given.journal)), sessions)
 
     def of_lines(self, server, sessions, flood="none"):
@@ -313,7 +315,7 @@ class Load:
             server.stop()
 
     def limit(self):
-        """How many batches a second the calls of the device alone allow, two syncs each, and nothing else."""
+        """How many batches a second the device's calls alone allow, with two syncs each, and nothing else."""
         batches, seconds = 100, 0
         while seconds < self.given.seconds / 2:
             batches = batches * 4 if seconds < self.given.seconds / 16 else int(batches * self.given.seconds / seconds)
@@ -323,7 +325,7 @@ class Load:
 
 
 def add_options(words):
-    """What all these benchmarks are told."""
+    """Adds the options that all these benchmarks have."""
     words.add_argument("program", type=os.path.abspath, help="the built program")
     words.add_argument("--sessions", type=int, nargs="+", default=[1, 4, 8, 32], help="1 to 32 each (default 1 4 8 32)")
     words.add_argument("--runs", type=int, default=5, help="of each; the median is shown (default 5)")
@@ -337,13 +339,13 @@ def add_options(words):
 
 
 def add_ways(words):
-    """How bids are sent, and beside what."""
+    """Adds the options about how bids are sent, and what runs beside."""
     words.add_argument("--pipeline", type=int, choices=PIPELINES, default=1, help="bids of a session in flight (default 1)")
     words.add_argument("--noise", type=int, default=0, metavar="N", help="processes beside, each of which takes a core")
 
 
 def ways(given):
-    """What there is to say of these, in a line, or nothing."""
+    """A line about these options, or an empty text."""
     told = [f"{given.pipeline} bids of each session in flight"] if given.pipeline > 1 else []
     told += [f"beside {given.noise} processes that each take a core"] if given.noise else []
     return ", ".join(told)
