@@ -2,8 +2,8 @@
 
     /usr/bin/python3 -m pytest -n 4 tests --program crates/hpb/out/hpb --program crates/hpb/out/hpb.by-rattle
 
-Each test that asks for `program` runs once for each one that is named. What needs rights or tools that the machine lacks is left out
-with its reason; with `--complete` it fails instead, as in the gate.
+A test that asks for `program` runs once for each program that is named. If the machine lacks the rights or tools that a test needs,
+the test is skipped with the reason. With `--complete` it fails instead, as in the gate.
 """
 
 from __future__ import annotations
@@ -50,7 +50,9 @@ def pytest_addoption(parser: pytest.Parser) -> None:
 
 
 def pytest_configure(config: pytest.Config) -> None:
-    """Takes mounts of its own where it may, so that none outlives this process however it ends. What is started finds the package."""
+    """If allowed, gives this process mounts of its own, so that none outlives it, however it ends. Programs that it starts find the
+    package.
+    """
     os.environ.update(with_package(os.environ))
     if os.geteuid() == 0:
         with suppress(PermissionError):
@@ -65,14 +67,14 @@ def pytest_generate_tests(metafunc: pytest.Metafunc) -> None:
 
 
 def programs_of(config: pytest.Config) -> list[Path]:
-    """Those under test: the same list each time, so that a fixture of one of them lasts for the whole run."""
+    """The programs under test: the same list each time, so that a fixture for one of them lasts for the whole run."""
     if PROGRAMS not in config.stash:
         config.stash[PROGRAMS] = found_programs(config)
     return config.stash[PROGRAMS]
 
 
 def found_programs(config: pytest.Config) -> list[Path]:
-    """Those that are named, or else the one that is built here, or that of the path."""
+    """The programs that are named, or else the one that is built here, or else the one on the path."""
     if named := config.getoption("--program"):
         return [program.resolve() for program in named]
     if BUILT.exists():
@@ -83,7 +85,7 @@ def found_programs(config: pytest.Config) -> list[Path]:
 
 
 def pytest_collection_modifyitems(config: pytest.Config, items: list[pytest.Item]) -> None:
-    """Leaves out what takes minutes, and what needs root's rights where they lack."""
+    """Skips tests that take minutes, and tests that need root's rights if this isn't root."""
     long = pytest.mark.skip(reason="takes minutes: --long runs it")
     rights = pytest.mark.skip(reason="needs the rights of root")
     for item in items:
@@ -95,7 +97,7 @@ def pytest_collection_modifyitems(config: pytest.Config, items: list[pytest.Item
 
 @pytest.fixture(scope="session")
 def lack(request: pytest.FixtureRequest) -> Lack:
-    """Leaves a test out with this reason; with `--complete` it fails by it."""
+    """Skips a test with this reason. With `--complete` the test fails instead."""
 
     def lacks(reason: object) -> None:
         if request.config.getoption("--complete"):
@@ -152,7 +154,7 @@ def file(program: Program, layout: Layout, room: Path) -> Path:
 
 @pytest.fixture
 def cleanup() -> Iterator[ExitStack]:
-    """What is entered here ends with the test."""
+    """Everything entered here ends with the test."""
     with ExitStack() as stack:
         yield stack
 
@@ -193,7 +195,7 @@ def let_in(cleanup: ExitStack) -> LetIn:
 
 @pytest.fixture(scope="session")
 def nobody(lack: Lack) -> User:
-    """The user nobody, whose rights no test's owner has given."""
+    """The user nobody, who has no rights from the tests' owner."""
     if os.geteuid() != 0:
         lack("only root can be another user")
     return User.named("nobody")
@@ -214,7 +216,7 @@ def file_system(request: pytest.FixtureRequest) -> FileSystem:
 
 @pytest.fixture
 def mounted(file_system: FileSystem, room: Path, lack: Lack, cleanup: ExitStack) -> Path:
-    """A folder on a new file system of each kind, where every user may make files."""
+    """A folder on a new file system of each kind. Every user may make files in it."""
     return entered(file_system.mounted(room / file_system.value), cleanup, lack)
 
 
@@ -250,7 +252,7 @@ def disk(place: Path, lack: Lack) -> Iterator[CutDisk]:
 
 
 def entered(manager: AbstractContextManager[Value], stack: ExitStack, lack: Lack) -> Value:
-    """What a context gives, to be left with the stack; the test is left out if the machine lacks what it needs."""
+    """The value of a context that is left with the stack. If the machine lacks something that it needs, the test is skipped."""
     try:
         return stack.enter_context(manager)
     except (Lacking, PermissionError) as reason:

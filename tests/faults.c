@@ -1,13 +1,13 @@
 /* Loaded before a program of Python (LD_PRELOAD): one call to the system fails, or hangs.
  *
- *   FAULT_IN      The module of the process, as "hpb.commands.front" or "hpb.front.viewers", or the name of a program.
- *   FAULT_FROM    The path of a file. Calls are counted from its first opening on, and from the start if this is empty.
- *   FAULT         A call:number:error, as read:17:5. With :times more than one call fails, from that one on. With the error 0
- *                 the call never returns. Without FAULT calls are only counted.
+ *   FAULT_IN      The module of the process, such as "hpb.commands.front" or "hpb.front.viewers", or the name of a program.
+ *   FAULT_FROM    The path of a file. Calls are counted from its first opening on; if this is empty, from the start.
+ *   FAULT         call:number:error, such as read:17:5. With :times behind it, that many calls fail, beginning with this one. If the
+ *                 error is 0, the call never returns. Without FAULT, calls are only counted.
  *   FAULT_COUNTS  A file of 64-bit numbers, made beforehand. It gets how often each call was made, in the order of CALLS and
- *                 REQUESTS. The last number is how often one failed.
+ *                 REQUESTS. The last number is how many calls failed.
  *
- * All arguments of these calls are whole numbers and pointers, which the calling convention of x86-64 hands over alike.
+ * All arguments of these calls are whole numbers and pointers, which the calling convention of x86-64 passes in the same way.
  */
 #define _GNU_SOURCE
 #include <dlfcn.h>
@@ -28,7 +28,7 @@
     X(ioctl) X(epoll_create1) X(epoll_ctl) X(epoll_wait) X(poll) X(select) X(pipe2) X(dup) X(fork) X(waitpid) X(wait4) \
     X(prctl) X(unshare) X(setrlimit) X(setrlimit64) X(mmap) X(pthread_create) X(pthread_sigmask) X(sigwait) X(setpriority) X(syscall)
 
-/* Requests for memory, each of which may be refused. With PYTHONMALLOC=malloc they are all that the program makes. */
+/* Requests for memory; each may be refused. With PYTHONMALLOC=malloc the program makes no others. */
 #define REQUESTS(X) X(malloc) X(calloc) X(realloc)
 
 enum {
@@ -51,7 +51,7 @@ static const char *from;
 static int is_active, chosen = -1, error;
 static uint64_t number, times = 1;
 
-/* Whether the module of this process is the one. */
+/* Whether this process runs the wanted module. */
 static int is_mine(const char *wanted) {
     char line[4096];
     int file = syscall(SYS_openat, AT_FDCWD, "/proc/self/cmdline", O_RDONLY | O_CLOEXEC);
@@ -98,7 +98,7 @@ static int fails(int which, long first, long second) {
         if (!is_open || !path || strcmp(path, from)) return 0;
         is_active = 1;
     }
-    /* Of these the only one that is looked at. */
+    /* Of all uses of syscall, only this one counts. */
     if (which == CALL_syscall && first != SYS_pidfd_open) return 0;
     uint64_t made = atomic_fetch_add(&counts[which], 1) + 1;
     if (which != chosen || made < number || made >= number + times) return 0;
@@ -123,7 +123,7 @@ static long refused(int which, long a) {
 #undef fork
 CALLS(WRAPPED)
 
-/* They are asked for before `begin` has run, and by it. */
+/* Memory is requested before `begin` has run, and by `begin` itself. */
 void *__libc_malloc(size_t);
 void *__libc_calloc(size_t, size_t);
 void *__libc_realloc(void *, size_t);

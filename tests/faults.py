@@ -1,4 +1,4 @@
-"""Calls to the system that fail once in a front or its page, by a library that is loaded before (`faults.c`)."""
+"""Makes calls to the system fail once, in a front or in its page, by a library that is loaded before (`faults.c`)."""
 
 from __future__ import annotations
 
@@ -37,8 +37,9 @@ class Faults:
     def of(
         self, module: str, begun_at: Path | None, call: str = "", number: int = 0, error: int = 0, times: int = 1
     ) -> Conditions:
-        """A process of this module in which a call fails by this number of an error, or never returns if that is 0. Calls are
-        counted from the first opening of a file on, or from the start."""
+        """Conditions for a process of this module. In it a call fails with this error number, or never returns if that is 0. Calls
+        are counted from the first opening of the file `begun_at` on, or from the start.
+        """
         self.counted.write_bytes(bytes(NUMBER.size * (len(calls()) + 1)))
         more = {"PYTHONMALLOC": "malloc"} if call in MEMORY or not call else {}
         more |= {"FAULT": f"{call}:{number}:{error}:{times}"} if call else {}
@@ -51,7 +52,7 @@ class Faults:
         return dict(zip(calls(), self._numbers()))
 
     def failed(self) -> int:
-        """How often one failed."""
+        """How many calls failed."""
         return self._numbers()[-1]
 
     def _numbers(self) -> list[int]:

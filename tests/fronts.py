@@ -1,6 +1,6 @@
-"""Fronts for the tests: each in a folder of its own, with the file `F`, the record `R`, the tokens `T` and the configuration `C`.
+"""Fronts for the tests. Each has a folder of its own, with the file `F`, the record `R`, the tokens `T` and the configuration `C`.
 
-What is loaded before a front isn't loaded before the program behind it, which is started by the script `P`.
+Libraries loaded before a front aren't loaded before its server, which is started by the script `P`.
 """
 
 from __future__ import annotations
@@ -26,21 +26,21 @@ from harness.programs import Program, Ran, shown
 from harness.serving import Client, Ended, read_line
 
 ADDRESS = "127.0.0.1"
-# What a loaded machine may take for anything that is quick.
+# How many seconds anything quick may take on a busy machine.
 SECONDS = 60
-# A front ends within ten seconds of SIGTERM; so much more is left to the machine.
+# A front ends within ten seconds of SIGTERM; the machine gets five more.
 STOP_SECONDS = 10 + 5
 
 NAMES: Mapping[str, object] = {"desk": "auctioneer", "ann": ["x"], "bob": ["y", "z"], "carl": ["w"], "public": "observer"}
 
 
 def token_of(name: str) -> str:
-    """The token that stands in the file `T` for a name."""
+    """The token in the file `T` for a name."""
     return f"token-of-{name}-in-a-trial"
 
 
 class StartsNot(AssertionError):
-    """A front that ended before it listened. It has what was written and said."""
+    """A front ended before it listened. `ran` has its output."""
 
     def __init__(self, ran: Ran) -> None:
         super().__init__(repr(ran))
@@ -49,7 +49,7 @@ class StartsNot(AssertionError):
 
 @dataclass
 class Front:
-    """A front, which is started as often as a test likes."""
+    """A front that a test may start as often as it likes."""
 
     program: Program
     folder: Path
@@ -94,7 +94,7 @@ class Front:
         self.tokens.write_text("".join(f"{name} {token}\n" for name, token in tokens.items()))
 
     def write_config(self, **more: object) -> None:
-        """Writes the configuration; `more` are fields that take the place of others."""
+        """Writes the configuration. `more` are fields that are added or replaced."""
         fields: dict[str, object] = {"file": "F", "record": "R", "tokens": "T", "listen": f"{ADDRESS}:0", "program": "./P"}
         tables: dict[str, Mapping[str, object]] = {"names": self.names, "limits": self.limits}
         if self.has_board:
@@ -107,7 +107,7 @@ class Front:
     def begin(
         self, *words: str, conditions: Conditions = NORMAL, descriptors: tuple[int, ...] = (), errors: int | None = None
     ) -> subprocess.Popen[bytes]:
-        """Starts it, and doesn't wait until it listens. Its standard error may lead elsewhere than to `words_said`."""
+        """Starts it, and doesn't wait until it listens. `errors` may send its standard error elsewhere than to `words_said`."""
         self.said.seek(0)
         self.said.truncate()
         self.process = subprocess.Popen(
@@ -123,7 +123,7 @@ class Front:
         return self.process
 
     def start(self, *words: str, conditions: Conditions = NORMAL, descriptors: tuple[int, ...] = ()) -> Front:
-        """Starts it, and returns once it listens. StartsNot if it ends before, or takes too long."""
+        """Starts it, and returns once it listens. If it ends before that, or takes too long, StartsNot is raised."""
         process = self.begin(*words, conditions=conditions, descriptors=descriptors)
         first = read_line(process, SECONDS)
         if not first.startswith("LISTENING "):
@@ -146,12 +146,12 @@ class Front:
         self.process.send_signal(number)
 
     def stop(self, seconds: float = STOP_SECONDS) -> Ran:
-        """SIGTERM, and its end. AssertionError if that takes longer than it may."""
+        """Sends SIGTERM, and waits for the end. If that takes too long, AssertionError is raised."""
         self.signal(signal.SIGTERM)
         return self.ended(seconds)
 
     def ended(self, seconds: float = STOP_SECONDS) -> Ran:
-        """What it still writes, what it has said, and its status. AssertionError if it doesn't end in time."""
+        """The rest of its output, its messages, and its status. If it doesn't end in time, AssertionError is raised."""
         assert self.process
         began = time.monotonic()
         try:
@@ -168,7 +168,7 @@ class Front:
             self.process.communicate()
 
     def words_said(self) -> str:
-        """What it has said on standard error since it was started."""
+        """Its messages on standard error since it was started."""
         size = os.fstat(self.said.fileno()).st_size
         return shown(os.pread(self.said.fileno(), size, 0))
 
@@ -179,7 +179,7 @@ class Front:
             time.sleep(0.01)
 
     def child(self, word: str) -> int:
-        """The process of its own whose words have one that ends so, as `serve`; 0 if there is none."""
+        """Its child process with a word that ends like this, such as `serve`; 0 if there is none."""
         assert self.process
         for number in children(self.process.pid):
             with contextlib.suppress(OSError):
@@ -189,7 +189,7 @@ class Front:
         return 0
 
     def client(self, name: str | None = None, seconds: float = SECONDS, token: str | None = None) -> Client:
-        """A connection; with a name it has been welcomed. `Ended` if it was ended before that."""
+        """A connection; with a name, one that was welcomed. If it was ended before that, `Ended` is raised."""
         client = Client(self.port, seconds)
         if self.context:
             client.socket = self.context.wrap_socket(client.socket, server_hostname="localhost")
@@ -198,7 +198,7 @@ class Front:
         return client
 
     def page(self, name: str, token: str | None = None, seconds: float = SECONDS) -> int:
-        """The status of the page for a name."""
+        """The HTTP status of the page for a name."""
         said = base64.b64encode(f"{name}:{token or token_of(name)}".encode()).decode()
         if self.context:
             connection: http.client.HTTPConnection = http.client.HTTPSConnection("localhost", self.board_port, timeout=seconds, context=self.context)
@@ -211,7 +211,7 @@ class Front:
             connection.close()
 
     def log_lines(self, *kinds: str) -> list[dict[str, object]]:
-        """The log's lines of these kinds, or all."""
+        """The log's lines of these kinds, or all of them."""
         lines = [json.loads(line) for line in self.log.read_text().splitlines()]
         return [line for line in lines if not kinds or line["kind"] in kinds]
 
@@ -230,7 +230,9 @@ def toml(fields: Mapping[str, object], tables: Mapping[str, Mapping[str, object]
 
 @dataclass
 class Caller:
-    """Sends lines for a name as a client should: on a new connection if one is lost, and the last line again until it is answered."""
+    """Sends lines for a name as a client should. If a connection is lost, it makes a new one, and sends the last line again until
+    it is answered.
+    """
 
     front: Front
     name: str
@@ -238,7 +240,7 @@ class Caller:
     client: Client | None = None
 
     def ask(self, line: str) -> str:
-        """The answer. TimeoutError if there is none within the time of this caller."""
+        """The answer. If there is none within this caller's time, TimeoutError is raised."""
         end = time.monotonic() + self.seconds
         while time.monotonic() < end:
             try:
@@ -257,7 +259,7 @@ class Caller:
 
 
 def make_certificate(folder: Path, days: int = 2, name: str = "localhost") -> ssl.SSLContext:
-    """A certificate `S` and its key `K` of a trial; the context of clients that know it."""
+    """Makes a certificate `S` and its key `K`, and returns the TLS context of clients that trust it."""
     words = f"req -x509 -newkey rsa:2048 -nodes -days {days} -subj /CN={name} -addext subjectAltName=DNS:{name} -keyout K -out S"
     subprocess.run(["openssl", *words.split()], cwd=folder, check=True, capture_output=True, timeout=SECONDS)
     (folder / "K").chmod(0o600)
@@ -265,5 +267,5 @@ def make_certificate(folder: Path, days: int = 2, name: str = "localhost") -> ss
 
 
 def listening_socket() -> socket.socket:
-    """One that listens at a free port of this machine."""
+    """A socket that listens at a free port of this machine."""
     return socket.create_server((ADDRESS, 0))

@@ -1,8 +1,8 @@
-/* Loaded before a program (LD_PRELOAD): a file is replaced by another one while the program opens it.
+/* Loaded before a program (LD_PRELOAD): replaces a file by another one while the program opens it.
  *
- *   SWAPPED      the path of the file.
+ *   SWAPPED      The path of the file.
  *   SWAPPED_BY   The path of the other one, on the same file system.
- *   SWAP_AT      A number from 1 on, among the calls that name the file. The swap comes before that call.
+ *   SWAP_AT      Which of the calls that name the file, counted from 1. The swap comes right before that call.
  */
 #define _GNU_SOURCE
 #include <dlfcn.h>
@@ -16,7 +16,7 @@
 
 static atomic_ulong made;
 
-/* Whether it is to be done is looked up each time: calls that name the file are few. */
+/* The variables are looked up each time: few calls name the file. */
 static void before(const char *path) {
     const char *file = getenv("SWAPPED"), *other = getenv("SWAPPED_BY"), *at = getenv("SWAP_AT");
     if (!file || !other || !at || !path || strcmp(path, file)) return;

@@ -1,1 +1,1 @@
-"""Clients of several languages, driven by lines against a real server that is killed."""
+"""Clients in several languages, driven by lines, with a real server that is killed."""

@@ -1,4 +1,4 @@
-"""The package's client as a program that is driven as examples/clients are: `python_client.py PORT SECONDS`."""
+"""The package's client as a program, driven like those of examples/clients: `python_client.py PORT SECONDS`."""
 
 from __future__ import annotations
 
@@ -10,7 +10,7 @@ from hpb.refusals import FrontRefused, Refused
 
 
 def asked(client: Client, line: str) -> Answer | HpbError:
-    """What a question is answered."""
+    """The answer to a question."""
     try:
         match line.split(" "):
             case ["SHOW"]:
@@ -25,7 +25,7 @@ def asked(client: Client, line: str) -> Answer | HpbError:
 
 
 def command_of(line: str) -> Command | None:
-    """The command of a line without a ticket; None of a question."""
+    """The command in a line without a ticket; None for a question."""
     match line.split(" "):
         case ["BID", bidder, node, amount]:
             return Bid(bidder, node, int(amount))
@@ -53,7 +53,7 @@ def text_of(outcome: Answer | HpbError) -> str:
 
 
 def run(client: Client, group: list[str]) -> list[str]:
-    """What becomes of the lines of a group: its commands are sent ahead together, and then its questions are asked."""
+    """The outcomes of a group's lines. Its commands are sent ahead together, and then its questions are asked."""
     commands = {place: command for place, line in enumerate(group) if (command := command_of(line))}
     outcomes: dict[int, Answer | HpbError] = dict(zip(commands, client.send(list(commands.values()))))
     for place, line in enumerate(group):

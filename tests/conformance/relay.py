@@ -1,4 +1,4 @@
-"""A relay before a server, which lets a test act at a line that goes out, or at an answer that comes back."""
+"""A relay before a server. It lets a test act when a line goes out, or when an answer comes back."""
 from __future__ import annotations
 
 import socket
@@ -10,9 +10,11 @@ from harness.serving import ADDRESS, SECONDS
 
 
 class Relay:
-    """Takes connections and hands their lines on to a port, one by one. At the line `at`, counted over all connections from 1, it
-    calls `act` once: before the line is handed on, or with `behind` when its answer is there and isn't handed back. The connection
-    ends then."""
+    """Takes connections and hands their lines on to a port, one by one.
+
+    At line `at`, counted over all connections from 1, it calls `act` once, and the connection ends. It calls it before the line is
+    handed on; with `behind`, when the line's answer is there, and the answer isn't handed back.
+    """
 
     def __init__(self, port: int, at: int, behind: bool, act: Callable[[], None]) -> None:
         self.to, self.at, self.behind, self.act = port, at, behind, act

@@ -1,8 +1,12 @@
-"""What a client has to do, whatever its language: the package's, and those of examples/clients.
+"""The duties of a client in any language: the package's client, and those of examples/clients.
 
-A client is a program `CLIENT PORT SECONDS`. It reads lines without tickets, as `BID x a 100`, in groups that an empty line ends, sends the
-lines of a group ahead, and writes what became of each, in their order, and an empty line: the answer; `OK ?` of a command that was
-accepted and whose number isn't known any more; `UNANSWERED sent` or `UNANSWERED unsent`.
+A client is a program `CLIENT PORT SECONDS`. It reads groups of lines without tickets, such as `BID x a 100`; an empty line ends a
+group. It sends the lines of a group ahead. Then it writes the outcome of each line, in their order, and an empty line. An outcome
+is
+
+- the answer;
+- `OK ?` for a command that was accepted and whose number isn't known any more;
+- `UNANSWERED sent` or `UNANSWERED unsent`.
 """
 
 from __future__ import annotations
@@ -35,7 +39,7 @@ SESSIONS = 32
 
 NODES_OF = {"x": ("a",), "y": ("b",), "z": ("all", "east", "a", "b", "c"), "w": ("c", "d")}
 LICENCES_OF = {"all": 3, "east": 2}
-# They start programs of their own, which take their time on a busy machine.
+# They start programs of their own, which is slow on a busy machine.
 pytestmark = pytest.mark.timeout(240)
 
 # Four questions for tickets, and nine bids.
@@ -43,13 +47,13 @@ LINES_OF_A_ROUND = 13
 
 
 def bids_of(number: int) -> list[str]:
-    """The nine bids of a round from 1, without tickets: all are accepted, in any order."""
+    """The nine bids of a round, counted from 1, without tickets. All are accepted, in any order."""
     return [f"BID {bidder} {node} {1000 * 2**number * LICENCES_OF.get(node, 1)}" for bidder, nodes in NODES_OF.items() for node in nodes]
 
 
 @dataclass
 class Auction:
-    """A file that is served at one port, also after a kill."""
+    """A file that is served at one port, after a kill too."""
 
     program: Program
     file: Path
@@ -67,12 +71,12 @@ class Auction:
         self.server = None
 
     def start_again(self) -> None:
-        """Kills the server, and serves the file anew."""
+        """Kills the server, and serves the file again."""
         self.kill()
         self.start()
 
     def ask(self, line: str) -> str:
-        """What a line is answered by a connection of its own."""
+        """The answer to a line that is sent over a connection of its own."""
         with Connection(self.port) as connection:
             return connection.ask(line)
 
@@ -84,7 +88,7 @@ class Driven:
     process: subprocess.Popen[bytes]
 
     def group(self, *lines: str) -> list[str]:
-        """What became of the lines of a group."""
+        """The outcomes of a group's lines."""
         assert self.process.stdin
         self.process.stdin.write("".join(f"{line}\n" for line in (*lines, "")).encode())
         self.process.stdin.flush()
@@ -136,7 +140,7 @@ def drive(request: pytest.FixtureRequest, built_clients: dict[str, Path], lack: 
 
 @pytest.fixture
 def auction(program: Program, room: Path) -> Iterator[Auction]:
-    """The first example's auction, in a file with the least journal, that is served."""
+    """The first example's auction, served from a file with the least journal."""
     file = room / "auction"
     assert program.format(file, Layout.PAGES).status == 0
     made = Auction(program, file)
@@ -167,14 +171,14 @@ ROWS = [
 
 
 def test_rows(auction: Auction, drive: Drives) -> None:
-    """Each row is a group, and in a group whose lines are of several senders their numbers may be in another order."""
+    """Each row is a group. If a group has lines of several senders, their numbers may come in another order."""
     client = drive(auction.port)
     for lines, wanted in ROWS:
         assert sorted(client.group(*lines)) == sorted(wanted)
 
 
 def test_more_lines_than_may_be_in_flight(auction: Auction, drive: Drives) -> None:
-    """Each one behind the first is refused, and those in flight behind it are numbered anew."""
+    """All but the first are refused, and those in flight behind them get new tickets."""
     client = drive(auction.port)
     assert client.group(*(f"BID z d {100 + 10 * more}" for more in range(100))) == ["OK 1", *["ERR 24 again"] * 99]
     assert client.group("BID z a 100", "WHO z")[0] == "OK 2"
@@ -183,7 +187,7 @@ def test_more_lines_than_may_be_in_flight(auction: Auction, drive: Drives) -> No
 @pytest.mark.parametrize("behind", [False, True], ids=["before", "behind"])
 @pytest.mark.parametrize("at", [pytest.param(at, marks=[] if at in (3, 8, 13) else pytest.mark.long) for at in range(1, LINES_OF_A_ROUND + 1)])
 def test_a_kill_at_a_line_loses_and_doubles_nothing(auction: Auction, drive: Drives, at: int, behind: bool) -> None:
-    """The server is killed before that line comes to it, or when it has answered and the answer is lost."""
+    """The server is killed before that line reaches it, or after its answer, which is then lost."""
     with Relay(auction.port, at, behind, auction.start_again) as relay:
         outcomes = drive(relay.port).group(*bids_of(1))
         assert relay.has_acted
@@ -233,7 +237,7 @@ def test_what_was_never_sent_is_told_so_in_its_time(drive: Drives) -> None:
 
 
 def test_a_client_gets_on_when_its_server_comes_late(program: Program, room: Path, drive: Drives) -> None:
-    """It is started before its server."""
+    """The client is started before its server."""
     file = room / "auction"
     assert program.format(file, Layout.PAGES).status == 0
     auction = Auction(program, file)

@@ -1,5 +1,5 @@
-"""Trials of power cuts: a job on a disk that is cut, and what has to be so of what the cut left.
+"""Trials of power cuts: a job on a disk whose power is cut, and the conditions that the rest of the file has to meet.
 
-A trial is a story of some cuts of one file, told by its seed: each begins on what the one before left. It raises AssertionError if
-anything that was promised isn't so.
+A trial is a story of some cuts of one file, given by a seed. Each cut begins with the file that the one before left. If any promise
+is broken, AssertionError is raised.
 """

@@ -1,4 +1,4 @@
-"""What a cut may have taken from bidders who bid at the same time: nothing that was answered OK."""
+"""Bidders who bid at the same time: a cut may not take any bid that was answered OK."""
 
 from __future__ import annotations
 
@@ -17,17 +17,18 @@ BIDS = 12
 # How many bids each sends ahead of their answers.
 AHEAD = (1, 1, 4)
 MOST_CALLS = 60
-# How long a load goes on before it is cut by the clock, in seconds.
+# How many seconds a load lasts at most before it is cut by the clock.
 MOST_SECONDS = 0.02
 
 
 def new_bidders() -> list[Bidder]:
-    """Each of the definition's."""
+    """One for each bidder of the definition."""
     return [Bidder(place) for place in range(BIDDERS)]
 
 
 def cutting(setting: Setting, dice: random.Random) -> Callable[[], None]:
-    """What cuts the power: at some call of the disk, which is told to it now, or at some moment."""
+    """A function that cuts the power at some moment. Or the disk is set now to cut it at some call, and the function does nothing.
+    """
     if dice.randrange(2):
         setting.disk.arm(dice.randint(1, MOST_CALLS))
         return lambda: None
@@ -41,7 +42,9 @@ def cutting(setting: Setting, dice: random.Random) -> Callable[[], None]:
 
 
 def hold(program: Program, file: Path, bidders: Sequence[Bidder], left: str) -> None:
-    """Each bid that was answered OK is kept with its number, in its order; and each bidder's last one is answered once more."""
+    """Checks that each bid answered OK is kept with its number, in its order, and that each bidder's last one gets the same answer
+    again.
+    """
     ran = program.run_lines(file, text_of(["SHOW", *(f"WHO {bidder.name}" for bidder in bidders)]))
     assert ran.status == 0, f"{ran}: {left}"
     count, *tickets = (int(line.rsplit(" ", 1)[1]) for line in ran.lines())

@@ -1,4 +1,5 @@
-"""Cuts of `format`: the file isn't there, or is unformatted, or it is a whole new one; and `format` again makes it, or says that it is there."""
+"""Cuts of `format`. The file is missing, or unformatted, or whole and new. A further `format` makes it, or says that it is there.
+"""
 
 from __future__ import annotations
 
@@ -14,7 +15,7 @@ JOURNALS = (16, 32)
 
 
 class Left(enum.Enum):
-    """What there is by the file's name, by the answer of `check`."""
+    """The state of the file by the answer of `check`."""
 
     NOTHING = "ERR 91 device"
     UNFORMATTED = "ERR 40 unformatted"
@@ -31,7 +32,9 @@ def calls_of(setting: Setting, journal: int) -> int:
 
 
 def story(setting: Setting, seed: int) -> None:
-    """A format that is cut, or has just been answered, a second one over what that left, and a third one with power."""
+    """A format that is cut during its run or right after its answer, a second one on the file that this left, and a third one with
+    power.
+    """
     dice = random.Random(seed)
     journal = dice.choice(JOURNALS)
     calls = calls_of(setting, journal)
@@ -52,7 +55,7 @@ def story(setting: Setting, seed: int) -> None:
 
 
 def formatted(setting: Setting, journal: int, found: Left) -> Ran:
-    """A `format`, which a file that is there refuses."""
+    """Runs `format`, which has to refuse a file that is there."""
     ran = setting.program.format(setting.file, setting.layout, journal)
     assert ran.status == (0 if ran.output.startswith("FORMATTED ") else 1), ran
     assert found is not Left.NEW or ran.status == 1, ran
@@ -60,7 +63,7 @@ def formatted(setting: Setting, journal: int, found: Left) -> Ran:
 
 
 def left(setting: Setting) -> Left:
-    """What there is now. AssertionError if `check` says anything else."""
+    """The state now. If `check` says anything else, AssertionError is raised."""
     first = setting.program.check(setting.file).output.split("\n")[0]
     found = next((found for found in Left if found.value == first), None)
     assert found is not None and (found is Left.NOTHING) != setting.file.exists(), f"check of the file: {first}"

@@ -1,5 +1,6 @@
-"""Cuts of a front with its record and its server: it starts again by itself, nothing that was answered OK is lost, and record and file
-agree."""
+"""Cuts of a front with its record and its server. It starts again by itself, nothing that was answered OK is lost, and record and
+file agree.
+"""
 
 from __future__ import annotations
 
@@ -17,7 +18,7 @@ LIMITS = {"lines_per_second": 100_000}
 
 
 def story(setting: Setting, seed: int) -> None:
-    """A front that is cut, and started again on what that left."""
+    """A front that is cut, and started again on the files that the cut left."""
     dice = random.Random(seed)
     data = new_file(setting.program, setting.layout, setting.layout.least_journal, bidders_definition(BIDDERS), setting.beside)
     setting.disk.reset(setting.lie)
@@ -31,14 +32,14 @@ def story(setting: Setting, seed: int) -> None:
 
 
 def configuration(setting: Setting, bidders: list[Bidder]) -> Configured:
-    """A name for each bidder; file and record are on the disk, and tokens aren't."""
+    """A configuration with a name for each bidder. File and record are on the disk, but the tokens aren't."""
     names: dict[str, str | list[str]] = {name_of(bidder): [bidder.name] for bidder in bidders}
     names["desk"] = "auctioneer"
     return Configured(setting.beside, setting.program, setting.file, record(setting), names, LIMITS).write()
 
 
 def name_of(bidder: Bidder) -> str:
-    """Whose the bidder is."""
+    """The name that bids for this bidder."""
     return f"name_of_{bidder.name}"
 
 
@@ -48,7 +49,7 @@ def record(setting: Setting) -> Path:
 
 
 def let_in_until_cut(configured: Configured, setting: Setting, dice: random.Random, bidders: list[Bidder]) -> None:
-    """Lets all bidders in until the power is cut or all have bid, or cuts it while the front starts; the front is then killed."""
+    """Lets all bidders in until the power is cut or all have bid. Or cuts it while the front starts. Then kills the front."""
     if dice.randrange(4) == 0:
         setting.disk.arm(dice.randint(1, 8))
         try:
@@ -68,7 +69,7 @@ def let_in_until_cut(configured: Configured, setting: Setting, dice: random.Rand
 
 
 def agree(configured: Configured, bidders: list[Bidder]) -> None:
-    """A front with power lets each go on, stops when it is told to, and leaves a record that agrees with the file."""
+    """With power, the front lets each bidder go on, stops when asked to, and leaves a record that agrees with the file."""
     with Front(configured) as front:
         for bidder in bidders:
             with front.client(name_of(bidder)) as client:

@@ -1,4 +1,4 @@
-"""Cuts of `run`: each OK that left is there afterwards, each command once, and tickets go on."""
+"""Cuts of `run`: each command whose OK had left is there afterwards, each command is there once, and tickets go on."""
 
 from __future__ import annotations
 
@@ -12,7 +12,7 @@ from harness.programs import Program, Ran
 
 CUTS = 5
 BATCHES = (1, 3, 8, 64)
-# After how many batches a checkpoint is made; 0 leaves it to the journal.
+# The number of batches between two checkpoints; 0 leaves it to the journal.
 EVERIES = (0, 1, 3)
 MOST_LINES = 40
 MORE_CALLS = 4
@@ -25,7 +25,7 @@ NODES = ("all", "east", "a", "b", "c", "d")
 
 @cache
 def shown_up_to(program: Program, count: int) -> list[str]:
-    """What an auction in memory shows after each of the first so many commands, and before the first one."""
+    """The output of an auction in memory before the first command, and after each of the first `count` commands."""
     questions = [SHOW, *(f"NODE {node}" for node in NODES)]
     lines = list(questions)
     for command in commands(count):
@@ -36,7 +36,7 @@ def shown_up_to(program: Program, count: int) -> list[str]:
 
 
 def story(setting: Setting, seed: int) -> None:
-    """Runs of one file, each of which is cut, and goes on from what the one before left."""
+    """Runs of one file. Each is cut, and the next goes on with the file that it left."""
     dice = random.Random(seed)
     journal = setting.layout.least_journal * dice.choice((1, 4))
     data = new_file(setting.program, setting.layout, journal, definition(), setting.beside)
@@ -57,7 +57,7 @@ def story(setting: Setting, seed: int) -> None:
 
 
 def lines_from(dice: random.Random, count: int) -> list[str]:
-    """The commands behind the first so many, with a question now and then."""
+    """The commands after the first `count`, with a question now and then."""
     lines: list[str] = []
     for line in commands(count + dice.randint(1, MOST_LINES))[count:]:
         lines += [line, SHOW] if dice.randrange(5) == 0 else [line]
@@ -65,7 +65,9 @@ def lines_from(dice: random.Random, count: int) -> list[str]:
 
 
 def least_kept(ran: Ran, lines: list[str], count: int) -> int:
-    """How many commands are kept at least, by the answers to these lines of a run that was cut, on a file with so many."""
+    """The least number of commands that the file keeps after a run that was cut. It had `count` of them before, and the run
+    answered these lines.
+    """
     least, has_failed = count, False
     for line, answer in zip(lines, ran.lines()):
         if answer in FAILED:
@@ -79,7 +81,7 @@ def least_kept(ran: Ran, lines: list[str], count: int) -> int:
 
 
 def kept(program: Program, file: Path, least: int, most: int, left: str) -> int:
-    """How many commands the file keeps, once it has been held against an auction in memory, and has gone on by one."""
+    """The number of commands that the file keeps. It is compared with an auction in memory, and then goes on by one command."""
     checked = program.check(file)
     assert checked.status == 0, f"{checked}: {left}"
     count = int(checked.lines()[0].rsplit(" ", 1)[1])

@@ -15,7 +15,7 @@ FAILED = "ERR 93 failed"
 
 
 def story(setting: Setting, seed: int) -> None:
-    """A file that is served, cut, and served again by what that left."""
+    """A file that is served, cut, and served again as the cut left it."""
     dice = random.Random(seed)
     data = new_file(setting.program, setting.layout, setting.layout.least_journal, bidders_definition(BIDDERS), setting.beside)
     setting.disk.reset(setting.lie)
@@ -27,7 +27,7 @@ def story(setting: Setting, seed: int) -> None:
 
 
 def serve_until_cut(setting: Setting, dice: random.Random, bidders: list[Bidder]) -> None:
-    """Serves it to all bidders until the power is cut or all have bid; the server is then killed, or ends by itself."""
+    """Serves the file to all bidders until the power is cut or all have bid. Then the server is killed, or ends by itself."""
     is_killed = bool(dice.randrange(2))
     with ExitStack() as stack:
         server = stack.enter_context(Server(setting.program, setting.file, BIDDERS))

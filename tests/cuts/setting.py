@@ -1,4 +1,4 @@
-"""What the trials of power cuts share: where they are made, and what is held of a file that a cut left."""
+"""The common part of the trials of power cuts: the setting, and the check of a file that a cut left."""
 
 from __future__ import annotations
 
@@ -18,7 +18,7 @@ MOST_SHOWN = 40
 
 @dataclass(frozen=True)
 class Setting:
-    """A program, a disk and a layout, and a folder beside the disk for what isn't to be cut."""
+    """A program, a disk and a layout, and a folder beside the disk for files that mustn't be cut."""
 
     program: Program
     disk: CutDisk
@@ -32,7 +32,7 @@ class Setting:
         return self.disk.folder / "F"
 
     def leave(self, dice: random.Random) -> str:
-        """Cuts the power, if it isn't cut yet, and gives it back with what the cut left."""
+        """Cuts the power if it isn't cut yet, and turns it on again with the contents that the cut left."""
         self.disk.cut()
         return self.disk.image(dice.randrange(SEEDS))
 
@@ -41,7 +41,7 @@ Trial = Callable[[Setting, int], None]
 
 
 def tell(trial: Trial, setting: Setting, seeds: Iterable[int]) -> None:
-    """Tells a story for each seed. AssertionError with the seed and the last calls of the disk, if one goes wrong."""
+    """Runs the story of each seed. If one goes wrong, AssertionError is raised, with the seed and the last calls of the disk."""
     for seed in seeds:
         try:
             trial(setting, seed)

@@ -2,28 +2,31 @@
 
        cutdisk FOLDER        mounts an empty one there, and serves it until it is unmounted or ended
 
-   Of a file that is, what was written or how long it was made since its last sync (fsync, fdatasync, or a write by O_SYNC or O_DSYNC);
-   of a folder, names that were made, linked, moved or removed since it was synced. A cut may leave any part of these:
+   The unsynced changes of a file are its writes and changes of length since its last sync: fsync, fdatasync, or a write by O_SYNC or
+   O_DSYNC. Those of a folder are the names that were made, linked, moved or removed since its last sync. A cut may leave any part of
+   these changes:
 
-   - of a file each unit (a sector of 512 bytes, or a page of 4,096) as it was at some moment since the sync, one unit without regard to
-     another, and one of the lengths that the file had or passed; bytes that were never written are zeros;
-   - of names a first part of the changes in their order, or any of them. A rename is kept or lost as a whole.
+   - Each unit of a file (a sector of 512 bytes, or a page of 4,096) is as it was at some moment since the sync. Units don't depend on
+     each other. The length is one that the file had or passed. Bytes that were never written are zeros.
+   - Changes of names are kept up to some change in their order, or each is kept or lost by itself. A rename is kept or lost as a whole.
 
    Modes, owners and times are kept at once. sync_file_range and closing a file keep nothing.
 
-   A file `.disk` in the top folder, which no listing shows, takes commands by a write and gives the answer by a read behind it:
+   The file `.disk` in the top folder, which no listing shows, takes commands. Write one, then read the answer:
 
-       reset           an empty disk with power, whatever was before
-       settle          all that is seen is synced
-       arm N           at the N-th change or sync from now on the power is cut: a change is begun, a sync is not
-       cut             the power is cut now: each call fails by EIO
-       image SEED      the power is back, with what the cut may have left, by this seed. Once more for another part of the same cut
-       count           how many changes and syncs there were
-       log             each of them, a line each
-       lie WORD        from now on `none`: an honest disk; `sync`: no sync of a file keeps anything; `last`: the last write before a sync is
-                       lost by a cut; `folder`: no sync of a folder keeps anything
+       reset           makes the disk empty, with power, whatever was before
+       settle          syncs everything
+       arm N           cuts the power at the N-th change or sync from now on: a change is begun, a sync is not
+       cut             cuts the power now: each call fails by EIO
+       image SEED      turns the power on, with contents that the cut may have left; another seed gives other contents of the same cut
+       count           answers how many changes and syncs there were
+       log             answers a line for each of them
+       lie none        from now on the disk is honest
+       lie sync        .. no sync of a file keeps anything
+       lie last        .. a cut loses the last write before a sync
+       lie folder      .. no sync of a folder keeps anything
 
-   All calls go past the page cache of the system, so that a read shows what the disk has. */
+   All calls bypass the page cache of the system, so that a read shows the disk's contents. */
 #define _GNU_SOURCE
 #define FUSE_USE_VERSION 34
 #include <errno.h>
@@ -42,12 +45,12 @@
 #include <unistd.h>
 
 enum { SECTOR = 512, PAGE = 4096, BLOCKS = 1 << 18, MOST_ANSWERED = 512 };
-/* Node 0 stands for none; the kernel's numbers are a number of the image, and below it that of the node. */
+/* Node 0 stands for none. The kernel's numbers consist of the number of the image and, in the lower bits, that of the node. */
 enum { TOP = 1, CONTROL = 2, FIRST = 3, NODES_SHIFT = 20 };
 static const char CONTROL_NAME[] = ".disk";
 
 struct bytes { unsigned char *at; size_t size; };
-/* So many bytes written at an offset; without data the file was made so long. */
+/* So many bytes written at an offset. Without data, the file was set to this length. */
 struct change { size_t at, size; unsigned char *data; };
 struct node {
     mode_t mode; uid_t uid; gid_t gid; struct timespec changed;
@@ -56,7 +59,7 @@ struct node {
 };
 struct entry { size_t folder, node; char name[NAME_MAX + 1]; };
 struct table { struct entry *at; size_t count; };
-/* Names that are made or removed together: one, or the two of a rename. */
+/* Names that are made or removed together: one, or both names of a rename. */
 struct step { struct entry entry; bool removes; };
 struct move { struct step steps[2]; size_t count; };
 struct disk {
@@ -168,7 +171,7 @@ static size_t new_node(struct disk *disk, mode_t mode, uid_t uid, gid_t gid) {
     return disk->count++;
 }
 
-/* What is synced. */
+/* Syncs. */
 
 static void settle_file(struct node *node, bool loses_last) {
     for (size_t place = 0; place < node->count; place++)
@@ -176,7 +179,7 @@ static void settle_file(struct node *node, bool loses_last) {
     forget_changes(node);
 }
 
-/* What is told of this folder, and what has to be told of others before it, because a rename is in both. */
+/* Syncs the changes of this folder. A rename concerns two folders, so earlier changes of the other one may have to go first. */
 static void settle_folder(struct disk *disk, size_t folder) {
     bool *is_meant = room(NULL, disk->count), *goes = room(NULL, disk->moved);
     size_t left = 0;
@@ -203,7 +206,7 @@ static void settle_all(struct disk *disk) {
     disk->moved = 0;
 }
 
-/* What a cut leaves. */
+/* The contents after a cut. */
 
 static uint64_t dice;
 
@@ -214,8 +217,8 @@ static uint64_t throw_dice(uint64_t below) {
     return (mixed ^ (mixed >> 31)) % below;
 }
 
-/* How a cut chooses: how large units are, of eight how many are kept as they were last, whether names are kept in their order, and
-   a unit that is the only one lost or kept, counted over all files, if there is one. */
+/* How a cut chooses: the size of a unit; how many of eight units keep their last contents; and whether names are kept in their
+   order. With `only`, the single unit with this number, counted over all files, is the only one lost or kept. */
 struct choice { size_t unit, eighths; bool in_order; uint64_t only; size_t met, kept; };
 
 static bool touches(const struct change *change, size_t from, size_t to) {
@@ -235,7 +238,7 @@ static bool is_kept(struct choice *choice) {
     return kept;
 }
 
-/* One unit, from its synced bytes through some of the changes that touch it. */
+/* One unit: its synced bytes, changed by some of the changes that touch it. */
 static void fill_unit(unsigned char *unit, const struct node *node, size_t from, struct choice *choice) {
     size_t to = from + choice->unit, met = versions_of(node, from, to), taken = 0;
     memset(unit, 0, choice->unit);
@@ -259,7 +262,7 @@ static size_t length_after(size_t size, const struct change *change) {
     return change->at + change->size > size ? change->at + change->size : size;
 }
 
-/* One of the lengths that the file had since its sync, or an end of a page that it passed as it grew. */
+/* One of the lengths that the file had since its sync, or the end of a page that it passed while growing. */
 static size_t length_left(const struct node *node, struct choice *choice) {
     size_t *lengths = room(NULL, sizeof *lengths), count = 1, size = node->durable.size;
     lengths[0] = size;
@@ -313,7 +316,7 @@ static struct disk disk_left(const struct disk *disk, struct choice *choice) {
     return left;
 }
 
-/* How many units, lengths and names there are to be chosen. */
+/* How many units, lengths and names there are to choose from. */
 static size_t choices_in(const struct disk *disk, size_t unit) {
     struct choice all = { .unit = unit, .eighths = 8 };
     uint64_t kept = dice;
@@ -350,7 +353,7 @@ static void note_line(const char *line) {
     history_size += size;
 }
 
-/* Whether a call is made, is the last one before the power is cut, or fails; and a line of it. */
+/* Whether a call is carried out, is the last one before the power is cut, or fails. It also logs the call. */
 static enum stage begin_call(const char *format, ...) {
     va_list words;
     char line[2 * NAME_MAX + 64];
@@ -438,14 +441,14 @@ static int command(const char *text) {
 
 static fuse_ino_t number_of(size_t node) { return node == TOP || node == CONTROL ? node : (image << NODES_SHIFT) + node; }
 
-/* The node of a number, or 0: one of an earlier image is gone. */
+/* The node with a number. If that is from an earlier image, the node is gone, and this is 0. */
 static size_t node_of(fuse_ino_t number) {
     size_t node = number & ((1u << NODES_SHIFT) - 1);
     if (number == TOP || number == CONTROL) return number;
     return number >> NODES_SHIFT == image && node < live.count ? node : 0;
 }
 
-/* Why a call to a node fails before it is made, or 0. */
+/* The reason why a call to a node fails before it begins, or 0. */
 static int refused(size_t node) {
     if (is_off && node != CONTROL) return EIO;
     return node ? 0 : ESTALE;
@@ -516,7 +519,7 @@ static struct step step_of(size_t folder, const char *name, size_t node, bool re
     return made;
 }
 
-/* A new file or folder of this name: its node, or 0 with the fault. */
+/* Makes a file or folder of this name. Returns its node, or 0 with the fault. */
 static size_t make_node(fuse_req_t request, fuse_ino_t parent, const char *name, mode_t mode, int *fault) {
     const struct fuse_ctx *by = fuse_req_ctx(request);
     size_t folder = node_of(parent);

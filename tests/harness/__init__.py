@@ -1,4 +1,5 @@
-"""What the tests share: programs and the conditions that they are started under, servers, clients, fronts, file systems, users.
+"""The part that all tests share: programs and the conditions under which they start, servers, clients, fronts, file systems, users.
 
-Nothing here knows what a test wants; each value is typed, each wait has a limit of time, and what is started is ended with its test.
+Nothing here depends on a single test's aim. Each value is typed, each wait has a limit of time, and everything that is started ends
+with its test.
 """

@@ -1,4 +1,4 @@
-"""Auctions for the tests: a definition, lines that are accepted, and the two layouts of a file."""
+"""Auctions for the tests: definitions, lines that are accepted, and the two layouts of a file."""
 
 from __future__ import annotations
 
@@ -14,7 +14,7 @@ FIRST_PAGES = 13
 
 
 class Layout(enum.IntEnum):
-    """The layouts of a journal, by their numbers: a frame is a page, or a cell of three eighths of one."""
+    """The layouts of a journal, by their numbers. A frame is a page, or three cells, which are three eighths of a page."""
 
     PAGES = 1
     CELLS = 2
@@ -35,13 +35,13 @@ def definition() -> bytes:
 
 
 FIRST_ROUND = ("BID x 1 a 100", "BID y 1 b 150", "BID z 1 all 500", "BID w 1 c 100", "CLOSE 1")
-# On which nodes each bidder bids in a later round: its units allow these.
+# The nodes on which each bidder bids in later rounds: its units allow these.
 NODES_OF = {"x": ("a",), "y": ("b",), "z": ("all", "east", "a", "b", "c"), "w": ("c", "d")}
 LICENCES_OF = {"all": 3, "east": 2}
 
 
 def amounts(count: int) -> Iterator[int]:
-    """What a licence is worth in each of so many rounds: a thousand dollars more each time, and a tenth more at least."""
+    """The price of a licence in each of `count` rounds. Each time it rises by a thousand dollars, and at least by a tenth."""
     amount = 0
     for _ in range(count):
         amount = max(amount + 1000, -(-amount * 11 // 100) * 10)
@@ -49,7 +49,7 @@ def amounts(count: int) -> Iterator[int]:
 
 
 def rounds(count: int) -> list[str]:
-    """The ten commands of each of so many rounds behind the first one: all are accepted, in this order. At most 180 rounds."""
+    """The ten commands of each of `count` rounds after the first one, all accepted in this order. At most 180 rounds."""
     tickets = dict.fromkeys(NODES_OF, 1)
     lines = []
     for number, amount in enumerate(amounts(count), 1):
@@ -62,13 +62,13 @@ def rounds(count: int) -> list[str]:
 
 
 def commands(count: int) -> list[str]:
-    """So many commands of one auction, from its first one on, each of which is accepted. At most 1,805."""
+    """The first `count` commands of an auction, all of which are accepted. At most 1,805."""
     return [*FIRST_ROUND, *rounds(-(-count // 10))][:count]
 
 
 # The most that a definition may have.
 MOST_NODES, MOST_LICENCES, MOST_BIDDERS, MOST_NAME = 127, 64, 64, 16
-# Places of nodes behind this one have none below them: the tree has two below each of the others.
+# The last node with nodes below it: up to this place, each node has two.
 LAST_PACKAGE = 62
 
 
@@ -78,7 +78,7 @@ def long_name(letter: str, place: int) -> str:
 
 
 def greatest_definition() -> bytes:
-    """One with the most nodes, licences, bidders, stages and waivers, all names as long as can be."""
+    """A definition with the most nodes, licences, bidders, stages and waivers, and with names of the greatest length."""
     nodes: list[dict[str, object]] = []
     for place in range(MOST_NODES):
         parent = long_name("n", (place - 1) // 2) if place else None
@@ -90,8 +90,9 @@ def greatest_definition() -> bytes:
 
 
 def greatest_lines() -> list[str]:
-    """Commands of that auction, all of which are accepted: a bid of each bidder on a licence, one on the package of all, and a close; and
-    questions."""
+    """Commands of that auction, all of which are accepted: a bid of each bidder on a licence, one on the package of all, and a
+    close; then questions.
+    """
     bids = [f"BID {long_name('b', place)} 1 {long_name('n', LAST_PACKAGE + 1 + place)} 100" for place in range(MOST_BIDDERS)]
     lines = [*bids, f"BID {long_name('b', 0)} 2 {long_name('n', 0)} 10000", "CLOSE 1"]
     return [*lines, "SHOW", f"NODE {long_name('n', 0)}", f"WHO {long_name('b', 0)}"]

@@ -1,4 +1,4 @@
-"""Bidders who bid at the same time, each in its own name, and what they were answered."""
+"""Bidders who bid at the same time, each in its own name, and the answers that they got."""
 
 from __future__ import annotations
 
@@ -13,7 +13,8 @@ JOIN_SECONDS = 60
 
 
 def bidders_definition(bidders: int) -> bytes:
-    """A definition with bidders b0, b1, .. and 64 licences l0, l1, .., on each of which each bidder may bid 100 dollars at any time."""
+    """A definition with bidders b0, b1, .. and 64 licences l0, l1, ... Each bidder may bid 100 dollars on each licence at any time.
+    """
     fields = {
         "step": 10,
         "percent": 10,
@@ -25,7 +26,7 @@ def bidders_definition(bidders: int) -> bytes:
 
 
 class Connection(Protocol):
-    """What bidders need of a client."""
+    """The part of a client that bidders need."""
 
     def send(self, data: bytes) -> None:
         """Sends these bytes."""
@@ -36,30 +37,32 @@ class Connection(Protocol):
 
 @dataclass
 class Bidder:
-    """One of them: what it has sent, and the number of each bid that was answered OK, by its ticket, 1 to 64."""
+    """A bidder: how much it has sent and, by its ticket from 1 to 64, the number of each bid that was answered OK."""
 
     place: int
     sent: int = 0
     numbers: dict[int, int] = field(default_factory=dict)
-    # What it was answered that isn't OK, or why it had no answer.
+    # Its answers that aren't OK, and the reason if it got none.
     refused: list[str] = field(default_factory=list)
 
     @property
     def name(self) -> str:
-        """That of the definition."""
+        """Its name in the definition."""
         return f"b{self.place}"
 
     @property
     def ticket(self) -> int:
-        """That of the last bid that was answered OK, or 0."""
+        """The ticket of its last bid that was answered OK, or 0."""
         return max(self.numbers, default=0)
 
     def bid(self, ticket: int) -> str:
-        """Its bid with this ticket: one on each licence in turn."""
+        """Its bid with this ticket. Each ticket goes to the next licence."""
         return f"BID {self.name} {ticket} l{ticket - 1} 100"
 
     def attend(self, connection: Connection, bids: int, ahead: int = 1) -> None:
-        """Sends so many bids behind the last accepted one, so many ahead of answers, up to the first that isn't answered OK."""
+        """Sends `bids` bids after the last accepted one, up to `ahead` at once without an answer. Stops at the first one that isn't
+        answered OK.
+        """
         self.refused.clear()
         first = self.ticket + 1
         last = min(first + bids, LICENCES + 1) - 1
@@ -82,7 +85,7 @@ class Bidder:
 
 
 def attend_all(pairs: Sequence[tuple[Bidder, Connection]], bids: int, ahead: int, meanwhile: Callable[[], None]) -> None:
-    """Lets each bidder bid over its connection, in a thread of its own, and does something meanwhile in this one."""
+    """Lets each bidder bid over its connection in a thread of its own, while this thread does something else."""
     threads = [threading.Thread(target=bidder.attend, args=(connection, bids, ahead)) for bidder, connection in pairs]
     for thread in threads:
         thread.start()

@@ -14,12 +14,12 @@ SECONDS = 120
 
 
 def library(source: Path, folder: Path) -> Path:
-    """A library to be loaded before the C library, made of one source."""
+    """A library made from one source, to be loaded before the C library."""
     return _built(source, folder / f"{source.stem}.so", "-shared", "-fPIC", "-ldl", "-lpthread")
 
 
 def executable(source: Path, folder: Path, *packages: str) -> Path:
-    """A program made of one source, with these packages of `pkg-config`."""
+    """A program made from one source, with these packages of `pkg-config`."""
     words = [word for package in packages for word in _package(package)]
     return _built(source, folder / source.stem, *words, "-lpthread")
 

@@ -12,26 +12,26 @@ from harness.namespaces import Network
 from harness.users import User
 
 KIB = 1024
-# Which variables a program gets of the tests' own.
+# The variables that a program inherits from the tests.
 KNOWN = ("PATH", "HOME", "TMPDIR", "LANG", "PYTHONPATH", "PYTHONDONTWRITEBYTECODE")
 
 
 @dataclass(frozen=True)
 class Conditions:
-    """What the system sets before a program begins. As it stands nothing is changed but for the environment, which is small."""
+    """The state of a process before its program begins. By default only the environment is changed: it is small."""
 
     user: User | None = None
     folder: Path | None = None
     environment: Mapping[str, str] = field(default_factory=dict)
-    # By the numbers of `resource`: the soft and hard limit of each, in its own units.
+    # The soft and hard limit of each, by the numbers of `resource`, in its own units.
     limits: Mapping[int, int] = field(default_factory=dict)
     libraries: tuple[Path, ...] = ()
     network: Network | None = None
-    # What is done last in the child, before the program begins.
+    # The last action in the child before the program begins.
     last: Callable[[], None] | None = None
 
     def as_user(self, user: User) -> Conditions:
-        """These, as another user."""
+        """The same, as another user."""
         return replace(self, user=user)
 
     def within(self, folder: Path) -> Conditions:
@@ -39,19 +39,19 @@ class Conditions:
         return replace(self, folder=folder)
 
     def with_stack(self, kib: int) -> Conditions:
-        """These, with `ulimit -s`, in KiB."""
+        """The same, with `ulimit -s`, in KiB."""
         return replace(self, limits={**self.limits, resource.RLIMIT_STACK: kib * KIB})
 
     def with_memory(self, kib: int) -> Conditions:
-        """These, with `ulimit -v`, in KiB."""
+        """The same, with `ulimit -v`, in KiB."""
         return replace(self, limits={**self.limits, resource.RLIMIT_AS: kib * KIB})
 
     def with_limit(self, which: int, most: int) -> Conditions:
-        """These, with a limit of `resource`, in its own units."""
+        """The same, with a limit of `resource`, in its own units."""
         return replace(self, limits={**self.limits, which: most})
 
     def with_library(self, library: Path, **environment: str) -> Conditions:
-        """These, with a library that is loaded before the C library, and the variables that it reads."""
+        """The same, with a library that is loaded before the C library, and the variables that it reads."""
         return replace(self, libraries=(*self.libraries, library), environment={**self.environment, **environment})
 
     def variables(self) -> dict[str, str]:
@@ -62,7 +62,7 @@ class Conditions:
 
     @property
     def preparation(self) -> Callable[[], None] | None:
-        """What the child does between fork and exec. Without any a child is started faster."""
+        """The child's actions between fork and exec, or None: a child without any starts faster."""
         return self.prepare if self.network or self.limits or self.user or self.last else None
 
     def prepare(self) -> None:

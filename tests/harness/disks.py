@@ -1,4 +1,4 @@
-"""A disk whose power can be cut, mounted for the tests: what it is and what its commands do stands in tests/disk/cutdisk.c."""
+"""A disk whose power can be cut, mounted for the tests. tests/disk/cutdisk.c says how it behaves, and what its commands do."""
 
 from __future__ import annotations
 
@@ -22,7 +22,7 @@ MOST_LOGGED = 1 << 22
 
 
 class Lie(enum.Enum):
-    """What a dishonest disk does: nothing at a sync of a file, or of a folder; or it loses the last write before a sync."""
+    """The lies of a dishonest disk. A sync of a file, or of a folder, does nothing; or the last write before a sync is lost."""
 
     NONE = "none"
     SYNC = "sync"
@@ -31,7 +31,7 @@ class Lie(enum.Enum):
 
 
 class CutDisk:
-    """The disk, by the folder where it is mounted. Seeds are whole numbers from 0 on."""
+    """The disk, mounted at this folder. Seeds are whole numbers from 0 on."""
 
     def __init__(self, folder: Path) -> None:
         self.folder = folder
@@ -42,12 +42,12 @@ class CutDisk:
         return os.pread(self._control, most, 0).decode()
 
     def reset(self, lie: Lie = Lie.NONE) -> None:
-        """An empty disk with power, honest or not."""
+        """Makes the disk empty, with power, and honest or not."""
         self._command("reset")
         self._command(f"lie {lie.value}")
 
     def put(self, name: str, data: bytes, mode: int = 0o600) -> Path:
-        """A file with these bytes, all of it synced, and everything else on the disk too."""
+        """Writes a file with these bytes. Then all files and folders of the disk are synced."""
         made = self.folder / name
         made.write_bytes(data)
         made.chmod(mode)
@@ -55,19 +55,20 @@ class CutDisk:
         return made
 
     def arm(self, calls: int) -> None:
-        """The power is cut at so manieth change or sync from now on, 1 at least."""
+        """Sets the disk to cut the power at the `calls`-th change or sync from now on, counted from 1."""
         self._command(f"arm {calls}")
 
     def cut(self) -> None:
-        """The power is cut now: each call of the disk fails by EIO."""
+        """Cuts the power now. From then on each call of the disk fails with EIO."""
         self._command("cut")
 
     def image(self, seed: int) -> str:
-        """The power is back, with what the cut may have left. Once more with another seed: another part of the same cut."""
+        """Turns the power on again, with contents that the cut may have left. Another seed gives other contents after the same cut.
+        """
         return self._command(f"image {seed}").strip()
 
     def calls(self) -> int:
-        """How many changes and syncs there were since it was empty."""
+        """How many changes and syncs there were since the disk was made empty."""
         return int(self._command("count").split()[0])
 
     def is_cut(self) -> bool:
@@ -75,17 +76,19 @@ class CutDisk:
         return "CUT" in self._command("count")
 
     def log(self) -> list[str]:
-        """Each change and sync, and each image, a line each."""
+        """One line for each change, each sync and each image."""
         return self._command("log", MOST_LOGGED).splitlines()
 
     def close(self) -> None:
-        """No more commands."""
+        """Ends the use of commands."""
         os.close(self._control)
 
 
 @contextmanager
 def mounted_disk(program: Path, folder: Path) -> Iterator[CutDisk]:
-    """The disk of a built cutdisk, mounted at this new folder until the end of `with`. `Lacking` if the system has no FUSE."""
+    """The disk of a built cutdisk, mounted at this new folder until the end of `with`. If the system has no FUSE, `Lacking` is
+    raised.
+    """
     if not os.access("/dev/fuse", os.R_OK | os.W_OK):
         raise Lacking("there is no /dev/fuse that may be used")
     if os.geteuid() != 0 and shutil.which("fusermount3") is None:

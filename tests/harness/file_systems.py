@@ -1,4 +1,4 @@
-"""File systems on loop devices, and one in memory, each mounted for the tests alone."""
+"""File systems for the tests alone: on loop devices, and one in memory."""
 
 from __future__ import annotations
 
@@ -13,11 +13,11 @@ MIB = 1 << 20
 
 
 class Lacking(Exception):
-    """A tool or a right that the machine doesn't have."""
+    """The machine lacks a tool or a right."""
 
 
 class FileSystem(enum.Enum):
-    """The kinds, by the names that `mount` has for them."""
+    """The kinds of file systems, by their names for `mount`."""
 
     EXT4 = "ext4"
     XFS = "xfs"
@@ -36,7 +36,9 @@ class FileSystem(enum.Enum):
 
     @contextmanager
     def mounted(self, folder: Path, mib: int | None = None) -> Iterator[Path]:
-        """A new one at a folder of this name, where every user may make files. `Lacking` without a tool or the rights."""
+        """A new file system at a folder with this name. Every user may make files in it. Without the tool or the rights, `Lacking`
+        is raised.
+        """
         image = folder.with_name(f"{folder.name}.image")
         folder.mkdir()
         try:

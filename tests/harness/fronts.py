@@ -1,4 +1,4 @@
-"""Fronts and their clients: the command `front` with a configuration of its own, without TLS on the loopback."""
+"""Fronts and their clients: the command `front` with a configuration of its own, without TLS, on the loopback."""
 
 from __future__ import annotations
 
@@ -26,32 +26,32 @@ Field = str | int | bool | Sequence[str]
 
 
 def token_of(name: str) -> str:
-    """The token of a name, in these tests."""
+    """The token of a name in these tests."""
     return f"token-of-{name}-in-a-test"
 
 
 @dataclass(frozen=True)
 class Configured:
-    """The configuration of a front: it stands in a folder as `front.toml`, with the file of tokens, `tokens`."""
+    """The configuration of a front: the file `front.toml` in a folder, with the file of tokens, `tokens`."""
 
     folder: Path
     program: Program
     file: Path
     record: Path
-    # Whose each bidder is: a name with its list, "auctioneer" or "observer".
+    # The names, each with the list of its bidders, "auctioneer" or "observer".
     names: Mapping[str, str | Sequence[str]]
     limits: Mapping[str, int] = field(default_factory=dict)
-    # More fields, or others in place of those that there are.
+    # More fields, or fields with other values.
     more: Mapping[str, Field] = field(default_factory=dict)
     tables: Mapping[str, Mapping[str, Field]] = field(default_factory=dict)
 
     @property
     def path(self) -> Path:
-        """That of the configuration."""
+        """The path of the configuration."""
         return self.folder / "front.toml"
 
     def write(self) -> Configured:
-        """Writes it, and the tokens."""
+        """Writes the configuration and the tokens."""
         tokens = self.folder / "tokens"
         tokens.touch(mode=0o600)
         tokens.write_text("".join(f"{name} {token_of(name)}\n" for name in self.names))
@@ -79,11 +79,11 @@ class LetIn(Protocol):
     """Starts a front that ends with its test."""
 
     def __call__(self, configured: Configured, *words: str, conditions: Conditions = NORMAL) -> Front:
-        """As `Front`."""
+        """See `Front`."""
 
 
 class NotLetting(AssertionError):
-    """A front ended before it wrote LISTENING. It has what was written and said."""
+    """A front ended before it wrote LISTENING. `ran` has its output."""
 
     def __init__(self, ran: Ran) -> None:
         super().__init__(repr(ran))
@@ -91,7 +91,7 @@ class NotLetting(AssertionError):
 
 
 class Front:
-    """A front that lets clients in. It is killed at the end of `with`, with its server."""
+    """A front that lets clients in. At the end of `with` it is killed, and so is its server."""
 
     def __init__(self, configured: Configured, *words: str, conditions: Conditions = NORMAL, seconds: float = SECONDS) -> None:
         self._began = time.monotonic()
@@ -104,14 +104,14 @@ class Front:
         self.port = int(first.rsplit(" ", 1)[1])
 
     def client(self, name: str, seconds: float = SECONDS) -> Client:
-        """A connection of this name, which was let in."""
+        """A connection that was welcomed under this name."""
         client = Client(self.port, seconds)
         answer = client.ask(f"TOKEN {token_of(name)}")
         assert answer == f"WELCOME {name}", answer
         return client
 
     def said(self) -> str:
-        """What it has said on standard error up to now."""
+        """Its messages on standard error up to now."""
         return shown(os.pread(self._said.fileno(), os.fstat(self._said.fileno()).st_size, 0))
 
     def server(self) -> int | None:
@@ -119,12 +119,12 @@ class Front:
         return next((child for child in children_of(self.process.pid) if b"serve" in words_of(child)), None)
 
     def stop(self, seconds: float = SECONDS) -> Ran:
-        """Tells it to stop by SIGTERM, and waits for its end."""
+        """Sends SIGTERM, and waits for the end."""
         self.process.send_signal(signal.SIGTERM)
         return self.ended(seconds)
 
     def ended(self, seconds: float = SECONDS) -> Ran:
-        """Waits for its end, and gives what it wrote behind LISTENING, what it said and its status."""
+        """Waits for its end. Returns its output after LISTENING, its messages and its status."""
         try:
             written, _ = self.process.communicate(timeout=seconds)
         except subprocess.TimeoutExpired:
@@ -149,18 +149,20 @@ class Front:
 
 
 def tool_words(name: str) -> list[str]:
-    """How a command of the package is started by the Python that runs the tests, with the variables of `with_package`."""
+    """The words that start a command of the package, by the Python that runs the tests; the variables of `with_package` are needed
+    too.
+    """
     return [sys.executable, "-P", "-m", f"hpb.commands.{name}"]
 
 
 def with_package(variables: Mapping[str, str]) -> dict[str, str]:
-    """These variables, by which the package of this checkout is found."""
+    """These variables, changed so that the package of this checkout is found."""
     behind = variables.get("PYTHONPATH")
     return {**variables, "PYTHONPATH": f"{PACKAGE}:{behind}" if behind else str(PACKAGE)}
 
 
 def start_tool(name: str, *words: object, errors: Stream = subprocess.PIPE, conditions: Conditions = NORMAL) -> subprocess.Popen[bytes]:
-    """Starts a command of the package by the Python that runs the tests; the caller ends it."""
+    """Starts a command of the package, by the Python that runs the tests. The caller ends it."""
     return subprocess.Popen(
         [*tool_words(name), *map(str, words)],
         stdin=subprocess.DEVNULL,
@@ -186,7 +188,7 @@ def run_tool(name: str, *words: object, conditions: Conditions = NORMAL, seconds
 
 
 def children_of(process: int) -> list[int]:
-    """The processes that one has started; none if it is gone."""
+    """The child processes of a process; none if it is gone."""
     try:
         return [int(child) for child in Path(f"/proc/{process}/task/{process}/children").read_text().split()]
     except OSError:
@@ -194,7 +196,7 @@ def children_of(process: int) -> list[int]:
 
 
 def descendants_of(process: int) -> list[int]:
-    """The processes that one has started, and those that these have."""
+    """The child processes of a process, and their descendants."""
     children = children_of(process)
     return [*children, *(found for child in children for found in descendants_of(child))]
 
@@ -208,7 +210,7 @@ def is_running(process: int) -> bool:
 
 
 def words_of(process: int) -> list[bytes]:
-    """The words that a process was started by; none if it is gone."""
+    """The words with which a process was started; none if it is gone."""
     try:
         return Path(f"/proc/{process}/cmdline").read_bytes().split(b"\0")
     except OSError:

@@ -1,4 +1,4 @@
-"""Namespaces of the system: mounts and networks that nobody else sees."""
+"""Namespaces of the system: mounts and networks of a process's own."""
 
 from __future__ import annotations
 
@@ -27,13 +27,13 @@ def _checked(result: int, what: str) -> None:
 
 
 def leave_mounts() -> None:
-    """From here on this process has mounts of its own: what it mounts nobody else sees, and it goes when the process ends."""
+    """From here on this process has mounts of its own. Nobody else sees them, and they are gone when the process ends."""
     _checked(_libc.unshare(CLONE_NEWNS), "unshare mounts")
     _checked(_libc.mount(b"none", b"/", None, MS_REC | MS_PRIVATE, None), "make mounts private")
 
 
 def hide(folder: str) -> None:
-    """From here on this process, which gets mounts of its own, sees an empty folder in place of this one."""
+    """From here on this process sees an empty folder in the place of this one. It gets mounts of its own for that."""
     leave_mounts()
     _checked(_libc.mount(b"none", folder.encode(), b"tmpfs", 0, None), f"hide {folder}")
 
@@ -48,31 +48,31 @@ def leave_network() -> None:
 
 @dataclass(frozen=True)
 class Network:
-    """A network namespace, by a descriptor that is open while it is used."""
+    """A network namespace, held by a descriptor that stays open while it is used."""
 
     descriptor: int
 
     @classmethod
     def own(cls) -> Network:
-        """The one in which this thread is; the caller closes it by `close`."""
+        """The network of this thread. The caller ends its use by `close`."""
         return cls(os.open("/proc/thread-self/ns/net", os.O_RDONLY | os.O_CLOEXEC))
 
     @classmethod
     def of_process(cls, process: int) -> Network:
-        """The one in which a process is; the caller closes it by `close`."""
+        """The network of a process. The caller ends its use by `close`."""
         return cls(os.open(f"/proc/{process}/ns/net", os.O_RDONLY | os.O_CLOEXEC))
 
     def enter(self) -> None:
-        """From here on this thread is in it."""
+        """From here on this thread is in this network."""
         _checked(_libc.setns(self.descriptor, CLONE_NEWNET), "enter a network")
 
     def close(self) -> None:
-        """The namespace stays as long as a process is in it."""
+        """Ends the use. The namespace stays as long as a process is in it."""
         os.close(self.descriptor)
 
     @contextmanager
     def inside(self) -> Iterator[None]:
-        """What this thread connects to meanwhile is in that network."""
+        """Within `with`, the connections of this thread are in that network."""
         own = Network.own()
         self.enter()
         try:

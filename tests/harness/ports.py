@@ -1,4 +1,4 @@
-"""Who listens in this network, as any user of the machine may see it."""
+"""The listening ports of this network, as any user of the machine may see them."""
 
 from __future__ import annotations
 

@@ -1,4 +1,4 @@
-"""The program under test: how it is run to its end, and what it then has answered and said."""
+"""Runs the program under test to its end, and collects its answers and messages."""
 
 from __future__ import annotations
 
@@ -18,7 +18,9 @@ Stream = int | IO[bytes]
 
 @dataclass(frozen=True)
 class Ran:
-    """What a program wrote on standard output and standard error, its status (below 0: minus the signal), and its seconds."""
+    """The output of a program on standard output and standard error, its status (minus the signal, if a signal ended it), and its
+    seconds.
+    """
 
     output: str
     errors: str
@@ -30,12 +32,12 @@ class Ran:
         return self.output.splitlines()
 
     def told(self) -> tuple[str, str, int]:
-        """What it wrote on both streams, and its status."""
+        """Its output on both streams, and its status."""
         return self.output, self.errors, self.status
 
 
 class TookTooLong(AssertionError):
-    """A program was killed here because it didn't end within its time."""
+    """A program didn't end within its time, and was killed here."""
 
 
 @dataclass(frozen=True)
@@ -76,7 +78,7 @@ class Program:
         conditions: Conditions = NORMAL,
         seconds: float | None = None,
     ) -> Ran:
-        """Runs it on this text, or on an input that is open here, to its end. TookTooLong if that takes longer than so many seconds."""
+        """Runs it to its end, on this text or on an open input. If that takes more than `seconds`, TookTooLong is raised."""
         began = time.monotonic()
         source = subprocess.PIPE if input is None else input
         process = self.start(*words, input=source, output=output, errors=errors, conditions=conditions)
@@ -96,12 +98,12 @@ class Program:
         text: bytes | None = None,
         conditions: Conditions = NORMAL,
     ) -> Ran:
-        """Runs `format`; without a journal one of the least length, without a text the definition of the first example."""
+        """Runs `format`. The default is the least journal and the definition of the first example."""
         words = format_words(file, layout, journal)
         return self.run(*words, text=definition() if text is None else text, conditions=conditions)
 
     def run_lines(self, file: Path, text: bytes, *words: object, conditions: Conditions = NORMAL, seconds: float | None = None) -> Ran:
-        """Runs `run` on a file, with these lines and these more words."""
+        """Runs `run` on a file, with these lines and further words."""
         return self.run("run", "--file", file, *words, text=text, conditions=conditions, seconds=seconds)
 
     def check(self, file: Path, conditions: Conditions = NORMAL) -> Ran:
@@ -109,7 +111,7 @@ class Program:
         return self.run("check", "--file", file, conditions=conditions)
 
     def count(self, file: Path) -> int:
-        """How many commands a file keeps, by `check`. AssertionError, with what is said, if it can't be opened."""
+        """How many commands a file keeps, by `check`. If the file can't be opened, AssertionError is raised, with the messages."""
         found = self.check(file)
         first = found.output.split("\n")[0]
         assert found.status == 0 and " COUNT " in first, found
@@ -117,16 +119,16 @@ class Program:
 
 
 def format_words(file: Path, layout: Layout = Layout.PAGES, journal: int | None = None) -> list[object]:
-    """The words of `format`. The first layout needs none of its own."""
+    """The words of `format`. The first layout needs no option."""
     chosen = [] if layout is Layout.PAGES else ["--layout", int(layout)]
     return ["format", "--file", file, "--journal", layout.least_journal if journal is None else journal, *chosen]
 
 
 def argument(word: object) -> str | bytes:
-    """A word of a command line; bytes may be no text."""
+    """A word of a command line. Bytes need not be a text."""
     return word if isinstance(word, bytes) else str(word)
 
 
 def shown(data: bytes | None) -> str:
-    """Bytes of a stream as text; those that are none are escaped."""
+    """The bytes of a stream as text. Bytes that aren't text are escaped."""
     return (data or b"").decode(errors="backslashreplace")

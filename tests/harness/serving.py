@@ -22,7 +22,7 @@ from harness.programs import Program, Ran, Stream, TookTooLong, shown
 
 ADDRESS = "127.0.0.1"
 SECONDS = 20
-# Where ports that may be free begin, and those that the system gives to connections by itself.
+# The least port to try, and the least port that the system hands out by itself.
 LEAST_PORT, LEAST_GIVEN = 10_000, 32_768
 TRIES = 3
 
@@ -32,7 +32,7 @@ class Ended(ConnectionError):
 
 
 def free_port() -> int:
-    """A port of the loopback that is free now, below those that the system gives to connections."""
+    """A free port of the loopback, below those that the system hands out by itself."""
     while True:
         with socket.socket() as probe:
             try:
@@ -44,7 +44,9 @@ def free_port() -> int:
 
 
 class Client:
-    """A connection to a server: lines go, answers come. OSError (TimeoutError) if one takes longer than its seconds."""
+    """A connection to a server: it sends lines and reads answers. If one of these takes more than its seconds, TimeoutError is
+    raised; other faults are OSError too.
+    """
 
     def __init__(self, port: int, seconds: float = SECONDS, address: str = ADDRESS) -> None:
         self.socket = socket.create_connection((address, port), timeout=seconds)
@@ -56,7 +58,7 @@ class Client:
         self.socket.sendall(data)
 
     def line(self) -> str:
-        """The next line, without its newline. `Ended` if the other end has ended the connection."""
+        """The next line, without its newline. If the other end has ended the connection, `Ended` is raised."""
         while b"\n" not in self._received:
             part = self.socket.recv(1 << 16)
             if not part:
@@ -66,7 +68,7 @@ class Client:
         return shown(line)
 
     def ask(self, line: str) -> str:
-        """Sends a line, and gives its answer."""
+        """Sends a line, and returns its answer."""
         self.send(f"{line}\n".encode())
         return self.line()
 
@@ -91,7 +93,7 @@ class Client:
         self.close()
 
     def finish(self) -> list[str]:
-        """Sends no more, reads to the end, and gives the lines that still came."""
+        """Sends no more, reads to the end, and returns the lines that still came."""
         self.socket.shutdown(socket.SHUT_WR)
         lines = []
         try:
@@ -114,7 +116,7 @@ class Client:
 
 
 class NotServing(AssertionError):
-    """A server ended, or was ended here, before it wrote LISTENING. It has what was written and said."""
+    """A server ended, or was ended here, before it wrote LISTENING. `ran` has its output."""
 
     def __init__(self, ran: Ran) -> None:
         super().__init__(repr(ran))
@@ -122,7 +124,7 @@ class NotServing(AssertionError):
 
 
 class Server:
-    """`hpb serve` on a file. Without a port a free one is taken. It is killed at the end of `with`."""
+    """`hpb serve` on a file, by default at a free port. It is killed at the end of `with`."""
 
     def __init__(
         self,
@@ -154,12 +156,12 @@ class Server:
         return Client(self.port, seconds)
 
     def said(self) -> str:
-        """What it has said on standard error up to now, if that wasn't given elsewhere."""
+        """Its messages on standard error up to now, unless that leads elsewhere."""
         size = os.fstat(self._said.fileno()).st_size
         return shown(os.pread(self._said.fileno(), size, 0))
 
     def wait_until_said(self, words: str, seconds: float = SECONDS) -> str:
-        """Returns what it has said once these words are in it. AssertionError if that takes longer."""
+        """Returns its messages once they contain these words. If that takes too long, AssertionError is raised."""
         wait_until(lambda: words in self.said(), seconds, f"{words!r} in {self.said()!r}")
         return self.said()
 
@@ -177,7 +179,7 @@ class Server:
         wait_until(is_calm, SECONDS, "its threads don't sleep")
 
     def ended(self, seconds: float = SECONDS) -> Ran:
-        """Waits for its end, and gives what it wrote behind LISTENING, what it said and its status."""
+        """Waits for its end. Returns its output after LISTENING, its messages and its status."""
         try:
             written, _ = self.process.communicate(timeout=seconds)
         except subprocess.TimeoutExpired:
@@ -186,7 +188,7 @@ class Server:
         return Ran(shown(written), self.said(), self.process.returncode, time.monotonic() - self._began)
 
     def kill(self) -> None:
-        """Ends it by SIGKILL, and waits for that."""
+        """Kills it by SIGKILL, and waits for its end."""
         self.process.kill()
         self.process.communicate()
 
@@ -210,11 +212,11 @@ class Serve(Protocol):
         errors: Stream | None = None,
         conditions: Conditions = NORMAL,
     ) -> Server:
-        """As `Server`, of the program under test."""
+        """See `Server`; the program is the one under test."""
 
 
 def read_line(process: subprocess.Popen[bytes], seconds: float = SECONDS) -> str:
-    """The next line of standard output, as much as came of it until the time was over or it ended."""
+    """The next line of standard output. If time runs out or the output ends, it may be a part of a line."""
     assert process.stdout is not None
     stream, received, end = process.stdout.fileno(), b"", time.monotonic() + seconds
     while not received.endswith(b"\n") and select.select([stream], [], [], max(0.0, end - time.monotonic()))[0]:
@@ -226,7 +228,7 @@ def read_line(process: subprocess.Popen[bytes], seconds: float = SECONDS) -> str
 
 
 def wait_until(holds: Callable[[], bool], seconds: float, what: str) -> None:
-    """Returns once this holds. AssertionError if it takes longer."""
+    """Returns once this holds. If that takes too long, AssertionError is raised."""
     end = time.monotonic() + seconds
     while not holds():
         assert time.monotonic() < end, f"after {seconds} seconds: {what}"

@@ -1,4 +1,4 @@
-"""Standard streams of each kind: full, read by nobody, a terminal; and a program that is typed into."""
+"""Standard streams of each kind: one that is full, one that nobody reads, a terminal; and a program at a terminal."""
 
 from __future__ import annotations
 
@@ -19,22 +19,22 @@ from harness.conditions import Conditions
 from harness.programs import Program, Ran, Stream, TookTooLong, shown
 
 SECONDS = 20
-# How long an input that must not wait has nothing before it ends, in seconds.
+# How many seconds a non-blocking input stays empty before it ends.
 PAUSE = 0.2
 
 
 def ignore_broken_pipes() -> None:
-    """From here on a write that nobody reads fails, and no signal ends this process."""
+    """From here on, a write that nobody reads fails instead of ending this process by a signal."""
     signal.signal(signal.SIGPIPE, signal.SIG_IGN)
 
 
-# As a program runs that was started by a script which ignores SIGPIPE.
+# The conditions under a script that ignores SIGPIPE.
 WITHOUT_SIGNAL = Conditions(last=ignore_broken_pipes)
 
 
 @contextmanager
 def opened(path: Path | str, flags: int = os.O_RDONLY) -> Iterator[int]:
-    """A descriptor of a file or a folder that is there."""
+    """A descriptor of an existing file or folder."""
     descriptor = os.open(path, flags)
     try:
         yield descriptor
@@ -44,7 +44,7 @@ def opened(path: Path | str, flags: int = os.O_RDONLY) -> Iterator[int]:
 
 @contextmanager
 def full() -> Iterator[int]:
-    """A device that has no room."""
+    """A device without room."""
     with opened("/dev/full", os.O_WRONLY) as descriptor:
         yield descriptor
 
@@ -62,7 +62,7 @@ def unread() -> Iterator[int]:
 
 @contextmanager
 def not_waiting(text: bytes) -> Iterator[int]:
-    """A pipe that has this text, ends a while later, and from which a read must not wait."""
+    """A pipe with this text, whose reads don't block. It ends a while later."""
     reader, writer = os.pipe()
     os.set_blocking(reader, False)
     os.write(writer, text)
@@ -91,7 +91,7 @@ def terminal() -> Iterator[tuple[int, int]]:
 
 
 def read_available(stream: int, seconds: float = 0.0) -> bytes:
-    """What comes from a descriptor until nothing has come for so long, or its other end is closed."""
+    """The bytes from a descriptor, until none has come for so long or its other end is closed."""
     found = b""
     while select.select([stream], [], [], seconds)[0]:
         try:
@@ -105,7 +105,7 @@ def read_available(stream: int, seconds: float = 0.0) -> bytes:
 
 
 def read_bytes(stream: IO[bytes], count: int, seconds: float = SECONDS) -> bytes:
-    """So many bytes of a pipe, or as many as come before it is closed or the time is over."""
+    """So many bytes of a pipe, or fewer if it is closed or the time is over before."""
     found, end = b"", time.monotonic() + seconds
     while len(found) < count and select.select([stream], [], [], max(0.0, end - time.monotonic()))[0]:
         part = os.read(stream.fileno(), count - len(found))
@@ -116,7 +116,9 @@ def read_bytes(stream: IO[bytes], count: int, seconds: float = SECONDS) -> bytes
 
 
 class Typed:
-    """A program at a terminal: lines are typed there, and what it answers and says comes by pipes. It is killed at the end of `with`."""
+    """A program at a terminal. Lines are typed there; its answers and messages come through pipes. It is killed at the end of
+    `with`.
+    """
 
     def __init__(self, program: Program, *words: object, errors: Stream = subprocess.PIPE) -> None:
         self._began, self._seconds = time.monotonic(), program.seconds
@@ -129,17 +131,17 @@ class Typed:
         os.write(self._typing, text)
 
     def answers(self, wanted: str) -> None:
-        """AssertionError if what comes next on standard output isn't this."""
+        """Raises AssertionError if the next output on standard output isn't this."""
         assert self.process.stdout is not None
         assert shown(read_bytes(self.process.stdout, len(wanted.encode()), self._seconds)) == wanted
 
     def says(self, wanted: str) -> None:
-        """AssertionError if what comes next on standard error isn't this."""
+        """Raises AssertionError if the next output on standard error isn't this."""
         assert self.process.stderr is not None
         assert shown(read_bytes(self.process.stderr, len(wanted.encode()), self._seconds)) == wanted
 
     def ends(self, status: int, answered: str = "", said: str = "") -> None:
-        """AssertionError if it doesn't end so, or answers or says something else before."""
+        """Raises AssertionError if it doesn't end with this status, or writes anything else before."""
         try:
             written, errors = self.process.communicate(timeout=self._seconds)
         except subprocess.TimeoutExpired:

@@ -1,4 +1,4 @@
-"""Other users of the machine, and work that is done as one of them."""
+"""Other users of the machine, and work done as one of them."""
 
 from __future__ import annotations
 
@@ -28,12 +28,12 @@ class User:
 
     @classmethod
     def named(cls, name: str) -> User:
-        """That of the system with this name. KeyError if there is none."""
+        """The system's user with this name. If there is none, KeyError is raised."""
         found = pwd.getpwnam(name)
         return cls(found.pw_uid, found.pw_gid)
 
     def become(self) -> None:
-        """From here on this process is that user's, with no other groups, and can't go back."""
+        """From here on this process belongs to that user, without other groups, and can't go back."""
         os.setgroups([])
         os.setresgid(self.gid, self.gid, self.gid)
         os.setresuid(self.uid, self.uid, self.uid)
@@ -44,7 +44,9 @@ class User:
         return path
 
     def call(self, function: Callable[Arguments, Result], *words: Arguments.args, **more: Arguments.kwargs) -> Result:
-        """What a function gives, or raises, in a process of this user. TimeoutError if it takes longer than 20 seconds."""
+        """Calls a function in a process of this user; returns its result, or raises its exception. After 20 seconds, TimeoutError
+        is raised.
+        """
         return _in_child(self.become, lambda: function(*words, **more))
 
 
@@ -68,12 +70,12 @@ def _in_child(prepare: Callable[[], None], work: Callable[[], Result]) -> Result
 
 
 def _tell(writer: int, prepare: Callable[[], None], work: Callable[[], object]) -> None:
-    """The life of the child: it never comes back into the test."""
+    """The whole life of the child, which never returns to the test."""
     try:
         try:
             prepare()
             told = pickle.dumps((True, work()))
-        except BaseException as fault:  # whatever it is, the parent raises it
+        except BaseException as fault:  # of any kind: the parent raises it again
             told = pickle.dumps((False, fault))
         with open(writer, "wb") as stream:
             stream.write(told)

@@ -1,8 +1,8 @@
-"""A folder whose writes are watched, so that what a power cut may leave of it can be made.
+"""A folder whose writes are watched, so that the possible results of a power cut can be made.
 
-Between two syncs of a file each part of it (a page of 4,096 bytes, or a sector of 512) may be kept as any write left it, by itself; its
-length may be any that it had, or end at such a part. Names are kept as they were at the last sync of the folder, or as any change since
-then left them.
+Between two syncs of a file, each part of it (a page of 4,096 bytes, or a sector of 512) may be kept as any write left it. The parts
+don't depend on each other. The length may be any that the file had, or end at the edge of a part. Names are kept as they were at
+the last sync of the folder, or after any later change.
 """
 
 from __future__ import annotations
@@ -27,7 +27,7 @@ class Cut(BaseException):
 
 @dataclass
 class Kept:
-    """The versions that a file had since its last sync, that one first."""
+    """The versions of a file since its last sync, beginning with the synced one."""
 
     versions: list[bytes] = field(default_factory=lambda: [b""])
 
@@ -36,8 +36,9 @@ Names = dict[str, int]
 
 
 class Disk:
-    """Watches a folder through the calls of `os`. The power is cut after `changes_left` more changes, or when the sync behind `syncs_left`
-    more is called."""
+    """Watches a folder through the calls of `os`. The power is cut after `changes_left` more changes, or when `syncs_left` more
+    syncs are done and another is called.
+    """
 
     def __init__(self, folder: Path, patch: pytest.MonkeyPatch) -> None:
         self.folder, self.changes_left, self.syncs_left = folder, 1 << 30, 1 << 30
@@ -65,7 +66,7 @@ class Disk:
         return watches
 
     def look_at_names(self) -> Names:
-        """Notes which files there are. What was written to a new one by other calls may be there or not."""
+        """Notes which files there are. If a file is new, the bytes that other calls have written to it may be kept or lost."""
         names = self.names_now()
         for name, inode in names.items():
             if inode not in self.files:
@@ -75,7 +76,7 @@ class Disk:
         return names
 
     def look(self, name: str, what: int | str) -> None:
-        """Notes what a call changed."""
+        """Notes the changes of a call."""
         names = self.look_at_names()
         if isinstance(what, str):
             return
@@ -97,7 +98,7 @@ class Disk:
 
 
 def left(versions: list[bytes], dice: random.Random, part: int) -> bytes:
-    """What may be left of a file."""
+    """A possible content of a file after a cut."""
     if len(versions) == 1:
         return versions[0]
     lengths = {len(version) for version in versions}
