@@ -1,4 +1,4 @@
-"""docs/AUCTION-DAY.md: its commands, typed one after another into one shell, print what stands under them."""
+"""docs/AUCTION-DAY.md: its commands, typed one after another into one shell, print the output that the page shows."""
 
 from __future__ import annotations
 
@@ -25,14 +25,14 @@ END = "these-were-the-commands"
 
 
 class Step(NamedTuple):
-    """Commands of the page, and the output that stands under them, if one does."""
+    """Commands of the page, and the output below them, if the page shows any."""
 
     commands: str
     wanted: str | None = None
 
 
 def steps(page: str) -> Iterator[Step]:
-    """The commands of a page in their order. A table of lines that are typed is the input of the client before it."""
+    """The commands of a page in their order. A table of typed lines is the input of the client before it."""
     parts = PARTS.split(page)
     typed = ""
     for between, part in zip(parts[::2], parts[1::2]):
@@ -59,8 +59,9 @@ def plain(block: str) -> str:
 
 
 class Shell:
-    """A shell that is typed into. It ends at the first command that fails, and all that it has started ends with it. A front writes into
-    files there."""
+    """A shell into which a test types. It ends at the first command that fails, and everything that it has started ends with it. A
+    front writes into files there.
+    """
 
     def __init__(self, folder: Path, program: Program) -> None:
         self.folder, self.fronts = folder, 0
@@ -75,7 +76,7 @@ class Shell:
         )
 
     def type(self, commands: str) -> str:
-        """The output of these commands. AssertionError if one fails, or they take too long."""
+        """The output of these commands. If one fails, or they take too long, AssertionError is raised."""
         assert self.process.stdin
         into_files = commands.replace(FRONT, IN_FILES)
         self.process.stdin.write(f"{into_files}echo {END}\n".encode())
@@ -89,24 +90,24 @@ class Shell:
         return "".join(lines)
 
     def wait_for_front(self) -> None:
-        """Until one more has let clients in."""
+        """Waits until one more front has let clients in."""
         self.fronts += 1
         wait_until(lambda: self.said("front.out").count("BOARD ") == self.fronts, SECONDS, "a front that comes up")
 
     def said(self, name: str) -> str:
-        """The text of a file of the folder, if it is there yet."""
+        """The text of a file in the folder; empty if the file isn't there yet."""
         file = self.folder / name
         return shown(file.read_bytes()) if file.exists() else ""
 
     def end(self) -> None:
-        """Kills it, with all that it has started."""
+        """Kills it, with everything that it has started."""
         os.killpg(self.process.pid, signal.SIGKILL)
         self.process.communicate()
 
 
 @pytest.fixture
 def shell(program: Program, room: Path) -> Iterator[Shell]:
-    """A shell in a folder that has a definition, a certificate, and the configuration of docs/FRONT.md."""
+    """A shell in a folder with a definition, a certificate, and the configuration of docs/FRONT.md."""
     (room / "tools").symlink_to(TOP / "tools")
     (room / "definition.json").write_bytes(definition())
     words = "req -x509 -newkey rsa:2048 -nodes -days 30 -subj /CN=localhost -addext subjectAltName=DNS:localhost"
@@ -118,7 +119,7 @@ def shell(program: Program, room: Path) -> Iterator[Shell]:
 
 
 def written_pages() -> tuple[str, str]:
-    """The page and the configuration of docs/FRONT.md, with ports that are free."""
+    """The page and the configuration of docs/FRONT.md, with free ports."""
     page = (TOP / "docs" / "AUCTION-DAY.md").read_text(encoding="utf-8")
     configuration = (TOP / "docs" / "FRONT.md").read_text(encoding="utf-8").split("```toml\n")[1].split("```")[0]
     ports = {"6000": str(free_port()), "8443": str(free_port())}
@@ -129,7 +130,7 @@ def written_pages() -> tuple[str, str]:
 
 @pytest.mark.timeout(300)
 def test_the_commands_of_the_day_do_what_the_page_says(shell: Shell) -> None:
-    """The page has the output of some of them; of the others it says what to look at."""
+    """The page shows the output of some commands; for the others it says what to look at."""
     page, configuration = written_pages()
     (shell.folder / "front.toml").write_text(configuration)
     written = ""

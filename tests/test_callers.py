@@ -1,4 +1,5 @@
-"""Callers that don't do their part, beside one that does: nobody else waits for them, and what they were answered stays."""
+"""Callers that don't play their part, beside one that does: nobody else waits for them, and the answers that they got stay valid.
+"""
 
 from __future__ import annotations
 
@@ -11,28 +12,28 @@ import pytest
 from harness.programs import Program, Ran
 from harness.serving import Client, Ended, Serve, Server, free_port
 
-# What another caller asks beside an odd one, and what it is answered if nobody else has bid.
+# The lines of another caller beside an odd one, and their answers if nobody else has bid.
 BIDS = ("BID y 1 b 150", "SHOW", "BID w 1 c 100", "WHO w")
 ANSWERS = ["OK 1", "ROUND 1 STAGE 1 OPEN REVENUE 0 COUNT 1", "OK 2", "WHO w ELIGIBILITY 25 ACTIVITY 20 TICKET 1"]
 TWO_BIDS = "ROUND 1 STAGE 1 OPEN REVENUE 0 COUNT 2"
 HALF_A_MILLION = 500_000
-# For how long nothing is taken of a caller until its session is held to be stuck, in seconds.
+# If nothing is taken of a caller for so many seconds, its session is regarded as stuck.
 STUCK = 0.5
-# The most questions that are sent until no more are taken, in thousands: more bytes than any system keeps.
+# The most questions, in thousands, that are sent until no more are taken: more bytes than any system keeps.
 MOST_THOUSANDS = 40_000
-# SO_LINGER with no time: a connection that is closed so is reset.
+# SO_LINGER with no time: closing such a connection resets it.
 AT_ONCE = struct.pack("ii", 1, 0)
-# The status of a program that a stream refused.
+# The status of a program after a stream failed.
 REFUSED = 1
 
 
 def asked(caller: Client) -> list[str]:
-    """What the other caller is answered."""
+    """The answers of the other caller."""
     return [caller.ask(line) for line in BIDS]
 
 
 def ended_well(server: Server, count: int) -> None:
-    """All sessions have ended, and so many commands are accepted in all."""
+    """Checks that all sessions have ended, and that so many commands were accepted in all."""
     ran = server.ended()
     assert (ran.output, ran.status) == (f"CLOSED {count}\n", 0), ran
 
@@ -46,7 +47,7 @@ def fill(caller: Client) -> None:
 
 
 def reset(caller: Client) -> None:
-    """Ends its connection so that the other side is told of an error."""
+    """Ends its connection in a way that the other side sees as an error."""
     caller.socket.setsockopt(socket.SOL_SOCKET, socket.SO_LINGER, AT_ONCE)
     caller.close()
 
@@ -119,7 +120,7 @@ def test_sessions_share_one_auction_and_a_later_server_goes_on_with_it(serve: Se
     assert third.ask("SHOW") == TWO_BIDS
     assert third.ask("WHO x") == "WHO x ELIGIBILITY 10 ACTIVITY 10 TICKET 1"
     assert third.ask("WHO y") == "WHO y ELIGIBILITY 10 ACTIVITY 10 TICKET 1"
-    # Sent again, each is answered by the number that it had.
+    # When it is sent again, each gets the number that it had.
     assert [third.ask("BID x 1 a 100"), third.ask("BID y 1 b 150")] == ["OK 1", "OK 2"]
     assert third.finish() == []
     ended_well(server, 2)

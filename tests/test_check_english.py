@@ -1,4 +1,4 @@
-"""`docs/check-english`: sentences that it has to find, and others that it has to leave alone."""
+"""`docs/check-english`: sentences that it has to find, and others that it has to accept."""
 
 from __future__ import annotations
 
@@ -15,12 +15,12 @@ LONG = "One " + "more word and " * 10 + "none."
 
 
 def found(text: str) -> list[tuple[int, str]]:
-    """The line and the pattern of each place of a page."""
+    """The line and the pattern of each place in a page."""
     return [(line, pattern) for line, pattern, _ in FAULTS(text)]
 
 
 def run(*pages: Path) -> tuple[str, int]:
-    """What the check prints of pages, and its status."""
+    """The output of the check for some pages, and its status."""
     ran = subprocess.run([CHECK, *pages], stdout=subprocess.PIPE, text=True, timeout=20, check=False)
     return ran.stdout, ran.returncode
 

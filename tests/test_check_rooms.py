@@ -1,4 +1,4 @@
-"""`docs/check-rooms`: clauses that a crate's page names and its sources haven't, and callers that aren't quoted as they are."""
+"""`docs/check-rooms`: clauses that a crate's page names and its sources lack, and callers whose quotes differ from the sources."""
 
 from __future__ import annotations
 
@@ -50,7 +50,7 @@ pub trait Frames {
 
 
 def found(tmp_path: Path, page: str) -> list[str]:
-    """What is wrong with the page of a crate that has the source above."""
+    """The faults in the page of a crate with the source above."""
     (tmp_path / "src").mkdir()
     (tmp_path / "src" / "lib.rt").write_text(SOURCE, encoding="utf-8")
     readme = tmp_path / "README.md"

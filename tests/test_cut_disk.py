@@ -15,7 +15,7 @@ SEEDS = range(200)
 
 
 def left_by_cut(disk: CutDisk, name: str) -> set[bytes | None]:
-    """The contents of a file that cuts at this moment leave, by 200 seeds; None if there is no such name."""
+    """The contents of a file that cuts at this moment leave, with 200 seeds; None if there is no such name."""
     disk.cut()
     found = set()
     for seed in SEEDS:

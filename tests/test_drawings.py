@@ -1,4 +1,4 @@
-"""The drawings of `docs/drawings`: texts that don't fit or lie on each other, crates without a storey, and what viewers need."""
+"""The drawings of `docs/drawings`: texts that don't fit or overlap, crates without a storey, and what viewers need."""
 
 from __future__ import annotations
 
@@ -21,7 +21,7 @@ NAMES = sorted(DRAWINGS)
 
 
 class Extent(NamedTuple):
-    """The place of a text: its sides, and its upper and lower edge."""
+    """The place of a text: its left and right sides, and its upper and lower edges."""
 
     text: str
     left: float
@@ -40,7 +40,7 @@ def canvas() -> Canvas:
 
 
 def read(name: str) -> ElementTree.Element:
-    """A drawing as it stands in the repository."""
+    """A drawing from the repository."""
     return ElementTree.fromstring((DOCS / "pictures" / f"{name}.svg").read_text(encoding="utf-8"))
 
 

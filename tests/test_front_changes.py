@@ -1,4 +1,4 @@
-"""Changes of the file of tokens: each stays, however many are made at once, and one that was killed hinders none."""
+"""Changes of the file of tokens: each stays, however many are made at once, and one that was killed doesn't hinder others."""
 
 from __future__ import annotations
 
@@ -27,7 +27,7 @@ AT_ONCE = 8
 
 @pytest.fixture
 def front(program: Program, room: Path) -> Front:
-    """A front of a new auction, which isn't started."""
+    """A front of a new auction, not started yet."""
     made = Front(program, room)
     assert program.format(made.file).status == 0
     return made
@@ -35,7 +35,7 @@ def front(program: Program, room: Path) -> Front:
 
 @pytest.fixture
 def file(room: Path) -> TokenFile:
-    """One of two names, with a token each."""
+    """A file of two names, with a token each."""
     path = room / "T"
     path.touch(mode=0o600)
     path.write_text(f"# by hand\n{ANN}\n{BOB}\n")
@@ -60,7 +60,7 @@ def test_no_change_is_lost_that_is_made_beside_another(front: Front) -> None:
 
 
 def test_a_change_that_was_killed_hinders_none(front: Front) -> None:
-    """It is stopped by a library before it has renamed its file, and killed then."""
+    """A library stops the change before it has renamed its file, and then the change is killed."""
     slow = front.folder / "slow"
     slow.mkdir()
     (slow / "sitecustomize.py").write_text("import os, time\nos.replace = lambda *_: time.sleep(1000)\n")
@@ -85,7 +85,7 @@ def test_a_rest_is_taken_away(rest: str, file: TokenFile) -> None:
 
 @pytest.mark.parametrize("text", ["ann another-token-0123456\nbob -\n", "notes\n"])
 def test_a_file_that_somebody_prepares_stays(text: str, file: TokenFile) -> None:
-    """It is named, and nothing is changed."""
+    """The file is named, and nothing is changed."""
     new = Path(f"{file.path}.new")
     new.touch(mode=0o600)
     new.write_text(text)
@@ -118,7 +118,7 @@ def test_a_change_waits_for_another_for_a_time(file: TokenFile, monkeypatch: pyt
 
 
 def test_a_change_that_is_stopped_is_told_to_the_next(front: Front) -> None:
-    """It waits for ten seconds, and ends with words."""
+    """The next change waits for ten seconds, and ends with a message."""
     slow = front.folder / "slow"
     slow.mkdir()
     (slow / "sitecustomize.py").write_text("import os, time\nos.replace = lambda *_: time.sleep(1000)\n")
@@ -137,7 +137,7 @@ def test_a_change_that_fails_leaves_nothing(file: TokenFile) -> None:
 
 
 def test_tokens_that_are_made_take_no_files_place(front: Front) -> None:
-    """Also if there is a rest of one that was killed between two steps."""
+    """Even if there is a remainder of a change that was killed between two steps."""
     ran = front.run("--make-tokens")
     assert (ran.status, ran.errors) == (2, f"front: tokens: {front.tokens}: File exists\n")
     os.link(front.tokens, front.folder / "T.new")

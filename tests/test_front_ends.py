@@ -1,4 +1,4 @@
-"""How a front ends whose server ends with a fault, or has other commands than the record."""
+"""The end of a front whose server ends with a fault, or has other commands than the record."""
 
 from __future__ import annotations
 
@@ -16,7 +16,7 @@ DOCUMENT = "see what it said before this, and docs/OPERATIONS.md"
 
 @pytest.fixture
 def front(program: Program, room: Path) -> Iterator[Front]:
-    """A front of a new auction, which isn't started."""
+    """A front of a new auction, not started yet."""
     made = Front(program, room)
     assert program.format(made.file).status == 0
     yield made
@@ -24,7 +24,7 @@ def front(program: Program, room: Path) -> Iterator[Front]:
 
 
 def behind(front: Front, *lines: str) -> None:
-    """Lets a script run the program, and then these lines."""
+    """Makes the front start a script, which runs the program and then these lines."""
     script = front.folder / "behind"
     script.write_text("\n".join(["#!/bin/sh", f'{front.program.path} "$@"', *lines]) + "\n")
     script.chmod(0o755)
@@ -33,7 +33,7 @@ def behind(front: Front, *lines: str) -> None:
 
 @pytest.mark.parametrize(("line", "how"), [("exit 1", "status 1"), ("kill -9 $$", "signal 9"), ("exit 77", "status 77")])
 def test_a_server_that_ends_with_a_fault_ends_the_front_with_1(front: Front, line: str, how: str) -> None:
-    """The record is written to its end all the same, and the next front goes on."""
+    """The record is still written to its end, and the next front goes on."""
     behind(front, line)
     front.start()
     assert Caller(front, "ann").ask("BID x 1 a 100") == "OK 1"
@@ -48,7 +48,7 @@ def test_a_server_that_ends_with_a_fault_ends_the_front_with_1(front: Front, lin
 
 
 def test_a_server_that_has_other_commands_ends_the_front_with_1(front: Front) -> None:
-    """By hand: the server says that it has eight, and the record has one."""
+    """By hand: the server says that it has eight commands, and the record has one."""
     script = front.folder / "behind"
     script.write_text(f'#!/bin/sh\n{front.program.path} "$@" | sed -u "s/CLOSED 1/CLOSED 8/"\n')
     script.chmod(0o755)

@@ -1,7 +1,7 @@
-"""Each call to the system that a front and its page make, and each request for memory, fails once: nothing hangs, nothing that was
-acknowledged is lost, and all is told.
+"""Each call to the system by a front and its page, and each request for memory, fails once. Nothing hangs, nothing that was
+acknowledged is lost, and each failure is reported.
 
-In the gate a sample of two minutes, by a seed that is printed; with `--long` every one of them.
+In the gate it is a sample of two minutes, with a seed that is printed; with `--long`, every one of them.
 """
 
 from __future__ import annotations
@@ -26,7 +26,7 @@ from harness.programs import Program, Ran
 from harness.serving import Client, Ended
 
 SAMPLE_SECONDS = int(os.environ.get("SAMPLE_SECONDS", 110))
-# An answer comes within so many seconds, with a restart of front or server in between.
+# How many seconds an answer may take, with a restart of front or server in between.
 ANSWER_SECONDS, CLIENT_SECONDS, PAUSE = 40, 10, 0.05
 LINES = [("ann", "BID x 1 a 100"), ("bob", "BID y 1 b 150"), ("desk", "CLOSE 1"), ("ann", "BID x 2 a 200")]
 NUMBERS = [f"OK {number}" for number in range(1, len(LINES) + 1)]
@@ -35,7 +35,7 @@ QUESTION, ANSWER = "SHOW", "ROUND 2 STAGE 1 OPEN REVENUE 250 COUNT 4"
 NETWORK = (errno.ECONNRESET, errno.ENOMEM, errno.EINTR)
 DISK = (errno.EIO, errno.ENOSPC)
 NAMES = (errno.EACCES, errno.EMFILE)
-# What each call may fail by.
+# The errors with which each call may fail.
 ERRORS: dict[str, tuple[int, ...]] = {
     **dict.fromkeys(("read", "write", "close", "lseek", "lseek64", "pread64", "ftruncate64", "fsync", "fdatasync"), (*DISK, errno.EINTR)),
     **dict.fromkeys(("recv", "send", "sendto", "shutdown", "connect", "getsockname", "getsockopt", "setsockopt"), NETWORK),
@@ -49,7 +49,7 @@ OTHERS = (errno.ENOMEM, errno.EINVAL)
 
 @dataclass(frozen=True)
 class Fault:
-    """That the n-th call of a kind fails, in the front or in its page."""
+    """A fault: the n-th call of a kind fails, in the front or in its page."""
 
     script: str
     call: str
@@ -61,7 +61,7 @@ class Fault:
 
 
 class Day:
-    """What happens behind a front while a call of it fails: bids, a close, the page, a reload, and the end."""
+    """A front's day, during which a call fails: bids, a close, the page, a reload, and the end."""
 
     def __init__(self, front: Front, conditions: Conditions) -> None:
         self.front = front
@@ -72,11 +72,11 @@ class Day:
             front.start()
 
     def look_at_end(self, ran: Ran) -> None:
-        """A front that ends by itself says why."""
+        """If a front ends by itself, it has to say why."""
         assert ran.status in (1, 2) and ran.errors.strip(), f"it ended in silence: {ran}"
 
     def go_on(self) -> None:
-        """It is started again if it has ended."""
+        """Starts the front again if it has ended."""
         if not self.front.is_running():
             self.look_at_end(self.front.ended())
             self.front.start()
@@ -99,7 +99,7 @@ class Day:
         raise AssertionError(f"no answer to {line!r}: {self.front.words_said()}")
 
     def see_page(self) -> None:
-        """The page comes, with a restart of it in between."""
+        """Waits until the page comes. The page may be restarted meanwhile."""
         end = time.monotonic() + ANSWER_SECONDS
         while time.monotonic() < end:
             self.go_on()
@@ -112,7 +112,7 @@ class Day:
         raise AssertionError(f"no page: {self.front.words_said()}")
 
     def pass_by(self) -> None:
-        """All of it, and its end."""
+        """The whole day, and its end."""
         assert [self.ask(*line) for line in LINES] == NUMBERS
         assert self.ask("public", QUESTION) == ANSWER
         self.see_page()
@@ -123,7 +123,7 @@ class Day:
             assert ran.status == 0 or ran.errors.strip(), f"it ended in silence: {ran}"
 
     def look_at_rest(self) -> None:
-        """The file and the record have what was answered, and nothing else."""
+        """Checks that the file and the record have the answered commands, and nothing else."""
         words = [*tool_words("replay"), self.front.record, "--file", self.front.file, "--program", self.front.program.path]
         ran = subprocess.run(list(map(str, words)), capture_output=True, text=True, timeout=60, env=with_package(os.environ))
         assert ran.returncode == 0, ran.stderr
@@ -161,7 +161,7 @@ class Tries:
         return self.faults.counts()
 
     def tried(self, fault: Fault) -> bool:
-        """Whether the call failed; AssertionError if anything then went wrong."""
+        """A day with this fault. Returns whether the call failed; if anything then went wrong, AssertionError is raised."""
         front = self.new_front()
         try:
             day = Day(front, self.faults.of(fault.script, begun_at(fault.script, front), fault.call, fault.number, fault.error))
@@ -179,7 +179,7 @@ class Tries:
 
 
 def begun_at(script: str, front: Front) -> Path:
-    """The file from whose opening on calls are counted: the page opens no configuration."""
+    """The file with whose opening the counting of calls begins: the page opens no configuration."""
     return front.config if script == FRONT else front.file
 
 
@@ -193,7 +193,8 @@ def all_faults(tries: Tries) -> list[Fault]:
 
 
 def sample(faults: list[Fault], seed: int) -> Iterator[Fault]:
-    """In turns one call and one request for memory; each kind of call as often as any other, however often it is made."""
+    """Takes a call and a request for memory in turn. All kinds of calls come equally often, however often the program makes them.
+    """
     source = random.Random(seed)
     requests = [fault for fault in faults if fault.call in MEMORY]
     kinds: dict[tuple[str, str, int], list[Fault]] = {}
@@ -223,7 +224,7 @@ def test_all_faults(tries: Tries) -> None:
 
 
 def tried(tries: Tries, faults: Iterable[Fault]) -> int:
-    """In how many days a call failed. AssertionError, with each fault by which something went wrong."""
+    """In how many days a call failed. If anything went wrong, AssertionError is raised, with each fault that led to it."""
     hit, wrong = 0, []
     for fault in faults:
         try:

@@ -1,4 +1,6 @@
-"""No file of a front is two things, neither by its own name nor by one that is made beside another; rotation moves logs alone."""
+"""No file of a front serves two purposes, neither under its own name nor under one derived from another's. Rotation moves only
+logs.
+"""
 
 from __future__ import annotations
 
@@ -23,7 +25,7 @@ NAMES = '[names]\ndesk = "auctioneer"\nann = ["x"]\n'
 
 
 def configured(folder: Path, log: str = "", **fields: str) -> Path:
-    """A configuration, whose files needn't be there; a log has eight."""
+    """A configuration. Its files needn't be there; a log has eight."""
     all_fields = {"file": "F", "record": "R", "tokens": "T", "listen": "127.0.0.1:0", "certificate": "S", "key": "K", **fields}
     lines = [f"{name} = {json.dumps(value)}" for name, value in all_fields.items()]
     table = f"[log]\nto = {json.dumps(log)}\nfiles = 8\n" if log else ""
@@ -91,7 +93,7 @@ def test_a_configuration_that_its_log_would_move_over_is_refused(tmp_path: Path)
     ],
 )
 def test_other_names_are_taken(log: str, fields: dict[str, str], tmp_path: Path) -> None:
-    """The log has eight files: its own and seven behind it."""
+    """The log has eight files: its own and seven older ones."""
     read(configured(tmp_path, log, **fields))
 
 
@@ -118,7 +120,7 @@ def written(log: Rotated, lines: int) -> None:
 
 
 def test_rotation_moves_no_other_file(tmp_path: Path) -> None:
-    """A log that can't be rotated says why, and nothing is moved."""
+    """If a log can't be rotated, it says why, and nothing is moved."""
     path = str(tmp_path / "L")
     log = Rotated(path, 2 * len(LINE), 3)
     written(log, 3)
@@ -145,7 +147,7 @@ def test_rotation_keeps_so_many_files(files: int, tmp_path: Path) -> None:
 
 
 def test_a_gap_between_logs_is_filled(tmp_path: Path) -> None:
-    """Older ones stay as they are; so nothing is lost if a rotation fails between two steps."""
+    """Older logs stay as they are, so nothing is lost if a rotation fails between two steps."""
     log = Rotated(str(tmp_path / "L"), len(LINE), 5)
     written(log, 4)
     (tmp_path / "L.2").unlink()
@@ -173,7 +175,7 @@ def test_another_file_isnt_taken_for_a_log(data: bytes, tmp_path: Path) -> None:
 
 @pytest.mark.as_root
 def test_a_log_that_another_user_made_first_isnt_written(room: Path, nobody: User) -> None:
-    """In a folder that everyone may write. It is told, with the name."""
+    """In a folder that everyone may write. A message names the log and the reason."""
     folder = room / "shared"
     folder.mkdir()
     folder.chmod(0o1777)
@@ -186,11 +188,11 @@ def test_a_log_that_another_user_made_first_isnt_written(room: Path, nobody: Use
     assert (folder / "L").stat().st_size == 0
 
 
-# Lines that were cut short.
+# Unfinished lines.
 
 
 def test_a_line_that_a_full_disk_cut_is_ended_before_the_next(tmp_path: Path, monkeypatch: pytest.MonkeyPatch) -> None:
-    """By hand: of the second line ten bytes are written, then the disk is full for a while."""
+    """By hand: ten bytes of the second line are written, then the disk is full for a while."""
     log, write = Rotated(str(tmp_path / "L"), 10_000, 3), os.write
     log.write(LINE)
     room = [10]
@@ -238,7 +240,7 @@ def test_a_line_that_standard_error_took_in_part_is_ended(monkeypatch: pytest.Mo
 
 @pytest.fixture
 def front(program: Program, room: Path) -> Iterator[Front]:
-    """A front of a new auction, which isn't started."""
+    """A front of a new auction, not started yet."""
     made = Front(program, room)
     assert program.format(made.file).status == 0
     yield made
@@ -246,7 +248,7 @@ def front(program: Program, room: Path) -> Iterator[Front]:
 
 
 def test_a_log_that_would_be_moved_over_the_auction_is_refused(front: Front) -> None:
-    """At the start, and at SIGHUP, where the old configuration stays."""
+    """At the start, and at SIGHUP; then the old configuration stays in force."""
     auction = front.folder / "auction.1"
     front.file.rename(auction)
     before = auction.read_bytes()

@@ -1,4 +1,4 @@
-"""What strangers and names do stands in the log of a front, bounded, and never a token."""
+"""A front's log has the actions of strangers and names. It is bounded, and never has a token."""
 
 from __future__ import annotations
 
@@ -22,7 +22,7 @@ SECRET = "a-token-that-nobody-has-0123"
 
 @pytest.fixture
 def front(program: Program, room: Path) -> Iterator[Front]:
-    """A front of a new auction, which isn't started."""
+    """A front of a new auction, not started yet."""
     made = Front(program, room)
     assert program.format(made.file).status == 0
     yield made
@@ -30,7 +30,7 @@ def front(program: Program, room: Path) -> Iterator[Front]:
 
 
 def peer_of(connection: socket.socket) -> str:
-    """As the front sees this end."""
+    """The address of this end, as the front sees it."""
     address, port = connection.getsockname()[:2]
     return f"{address} {port}"
 
@@ -99,7 +99,7 @@ def test_restarts_and_a_failure_stand_in_the_log(front: Front) -> None:
 
 
 def test_many_strangers_are_counted_and_not_written(front: Front) -> None:
-    """Of 600 connections at once some hundred stand there, and how many more there were."""
+    """Of 600 connections at once, the log has a hundred or so, and the number of the others."""
     front.write_config()
     with front.config.open("a") as config:
         config.write("[log]\nlines_per_second = 50\n")
@@ -107,7 +107,7 @@ def test_many_strangers_are_counted_and_not_written(front: Front) -> None:
     for _ in range(600):
         socket.create_connection((ADDRESS, front.port), timeout=20).close()
     logged(front, "left_out", of="connection")
-    # Who comes last is taken last.
+    # The front takes connections in order, so this one is the last.
     front.client("ann")
     front.stop()
     written = len(front.log_lines("connection"))
@@ -153,7 +153,7 @@ def test_a_log_that_cannot_be_written_is_told_and_holds_up_nobody(front: Front) 
 
 
 def test_an_address_that_begins_tls_too_often_is_refused(front: Front) -> None:
-    """Twice as many may come at once as there may be in a second; those of another address are let in meanwhile."""
+    """Twice as many may come at once as may come in a second. Meanwhile, those of another address are let in."""
     front.context = make_certificate(front.folder)
     front.limits = {"handshakes_per_second": 2}
     front.write_config(certificate="S", key="K")

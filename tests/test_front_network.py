@@ -28,8 +28,8 @@ from hpb.front.network import Address, Refused, bound, take
 RESTARTS, MOST_SESSIONS = 100, 32
 BID = b"BID y 1 b 150\n"
 
-# What the other user runs: it reads which ports are listened at from /proc, of each process that it may look at, connects to each of
-# them, and bids. It writes the port and the answer of each that answers as the server does.
+# A script for the other user. It reads the listening ports from /proc, for each process that it may look at, connects to each of
+# them, and bids. If a port answers like the server, it writes the port and the answer.
 SCANNER = r"""
 import glob, itertools, socket, sys
 own, bid = {int(sys.argv[1])}, sys.argv[2].encode() + b"\n"
@@ -62,7 +62,7 @@ for turn in itertools.count():
 
 @pytest.fixture
 def front(program: Program, room: Path, cleanup: ExitStack) -> Iterator[Front]:
-    """A front of a new auction, which isn't started."""
+    """A front of a new auction, not started yet."""
     made = Front(program, room)
     assert program.format(made.file).status == 0
     yield made
@@ -71,7 +71,8 @@ def front(program: Program, room: Path, cleanup: ExitStack) -> Iterator[Front]:
 
 @pytest.fixture
 def many(front: Front) -> Front:
-    """The same with as many names as have a session each: so it takes long until all places are taken, and a stranger has time."""
+    """The same with as many names as there may be sessions. So it takes long until all places are taken, and a stranger has time.
+    """
     front.names = {**front.names, **{f"public_{number}": "observer" for number in range(MOST_SESSIONS - len(front.names))}}
     front.write_tokens({name: token_of(name) for name in front.names})
     front.write_config()
@@ -97,7 +98,7 @@ def kill_server(front: Front) -> None:
 
 @pytest.fixture
 def alone(network: Network) -> Iterator[None]:
-    """The test, and what it starts, are in a network that nobody else is in: a scanner finds no ports but those of its front."""
+    """The test, and everything that it starts, are in a network of their own: a scanner finds only the ports of its front."""
     with network.inside():
         yield
 
@@ -121,7 +122,9 @@ def test_another_user_reaches_no_server_over_100_restarts(many: Front, nobody: U
 @pytest.mark.as_root
 @pytest.mark.timeout(600)
 def test_the_same_user_reaches_a_server_on_a_shared_network(many: Front, nobody: User, alone: None, cleanup: ExitStack) -> None:
-    """That the test above can fail: on a network that the server shares with that user the same bid is accepted after some restarts."""
+    """Shows that the test above can fail: on a network that the server shares with that user, the same bid is accepted after some
+    restarts.
+    """
     front = many
     front.write_config(shared_network=True)
     front.start()
@@ -133,7 +136,7 @@ def test_the_same_user_reaches_a_server_on_a_shared_network(many: Front, nobody:
             caller.ask("SHOW")
             if select.select([process.stdout], [], [], 0)[0]:
                 break
-    # The record doesn't explain that command: the front ends when it next connects, if it hasn't yet.
+    # The record doesn't explain that command, so the front ends when it next connects, if it hasn't ended yet.
     if front.is_running():
         os.kill(front.child("serve"), signal.SIGKILL)
     ran = front.ended(60)
@@ -156,7 +159,7 @@ def test_a_front_of_another_user_has_a_network_of_its_own(front: Front, nobody: 
 
 @pytest.mark.as_root
 def test_a_system_that_gives_no_network_is_told(front: Front) -> None:
-    """No network may be made below a user namespace whose limit is 0."""
+    """In a user namespace whose limit is 0, no network can be made."""
     limited = ["unshare", "-Ur", "sh", "-c", 'echo 0 > /proc/sys/user/max_net_namespaces && exec "$@"', "sh"]
     ran = subprocess.run([*limited, *front.words()], capture_output=True, text=True, timeout=60)
     assert (ran.returncode, ran.stdout) == (1, "")
@@ -170,7 +173,7 @@ def test_a_port_needs_a_shared_network(front: Front) -> None:
 
 
 def test_a_file_that_was_told_commands_meanwhile_ends_the_front(front: Front) -> None:
-    """On a shared network, behind a server of somebody else, who lets another client in between two of its starts."""
+    """On a shared network, behind somebody else's server, which lets another client in between two of its starts."""
     port = free_port()
     front.write_config(port=port, shared_network=True)
     with Server(front.program, front.file, 8, port):
@@ -185,7 +188,7 @@ def test_a_file_that_was_told_commands_meanwhile_ends_the_front(front: Front) ->
 
 
 def test_sockets_that_are_handed_in_are_taken(front: Front) -> None:
-    """As systemd hands them in: from descriptor 3 on, with their number and the process that they are for."""
+    """As systemd passes them: from descriptor 3 on, with their number and the process that they are for."""
     with listening_socket() as given:
         port = given.getsockname()[1]
         front.write_config(listen=f"{ADDRESS}:{port}")
@@ -200,7 +203,9 @@ def test_sockets_that_are_handed_in_are_taken(front: Front) -> None:
 
 @pytest.mark.as_root
 def test_a_network_that_the_front_is_in_already_is_its_own(front: Front, network: Network) -> None:
-    """With PrivateNetwork= of systemd the sockets are the machine's, and the process is elsewhere: it needs no right to unshare."""
+    """With systemd's PrivateNetwork= the sockets are the machine's and the process is in another network: it needs no right to
+    unshare.
+    """
     with listening_socket() as given:
         port = given.getsockname()[1]
         front.write_config(listen=f"{ADDRESS}:{port}")
@@ -220,14 +225,16 @@ def test_a_network_that_the_front_is_in_already_is_its_own(front: Front, network
 
 @pytest.mark.parametrize("host", [ADDRESS, "0.0.0.0", "::"])
 def test_a_socket_listens_as_soon_as_it_has_its_address(host: str) -> None:
-    """Else another account could bind one to the same address as well, and listen first. By hand: a port of all addresses is taken of each."""
+    """Otherwise another account could bind a socket to the same address too, and listen first. By hand: a port of all addresses is
+    taken for each of them.
+    """
     with take(Address("listen", host, free_port()), []) as taken:
         for other in {host, ADDRESS, "0.0.0.0"} - ({ADDRESS, "0.0.0.0"} if host == "::" else set()):
             assert bind_too(other, taken.getsockname()[1]) == "Address already in use"
 
 
 def bind_too(host: str, port: int) -> str:
-    """What the system says to another socket of that address, which would share it."""
+    """The system's answer to another socket for that address, which would share it."""
     with socket.socket(socket.AF_INET6 if ":" in host else socket.AF_INET) as other:
         other.setsockopt(socket.SOL_SOCKET, socket.SO_REUSEADDR, 1)
         try:

@@ -1,4 +1,5 @@
-"""Front and page take the same at SIGHUP, and none is lost: not one that comes while the page comes up, nor in the first moment."""
+"""At SIGHUP, front and page take over the same values. No signal is lost, not even while the page comes up, or in the first moment.
+"""
 
 from __future__ import annotations
 
@@ -26,7 +27,7 @@ SECONDS = 30
 
 @pytest.fixture
 def front(program: Program, room: Path) -> Iterator[Front]:
-    """A front with a page, of a new auction, which isn't started."""
+    """A front with a page, for a new auction, not started yet."""
     made = Front(program, room, has_board=True)
     assert program.format(made.file).status == 0
     yield made
@@ -34,7 +35,7 @@ def front(program: Program, room: Path) -> Iterator[Front]:
 
 
 def shows(front: Front, token: str | None = None) -> int:
-    """The status of ann's page, once there is one."""
+    """The HTTP status of ann's page, once there is a page."""
     end = time.monotonic() + SECONDS
     while time.monotonic() < end:
         with suppress(OSError):
@@ -55,7 +56,7 @@ def new_token(front: Front) -> None:
 
 
 def before_python(front: Front, text: str) -> Conditions:
-    """What is read before each program of Python."""
+    """A module that each program of Python reads before it begins."""
     folder = front.folder / "before"
     folder.mkdir()
     (folder / "sitecustomize.py").write_text(text)
@@ -63,7 +64,7 @@ def before_python(front: Front, text: str) -> Conditions:
 
 
 def test_a_page_that_is_started_again_takes_what_the_front_has(front: Front) -> None:
-    """Not what stands in the files by then, which the front wasn't told to read."""
+    """It doesn't take the files' present contents, which the front wasn't asked to read."""
     front.start()
     assert shows(front) == 200
     new_token(front)
@@ -85,7 +86,7 @@ def test_what_the_front_refuses_the_page_doesnt_take(front: Front) -> None:
 
 
 def test_what_stays_for_the_front_stays_for_the_page(front: Front) -> None:
-    """Names are read at the start alone: a name of the configuration of then is no name of the page either."""
+    """Names are read only at the start. So a name that was added to the configuration since then is unknown to the page, too."""
     front.start()
     front.names = {**front.names, "eve": "observer"}
     front.write_config()
@@ -98,7 +99,7 @@ def test_what_stays_for_the_front_stays_for_the_page(front: Front) -> None:
 
 
 def test_the_page_shows_the_certificate_that_the_front_shows(front: Front) -> None:
-    """Also if there is another one, or none, when it is started again."""
+    """Even if there is another certificate, or none, when the page is started again."""
     front.context = make_certificate(front.folder)
     front.write_config(certificate="S", key="K")
     front.start()
@@ -121,7 +122,7 @@ if %r in sys.orig_argv:
 
 
 def test_a_signal_while_the_page_comes_up_reaches_it(front: Front) -> None:
-    """The page has read all by then, and takes two more seconds to come up."""
+    """The page has read everything by then, and takes two more seconds to come up."""
     mark = front.folder / "mark"
     front.begin(conditions=before_python(front, SLOW_PAGE % (PAGE, str(mark))))
     wait_until(mark.exists, SECONDS, "a page that comes up")
@@ -149,7 +150,7 @@ if %r in sys.orig_argv:
 
 
 def test_a_signal_in_the_first_moment_is_kept(front: Front) -> None:
-    """When the front has read nothing yet of what it is made of."""
+    """When the front has read none of its modules yet."""
     front.start(conditions=before_python(front, FIRST_MOMENT % FRONT))
     front.wait_until_said(READ_AGAIN)
     assert front.stop().status == 0

@@ -1,4 +1,4 @@
-"""A front ends within ten seconds of SIGTERM whatever hangs, and no failure of a call leaves it standing in silence."""
+"""A front ends within ten seconds of SIGTERM, whatever hangs, and no call's failure leaves it hanging without a word."""
 
 from __future__ import annotations
 
@@ -17,13 +17,13 @@ from harness.programs import Program
 from harness.serving import Ended, wait_until
 
 PAGE_CONNECTIONS = 256
-# So many threads the page has before anybody asks it, and a few more.
+# The number of threads that the page has before anybody asks it, and a few more.
 BEFORE_REQUESTS = 6
 
 
 @pytest.fixture
 def front(program: Program, room: Path) -> Iterator[Front]:
-    """A front with a page, of a new auction, which isn't started."""
+    """A front with a page, for a new auction, not started yet."""
     made = Front(program, room, has_board=True)
     assert program.format(made.file).status == 0
     yield made
@@ -36,7 +36,7 @@ def faults(library: Callable[[Path], Path], room: Path) -> Faults:
 
 
 def ends_on_time(front: Front, status: int) -> str:
-    """What a front says that is told to stop."""
+    """The messages of a front that is asked to stop."""
     ran = front.stop()
     assert ran.status == status, ran
     return ran.errors
@@ -61,7 +61,7 @@ def test_a_record_whose_disk_hangs_at_the_start(front: Front, faults: Faults, ca
 
 @pytest.mark.timeout(180)
 def test_a_record_whose_disk_hangs_under_a_bid(front: Front, program: Program, room: Path, faults: Faults) -> None:
-    """The first sync that comes once another front of that kind would listen."""
+    """The first sync after the moment at which such a front would listen."""
     folder = room / "counted"
     folder.mkdir()
     counted = Front(program, folder, has_board=True)
@@ -89,7 +89,7 @@ def test_a_server_that_is_stopped_holds_up_no_end(front: Front) -> None:
 
 
 def test_standard_error_that_nobody_reads_holds_up_no_end(front: Front) -> None:
-    """What the program says itself leads elsewhere."""
+    """The program's own messages lead elsewhere."""
     quiet = front.folder / "quiet"
     quiet.write_text(f'#!/bin/sh\nexec {front.program.path} "$@" 2>/dev/null\n')
     quiet.chmod(0o755)
@@ -112,7 +112,7 @@ def test_standard_error_that_nobody_reads_holds_up_no_end(front: Front) -> None:
 
 @pytest.mark.parametrize("number", range(1, 8))
 def test_a_thread_that_is_refused_is_told(front: Front, faults: Faults, number: int) -> None:
-    """Each thread that a front starts: it ends by it with words, or tries again with words, and serves."""
+    """Each thread that a front starts. If it is refused, the front says so, and ends or tries again and serves."""
     try:
         front.start(conditions=faults.of(FRONT, front.config, "pthread_create", number, errno.EAGAIN))
     except StartsNot as ended:
@@ -123,7 +123,7 @@ def test_a_thread_that_is_refused_is_told(front: Front, faults: Faults, number: 
 
 
 def test_the_page_gives_places_back_whose_threads_are_refused(front: Front, faults: Faults) -> None:
-    """More threads in turn than the page has places, once it is up."""
+    """Once the page is up, one after another more threads are refused than it has places."""
     many = PAGE_CONNECTIONS + 50
     front.start(conditions=faults.of(PAGE, front.file, "pthread_create", BEFORE_REQUESTS, errno.EAGAIN, many))
     for _ in range(BEFORE_REQUESTS + many):

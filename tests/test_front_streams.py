@@ -1,4 +1,4 @@
-"""What a front says and tells never stands in one of its files, and a failure of standard output isn't passed over."""
+"""A front's output and messages are never written into one of its files, and a failure of standard output isn't ignored."""
 
 from __future__ import annotations
 
@@ -20,7 +20,7 @@ SAID_FULL = "front: standard output can't be written: No space left on device"
 
 @pytest.fixture
 def front(program: Program, room: Path) -> Iterator[Front]:
-    """A front of a new auction with a record of two segments and a log, which isn't running."""
+    """A front of a new auction, with a record of two segments and a log. It isn't running."""
     made = Front(program, room)
     assert program.format(made.file).status == 0
     for name in ("R", "R.2", "R.asked", "R.log", "R.log.3"):
@@ -51,7 +51,7 @@ def shell(front: Front, redirection: str, *words: str) -> subprocess.CompletedPr
 )
 @pytest.mark.parametrize(("number", "stream"), [(1, "standard output"), (2, "standard error")])
 def test_a_stream_that_leads_into_a_file_of_the_front_is_refused(front: Front, name: str, field: str, number: int, stream: str) -> None:
-    """The words go to the other one."""
+    """The message goes to the other stream."""
     path = front.folder / name
     before = path.read_bytes()
     ran = shell(front, f"{number}>> {name}")
@@ -62,7 +62,7 @@ def test_a_stream_that_leads_into_a_file_of_the_front_is_refused(front: Front, n
 
 @pytest.mark.parametrize("words", [["--colour"], ["tokens", "paint"], ["tokens", "add", "eve"], ["--help"]])
 def test_words_that_are_wrong_arent_written_into_the_record(front: Front, words: list[str]) -> None:
-    """Neither where both streams lead there: then nothing is said."""
+    """If both streams lead there, there is no message at all."""
     ran = shell(front, ">> R 2>&1", *words)
     assert (ran.returncode, ran.stdout, ran.stderr) == (2, "", "")
     assert front.record.read_bytes() == b""
@@ -89,7 +89,7 @@ def test_a_name_that_was_added_isnt_written_into_the_tokens(front: Front) -> Non
 
 
 def test_nothing_gets_the_number_of_a_stream_that_is_closed(front: Front) -> None:
-    """Else the record would, and what the front says would stand in it."""
+    """Otherwise the record would, and the front's messages would be written into it."""
     for name in ("R", "R.2", "R.asked", "R.log", "R.log.3"):
         (front.folder / name).unlink()
     words = ["bash", "-c", 'exec "$@" 0<&- 2>&-', "bash", *front.words()]
@@ -126,7 +126,7 @@ def test_help_that_cannot_be_written(front: Front) -> None:
 
 
 def test_tokens_that_cannot_be_shown(front: Front) -> None:
-    """One that was added and that nobody has seen is named, to be revoked."""
+    """A token that was added and that nobody has seen is named, so that it can be revoked."""
     ran = shell(front, f"> {FULL}", "tokens", "list")
     assert (ran.returncode, ran.stderr) == (1, f"{SAID_FULL}\n")
     ran = shell(front, f"> {FULL}", "tokens", "add", "ann")

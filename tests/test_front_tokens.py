@@ -1,4 +1,4 @@
-"""Tokens, certificate and limits of a front that runs: changed by a file and SIGHUP, without a restart."""
+"""Tokens, certificate and limits of a running front: changed by a file and SIGHUP, without a restart."""
 
 from __future__ import annotations
 
@@ -28,7 +28,7 @@ REFUSED = "the old tokens, certificate and limits stay in force"
 
 @pytest.fixture
 def front(program: Program, room: Path) -> Iterator[Front]:
-    """A front of a new auction, which isn't started."""
+    """A front of a new auction, not started yet."""
     made = Front(program, room)
     assert program.format(made.file).status == 0
     yield made
@@ -43,7 +43,7 @@ def reload(front: Front, words: str = READ_AGAIN) -> None:
 
 
 def tokens(front: Front, *words: str) -> list[list[str]]:
-    """What `tokens` prints: the words of each line."""
+    """The output of `tokens`: the words of each line."""
     ran = subprocess.run(front.words("tokens", *words), capture_output=True, text=True, timeout=60)
     assert ran.returncode == 0, ran.stderr
     return [line.split() for line in ran.stdout.splitlines()]
@@ -87,7 +87,7 @@ def test_a_token_is_added_and_revoked_while_the_front_runs(front: Front) -> None
 
 
 def said_to(front: Front, token: str) -> str:
-    """What a connection is answered that says this token."""
+    """The answer to a connection that says this token."""
     client = front.client()
     answer = client.ask(f"TOKEN {token}")
     client.close()
@@ -131,7 +131,7 @@ def test_what_is_no_name_and_no_id_is_refused(front: Front) -> None:
 
 
 def test_lines_that_wait_when_a_token_goes_are_not_told(front: Front) -> None:
-    """The line that was told to the server is carried out, and none behind it."""
+    """The line that the server already has is carried out, and none behind it."""
     front.start()
     ann = front.client("ann")
     os.kill(front.child("serve"), signal.SIGSTOP)
@@ -223,7 +223,7 @@ def test_a_new_certificate_is_shown_to_those_who_come(front: Front) -> None:
 
 
 def certificate_until(folder: Path, days: float) -> None:
-    """A certificate `S` with its key `K` that ends so many days from now."""
+    """Makes a certificate `S` with its key `K`, valid for so many days from now."""
     key = rsa.generate_private_key(public_exponent=65_537, key_size=2_048)
     name = x509.Name([x509.NameAttribute(NameOID.COMMON_NAME, "localhost")])
     end = datetime.datetime.utcnow() + datetime.timedelta(days=days)
@@ -253,7 +253,7 @@ def test_the_end_of_a_certificate_is_told_at_the_start(front: Front, days: float
     assert words in said if words else "certificate" not in said
 
 
-# What is read before a program of Python.
+# A module that each program of Python reads before it begins.
 QUICK = """
 from hpb.front import certificate
 certificate.LOOK_SECONDS = 1
@@ -261,7 +261,7 @@ certificate.LOOK_SECONDS = 1
 
 
 def test_the_end_of_a_certificate_is_told_daily(front: Front) -> None:
-    """By a day that is a second long."""
+    """With a day that lasts a second."""
     certificate_until(front.folder, 5)
     front.write_config(certificate="S", key="K")
     quick = front.folder / "quick"

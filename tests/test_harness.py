@@ -1,4 +1,4 @@
-"""The harness itself: what the tests lean on is tried first."""
+"""The harness itself: the things that the tests depend on are tested first."""
 
 from __future__ import annotations
 

@@ -1,4 +1,4 @@
-"""Calls of streams that signals interrupt many times in a row: they are made all the same, and nothing else is answered."""
+"""Calls of streams that signals interrupt many times in a row: they succeed all the same, and the answers don't change."""
 
 from __future__ import annotations
 
@@ -12,9 +12,9 @@ from faults import Faults
 from harness.auctions import definition
 from harness.programs import Program
 
-# More often in a row than anyone would try who gives up.
+# More often in a row than any program would try that gives up.
 TIMES = 300
-# Each job makes these calls of its streams at least: a script and a run read twice, since the end is read, too.
+# Each job makes at least these calls of its streams. A script and a run read twice, since the end is read, too.
 CALLS = [("read", 1), ("read", 2), ("write", 1)]
 LINES = b"BID x 1 a 100\nBID y 1 b 150\nCLOSE 1\nSHOW\n"
 ANSWERS = "OK 1\nOK 2\nOK 3\nROUND 2 STAGE 1 OPEN REVENUE 250 COUNT 3\n"
@@ -22,7 +22,7 @@ ANSWERS = "OK 1\nOK 2\nOK 3\nROUND 2 STAGE 1 OPEN REVENUE 250 COUNT 3\n"
 
 @pytest.fixture
 def faults(library: Callable[[Path], Path], room: Path) -> Faults:
-    """The library by which calls fail."""
+    """The library that makes calls fail."""
     return Faults.built(library, room)
 
 

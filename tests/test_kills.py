@@ -23,12 +23,12 @@ pytestmark = pytest.mark.as_root
 KILLS = 6
 SEED = 61
 EMPTY = "ROUND 1 STAGE 1 OPEN REVENUE 0 COUNT 0"
-# How long a program lives before it is killed, in seconds: shorter than a whole job, or about as long.
+# How many seconds a program lives before it is killed: less than a whole job takes, or about as long.
 MOST_SECONDS = 0.03
 
 
 def killed(program: Program, dice: random.Random, text: bytes, *words: object) -> Ran:
-    """What a program has answered when it is killed at some moment, or ends before."""
+    """The answers of a program that is killed at some moment, or ends before."""
     with tempfile.TemporaryFile() as input:
         input.write(text)
         input.seek(0)

@@ -1,4 +1,4 @@
-"""Standard error that nobody reads, of `serve`: sessions, checkpoints and the end wait for nobody."""
+"""Standard error of `serve` that nobody reads: sessions, checkpoints and the end don't wait for it."""
 
 from __future__ import annotations
 
@@ -29,11 +29,11 @@ BATCHES = 60
 
 @dataclass
 class Errors:
-    """Standard error of a server, of which the tests have the other end: a pipe that is full, or a terminal that is stopped."""
+    """Standard error of a server. The tests hold its other end: a pipe that can be full, or a terminal that can be stopped."""
 
     own: int
     given: int
-    # What a pipe was filled with, in bytes.
+    # How many bytes the pipe was filled with.
     filled: int = 0
     is_terminal: bool = False
 
@@ -60,14 +60,14 @@ class Errors:
         os.set_blocking(self.given, True)
 
     def go_on(self) -> None:
-        """Ctrl-Q, or somebody who reads what the pipe is full of."""
+        """Ctrl-Q at a terminal; or the bytes that fill the pipe are read."""
         if self.is_terminal:
             termios.tcflow(self.given, termios.TCOON)
         while self.filled:
             self.filled -= len(os.read(self.own, min(self.filled, 1 << 16)))
 
     def said(self, seconds: float = 0.5) -> str:
-        """What comes until nothing has come for so long."""
+        """Everything that comes until nothing has come for so long."""
         data = b""
         while select.select([self.own], [], [], seconds)[0]:
             try:
@@ -86,7 +86,7 @@ class Errors:
 
 @pytest.fixture(params=["pipe", "terminal"])
 def errors(request: pytest.FixtureRequest) -> Iterator[Errors]:
-    """Each kind, which takes what is written until it is stopped."""
+    """Each kind. It takes whatever is written until it is stopped."""
     made = Errors.pipe() if request.param == "pipe" else Errors.terminal()
     yield made
     made.close()
@@ -101,7 +101,7 @@ def connected(stack: ExitStack, server: Server, count: int = SESSIONS) -> list[C
 
 
 def ends(server: Server, clients: list[Client], commands_kept: int, status: int = 0) -> None:
-    """It ends in time once its sessions have."""
+    """Ends the sessions, and checks that the server then ends in time."""
     for client in clients:
         assert client.finish() == []
     ran = server.ended(BOUND)
@@ -109,7 +109,7 @@ def ends(server: Server, clients: list[Client], commands_kept: int, status: int 
 
 
 def test_sessions_begin_and_end_though_nobody_reads(file: Path, serve: Serve, errors: Errors) -> None:
-    """The notice of a place comes before its session."""
+    """The notice about a place comes before its session."""
     errors.stop()
     server = serve(file, SESSIONS, errors=errors.given)
     with ExitStack() as stack:
@@ -119,7 +119,7 @@ def test_sessions_begin_and_end_though_nobody_reads(file: Path, serve: Serve, er
 
 
 def test_checkpoints_go_on_though_nobody_reads(program: Program, file: Path, serve: Serve, errors: Errors) -> None:
-    """The file was moved, which the checkpointer tells."""
+    """The file was moved, which the checkpointer reports."""
     server = serve(file, SESSIONS, errors=errors.given)
     with ExitStack() as stack:
         clients = connected(stack, server)
@@ -132,7 +132,7 @@ def test_checkpoints_go_on_though_nobody_reads(program: Program, file: Path, ser
 
 
 def test_a_server_ends_once_somebody_reads_why(file: Path, serve: Serve, errors: Errors) -> None:
-    """The file was cut, which ends it with 1. All sessions have ended by then, whoever reads."""
+    """The file was cut, so the server ends with 1. All sessions have ended by then, whether anyone reads or not."""
     server = serve(file, SESSIONS, errors=errors.given)
     with ExitStack() as stack:
         clients = connected(stack, server)
@@ -147,7 +147,7 @@ def test_a_server_ends_once_somebody_reads_why(file: Path, serve: Serve, errors:
 
 
 def test_what_waits_is_told_once_somebody_reads(file: Path, serve: Serve, errors: Errors) -> None:
-    """In its order, and all of it."""
+    """All of it, and in order."""
     errors.stop()
     server = serve(file, SESSIONS, errors=errors.given)
     with ExitStack() as stack:
@@ -173,7 +173,7 @@ def test_nobody_reads_at_all(file: Path, serve: Serve) -> None:
 
 
 def test_notices_that_find_no_room_are_counted_and_told(file: Path, serve: Serve, errors: Errors, room: Path, library: Library) -> None:
-    """The system gives no thread to write them: then they are written if standard error takes them at once."""
+    """The system refuses the thread that writes notices. Then they are written if standard error takes them at once."""
     faults = Faults.built(library, room)
     conditions = faults.of("hpb", file, "pthread_create", 1, errno.EAGAIN)
     errors.stop()

@@ -1,4 +1,4 @@
-"""A file that somebody else writes, cuts or takes the name of while it is served: it is told, and nothing else is."""
+"""A file that somebody else overwrites or cuts, or whose name he takes, while it is served: the server says so, and nothing else."""
 
 from __future__ import annotations
 
@@ -28,12 +28,13 @@ UNNAMED = (
 )
 HEAD_PAGES = 3
 GOES_ON, IS_IN_IT = "is answered by OK goes on into it", "was answered by OK is in it"
-# Commands before a file is served, before it is written, and behind that: more than a journal has room for, one in a batch.
+# How many commands there are before a file is served, before it is changed, and after that. The last are more than a journal has
+# room for, with one in a batch.
 BEFORE, MEANWHILE, BEHIND = 3, 8, 80
 
 
 def told(said: str) -> str:
-    """What is said but for places and their sessions."""
+    """The messages, except those about places and their sessions."""
     return PLACE.sub("", said)
 
 
@@ -44,7 +45,7 @@ def asked(client: Client, first: int, last: int) -> None:
 
 
 def is_told_at_a_checkpoint(server: Server, client: Client, first: int, words: str) -> int:
-    """Sends commands until this is said while the session goes on. How many the auction then has."""
+    """Sends commands until these words are said while the session goes on. Returns how many commands the auction then has."""
     for last in range(first + 1, first + BEHIND):
         asked(client, last - 1, last)
         if words in server.said():
@@ -53,7 +54,7 @@ def is_told_at_a_checkpoint(server: Server, client: Client, first: int, words: s
 
 
 def overwrite(file: Path, data: bytes, at: int = 0) -> None:
-    """As `cp` does it, into the same file."""
+    """Writes into the same file, as `cp` does."""
     with file.open("r+b") as opened:
         opened.seek(at)
         opened.write(data)
@@ -64,7 +65,7 @@ def cut(file: Path) -> None:
 
 
 def emptied(file: Path) -> None:
-    """As long as before, with zeros behind the head."""
+    """As long as before, with zeros after the head."""
     length = file.stat().st_size
     os.truncate(file, HEAD_PAGES * PAGE)
     os.truncate(file, length)
@@ -95,7 +96,7 @@ CHANGES: dict[str, Callable[[Path], None]] = {
 
 @pytest.fixture
 def kept(program: Program, file: Path) -> Path:
-    """A file that keeps some commands, and has a backup of that time."""
+    """A file with some commands, and a backup of it."""
     assert program.run_lines(file, text_of(commands(BEFORE))).status == 0
     file.with_name("backup").write_bytes(file.read_bytes())
     return file
@@ -103,8 +104,9 @@ def kept(program: Program, file: Path) -> Path:
 
 @pytest.fixture
 def calm(program: Program, kept: Path) -> Path:
-    """One that keeps more than its backup, with nothing in its journal. Tests ask it questions alone: a checkpoint would write over what
-    somebody else has written."""
+    """A file with more commands than its backup, and with nothing in its journal. Tests only ask it questions: a checkpoint would
+    overwrite the change of the file.
+    """
     assert program.run_lines(kept, text_of(commands(MEANWHILE)[BEFORE:]), "--every", 1).status == 0
     return kept
 
@@ -135,7 +137,7 @@ def test_it_is_told_at_the_end(calm: Path, serve: Serve, change: str) -> None:
 
 
 def places_of(layout: Layout) -> list[int]:
-    """The first byte of each part of a file: head, nodes, bidders, both slots, the journal; and its last one."""
+    """The first byte of each part of a file (head, nodes, bidders, both slots, the journal), and its last byte."""
     return [page * PAGE for page in (0, 1, 2, 3, 8, 13)] + [layout.pages(layout.least_journal) * PAGE - 1]
 
 
@@ -152,7 +154,7 @@ def test_each_byte_counts(calm: Path, layout: Layout, serve: Serve, number: int)
 
 
 def test_what_the_engine_writes_is_no_difference(kept: Path, serve: Serve) -> None:
-    """Through many checkpoints, with questions beside."""
+    """Over many checkpoints, with questions beside."""
     server = serve(kept, 2)
     with server.connect() as client, server.connect() as other:
         for last in range(BEFORE + 10, BEFORE + 300, 10):
@@ -175,7 +177,7 @@ def test_a_copy_of_itself_is_no_difference(kept: Path, serve: Serve) -> None:
 
 
 def test_a_backup_that_is_put_back_is_seen_by_check_as_an_older_auction(program: Program, calm: Path, serve: Serve) -> None:
-    """Why status 0 would be wrong: what was answered by OK is gone."""
+    """This is why status 0 would be wrong: commands that were answered by OK are gone."""
     server = serve(calm)
     with server.connect() as client:
         assert client.ask("SHOW").endswith(f" COUNT {MEANWHILE}")
@@ -186,7 +188,7 @@ def test_a_backup_that_is_put_back_is_seen_by_check_as_an_older_auction(program:
 
 
 def test_a_name_that_is_removed_beside_another_is_told(program: Program, kept: Path, serve: Serve) -> None:
-    """`rm F` of a file with a second name: it was said to be moved."""
+    """`rm F` of a file with a second name. At first the message was that it had been moved."""
     other, inode = kept.with_name("other"), kept.stat().st_ino
     os.link(kept, other)
     server = serve(kept)
@@ -202,7 +204,7 @@ def test_a_name_that_is_removed_beside_another_is_told(program: Program, kept: P
 
 
 def test_a_name_that_is_replaced_beside_another_is_told(program: Program, calm: Path, serve: Serve) -> None:
-    """`mv backup F`, where the file has a second name."""
+    """`mv backup F`, for a file with a second name."""
     other, inode = calm.with_name("other"), calm.stat().st_ino
     os.link(calm, other)
     server = serve(calm)

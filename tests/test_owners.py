@@ -1,4 +1,4 @@
-"""Whose an auction's file is: nobody but its owner reads, writes or locks it, and nobody else's file becomes one."""
+"""The owner of an auction's file: nobody else reads, writes or locks it, and nobody else's file becomes an auction."""
 
 from __future__ import annotations
 
@@ -26,7 +26,7 @@ IS_THERE = "{0}.new is there, by which name {0} is made first: if no other hpb m
 IS_FOREIGN = "{0}.new is another user's, and {0} is made by that name first: name a file in a folder that only you may write"
 IS_WRITABLE = "{0}.new may be written by others, and {0} is made by that name first: if no other hpb makes it now, give that one another name"
 FILE_IS_FOREIGN = "{0} is another user's, who could change the auction: name a file that isn't there, in a folder that only you may write"
-# An access list by which the user nobody may read and write what is made in a folder: tags, permissions, and a user's number.
+# An access list by which the user nobody may read and write all files made in a folder: tags, permissions, and a user's number.
 ACL_VERSION = 2
 ACL_ENTRY = struct.Struct("<HHI")
 ACL_OWNER, ACL_USER, ACL_GROUP, ACL_MASK, ACL_OTHER = 0x01, 0x02, 0x04, 0x10, 0x20
@@ -40,7 +40,7 @@ def refused(ran: Ran, file: Path, said: str) -> bool:
 
 
 def mode_of(path: Path) -> int:
-    """The permissions of a file, and not of what a link leads to."""
+    """The permissions of a file itself, even if it is a link."""
     return stat.S_IMODE(path.lstat().st_mode)
 
 
@@ -51,14 +51,14 @@ def write_as(path: Path, data: bytes, mode: int) -> None:
 
 
 def state_of(path: Path) -> tuple[object, ...]:
-    """What a refusal leaves as it was."""
+    """Everything that a refusal must leave unchanged."""
     found = path.lstat()
     data = path.read_bytes() if stat.S_ISREG(found.st_mode) else b""
     return found.st_ino, found.st_mode, found.st_uid, found.st_nlink, found.st_mtime_ns, data
 
 
 def opens(path: Path, flags: int) -> str:
-    """What becomes of opening a file: "opened", or the system's word."""
+    """The result of opening a file: "opened", or the system's word."""
     try:
         os.close(os.open(path, flags | os.O_NONBLOCK))
     except OSError as error:
@@ -73,7 +73,7 @@ def is_shut(path: Path, user: User) -> bool:
 
 @pytest.mark.parametrize("mode", [0o666, 0o644, 0o600], ids=oct)
 def test_another_users_file_beside_becomes_no_auction(program: Program, mounted: Path, nobody: User, mode: int, layout: Layout) -> None:
-    """He could write the auction, by its name or by what he has open."""
+    """He could write the auction, by its name or by his open descriptor."""
     beside = mounted / "F.new"
     nobody.call(write_as, beside, b"", mode)
     before = state_of(beside)
@@ -132,7 +132,7 @@ def test_a_rest_that_others_may_write_is_refused(program: Program, room: Path, m
 @pytest.mark.parametrize("mode", [0o600, 0o644], ids=oct)
 @pytest.mark.parametrize("length", [0, PAGE, len(ZEROS), len(ZEROS) + PAGE])
 def test_an_own_rest_is_no_hindrance(program: Program, room: Path, layout: Layout, length: int, mode: int) -> None:
-    """Of mode 644, too: so it was left by the program before."""
+    """With mode 644, too: an earlier program left files with that mode."""
     write_as(room / "F.new", bytes(length), mode)
     ran = program.format(room / "F", layout)
     assert (ran.output, ran.errors, ran.status) == (f"FORMATTED {layout.pages(layout.least_journal)}\n", "", 0)
@@ -141,7 +141,7 @@ def test_an_own_rest_is_no_hindrance(program: Program, room: Path, layout: Layou
 
 
 def test_who_had_a_rest_open_sees_and_locks_no_auction(program: Program, room: Path, nobody: User) -> None:
-    """A rest of mode 644 may be open elsewhere: what becomes the auction never was."""
+    """A remainder of mode 644 may be open elsewhere. The file that becomes the auction never was."""
     write_as(room / "F.new", ZEROS, 0o644)
     descriptor = os.open(room / "F.new", os.O_RDONLY)
     try:
@@ -178,7 +178,7 @@ def test_another_user_can_neither_open_nor_lock_a_file(program: Program, mounted
 
 
 def test_a_folders_access_list_lets_nobody_in(program: Program, mounted: Path, nobody: User) -> None:
-    """A list that holds for all that is made in a folder, where the file system has such lists."""
+    """A list that applies to all files made in a folder, if the file system has such lists."""
     entries = [(ACL_OWNER, READ_WRITE, NO_ID), (ACL_USER, READ_WRITE, nobody.uid), (ACL_GROUP, READ, NO_ID), (ACL_MASK, READ_WRITE, NO_ID), (ACL_OTHER, READ, NO_ID)]
     acl = struct.pack("<I", ACL_VERSION) + b"".join(ACL_ENTRY.pack(*entry) for entry in entries)
     os.setxattr(mounted, "system.posix_acl_default", acl)
@@ -196,7 +196,7 @@ def test_a_folders_group_gets_nothing(program: Program, mounted: Path, nobody: U
 
 
 def test_another_users_file_of_that_name_becomes_no_auction(program: Program, mounted: Path, layout: Layout, nobody: User) -> None:
-    """One of the right length that keeps none yet was formatted, and stayed his."""
+    """A file of the right length, but without an auction, used to be formatted, and stayed the other user's."""
     file = mounted / "F"
     nobody.call(write_as, file, bytes(layout.pages(layout.least_journal) * PAGE), 0o666)
     before = state_of(file)

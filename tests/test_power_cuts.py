@@ -1,7 +1,8 @@
-"""Power cuts of `format`, `run`, `serve`, and of a front with its record, on a disk that keeps any legal part of what wasn't synced.
+"""Power cuts of `format`, `run`, `serve`, and of a front with its record, on a disk that keeps any legal part of the unsynced
+changes.
 
-`--cuts N` makes about so many cuts in all (2,000 if it isn't given), over jobs, layouts and programs. A story that goes wrong tells its
-seed: `--seed S` tells that one alone, and `-k` chooses the job.
+`--cuts N` makes about so many cuts in all (default 2,000), over jobs, layouts and programs. A story that goes wrong gives its seed.
+`--seed S` runs that one alone, and `-k` chooses the job.
 """
 
 from __future__ import annotations
@@ -19,14 +20,14 @@ from harness.auctions import Layout
 from harness.disks import CutDisk, Lie
 from harness.programs import Program
 
-# Stories of a test: small, so that processes share them evenly.
+# Stories in a test: few, so that processes share them evenly.
 STORIES = 4
-# By how many stories a lie has to be found.
+# How many stories at most it may take to find a lie.
 MOST_STORIES_OF_A_LIE = 40
 
 
 class Job(enum.Enum):
-    """What is cut: how many of a hundred cuts are of it, how many each story has, and the story."""
+    """The jobs that are cut, each with its share of a hundred cuts, the number of cuts in a story, and the story."""
 
     FORMAT = (15, formatting.CUTS, formatting.story)
     RUN = (40, running.CUTS, running.story)
@@ -37,11 +38,11 @@ class Job(enum.Enum):
         self.share, self.cuts, self.story = share, cuts, story
 
     def stories(self, cuts: int, kinds: int) -> int:
-        """How many of one program and layout, if there are so many of these and so many cuts in all."""
+        """The number of stories for one program and layout, given the number of cuts in all and of such kinds."""
         return max(1, round(cuts * self.share / 100 / self.cuts / kinds))
 
 
-# Which lies each job has to find.
+# The lies that each job has to find.
 LIES = [
     (Job.FORMAT, Lie.SYNC),
     (Job.FORMAT, Lie.FOLDER),
@@ -64,14 +65,14 @@ def pytest_generate_tests(metafunc: pytest.Metafunc) -> None:
 
 
 def parts_of(stories: int) -> Iterator[range]:
-    """Their seeds, some for each test."""
+    """The seeds of stories, some for each test."""
     for first in range(0, stories, STORIES):
         yield range(first, min(first + STORIES, stories))
 
 
 @pytest.fixture
 def setting(program: Program, disk: CutDisk, layout: Layout, room: Path) -> Setting:
-    """Where trials of this test are made."""
+    """The setting for the trials of this test."""
     return Setting(program, disk, layout, room)
 
 

@@ -1,4 +1,4 @@
-"""What power cuts leave of a record is opened, with all that was synced; what was synced and is changed is refused.
+"""A record after power cuts: it is opened with everything that was synced, and refused if anything synced was changed.
 
     /usr/bin/python3 -m pytest tests/test_record_cuts.py            2,000 seeds; with those that are marked `long` 50,000
 """
@@ -41,7 +41,7 @@ def room() -> Iterator[Path]:
 
 @dataclass
 class Told:
-    """What a day of a front wrote: `known` and `asked` are on the disk, `tried` may be."""
+    """The writes of a front's day: `known` and `asked` are on the disk, and `tried` may be."""
 
     known: list[list[New]] = field(default_factory=list)
     tried: list[New] = field(default_factory=list)
@@ -53,7 +53,7 @@ def bid(number: int, dice: random.Random) -> bytes:
 
 
 def new_entries(told: Told, dice: random.Random) -> list[New]:
-    """Some entries as they may come next."""
+    """Some entries that may come next."""
     number, made = sum(entry.kind == "accepted" for entry in told.tried), []
     for _ in range(dice.choice([1, 1, 2, 3, 40])):
         number += 1
@@ -62,11 +62,11 @@ def new_entries(told: Told, dice: random.Random) -> list[New]:
 
 
 def day(record: RecordFile, told: Told, dice: random.Random) -> None:
-    """A front's day: commands are put beside the record, and answers into it."""
+    """A front's day: commands are written beside the record, and answers into it."""
     record.open()
     found = [New(kind, fields, AT) for kind, fields in commands(Path(record.path))] if record.place.number else []
     assert plain(found)[: sum(map(len, told.known))] == plain([entry for entries in told.known for entry in entries])
-    # What a front that was killed left, and the next one read, is on the disk from then on.
+    # If a killed front left an entry, and the next front read it, it is on the disk from then on.
     told.tried, told.known = list(found), [found] if found else []
     if not record.place.number:
         record.begin(DEFINITION)
@@ -88,7 +88,9 @@ def day(record: RecordFile, told: Told, dice: random.Random) -> None:
 
 
 def cut_day(room: Path, patch: pytest.MonkeyPatch, dice: random.Random) -> tuple[Disk, Told]:
-    """Days of a front that is killed at any call, until one whose power is cut at any call, or at the end of it."""
+    """Days of a front: it is killed at some call on each day but the last, and on the last its power is cut at some call, or at the
+    end.
+    """
     folder, told = room / "R", Told()
     folder.mkdir()
     with patch.context() as watching:
@@ -114,7 +116,7 @@ def put(files: dict[str, bytes], folder: Path) -> Path:
 
 
 def commands(path: Path) -> list[tuple[str, dict[str, Any]]]:
-    """The commands that a record has, which is whole in each segment."""
+    """The commands in a record, all of whose segments are whole."""
     return [("accepted", {field: entry[field] for field in ("name", "line", "answer")}) for entry in read_record(path)[0]
             if entry["kind"] == "accepted"]
 
@@ -128,7 +130,7 @@ LONG = [pytest.param(first, marks=pytest.mark.long) for first in range(SEEDS, LO
 
 @pytest.mark.parametrize("first", [*range(0, SEEDS, PER_TEST), *LONG])
 def test_what_a_cut_leaves_is_opened(first: int, room: Path, monkeypatch: pytest.MonkeyPatch) -> None:
-    """Each image has all that was synced, and nothing that wasn't written; and the record is gone on with."""
+    """Each image has everything that was synced, and nothing that wasn't written. The record can be continued."""
     torn = kept = 0
     for seed in range(first, first + PER_TEST):
         dice, here = random.Random(seed), room / str(seed)
@@ -156,7 +158,7 @@ def test_what_a_cut_leaves_is_opened(first: int, room: Path, monkeypatch: pytest
 
 @pytest.mark.parametrize("first", range(0, SEEDS // 10, PER_TEST))
 def test_what_was_synced_and_is_changed_is_refused(first: int, room: Path, monkeypatch: pytest.MonkeyPatch) -> None:
-    """Behind a cut, too, a byte that is changed in an earlier write than the last one that was synced is refused."""
+    """Even after a cut: if a byte of an earlier write than the last synced one is changed, the record is refused."""
     tried = 0
     for seed in range(first, first + PER_TEST):
         dice, here = random.Random(seed), room / str(seed)
@@ -177,7 +179,7 @@ def test_what_was_synced_and_is_changed_is_refused(first: int, room: Path, monke
 
 
 def look_refused(path: Path) -> None:
-    """That a record isn't gone on with."""
+    """Checks that a record isn't continued."""
     with ExitStack() as stack, pytest.raises(Damaged):
         record = RecordFile(str(path), SMALL_SEGMENT)
         stack.callback(record.close)
@@ -185,7 +187,7 @@ def look_refused(path: Path) -> None:
 
 
 def stopped(room: Path, writes: int = 4) -> tuple[Path, list[bytes]]:
-    """A record that was left in order, and how it stood before its last write and behind it."""
+    """A record that was closed in good order, and its contents after each write."""
     path = room / "R"
     record = RecordFile(str(path))
     record.open()
@@ -201,7 +203,7 @@ def stopped(room: Path, writes: int = 4) -> tuple[Path, list[bytes]]:
 
 
 def test_each_changed_byte_of_a_record_left_in_order_is_refused(room: Path) -> None:
-    """The last write is known to be on the disk, too, by what stands beside the record."""
+    """The last write is known to be on the disk too, from the file beside the record."""
     path, states = stopped(room)
     whole, beside = states[-1], (room / "R.asked").read_bytes()
     for at in range(0, len(whole), 7):
@@ -220,7 +222,7 @@ def test_each_changed_byte_of_a_record_left_in_order_is_refused(room: Path) -> N
 
 
 def subsets(old: bytes, new: bytes, part: int) -> Iterator[bytes]:
-    """All that may be left of a write behind what was synced: each part of it kept or lost, and each length."""
+    """All contents that a write may leave after the synced bytes: each part of it kept or lost, with each length."""
     parts = range(len(old) // part * part, len(new), part)
     for kept in itertools.product([False, True], repeat=len(parts)):
         data = bytearray(old.ljust(len(new), b"\0"))
@@ -233,7 +235,7 @@ def subsets(old: bytes, new: bytes, part: int) -> Iterator[bytes]:
 
 @pytest.mark.parametrize("part, entries", [(PAGE, 100), (SECTOR, 12)])
 def test_each_part_of_one_write_kept_or_lost(part: int, entries: int, room: Path) -> None:
-    """All subsets: what was synced before is there, and whole entries of the write in front of the first lost part are kept."""
+    """All subsets. Everything synced before is there, and so are the whole entries of the write before its first lost part."""
     path = room / "R"
     record, dice, told = RecordFile(str(path)), random.Random(2), Told()
     record.open()
@@ -260,13 +262,15 @@ def test_each_part_of_one_write_kept_or_lost(part: int, entries: int, room: Path
 
 
 def whole_before_difference(image: bytes, written: bytes) -> int:
-    """Where the last entry ends that is whole in front of the first byte that was lost."""
+    """The end of the last whole entry before the first lost byte."""
     same = next((at for at, (one, other) in enumerate(zip(image, written)) if one != other), min(len(image), len(written)))
     return written.rfind(b"\n", 0, same) + 1
 
 
 def test_an_entry_behind_says_that_the_one_before_was_synced(room: Path) -> None:
-    """Without what stands beside the record a later write decides; where there is none, what is changed may be torn."""
+    """Without the file beside the record, a later write shows that an entry was synced. If there is none, a changed entry may be a
+    torn one.
+    """
     path, states = stopped(room)
     (room / "R.asked").unlink()
     *_, before, whole = states
@@ -284,7 +288,7 @@ def test_an_entry_behind_says_that_the_one_before_was_synced(room: Path) -> None
 
 
 def test_entries_of_another_place_are_no_torn_write(room: Path) -> None:
-    """Whole entries of smaller numbers, or one that is missing in front of a later write, were no crash."""
+    """Whole entries with smaller numbers, or an entry missing before a later write, can't come from a crash."""
     path, states = stopped(room)
     whole = states[-1]
     lines = whole.splitlines(keepends=True)

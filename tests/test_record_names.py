@@ -1,4 +1,6 @@
-"""Files of others beside a record: a copy with the name of a segment, and what another user made first in a folder that all may write."""
+"""Other files beside a record: a copy with the name of a segment, and files that another user made first, in a folder that all may
+write.
+"""
 
 from __future__ import annotations
 
@@ -25,7 +27,7 @@ IN_THE_WAY = "R.2 stands where a segment of the record belongs, and isn't it"
 
 
 def written(path: Path, bids: int, most: int = SMALL_SEGMENT) -> RecordFile:
-    """A record with so many bids, one write for each."""
+    """A record with so many bids, each in a write of its own."""
     record = RecordFile(str(path), most)
     record.open()
     record.begin(DEFINITION)
@@ -39,7 +41,7 @@ def add(record: RecordFile, first: int, last: int) -> None:
 
 
 def count(path: Path) -> int:
-    """How many commands a record has, which is opened and let go of again."""
+    """How many commands a record has. It is opened for that, and closed again."""
     record = RecordFile(str(path), SMALL_SEGMENT)
     try:
         record.open()
@@ -50,7 +52,7 @@ def count(path: Path) -> int:
 
 @pytest.fixture
 def shared(room: Path) -> Path:
-    """A folder in which everyone may make files, as /tmp is."""
+    """A folder in which everyone may make files, such as /tmp."""
     folder = room / "shared"
     folder.mkdir()
     folder.chmod(0o1777)
@@ -72,7 +74,7 @@ def test_a_copy_with_a_number_that_no_segment_needs_is_passed_over(name: str, tm
 
 
 def test_a_copy_in_the_place_of_the_next_segment_is_named(tmp_path: Path) -> None:
-    """Nothing is changed by that; once it is moved the record is gone on with."""
+    """This changes nothing. Once the copy is moved, the record can be continued."""
     path = tmp_path / "R"
     written(path, 2).close()
     copy = Path(shutil.copy(path, tmp_path / "R.2"))
@@ -107,7 +109,7 @@ def test_what_is_no_file_is_passed_over_or_named(tmp_path: Path) -> None:
 
 
 def test_a_segment_goes_on_whose_successor_finds_its_name_taken(tmp_path: Path) -> None:
-    """So a copy that is made while the front runs ends nothing."""
+    """So a copy that is made while the front runs doesn't end anything."""
     path = tmp_path / "R"
     record = written(path, 1)
     shutil.copy(path, tmp_path / "R.2")
@@ -126,7 +128,7 @@ def test_a_segment_goes_on_whose_successor_finds_its_name_taken(tmp_path: Path) 
 
 
 def test_a_segment_never_takes_the_name_of_another_file(tmp_path: Path) -> None:
-    """Also if that comes in the last moment."""
+    """Even if that file comes in the last moment."""
     path = tmp_path / "R"
     (tmp_path / "R.2").write_bytes(b"of the operator\n")
     with pytest.raises(InTheWay, match=IN_THE_WAY):
@@ -154,7 +156,7 @@ def test_a_file_of_the_operator_isnt_taken_for_a_rest(what: str, tmp_path: Path)
 
 
 def rests(path: Path) -> Iterator[bytes]:
-    """What a front may leave that is killed while it makes a segment."""
+    """The remainders that a front may leave if it is killed while making a segment."""
     head = (path.parent / "R.2").read_bytes().splitlines(keepends=True)[0]
     yield from (b"", head, head[:40], head[:200], bytes(4_096))
 
@@ -202,7 +204,7 @@ def test_a_last_segment_of_another_user_is_refused(shared: Path, nobody: User) -
 
 @pytest.mark.as_root
 def test_another_user_takes_no_name_of_a_new_segment(shared: Path, nobody: User) -> None:
-    """Neither that of its beginning nor its own: the record goes on."""
+    """Neither the name of its beginning nor its final name: the record goes on."""
     path = shared / "R"
     record = written(path, 1)
     nobody.call((shared / "R.new").touch)
@@ -217,7 +219,7 @@ def test_another_user_takes_no_name_of_a_new_segment(shared: Path, nobody: User)
 
 
 def read_record_up_to(path: Path, last: int) -> list[str]:
-    """The commands, without the file of another user behind the last segment."""
+    """The commands, without the other user's file after the last segment."""
     (path.parent / f"R.{last + 1}").unlink()
     return [entry["answer"] for entry in read_record(path)[0] if entry["kind"] == "accepted"]
 

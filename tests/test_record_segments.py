@@ -1,4 +1,4 @@
-"""Segments of a record: how they are sealed, what a start reads of them, and how a record of the form before is gone on with."""
+"""Segments of a record: how they are sealed, what a start reads of them, and how a record of the earlier form is continued."""
 
 from __future__ import annotations
 
@@ -20,7 +20,7 @@ AT = "2026-11-30T12:00:00.000000Z"
 SMALL_SEGMENT = 2_000
 DEFINITION = {"step": 10}
 NAMES = {"desk": "auctioneer", "ann": ["x"]}
-# Written by the front of 28 November 2026 (commit d4ceda10): six commands, a start between them, and a kill behind the entry 23.
+# Written by the front of 28 November 2026 (commit d4ceda10): six commands, a start between them, and a kill after entry 23.
 FORM_BEFORE = Path(__file__).parent / "record" / "form-1.record"
 
 
@@ -29,7 +29,7 @@ def bid(number: int) -> New:
 
 
 def written(path: Path, bids: int, most: int = SMALL_SEGMENT) -> RecordFile:
-    """A record with so many bids, one write for each."""
+    """A record with so many bids, each in a write of its own."""
     record = RecordFile(str(path), most)
     record.open()
     record.begin(DEFINITION)
@@ -40,7 +40,7 @@ def written(path: Path, bids: int, most: int = SMALL_SEGMENT) -> RecordFile:
 
 
 def opened(path: Path, may_set_aside: bool = False) -> RecordFile:
-    """A record that is opened and let go of again; a Damaged says why it isn't."""
+    """A record that is opened and closed again. If it can't be, the Damaged that is raised says why."""
     record = RecordFile(str(path), SMALL_SEGMENT)
     try:
         record.open(may_set_aside)
@@ -74,7 +74,7 @@ def commands(path: Path) -> list[Entry]:
 
 
 def test_the_seal_is_that_of_the_file(tmp_path: Path) -> None:
-    """By the program of another hand: of all before the seal, and of the whole file."""
+    """As another program calculates it: the hash of everything before the seal, and of the whole file."""
     path = tmp_path / "R"
     written(path, 8).close()
     first, second = (Path(each).read_bytes() for each in segment_paths(str(path))[:2])
@@ -90,7 +90,7 @@ def by_sha256sum(data: bytes, folder: Path) -> str:
 
 
 def test_a_start_reads_the_last_segment_and_the_replay_all(tmp_path: Path) -> None:
-    """A byte within an earlier segment isn't looked at by a start; whoever reads all finds it."""
+    """A start doesn't look at the bytes of an earlier segment. A reader of all segments finds a changed one."""
     path = tmp_path / "R"
     written(path, 30).close()
     for each in segment_paths(str(path))[:-1]:
@@ -136,7 +136,7 @@ def another_head(paths: list[Path]) -> None:
 
 @pytest.mark.parametrize("change", [missing, shorter, longer, exchanged, another_end, another_head])
 def test_a_segment_that_isnt_the_one_that_was_sealed_is_refused(change: Callable[[list[Path]], None], tmp_path: Path) -> None:
-    """Nothing is changed by that, whether it may be set aside or not."""
+    """This changes nothing, whether it may be set aside or not."""
     path = tmp_path / "R"
     written(path, 30).close()
     change([Path(each) for each in segment_paths(str(path))])
@@ -150,7 +150,7 @@ def test_a_segment_that_isnt_the_one_that_was_sealed_is_refused(change: Callable
 
 
 def test_a_last_segment_that_is_gone_is_missed(tmp_path: Path) -> None:
-    """By what stands beside the record."""
+    """By the file beside the record."""
     path = tmp_path / "R"
     written(path, 30).close()
     Path(segment_paths(str(path))[-1]).unlink()
@@ -182,7 +182,7 @@ def test_another_file_of_that_name_is_no_segment(tmp_path: Path) -> None:
 
 
 def test_what_stands_beside_another_record_isnt_taken(tmp_path: Path) -> None:
-    """It is set aside where that may be, with the commands in it."""
+    """If setting aside is allowed, the file is set aside, with the commands in it."""
     path, other = tmp_path / "R", tmp_path / "other"
     written(path, 3).close()
     record = written(other, 1)
@@ -199,7 +199,7 @@ def test_what_stands_beside_another_record_isnt_taken(tmp_path: Path) -> None:
 
 
 def test_an_older_copy_is_refused(tmp_path: Path) -> None:
-    """Also one that was gone on with in another place."""
+    """Even one that was continued in another place."""
     path = tmp_path / "R"
     record = written(path, 2)
     older = path.read_bytes()
@@ -220,7 +220,7 @@ def test_an_older_copy_is_refused(tmp_path: Path) -> None:
         opened(path)
 
 
-# The form before.
+# The earlier form.
 
 
 @pytest.fixture
@@ -237,7 +237,7 @@ def test_a_record_of_the_form_before_is_opened(before: Path) -> None:
 
 
 def test_a_record_of_the_form_before_is_gone_on_with_in_a_segment_behind_it(before: Path) -> None:
-    """Its file stays as it was, and is read by the replay; a start reads the new segment alone."""
+    """Its file stays unchanged, and the replay reads it. A start reads only the new segment."""
     old = before.read_bytes()
     record = RecordFile(str(before))
     record.open()
@@ -256,7 +256,7 @@ def test_a_record_of_the_form_before_is_gone_on_with_in_a_segment_behind_it(befo
 
 
 def test_torn_ends_of_the_form_before(before: Path) -> None:
-    """What a crash may have left is set aside; what was answered was synced, and is refused if it was changed."""
+    """If a crash may have left it, it is set aside. An entry with an answer was synced, so a changed one is refused."""
     whole = before.read_bytes()
     lines = whole.splitlines(keepends=True)
     last_answered = len(b"".join(lines[:21]))
@@ -275,7 +275,7 @@ def test_torn_ends_of_the_form_before(before: Path) -> None:
 
 @pytest.mark.parametrize("length", [MOST_WRITE - 2_000, MOST_WRITE + 2_000])
 def test_what_is_longer_than_a_write_of_the_form_before_was_changed(before: Path, length: int) -> None:
-    """Behind an entry that isn't whole, if nothing else says when that was synced."""
+    """After an entry that isn't whole, if nothing else says when that was synced."""
     place, data = Place(), b""
     for line in before.read_bytes().splitlines(keepends=True):
         read_entry(line, place)

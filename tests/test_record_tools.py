@@ -1,4 +1,6 @@
-"""Tools that reach an auction or warn of a definition: no connection to itself, no control characters, no stage that asks for too much."""
+"""Tools that reach an auction or warn about a definition: no connection to itself, no control characters, no stage that asks for
+too much.
+"""
 
 from __future__ import annotations
 
@@ -18,12 +20,12 @@ from hpb.pages import following, reaching
 
 TOOLS = Path(__file__).resolve().parents[1] / "tools"
 PORT = 40_001
-# In a network of its own, in which the system gives this port alone to connections.
+# In a network of its own, in which the system hands out only this port to connections.
 ALONE = f"ip link set lo up && echo '{PORT} {PORT}' > /proc/sys/net/ipv4/ip_local_port_range && exec \"$@\""
 
 
 def own_end(monkeypatch: pytest.MonkeyPatch, port: int) -> None:
-    """Makes each connection begin at this port, as the system may let it."""
+    """Makes each connection begin at this port, as the system may do."""
     dial = socket.create_connection
     monkeypatch.setattr(socket, "create_connection", lambda place, patience: dial(place, patience, ("127.0.0.1", port)))
 
@@ -36,7 +38,7 @@ def free_port() -> int:
 
 
 def test_a_connection_to_itself_is_refused(monkeypatch: pytest.MonkeyPatch) -> None:
-    """Of client, page and watch, which open their connections by these two."""
+    """For client, page and watch, which make their connections by these two functions."""
     ports = free_port(), free_port()
     with monkeypatch.context() as patch, pytest.raises(ConnectionRefusedError):
         own_end(patch, ports[0])
@@ -55,7 +57,7 @@ def test_a_connection_to_another_is_taken() -> None:
 @pytest.mark.skipif(os.geteuid() != 0, reason="needs the rights of root")
 @pytest.mark.parametrize("tool", ["client", "watch", "board"])
 def test_a_tool_alone_in_a_network_isnt_answered_by_itself(tool: str, tmp_path: Path) -> None:
-    """At a port at which nobody listens, and which each connection gets."""
+    """Nobody listens at the port, and each connection gets that very port."""
     definition = tmp_path / "definition.json"
     definition.write_text(json.dumps(DEFINITION))
     words = {"client": [str(PORT)], "watch": ["--port", str(PORT), "--definition", str(definition)]}
@@ -88,7 +90,9 @@ def explained(text: str, folder: Path) -> tuple[str, int]:
 
 
 def test_a_stage_that_asks_for_more_than_all_licences_have_is_warned_of(tmp_path: Path) -> None:
-    """By hand: 80 percent of 37 are 29.6, so 30 of 30 units do; 95 percent are 35.15, so 36 are needed. Of 38, 80 percent are 30.4."""
+    """By hand: 80 percent of 37 are 29.6, so 30 of 30 units suffice; 95 percent are 35.15, so 36 are needed. Of 38, 80 percent are
+    30.4.
+    """
     told = "stage {} asks y for an activity of {} units, and all licences have 30: each close {} its eligibility\n"
     waives = "takes a waiver of it, and without one lowers"
     assert explained(json.dumps(DEFINITION), tmp_path) == (told.format(2, 36, waives), 1)
@@ -107,7 +111,7 @@ def test_control_characters_of_a_definition_are_escaped(tmp_path: Path) -> None:
 
 
 def test_client_escapes_what_a_server_says(tmp_path: Path) -> None:
-    """What isn't a welcome is told as a terminal may show it."""
+    """An answer that isn't a welcome is shown in a way that is safe for a terminal."""
     token = tmp_path / "T"
     token.touch(mode=0o600)
     token.write_text("a-token-of-a-trial-0\n")
@@ -126,7 +130,7 @@ def test_client_escapes_what_a_server_says(tmp_path: Path) -> None:
 
 @pytest.fixture
 def listener() -> Iterator[socket.socket]:
-    """An auction of a stranger."""
+    """A stranger's auction."""
     with socket.create_server(("127.0.0.1", 0)) as made:
         yield made
 
@@ -148,7 +152,7 @@ def client_at(listener: socket.socket, output: int, **more: Any) -> subprocess.P
     ids=["longest", "longer", "endless"],
 )
 def test_client_reads_no_longer_answer_than_there_is(answer: bytes, is_taken: bool, listener: socket.socket) -> None:
-    """By docs/PROTOCOL.md the longest has 104 bytes without its LF. The connection stays, and sends no end of the line."""
+    """By docs/PROTOCOL.md the longest answer has 104 bytes without its LF. The connection stays open, and the line isn't ended."""
     client = client_at(listener, subprocess.PIPE)
     with listener.accept()[0] as taken:
         taken.settimeout(20)
@@ -162,7 +166,7 @@ def test_client_reads_no_longer_answer_than_there_is(answer: bytes, is_taken: bo
 
 
 def test_client_escapes_answers_for_a_terminal_alone(listener: socket.socket) -> None:
-    """A title, a cleared screen, and what some terminals take for the beginning of a sequence."""
+    """A title, a cleared screen, and a byte that some terminals take for the beginning of a sequence."""
     answer = b"OK \x1b]0;title\x07\x1b[2J\r\x9b1A\n"
     mine, its = pty.openpty()
     for output in (its, subprocess.PIPE):
@@ -188,7 +192,7 @@ def test_client_says_that_its_output_fails(listener: socket.socket) -> None:
 
 
 def test_client_sends_no_answer_to_the_server(listener: socket.socket) -> None:
-    """If standard output is closed a connection would get its number."""
+    """If standard output is closed, a connection would get its number."""
     client = client_at(listener, subprocess.DEVNULL, preexec_fn=lambda: os.close(1))
     with listener.accept()[0] as taken:
         taken.settimeout(20)

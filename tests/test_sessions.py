@@ -1,4 +1,4 @@
-"""Sessions of `serve`: who has which place, how each ends, and that one which is promised is served to its end."""
+"""Sessions of `serve`: their places, how each ends, and that each promised session is served to its end."""
 
 from __future__ import annotations
 
@@ -22,14 +22,14 @@ from harness.serving import Client, Ended, NotServing, Serve, Server
 SESSIONS = 8
 # Within how many seconds a session is answered.
 BOUND = 10
-# Limits of memory are tried in these steps, from the least by which a server starts, in KiB; over so many of them.
+# Limits of memory are tried in steps of so many KiB, from the least with which a server starts, and this number of them.
 STEP, STEPS = 16, 48
-# Answers that a connection has no room for.
+# More answers than a connection has room for.
 MANY = 4_000_000
 
 
 def peer(client: Client) -> str:
-    """The client's end of its connection."""
+    """The address of the client's end of its connection."""
     address, port = client.socket.getsockname()
     return f"{address}:{port}"
 
@@ -49,7 +49,7 @@ def reset(client: Client) -> None:
 
 
 def test_who_has_which_place_is_told(file: Path, serve: Serve) -> None:
-    """And when a place's session has ended, whichever is the first."""
+    """And also when a place's session has ended, in whatever order."""
     server = serve(file, 2)
     with server.connect() as one:
         assert one.ask("SHOW").startswith("ROUND 1 ")
@@ -79,7 +79,7 @@ def test_a_connection_that_breaks_is_told_with_its_fault(file: Path, serve: Serv
 
 
 def test_a_client_that_reads_nothing_and_goes_is_told_with_its_fault(file: Path, serve: Serve) -> None:
-    """The session waits with an answer when the connection breaks."""
+    """The session has an answer waiting when the connection breaks."""
     server = serve(file)
     with server.connect() as client:
         who = peer(client)
@@ -106,7 +106,7 @@ def test_a_line_that_is_too_long_ends_no_session_in_silence(file: Path, serve: S
 
 @pytest.fixture(scope="module")
 def least(program: Program, place: Path) -> int:
-    """The least `ulimit -v` by which so many sessions are promised, in KiB."""
+    """The least `ulimit -v`, in KiB, with which so many sessions are promised."""
     file = Path(tempfile.mkdtemp(prefix="least-", dir=place)) / "F"
     assert program.format(file, text=bidders_definition(SESSIONS)).status == 0
     low, high = 1024, 1 << 20
@@ -117,7 +117,7 @@ def least(program: Program, place: Path) -> int:
 
 
 def is_promised(program: Program, file: Path, kib: int) -> bool:
-    """Whether a server says by this limit that it listens."""
+    """Whether a server says under this limit that it listens."""
     try:
         with Server(program, file, SESSIONS, conditions=NORMAL.with_memory(kib)):
             return True
@@ -126,7 +126,9 @@ def is_promised(program: Program, file: Path, kib: int) -> bool:
 
 
 def test_sessions_that_are_promised_are_served_to_their_end(program: Program, least: int, room: Path, layout: Layout) -> None:
-    """Where memory ends while they connect: each is answered to its end, or is told that there was none; no signal ends the program."""
+    """Memory may run out while they connect. Each session is answered to its end, or learns that memory was refused. No signal ends
+    the program.
+    """
     file = room / "F"
     assert program.format(file, layout, text=bidders_definition(SESSIONS)).status == 0
     faults = [fault for kib in range(least - 4 * STEP, least + STEPS * STEP, STEP) for fault in served_at(program, file, kib)]
@@ -134,11 +136,11 @@ def test_sessions_that_are_promised_are_served_to_their_end(program: Program, le
 
 
 def served_at(program: Program, file: Path, kib: int) -> Iterator[str]:
-    """What is wrong where all places are asked for under a limit of memory."""
+    """The faults, if all places are asked for under a limit of memory."""
     try:
         server = Server(program, file, SESSIONS, conditions=NORMAL.with_memory(kib))
     except NotServing as reason:
-        # One that says anything but LISTENING is killed by the harness.
+        # If it says anything but LISTENING, the harness kills it.
         if reason.ran.status not in (0, 1, -signal.SIGKILL):
             yield f"{kib} KiB, while it starts: {reason.ran}"
         return
@@ -154,7 +156,7 @@ def served_at(program: Program, file: Path, kib: int) -> Iterator[str]:
 
 
 def answer(stack: ExitStack, server: Server) -> str:
-    """What a client is answered, or why it isn't, which stays connected."""
+    """The answer to a client, or the reason why there is none. The client stays connected."""
     try:
         client = stack.enter_context(server.connect(BOUND))
         return client.ask("SHOW")

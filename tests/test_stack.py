@@ -1,4 +1,5 @@
-"""Limits of memory, from the least by which a program starts: each job gives the right answer, or says that memory was refused."""
+"""Limits of memory, from the least with which a program starts: each job gives the right answer, or says that memory was refused.
+"""
 
 from __future__ import annotations
 
@@ -23,19 +24,22 @@ pytestmark = pytest.mark.timeout(300)
 JOBS = ("script", "format", "check", "run", "serve")
 REFUSED = "hpb: 90 memory: "
 REFUSALS = ("ERR 90 memory", "ERR 90 memory\n", "ERR 94 place", "ERR 94 place\n")
-# A stack that is enough for each job, whatever the environment is, in KiB.
+# A stack in KiB that is enough for each job, whatever the environment is.
 ENOUGH = 1_408
-# Bytes of a variable, of which one may have 128 KiB with its name.
+# The bytes of a variable; with its name it may have 128 KiB.
 LONG = 120 * KIB
-# The least stack by which the system starts a program with it, in KiB.
+# The least stack in KiB with which the system starts a program that has such a variable.
 LEAST_BEHIND_LONG = 192
 LINES = text_of(greatest_lines())
 
 
 @dataclass(frozen=True)
 class Limit:
-    """A limit of `ulimit`, and how it is tried, in KiB: from the least on or the least by which a program starts, in steps, and then in
-    greater ones, since the threads of `serve` have stacks of 8 MiB each."""
+    """A limit of `ulimit`, and the sizes to try, in KiB.
+
+    It is tried from `least` on, or from the least size with which a program starts: first in steps of `step`, then in greater ones.
+    The greater ones are for the threads of `serve`, which have stacks of 8 MiB each.
+    """
 
     kind: int
     step: int
@@ -48,12 +52,12 @@ class Limit:
         return NORMAL.with_limit(self.kind, kib * KIB)
 
     def sizes(self, least: int) -> list[int]:
-        """Those that are tried."""
+        """The sizes to try."""
         near = least + self.steps * self.step
         return [*range(least, near, self.step), *range(near, near + self.far, self.far // self.far_steps)]
 
 
-# Of the stack each size is tried by which the system may start anything.
+# For the stack, every size is tried with which the system can start anything.
 LIMITS = {
     "-s": Limit(resource.RLIMIT_STACK, 8, 120, least=64),
     "-v": Limit(resource.RLIMIT_AS, 8, 160),
@@ -63,7 +67,7 @@ TRIED = [("-s", Layout.PAGES), ("-s", Layout.CELLS), ("-v", Layout.PAGES), ("-d"
 
 
 def least_of(program: Program, limit: Limit) -> int:
-    """The least by which the program says its version, to a step."""
+    """The least size with which the program prints its version, to within a step."""
     low, high = 0, 1 << 20
     while high - low > limit.step:
         middle = (low + high) // 2
@@ -72,7 +76,7 @@ def least_of(program: Program, limit: Limit) -> int:
 
 
 def starts(program: Program, conditions: Conditions) -> bool:
-    """Whether it says its version."""
+    """Whether it prints its version."""
     try:
         return program.run("--version", conditions=conditions).status == 0
     except (subprocess.SubprocessError, OSError):
@@ -81,7 +85,7 @@ def starts(program: Program, conditions: Conditions) -> bool:
 
 @dataclass
 class Work:
-    """A job on the greatest definition, in a room where F keeps it."""
+    """A job on the greatest definition, in a room with its file F."""
 
     program: Program
     job: str
@@ -90,12 +94,12 @@ class Work:
 
     @classmethod
     def of(cls, program: Program, job: str, room: Path, layout: Layout) -> Work:
-        """With a new file."""
+        """The job with a new file."""
         assert program.format(room / "kept", layout, text=greatest_definition()).status == 0
         return cls(program, job, room, layout)
 
     def does(self, conditions: Conditions) -> Ran:
-        """Does it once, on a file as it was before."""
+        """Does the job once, on the file as it was before."""
         if self.job == "serve":
             return self.serves(conditions)
         file = self.room / "F"
@@ -116,7 +120,7 @@ class Work:
         try:
             server = Server(self.program, self.room / "F", conditions=conditions)
         except NotServing as reason:
-            # One that says anything but LISTENING is killed by the harness.
+            # If it says anything but LISTENING, the harness kills it.
             return replace(reason.ran, status=1) if reason.ran.status == -signal.SIGKILL else reason.ran
         with server:
             answers = answered(server)
@@ -124,12 +128,12 @@ class Work:
         return replace(ran, output="".join(f"{line}\n" for line in answers) + ran.output)
 
     def restore(self) -> None:
-        """The file as it was before any command."""
+        """Restores the file as it was before any command."""
         (self.room / "F").write_bytes((self.room / "kept").read_bytes())
 
 
 def answered(server: Server) -> list[str]:
-    """What a client is answered that sends all lines."""
+    """The answers to a client that sends all lines."""
     try:
         with server.connect() as client:
             client.send(LINES)
@@ -139,7 +143,7 @@ def answered(server: Server) -> list[str]:
 
 
 def is_right(ran: Ran, right: Ran) -> bool:
-    """Whether a job was done as without a limit, or memory was refused, and that is said, with the status 1."""
+    """Whether a job was done as without a limit. Otherwise memory was refused, and the program has to say so, with the status 1."""
     if ran.status == 0:
         return ran.output == right.output
     return ran.status == 1 and (ran.output.endswith(REFUSALS) or REFUSED in ran.errors)
@@ -153,12 +157,12 @@ def test_no_limit_ends_a_job_by_a_signal(program: Program, room: Path, job: str,
 
 @pytest.mark.parametrize("job", JOBS)
 def test_a_long_environment_takes_no_room_of_a_job(program: Program, room: Path, job: str) -> None:
-    """The system counts it as the stack's."""
+    """The system counts it as part of the stack."""
     sweeps(Work.of(program, job, room, Layout.PAGES), replace(LIMITS["-s"], least=LEAST_BEHIND_LONG), {"LONG": "x" * LONG})
 
 
 def sweeps(work: Work, limit: Limit, environment: Mapping[str, str] = MappingProxyType({})) -> None:
-    """Does a job under each of these limits: none ends it by a signal, and by the greatest ones it is done."""
+    """Does a job under each of these limits. None may end it by a signal, and under the greatest ones it has to be done."""
     right = work.does(NORMAL)
     assert right.status == 0, right
     least = limit.least or least_of(work.program, limit)

@@ -1,4 +1,4 @@
-"""Standard streams that lead to the auction's file, or to that by which it is made: nothing is written there."""
+"""Standard streams that lead to the auction's file, or to the file from which it is made: nothing is written there."""
 
 from __future__ import annotations
 
@@ -16,24 +16,24 @@ from harness.namespaces import hide
 from harness.programs import Program, format_words
 
 SECONDS = 20
-# A stack that no job finds room in, in KiB.
+# A stack in KiB in which no job has enough room.
 LITTLE_STACK = 150
 
 
 def without_proc() -> None:
-    """The system then tells nobody what a stream leads to."""
+    """Hides /proc: then the system doesn't say where a stream leads."""
     hide("/proc")
 
 
 def without_devices() -> None:
-    """A stream that is closed can't be held then."""
+    """Hides /dev and closes standard input, whose number then can't be held by another stream."""
     hide("/dev")
     os.close(0)
 
 
 @pytest.fixture(params=[None, without_proc], ids=["proc", "no proc"])
 def seeing(request: pytest.FixtureRequest) -> Conditions:
-    """With what the system tells of streams, and without."""
+    """With the system's information about streams, and without it."""
     if request.param and os.geteuid() != 0:
         pytest.skip("only root can hide /proc")
     return Conditions(last=request.param)
@@ -51,7 +51,7 @@ def opened(path: Path, flags: int) -> Iterator[int]:
 
 @pytest.mark.parametrize("flags", [os.O_WRONLY | os.O_TRUNC, os.O_WRONLY | os.O_APPEND], ids=[">", ">>"])
 def test_an_output_beside_writes_into_no_auction(program: Program, room: Path, seeing: Conditions, flags: int) -> None:
-    """`format --file F > F.new`: by that name the file is made."""
+    """`format --file F > F.new`: the file is made under that name."""
     with opened(room / "F.new", flags) as output:
         ran = program.run(*format_words(room / "F"), text=definition(), output=output, conditions=seeing)
     assert (ran.errors, ran.status) == (f"hpb: 91 device: {led('standard output', room)}\n", 1)
@@ -68,7 +68,7 @@ def test_errors_beside_are_written_into_no_auction(program: Program, room: Path,
 
 
 def led(stream: str, room: Path) -> str:
-    """What is said of a stream that leads to what the file is made by."""
+    """The message about a stream that leads to the file under the name by which it is made."""
     return f"{stream} is {room / 'F'}.new, as {room / 'F'} is called while it is made: let it lead elsewhere"
 
 
@@ -120,14 +120,14 @@ def test_memory_that_is_refused_is_told_in_no_auction(program: Program, room: Pa
 
 
 def kept_bytes(program: Program, room: Path) -> bytes:
-    """A new auction in F, which `link` leads to, too."""
+    """A new auction in F; `link` leads to F, too."""
     assert program.format(room / "F").status == 0
     (room / "link").symlink_to("F")
     return (room / "F").read_bytes()
 
 
 def status_of(program: Program, words: tuple[str | bytes, ...], errors: int, room: Path, conditions: Conditions) -> int:
-    """How it ends with these words, in this folder."""
+    """The status with these words, in this folder."""
     process = subprocess.Popen(
         ["hpb", *words],
         executable=program.path,

@@ -11,7 +11,7 @@ from harness.programs import Program
 from harness.serving import NotServing, Serve
 
 SOURCE = Path(__file__).with_name("swap.c")
-# The calls that name the file look at streams, open the file, watch it and compare both. They are fewer than the most.
+# The calls that name the file look at streams, open the file, watch it and compare both. There are fewer than the greatest number.
 LEAST_CALLS, MOST_CALLS = 3, 20
 BID = "BID x 1 a 100"
 
@@ -29,7 +29,7 @@ def test_what_is_accepted_is_in_the_file_or_it_is_said_that_it_is_not(
         try:
             server = serve(file, conditions=conditions)
         except NotServing as reason:
-            # The path leads to another file now than the one that was opened.
+            # The path now leads to another file than the opened one.
             assert (reason.ran.output, other.exists()) == ("ERR 91 device", False), reason.ran
             assert program.count(file) == 0
             refused += 1
@@ -42,7 +42,7 @@ def test_what_is_accepted_is_in_the_file_or_it_is_said_that_it_is_not(
         assert ran.output == "CLOSED 1\n", ran
         assert program.count(file) == 1 or "no name" in ran.errors, ran
         if not was_swapped:
-            # So few calls name the file.
+            # There are no more calls that name the file.
             assert number > LEAST_CALLS and refused
             return
     raise AssertionError(f"more than {MOST_CALLS} calls name the file")

@@ -1,4 +1,4 @@
-"""Standard streams that somebody has set not to wait (`O_NONBLOCK`): the program waits for them."""
+"""Standard streams that somebody has made non-blocking (`O_NONBLOCK`): the program waits for them."""
 
 from __future__ import annotations
 
@@ -18,17 +18,17 @@ from harness.conditions import Conditions
 from harness.programs import Program, Ran, Stream, format_words, shown
 from harness.serving import Client, free_port
 
-# How long a stream isn't ready.
+# How many seconds a stream isn't ready.
 LATE = 0.3
 SECONDS = 20
-# Answers that no pipe has room for.
+# More answers than a pipe has room for.
 MANY = 20_000
 SHOWN = "ROUND 1 STAGE 1 OPEN REVENUE 0 COUNT 0"
 
 
 @dataclass
 class Ends:
-    """Both ends of a stream. That of the program never waits."""
+    """Both ends of a stream. The program's end never blocks."""
 
     own: int
     given: int
@@ -49,7 +49,7 @@ class Ends:
         os.close(self.given)
 
     def read(self) -> bytes:
-        """All that comes until the other end is closed."""
+        """Everything that comes until the other end is closed."""
         parts = []
         try:
             while part := os.read(self.own, 1 << 16):
@@ -60,7 +60,7 @@ class Ends:
         return b"".join(parts)
 
     def write(self, data: bytes) -> None:
-        """Writes all, and ends."""
+        """Writes everything, and closes the stream."""
         with os.fdopen(self.own, "wb") as stream:
             stream.write(data)
 
@@ -73,13 +73,13 @@ JOBS: dict[str, tuple[list[str], bytes]] = {
 
 @pytest.fixture(params=list(JOBS))
 def job(request: pytest.FixtureRequest) -> str:
-    """Those that read lines."""
+    """The jobs that read lines."""
     name: str = request.param
     return name
 
 
 def answered(program: Program, room: Path, job: str, text: bytes, input: Ends | None, output: Ends | None, late: float = LATE) -> Ran:
-    """How a job ends whose streams are these: each is written or read late."""
+    """The end of a job with these streams. Each is written or read late."""
     words, front = JOBS[job]
     if job == "run":
         assert program.format(room / "F").status == 0
@@ -102,7 +102,7 @@ def answered(program: Program, room: Path, job: str, text: bytes, input: Ends | 
 
 
 def start(program: Program, room: Path, words: list[str], input: Ends | None, output: Ends | None) -> subprocess.Popen[bytes]:
-    """With pipes that wait where there is no other stream."""
+    """With blocking pipes in the place of streams that aren't given."""
     given: Stream = input.given if input else subprocess.PIPE
     taken: Stream = output.given if output else subprocess.PIPE
     return program.start(*words, input=given, output=taken, conditions=Conditions(folder=room))
@@ -110,7 +110,7 @@ def start(program: Program, room: Path, words: list[str], input: Ends | None, ou
 
 @pytest.mark.parametrize("kind", ["pipe", "socket"])
 def test_an_input_that_never_waits_is_waited_for(program: Program, room: Path, job: str, kind: str) -> None:
-    """Whoever shares an open file may set it so."""
+    """Anyone who shares an open file may make it non-blocking."""
     ran = answered(program, room, job, text_of(commands(5)), Ends.of(kind, is_input=True), None)
     assert (ran.output, ran.errors, ran.status) == ("".join(f"OK {number}\n" for number in range(1, 6)), "", 0)
 
@@ -141,7 +141,7 @@ def test_a_definition_that_comes_late_is_waited_for(program: Program, room: Path
 
 
 def test_errors_that_never_wait_are_waited_for(program: Program, room: Path) -> None:
-    """A pipe that was full when the program ended with something to say."""
+    """The pipe was full when the program ended with a message."""
     errors = Ends.of("pipe", is_input=False)
     filled = fill(errors.given)
     process = program.start("check", "--file", room / "none", errors=errors.given)
