@@ -4,8 +4,8 @@
  *
  * FILE has just been formatted in this layout, 1 pages or 2 cells, with a journal of JOURNAL frames. A batch has RECORDS records.
  * EVERY is the number of batches between two checkpoints. With 0, one is made only when the journal is full; with -1, none is ever
- * made. It prints the number of calls, the seconds that they took, and the seconds of the first JOURNAL batches. docs/FORMATS.md
- * has the order of the calls, docs/DEVICE.md the pages and cells. */
+ * made. It prints the number of calls, the seconds that they took, and the seconds of the first JOURNAL batches. The order of
+ * the calls is in docs/FORMATS.md, and pages and cells are in docs/DEVICE.md. */
 #include <fcntl.h>
 #include <stdio.h>
 #include <stdlib.h>

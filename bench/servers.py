@@ -233,8 +233,7 @@ class Figures:
         self.requests = int(requests)
 
     def take_cost(self, before, after):
-        """Sets the cost of a command, from what the server had used before all commands and after them: microseconds, and switches.
-        """
+        """Sets the cost of a command, from what the server had used before all commands and after them: microseconds, and switches."""
         seconds, self.voluntary, self.involuntary = [(now - then) / self.requests for then, now in zip(before, after)]
         self.cost = seconds * 1e6
 

@@ -1,5 +1,4 @@
-"""Callers that don't play their part, beside one that does: nobody else waits for them, and the answers that they got stay valid.
-"""
+"""Callers that don't play their part, beside one that does: nobody else waits for them, and the answers that they got stay valid."""
 
 from __future__ import annotations
 

@@ -193,8 +193,7 @@ def all_faults(tries: Tries) -> list[Fault]:
 
 
 def sample(faults: list[Fault], seed: int) -> Iterator[Fault]:
-    """Takes a call and a request for memory in turn. All kinds of calls come equally often, however often the program makes them.
-    """
+    """Takes a call and a request for memory in turn. All kinds of calls come equally often, however often the program makes them."""
     source = random.Random(seed)
     requests = [fault for fault in faults if fault.call in MEMORY]
     kinds: dict[tuple[str, str, int], list[Fault]] = {}

@@ -1,6 +1,4 @@
-"""No file of a front serves two purposes, neither under its own name nor under one derived from another's. Rotation moves only
-logs.
-"""
+"""No file of a front serves two purposes, neither under its own name nor under one derived from another's. Rotation moves only logs."""
 
 from __future__ import annotations
 

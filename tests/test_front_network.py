@@ -71,8 +71,7 @@ def front(program: Program, room: Path, cleanup: ExitStack) -> Iterator[Front]:
 
 @pytest.fixture
 def many(front: Front) -> Front:
-    """The same with as many names as there may be sessions. So it takes long until all places are taken, and a stranger has time.
-    """
+    """The same with as many names as there may be sessions. So it takes long until all places are taken, and a stranger has time."""
     front.names = {**front.names, **{f"public_{number}": "observer" for number in range(MOST_SESSIONS - len(front.names))}}
     front.write_tokens({name: token_of(name) for name in front.names})
     front.write_config()
@@ -203,9 +202,7 @@ def test_sockets_that_are_handed_in_are_taken(front: Front) -> None:
 
 @pytest.mark.as_root
 def test_a_network_that_the_front_is_in_already_is_its_own(front: Front, network: Network) -> None:
-    """With systemd's PrivateNetwork= the sockets are the machine's and the process is in another network: it needs no right to
-    unshare.
-    """
+    """With systemd's PrivateNetwork= the sockets are the machine's and the process is in another network: it needs no right to unshare."""
     with listening_socket() as given:
         port = given.getsockname()[1]
         front.write_config(listen=f"{ADDRESS}:{port}")

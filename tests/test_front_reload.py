@@ -1,5 +1,4 @@
-"""At SIGHUP, front and page take over the same values. No signal is lost, not even while the page comes up, or in the first moment.
-"""
+"""At SIGHUP, front and page take over the same values. No signal is lost, not even while the page comes up, or in the first moment."""
 
 from __future__ import annotations
 

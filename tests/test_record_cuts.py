@@ -88,9 +88,7 @@ def day(record: RecordFile, told: Told, dice: random.Random) -> None:
 
 
 def cut_day(room: Path, patch: pytest.MonkeyPatch, dice: random.Random) -> tuple[Disk, Told]:
-    """Days of a front: it is killed at some call on each day but the last, and on the last its power is cut at some call, or at the
-    end.
-    """
+    """Days of a front. On each day but the last it is killed at some call; on the last its power is cut at some call, or at the end."""
     folder, told = room / "R", Told()
     folder.mkdir()
     with patch.context() as watching:

@@ -90,9 +90,7 @@ def explained(text: str, folder: Path) -> tuple[str, int]:
 
 
 def test_a_stage_that_asks_for_more_than_all_licences_have_is_warned_of(tmp_path: Path) -> None:
-    """By hand: 80 percent of 37 are 29.6, so 30 of 30 units suffice; 95 percent are 35.15, so 36 are needed. Of 38, 80 percent are
-    30.4.
-    """
+    """By hand: 80 percent of 37 are 29.6, so 30 of 30 units suffice; 95 percent are 35.15, so 36 are needed. Of 38, 80 percent are 30.4."""
     told = "stage {} asks y for an activity of {} units, and all licences have 30: each close {} its eligibility\n"
     waives = "takes a waiver of it, and without one lowers"
     assert explained(json.dumps(DEFINITION), tmp_path) == (told.format(2, 36, waives), 1)

@@ -1,5 +1,4 @@
-"""Limits of memory, from the least with which a program starts: each job gives the right answer, or says that memory was refused.
-"""
+"""Limits of memory, from the least with which a program starts: each job gives the right answer, or says that memory was refused."""
 
 from __future__ import annotations
 

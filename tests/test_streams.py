@@ -21,7 +21,7 @@ LITTLE_STACK = 150
 
 
 def without_proc() -> None:
-    """Hides /proc: then the system doesn't say where a stream leads."""
+    """Hides /proc: then the system doesn't name the file of a stream."""
     hide("/proc")
 
 

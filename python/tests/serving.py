@@ -16,8 +16,7 @@ DEFINITION = EXAMPLES.joinpath("package-beats-parts.txt").read_bytes().split(b"\
 
 
 def few(examples: int) -> hypothesis.settings:
-    """Settings for tests that run the program, which takes time: this number of examples, or 30 times as many in the long profile.
-    """
+    """Settings for tests that run the program, which takes time: this number of examples, or 30 times as many in the long profile."""
     is_long = hypothesis.settings.default.max_examples > 1000
     return hypothesis.settings(max_examples=examples * (30 if is_long else 1))
 

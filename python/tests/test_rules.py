@@ -104,9 +104,7 @@ def first_example(*lines: str) -> Auction:
 
 
 def test_by_how_much_nodes_must_rise_in_the_first_example() -> None:
-    """`all` wins by 500, and its parts have 250 and 100. East needs 400 beside the 100 on c, and c needs 250 beside the 250 of
-    east.
-    """
+    """`all` wins by 500, and its parts have 250 and 100. East needs 400 beside the 100 on c, and c needs 250 beside the 250 of east."""
     auction = first_example()
     rises = {name: rise_to_win(auction.tree, auction.standing, name) for name in auction.tree.nodes}
     assert {name: (rise.amount, rise.rise, rise.parts_rise) for name, rise in rises.items()} == {
@@ -120,8 +118,7 @@ def test_by_how_much_nodes_must_rise_in_the_first_example() -> None:
 
 
 def test_what_keeps_eligibility_in_the_first_example() -> None:
-    """After close 1 minima are a 160, b 210, c 200, d 100. Of w's 25 units 20 are needed: c has 20; a and b have 20 too, for 370.
-    """
+    """After close 1 minima are a 160, b 210, c 200, d 100. Of w's 25 units 20 are needed: c has 20; a and b have 20 too, for 370."""
     auction = first_example()
     minima = auction.standing.minima
     kept = keep_eligibility(auction.tree, minima, 80, 25)

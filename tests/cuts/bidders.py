@@ -27,8 +27,7 @@ def new_bidders() -> list[Bidder]:
 
 
 def cutting(setting: Setting, dice: random.Random) -> Callable[[], None]:
-    """A function that cuts the power at some moment. Or the disk is set now to cut it at some call, and the function does nothing.
-    """
+    """A function that cuts the power at some moment. Or the disk is set now to cut it at some call, and the function does nothing."""
     if dice.randrange(2):
         setting.disk.arm(dice.randint(1, MOST_CALLS))
         return lambda: None

@@ -1,5 +1,4 @@
-"""Cuts of `format`. The file is missing, or unformatted, or whole and new. A further `format` makes it, or says that it is there.
-"""
+"""Cuts of `format`. The file is missing, or unformatted, or whole and new. A further `format` makes it, or says that it is there."""
 
 from __future__ import annotations
 

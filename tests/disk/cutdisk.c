@@ -1,32 +1,32 @@
 /* A disk whose power can be cut: a file system in memory that knows of each change whether it was synced.
-
-       cutdisk FOLDER        mounts an empty one there, and serves it until it is unmounted or ended
-
-   The unsynced changes of a file are its writes and changes of length since its last sync: fsync, fdatasync, or a write by O_SYNC or
-   O_DSYNC. Those of a folder are the names that were made, linked, moved or removed since its last sync. A cut may leave any part of
-   these changes:
-
-   - Each unit of a file (a sector of 512 bytes, or a page of 4,096) is as it was at some moment since the sync. Units don't depend on
-     each other. The length is one that the file had or passed. Bytes that were never written are zeros.
-   - Changes of names are kept up to some change in their order, or each is kept or lost by itself. A rename is kept or lost as a whole.
-
-   Modes, owners and times are kept at once. sync_file_range and closing a file keep nothing.
-
-   The file `.disk` in the top folder, which no listing shows, takes commands. Write one, then read the answer:
-
-       reset           makes the disk empty, with power, whatever was before
-       settle          syncs everything
-       arm N           cuts the power at the N-th change or sync from now on: a change is begun, a sync is not
-       cut             cuts the power now: each call fails by EIO
-       image SEED      turns the power on, with contents that the cut may have left; another seed gives other contents of the same cut
-       count           answers how many changes and syncs there were
-       log             answers a line for each of them
-       lie none        from now on the disk is honest
-       lie sync        .. no sync of a file keeps anything
-       lie last        .. a cut loses the last write before a sync
-       lie folder      .. no sync of a folder keeps anything
-
-   All calls bypass the page cache of the system, so that a read shows the disk's contents. */
+ *
+ *     cutdisk FOLDER        mounts an empty one there, and serves it until it is unmounted or ended
+ *
+ * The unsynced changes of a file are its writes and changes of length since its last sync: fsync, fdatasync, or a write by O_SYNC or
+ * O_DSYNC. Those of a folder are the names that were made, linked, moved or removed since its last sync. A cut may leave any part of
+ * these changes:
+ *
+ * - Each unit of a file (a sector of 512 bytes, or a page of 4,096) is as it was at some moment since the sync. Units don't depend on
+ *   each other. The length is one that the file had or passed. Bytes that were never written are zeros.
+ * - Changes of names are kept up to some change in their order, or each is kept or lost by itself. A rename is kept or lost as a whole.
+ *
+ * Modes, owners and times are kept at once. sync_file_range and closing a file keep nothing.
+ *
+ * The file `.disk` in the top folder, which no listing shows, takes commands. Write one, then read the answer:
+ *
+ *     reset           makes the disk empty, with power, whatever was before
+ *     settle          syncs everything
+ *     arm N           cuts the power at the N-th change or sync from now on: a change is begun, a sync is not
+ *     cut             cuts the power now: each call fails by EIO
+ *     image SEED      turns the power on, with contents that the cut may have left; another seed gives other contents of the same cut
+ *     count           answers how many changes and syncs there were
+ *     log             answers a line for each of them
+ *     lie none        from now on the disk is honest
+ *     lie sync        .. no sync of a file keeps anything
+ *     lie last        .. a cut loses the last write before a sync
+ *     lie folder      .. no sync of a folder keeps anything
+ *
+ * All calls bypass the page cache of the system, so that a read shows the disk's contents. */
 #define _GNU_SOURCE
 #define FUSE_USE_VERSION 34
 #include <errno.h>

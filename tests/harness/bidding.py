@@ -13,8 +13,7 @@ JOIN_SECONDS = 60
 
 
 def bidders_definition(bidders: int) -> bytes:
-    """A definition with bidders b0, b1, .. and 64 licences l0, l1, ... Each bidder may bid 100 dollars on each licence at any time.
-    """
+    """A definition with bidders b0, b1, .. and 64 licences l0, l1, ... Each bidder may bid 100 dollars on each licence at any time."""
     fields = {
         "step": 10,
         "percent": 10,

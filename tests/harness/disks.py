@@ -63,8 +63,7 @@ class CutDisk:
         self._command("cut")
 
     def image(self, seed: int) -> str:
-        """Turns the power on again, with contents that the cut may have left. Another seed gives other contents after the same cut.
-        """
+        """Turns the power on again, with contents that the cut may have left. Another seed gives other contents after the same cut."""
         return self._command(f"image {seed}").strip()
 
     def calls(self) -> int:
@@ -86,9 +85,7 @@ class CutDisk:
 
 @contextmanager
 def mounted_disk(program: Path, folder: Path) -> Iterator[CutDisk]:
-    """The disk of a built cutdisk, mounted at this new folder until the end of `with`. If the system has no FUSE, `Lacking` is
-    raised.
-    """
+    """The disk of a built cutdisk, mounted at this new folder until the end of `with`. If the system has no FUSE, `Lacking` is raised."""
     if not os.access("/dev/fuse", os.R_OK | os.W_OK):
         raise Lacking("there is no /dev/fuse that may be used")
     if os.geteuid() != 0 and shutil.which("fusermount3") is None:

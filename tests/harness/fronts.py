@@ -149,9 +149,7 @@ class Front:
 
 
 def tool_words(name: str) -> list[str]:
-    """The words that start a command of the package, by the Python that runs the tests; the variables of `with_package` are needed
-    too.
-    """
+    """The words that start a command of the package, by the Python that runs the tests; the variables of `with_package` are needed too."""
     return [sys.executable, "-P", "-m", f"hpb.commands.{name}"]
 
 

@@ -116,9 +116,7 @@ def read_bytes(stream: IO[bytes], count: int, seconds: float = SECONDS) -> bytes
 
 
 class Typed:
-    """A program at a terminal. Lines are typed there; its answers and messages come through pipes. It is killed at the end of
-    `with`.
-    """
+    """A program at a terminal. Lines are typed there; its answers and messages come through pipes. It is killed at the end of `with`."""
 
     def __init__(self, program: Program, *words: object, errors: Stream = subprocess.PIPE) -> None:
         self._began, self._seconds = time.monotonic(), program.seconds

@@ -3,13 +3,15 @@
  *     cc -O2 -o client client.c
  *     printf 'BID x a 100\nBID y b 150\n\nSHOW\n\n' | ./client 5000 60
  *
- * Lines without tickets are read from standard input, in groups that an empty line ends. The lines of a group are sent ahead, up to 16 in
- * flight, and what became of each is written in their order: the answer; `OK ?` of a command that was accepted and whose number isn't
- * known any more; `UNANSWERED sent` or `UNANSWERED unsent` where no answer came in so many seconds. An empty line ends them.
+ * It reads groups of lines without tickets from standard input; an empty line ends a group. It sends the lines of a group ahead, up
+ * to 16 in flight. Then it writes the outcome of each line, in their order, and an empty line. An outcome is
  *
- * It gives the tickets, connects again where its connection is lost, and sends again what has no answer, so that each command counts
- * once. Names are the definition's, so that a line has 69 bytes at most. Needs POSIX. It has no TLS.
- */
+ * - the answer;
+ * - `OK ?` for a command that was accepted and whose number isn't known any more;
+ * - `UNANSWERED sent` or `UNANSWERED unsent`, if no answer came in so many seconds (here 60).
+ *
+ * It gives the tickets. If its connection is lost, it connects again, and sends the lines without an answer again, so that each
+ * command counts once. Names have to be those of a definition, so that a line has at most 69 bytes. It needs POSIX, and has no TLS. */
 #define _POSIX_C_SOURCE 200809L
 #include <arpa/inet.h>
 #include <errno.h>
@@ -33,7 +35,7 @@ enum { UNKNOWN = -1 };
 typedef enum { WAITS, IN_FLIGHT, AGAIN, DONE } State;
 
 typedef struct {
-    char kind, bidder[MOST_TEXT], rest[MOST_TEXT]; /* of a bid its node and amount; of a question all of it */
+    char kind, bidder[MOST_TEXT], rest[MOST_TEXT]; /* `rest`: a bid's node and amount, or a whole question */
     struct Row *row;
     long ticket; /* 0 for none yet */
     State state;
@@ -42,7 +44,8 @@ typedef struct {
     char outcome[MOST_ANSWER];
 } Item;
 
-/* The tickets of a bidder; the auctioneer's row has no name. A row is stalled when a command of it was refused with others behind it. */
+/* The tickets of a bidder, or of the auctioneer, whose row has no name. A row is stalled when a command of it was refused with
+ * others behind it. */
 typedef struct Row {
     char bidder[MOST_TEXT];
     long last, next;
@@ -52,7 +55,7 @@ typedef struct Row {
     int losses;
 } Row;
 
-/* What is in flight: an item, or the question for a row's tickets. */
+/* A line in flight: an item, or the question for a row's tickets. */
 typedef struct { Item *item; Row *row; } Sent;
 
 static int port, connection = -1, tries, flying, rows_used, items_used;
@@ -117,7 +120,7 @@ static void forget(Row *row)
     row->last = row->next = UNKNOWN;
 }
 
-/* Tickets up to this one are used: lines that were lost with them can count no more. */
+/* Tickets up to this one are used, so lost lines under them can't count any more. */
 static void is_used(Row *row, long ticket)
 {
     int kept = 0;
@@ -129,7 +132,7 @@ static void is_used(Row *row, long ticket)
     row->losses = kept;
 }
 
-/* Whether another line under the ticket of this one was lost: then a 13 doesn't tell which was kept. */
+/* Whether another line was lost under the same ticket: then a 13 doesn't tell which of the two was kept. */
 static bool is_unsure(const Item *item)
 {
     char line[MOST_TEXT];
@@ -152,7 +155,7 @@ static void note_loss(Item *item)
     item->was_lost = true;
 }
 
-/* With nothing in flight the next ticket is the one behind the last; the auctioneer's is asked for each time. */
+/* With nothing in flight, the next ticket follows the last one. The auctioneer's is asked for each time. */
 static void settle(Row *row)
 {
     for (int place = 0; place < items_used; place++)
@@ -164,7 +167,7 @@ static void settle(Row *row)
 
 /* The connection. */
 
-/* What has no answer goes out again: under its ticket, or under a new one if it would have got 15. */
+/* Lines without an answer go out again: under their ticket, or under a new one if they would have got 15. */
 static void lose(void)
 {
     if (connection < 0)
@@ -193,7 +196,7 @@ static void lose(void)
     }
 }
 
-/* A connection to a port that nobody serves may lead to itself, and then gives back all that it is sent. */
+/* Whether the connection leads to itself, and sends everything back. That may happen at a port that nobody serves. */
 static bool leads_to_itself(int made)
 {
     struct sockaddr_in here, there;
@@ -217,7 +220,7 @@ static bool is_made(int made, const struct sockaddr_in *address)
     return !leads_to_itself(made) && setsockopt(made, IPPROTO_TCP, TCP_NODELAY, &on, sizeof on) == 0;
 }
 
-/* Connects once, with a pause before that doubles up to two seconds. */
+/* Connects once, after a pause that doubles each time, up to two seconds. */
 static void reach(double end)
 {
     struct sockaddr_in address = {.sin_family = AF_INET, .sin_port = htons((unsigned short)port), .sin_addr.s_addr = htonl(INADDR_LOOPBACK)};
@@ -258,7 +261,7 @@ static void fly(Item *item, Row *row, const char *line)
     put(line);
 }
 
-/* Asks for a row's tickets, where they aren't known and nothing else of it is in flight. */
+/* Asks for a row's tickets, if they aren't known and nothing else of the row is in flight. */
 static void look_up(Row *row)
 {
     char line[MOST_TEXT];
@@ -269,7 +272,7 @@ static void look_up(Row *row)
     fly(NULL, row, line);
 }
 
-/* Whether a command may go out now: a bid behind others, all else alone; it gets a ticket if it has none. */
+/* Whether a command may go out now: a bid behind others, anything else only alone. It gets a ticket if it has none. */
 static bool is_due(Item *item)
 {
     Row *row = item->row;
@@ -283,7 +286,7 @@ static bool is_due(Item *item)
     return true;
 }
 
-/* Sends what may go out, in its order; a row that has to wait holds up none but itself. */
+/* Sends whatever may go out, in order. A row that has to wait holds up only itself. */
 static void send_all(void)
 {
     bool held[MOST_ROWS] = {false};
@@ -319,7 +322,8 @@ static void done(Item *item, const char *answer)
     tries = 0;
 }
 
-/* The rules take one bid once, whatever its tickets are. Anything else that was lost isn't numbered anew, or it may count twice. */
+/* The rules count the same bid once, whatever tickets it has. Any other command that was lost gets no new ticket, as it might count
+ * twice. */
 static void number_anew(Item *item, const char *answer)
 {
     Row *row = item->row;
@@ -341,7 +345,7 @@ static void take_command(Item *item, const char *answer)
         is_used(row, item->ticket);
         done(item, answer);
     } else if (number == 13) {
-        /* Of a line that was sent before: it was kept, with a later one behind it. */
+        /* The line was sent before: it was kept, and so was a later one. */
         bool was_kept = item->was_lost && !is_unsure(item);
         forget(row);
         if (was_kept)
@@ -365,7 +369,7 @@ static void take_command(Item *item, const char *answer)
         settle(row);
 }
 
-/* The answer to WHO, or to SHOW for the auctioneer, tells the tickets; a refusal is that of all commands of the row. */
+/* The answer to `WHO`, or to `SHOW` for the auctioneer, gives the tickets. A refusal is the answer to all commands of the row. */
 static void take_look_up(Row *row, const char *answer)
 {
     long ticket, round, stage;
@@ -386,7 +390,7 @@ static void take_look_up(Row *row, const char *answer)
 
 static void take(const char *answer)
 {
-    /* From 93 on nothing is accepted there, and a 95 ends the session: what has no answer is sent again elsewhere. */
+    /* After 93 nothing is accepted there, and 95 ends the session: lines without an answer are sent again elsewhere. */
     if (flying == 0 || strncmp(answer, "ERR 91", 6) == 0 || strncmp(answer, "ERR 93", 6) == 0 || strncmp(answer, "ERR 95", 6) == 0) {
         lose();
         return;
@@ -416,7 +420,7 @@ static void take_lines(void)
         lose();
 }
 
-/* Waits for answers, until the end or until nothing was heard for too long. */
+/* Waits for answers, until the end, or until nothing was heard for too long. */
 static void read_on(double end)
 {
     double silent = heard + patience / 3, until = silent < end ? silent : end, left = until - now();
@@ -444,7 +448,8 @@ static bool all_done(void)
     return true;
 }
 
-/* What has no answer in time is given up. Whether it counts isn't known, so its row's tickets are asked for before the next one. */
+/* Gives up lines without an answer in time. Nobody knows whether they count, so their rows' tickets are asked for before the next
+ * command. */
 static void give_up(void)
 {
     for (int place = 0; place < items_used; place++) {
@@ -455,7 +460,7 @@ static void give_up(void)
         if (item->row)
             forget(item->row);
     }
-    /* Its answers would be taken for those to the next group. */
+    /* Answers to these lines would be taken for answers to the next group. */
     lose();
 }
 

@@ -7,14 +7,18 @@
 //     console.log(await Promise.all([client.bid("y", "b", 150), client.ask("WHO y")]));
 //     client.end();
 //
-// Each call gives the answer as a text: a refusal too, as `ERR 22 low`. A command that was accepted, and whose number isn't known any
-// more, gives `OK ?`; what has no answer in its time `UNANSWERED sent` or `UNANSWERED unsent`. The client gives the tickets, has up to
-// 16 lines in flight, connects again where its connection is lost, and sends again what has no answer, so that each command counts once.
-// With `token` and `ca`, a certificate in PEM, it speaks TLS to a front.
+// Each call gives a text:
+//
+// - the answer, which may be a refusal such as `ERR 22 low`;
+// - `OK ?` for a command that was accepted and whose number isn't known any more;
+// - `UNANSWERED sent` or `UNANSWERED unsent`, if no answer came in time.
+//
+// The client gives the tickets, and has up to 16 lines in flight. If its connection is lost, it connects again, and sends the lines
+// without an answer again, so that each command counts once. With `token` and `ca`, a certificate in PEM, it speaks TLS to a front.
 //
 //     printf 'BID x a 100\nBID y b 150\n\nSHOW\n\n' | node client.mjs 5000 60
 //
-// is a program of it: groups of lines without tickets, each ended by an empty line, and what became of each line.
+// runs it as a program. It reads groups of lines without tickets, each ended by an empty line, and writes the outcome of each line.
 import net from "node:net";
 import tls from "node:tls";
 import readline from "node:readline";
@@ -23,7 +27,7 @@ import { pathToFileURL } from "node:url";
 const MOST_IN_FLIGHT = 16, MOST_ANSWER = 256, MOST_WRONG = 3, FIRST_PAUSE = 50, MOST_PAUSE = 2000;
 const ENDS = /^ERR (91 device|93 failed|95 order|front idle|front many)$/;
 
-/** The tickets of a bidder, or of the auctioneer, whose name is empty. Stalled is a row of which a command was refused with others behind. */
+/** The tickets of a bidder, or of the auctioneer, whose name is empty. A row is stalled if a command was refused with others behind it. */
 class Row {
   last = null;
   next = null;
@@ -37,7 +41,7 @@ class Row {
     this.bidder = bidder;
   }
 
-  /** Whether another line under the ticket of this one was lost: then a 13 doesn't tell which was kept. */
+  /** Whether another line was lost under the same ticket: then a 13 doesn't tell which of the two was kept. */
   isUnsure(item) {
     return [...(this.lost.get(item.ticket) ?? [])].some((line) => line !== item.line());
   }
@@ -56,21 +60,21 @@ class Row {
     this.last = this.next = null;
   }
 
-  /** With nothing in flight the next ticket is the one behind the last; the auctioneer's is asked for each time. */
+  /** With nothing in flight, the next ticket follows the last one. The auctioneer's is asked for each time. */
   settle() {
     this.isStalled = false;
     this.again = [];
     this.next = this.last === null || this.bidder === "" ? null : this.last + 1;
   }
 
-  /** Whether a command without a ticket may go out: a bid behind others, all else alone. */
+  /** Whether a command without a ticket may go out: a bid behind others, anything else only alone. */
   maySend(item) {
     if (this.isStalled || this.next === null || this.inFlight.some((sent) => this.isUnsure(sent))) return false;
     return item.kind === "BID" || this.inFlight.length === 0;
   }
 }
 
-/** A line that was asked for. A command has a row, and a ticket once it was numbered. */
+/** A line that was asked for. A command has a row, and once it got one, a ticket. */
 class Item {
   ticket = 0;
   wasLost = false;
@@ -103,7 +107,7 @@ export class Client {
   #silence = null;
   #hasEnded = false;
 
-  /** `seconds` is how long a call waits in all; after a third of that without an answer a connection is taken for lost. */
+  /** `seconds` is how long a call waits in all. After a third of that without an answer, the connection counts as lost. */
   constructor({ host = "127.0.0.1", port, token = null, ca = undefined, seconds = 150 }) {
     this.#where = { host, port, token, ca };
     this.#seconds = seconds;
@@ -117,7 +121,7 @@ export class Client {
     return this.#command("WAIVE", bidder, [bidder]);
   }
 
-  /** Closes the round. Where nobody bid or waived in it this ends the auction, for good. */
+  /** Closes the round. If nobody bid or waived in the round, this ends the auction for good. */
   close() {
     return this.#command("CLOSE", "", []);
   }
@@ -156,7 +160,7 @@ export class Client {
     });
   }
 
-  /** Nobody waits for it any more. Whether it counts isn't known, so its row's tickets are asked for before the next one. */
+  /** Gives up a line. Nobody knows whether it counts, so its row's tickets are asked for before the next command. */
   #giveUp(item) {
     item.isGivenUp = true;
     this.#waiting = this.#waiting.filter((other) => other !== item);
@@ -169,7 +173,7 @@ export class Client {
 
   // The connection.
 
-  /** Connects, with a pause before that doubles up to two seconds. */
+  /** Connects after a pause, which doubles each time, up to two seconds. */
   #reach() {
     const pause = this.#tries === 0 ? 0 : Math.min(MOST_PAUSE, FIRST_PAUSE * 2 ** Math.min(this.#tries, 10));
     this.#tries += 1;
@@ -193,7 +197,7 @@ export class Client {
   }
 
   #connected(made) {
-    // A connection to a port that nobody serves may lead to itself, and then gives back all that it is sent.
+    // At a port that nobody serves, a connection may lead to itself, and send everything back.
     if (made.localPort === made.remotePort && made.localAddress === made.remoteAddress) {
       this.#lose();
       return;
@@ -204,7 +208,7 @@ export class Client {
     this.#sendAll();
   }
 
-  /** What has no answer goes out again: under its ticket, or under a new one if it would have got 15. */
+  /** Lines without an answer go out again: under their ticket, or under a new one if they would have got 15. */
   #lose() {
     if (!this.#socket) return;
     this.#socket.destroy();
@@ -232,7 +236,7 @@ export class Client {
     if (this.#waiting.length && !this.#hasEnded) this.#reach();
   }
 
-  /** From now on so much silence is a loss, where something has to be answered. */
+  /** From now on, if an answer is owed, so much silence counts as a loss. */
   #heard() {
     clearTimeout(this.#silence);
     const isWaiting = () => this.#flight.length > 0 || !this.#isReady;
@@ -242,7 +246,7 @@ export class Client {
 
   // Sending.
 
-  /** Sends what may go out, in its order; a row that has to wait holds up none but itself. */
+  /** Sends whatever may go out, in order. A row that has to wait holds up only itself. */
   #sendAll() {
     if (!this.#isReady) return;
     if (this.#flight.length === 0) this.#heard();
@@ -272,7 +276,7 @@ export class Client {
     return true;
   }
 
-  /** Asks for a row's tickets, where they aren't known and nothing else of it is in flight. */
+  /** Asks for a row's tickets, if they aren't known and nothing else of the row is in flight. */
   #lookUp(row) {
     if (row.next !== null || row.isLookedUp || row.inFlight.length) return "";
     row.isLookedUp = true;
@@ -293,7 +297,7 @@ export class Client {
 
   #take(answer) {
     if (!this.#isReady) this.#takeWelcome(answer);
-    // From 93 on nothing is accepted there, and a 95 ends the session: what has no answer is sent again elsewhere.
+    // After 93 nothing is accepted there, and 95 ends the session: lines without an answer are sent again elsewhere.
     else if (ENDS.test(answer) || this.#flight.length === 0) this.#lose();
     else {
       const { item, row } = this.#flight.shift();
@@ -317,7 +321,7 @@ export class Client {
     if (!item.isGivenUp) item.done(answer);
   }
 
-  /** The answer to WHO, or to SHOW for the auctioneer, tells the tickets; a refusal is that of all commands of the row. */
+  /** The answer to `WHO`, or to `SHOW` for the auctioneer, gives the tickets. A refusal is the answer to all commands of the row. */
   #takeLookUp(row, answer) {
     row.isLookedUp = false;
     const who = /^WHO .* TICKET (\d+)/.exec(answer), shown = /^ROUND (\d+) STAGE (\d+) (OPEN|CLOSED)/.exec(answer);
@@ -338,7 +342,7 @@ export class Client {
       row.isUsedUpTo(item.ticket);
       this.#done(item, answer);
     } else if (number === 13) {
-      // Of a line that was sent before: it was kept, with a later one behind it.
+      // The line was sent before: it was kept, and so was a later one.
       const wasKept = item.wasLost && !row.isUnsure(item);
       row.forget();
       if (wasKept) this.#done(item, "OK ?");
@@ -359,7 +363,7 @@ export class Client {
     }
   }
 
-  /** The rules take one bid once, whatever its tickets are. Anything else that was lost isn't numbered anew, or it may count twice. */
+  /** The rules count the same bid once, whatever tickets it has. Any other command that was lost gets no new ticket, as it might count twice. */
   #numberAnew(item, answer) {
     item.row.isStalled = item.row.inFlight.length > 0;
     item.wrong += 1;
@@ -373,7 +377,7 @@ export class Client {
   }
 }
 
-/** What a line without a ticket asks for. */
+/** The call for a line without a ticket. */
 function asked(client, line) {
   const [kind, ...words] = line.split(" ");
   if (kind === "BID" && words.length === 3) return client.bid(...words);

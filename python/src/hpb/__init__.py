@@ -23,9 +23,7 @@ __all__ = [
 
 
 def __getattr__(name: str) -> Any:
-    """A name of this package, imported when it is first used. Importing `hpb` imports nothing else: a front has to hold signals
-    first.
-    """
+    """A name of this package, imported when it is first used. Importing `hpb` imports nothing else: a front has to hold signals first."""
     if name in __all__:
         for home in ("hpb.lines", "hpb.refusals", "hpb.client"):
             if hasattr(found := import_module(home), name):

@@ -91,7 +91,7 @@ class Accepted:
 
 @dataclass(frozen=True, slots=True)
 class Shown:
-    """The answer to SHOW: the round from 1, the stage from 1 to 4, the revenue of the last close in dollars, and how many commands
+    """The answer to `SHOW`: the round from 1, the stage from 1 to 4, the revenue of the last close in dollars, and how many commands
     were accepted.
     """
 
@@ -109,7 +109,7 @@ class Shown:
 
 @dataclass(frozen=True, slots=True)
 class NodeShown:
-    """The answer to NODE, for closed rounds, in dollars. If nobody has bid, `bidder` is None and `high` 0."""
+    """The answer to `NODE`, for closed rounds, in dollars. If nobody has bid, `bidder` is None and `high` 0."""
 
     name: str
     high: int
@@ -121,8 +121,7 @@ class NodeShown:
 
 @dataclass(frozen=True, slots=True)
 class WhoShown:
-    """The answer to WHO: bidding units, the last used ticket, and the waivers left. If the definition has no waivers, that is None.
-    """
+    """The answer to `WHO`: bidding units, the last used ticket, and the waivers left, which are None if the definition has none."""
 
     bidder: str
     eligibility: int
@@ -149,8 +148,7 @@ def numbered(command: AnyCommand, ticket: int) -> AnyCommand:
 
 
 def format_line(line: Line) -> str:
-    """The text of a command or a question. If a name has a space or an LF, or a number is out of its range, ValueError is raised.
-    """
+    """The text of a command or a question. If a name has a space or an LF, or a number is out of its range, ValueError is raised."""
     match line:
         case Bid(bidder, node, amount, ticket):
             return f"BID {_word(bidder)} {_number(ticket, MOST_TICKET)} {_word(node)} {_number(amount, MOST_AMOUNT)}"

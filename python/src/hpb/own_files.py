@@ -43,9 +43,7 @@ def look_at_owner(path: str, status: os.stat_result) -> None:
 
 
 def give_name(new: str, path: str) -> None:
-    """Moves a file to a name that isn't taken; if it is, FileExistsError is raised. A plain rename would replace the file of that
-    name.
-    """
+    """Moves a file to a name that isn't taken; if it is, FileExistsError is raised. A plain rename would replace the file of that name."""
     try:
         os.link(new, path)
     except OSError as fault:

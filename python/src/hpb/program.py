@@ -42,9 +42,7 @@ class Copy:
         return self._told(["check", "--file", str(self._file)])
 
     def run(self, lines: Sequence[str]) -> list[str]:
-        """The answer to each line. Changes stay in the copy. If the file is refused, or an answer is missing, `NotAnswered` is
-        raised.
-        """
+        """The answer to each line. Changes stay in the copy. If the file is refused, or an answer is missing, `NotAnswered` is raised."""
         answers = self._told(["run", "--file", str(self._file)], "".join(f"{line}\n" for line in lines))
         if len(answers) != len(lines):
             raise NotAnswered(f"{len(lines)} lines got {len(answers)} answers")

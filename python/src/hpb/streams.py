@@ -6,9 +6,7 @@ STANDARD_OUTPUT, STANDARD_ERROR = 1, 2
 
 
 def hold_closed_streams() -> None:
-    """Fills the numbers of closed streams, so that no file opened later gets one of them. Writing to such a stream fails, as
-    before.
-    """
+    """Fills the numbers of closed streams, so that no file opened later gets one of them. Writing to such a stream fails, as before."""
     for number in range(STANDARD_ERROR + 1):
         try:
             os.fstat(number)

@@ -78,9 +78,7 @@ class AsyncClient:
         return told((await self._asked([Bid(bidder, node, amount)]))[0], Accepted)
 
     async def waive(self, bidder: str) -> Accepted:
-        """Sends a waiver, which keeps the bidder's eligibility at the close of this round; refused by 11, 13 to 15, 20, 26, 28 and
-        29.
-        """
+        """Sends a waiver, which keeps the bidder's eligibility at the close of this round; refused by 11, 13 to 15, 20, 26, 28 and 29."""
         return told((await self._asked([Waive(bidder)]))[0], Accepted)
 
     async def close(self) -> Accepted:
@@ -204,9 +202,7 @@ class AsyncClient:
         return reader
 
     async def _read(self, reader: asyncio.StreamReader) -> None:
-        """Reads until the connection ends. If the other end owes an answer and stays silent for too long, the connection counts as
-        lost.
-        """
+        """Reads until the connection ends. If the other end owes an answer and stays silent for too long, the connection counts as lost."""
         loop, silence = asyncio.get_running_loop(), self._calls.settings.silence
         while self._writer is not None:
             begun = self._heard if self._calls.core.waits_for_answer else loop.time()

@@ -83,9 +83,7 @@ class Client:
         return told(self._asked([Bid(bidder, node, amount)])[0], Accepted)
 
     def waive(self, bidder: str) -> Accepted:
-        """Sends a waiver, which keeps the bidder's eligibility at the close of this round; refused by 11, 13 to 15, 20, 26, 28 and
-        29.
-        """
+        """Sends a waiver, which keeps the bidder's eligibility at the close of this round; refused by 11, 13 to 15, 20, 26, 28 and 29."""
         return told(self._asked([Waive(bidder)])[0], Accepted)
 
     def close(self) -> Accepted:

@@ -75,9 +75,7 @@ def _listening(given: argparse.Namespace, guests: Anybody) -> Server:
 
 
 def _keep_following(follower: Follower, end: Callable[[], None], faults: list[HpbError]) -> None:
-    """Asks until there is nothing more to ask. If the served auction has another definition, or anything fails here, the board
-    ends.
-    """
+    """Asks until there is nothing more to ask. If the served auction has another definition, or anything fails here, the board ends."""
     try:
         follower.follow()
     except HpbError as fault:

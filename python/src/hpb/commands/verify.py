@@ -2,8 +2,8 @@
 
     hpb check --file auction.hpb | tools/verify definition.json
 
-The argument is a file with the definition: JSON, or a script whose first line it is. Standard input has the answer to SHOW and the
-answers to NODE for each node, in any order. It may have answers to WHO. Other answers are ignored, and of several to one question
+The argument is a file with the definition: JSON, or a script whose first line it is. Standard input has the answers to `SHOW`
+and to `NODE` for each node, in any order. It may have answers to `WHO`. Other answers are ignored, and of several to one question
 the last counts. Nodes, bidders and the stage have to be those of the definition, and each bid one that it allows. docs/RULES.md
 explains the sums ("How to check a result").
 

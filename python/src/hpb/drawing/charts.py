@@ -21,8 +21,7 @@ _STYLE: Final = """
 
 
 class Panel:
-    """A chart. Each series has one value from before the first close, and one for each close. Values are whole numbers from 0 up.
-    """
+    """A chart. Each series has one value from before the first close, and one for each close. Values are whole numbers from 0 up."""
 
     def __init__(self, title: str, unit: str, series: Mapping[str, Sequence[int]]) -> None:
         """All series have the same number of values, at least one."""

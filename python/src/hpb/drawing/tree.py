@@ -184,8 +184,7 @@ class Outline(Picture):
 
 
 def pictures(tree: Tree, told: Told) -> list[Picture]:
-    """The tree in columns, or as an outline if the columns are too wide. If only a narrow screen has no room for the columns, both.
-    """
+    """The tree in columns, or as an outline if the columns are too wide. If only a narrow screen has no room for the columns, both."""
     columns = Columns(tree, told)
     if columns.width <= _MOST_NARROW:
         return [columns]

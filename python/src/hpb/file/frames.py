@@ -31,9 +31,7 @@ class Batch:
 
 
 def read_record(definition: Definition, record: bytes) -> Command:
-    """The command in a record of 16 bytes. If it holds none, `NoRecord` is raised. Whether the command is accepted isn't checked
-    here.
-    """
+    """The command in a record of 16 bytes. If it holds none, `NoRecord` is raised. Whether the command is accepted isn't checked here."""
     kind, bidder, node, zero, ticket, amount = RECORD.unpack(record)
     is_bid, has_bidder = kind == _BID, kind in (_BID, _WAIVE)
     if zero or not ticket or (not is_bid and (node or amount)) or (not has_bidder and bidder):

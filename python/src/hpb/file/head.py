@@ -18,8 +18,7 @@ _NO_PARENT: Final = 255
 
 @dataclass(frozen=True, slots=True)
 class Head:
-    """The contents of the first three pages. `state_format` is the format of states at formatting, 1 or 2; nothing depends on it.
-    """
+    """The contents of the first three pages. `state_format` is the format of states at formatting, 1 or 2; nothing depends on it."""
 
     definition: Definition
     layout: Layout

@@ -108,8 +108,7 @@ class Follower:
         self._stopped.set()
 
     def follow(self) -> None:
-        """Returns when there is nothing more to ask. If the auction isn't the definition's, `NotFollowed` or `NotTold` is raised.
-        """
+        """Returns when there is nothing more to ask. If the auction isn't the definition's, `NotFollowed` or `NotTold` is raised."""
         pause = self._pace
         while not self._stopped.is_set() and self.view.contact.places > 0:
             session = self._connect()

@@ -83,7 +83,7 @@ def connected(place: tuple[str, int], token: str | None, context: ssl.SSLContext
 
 def dialled(place: tuple[str, int], patience: float) -> socket.socket:
     """A connection to a place. If nobody listens at the port, the system may give the connection that very port, so that it leads
-    to itself. Then it is refused, as by a port where nobody listens.
+    to itself. Then it is refused, as if the port were closed.
     """
     connection = socket.create_connection(place, patience)
     if connection.getsockname() == connection.getpeername():

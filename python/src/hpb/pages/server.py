@@ -1,4 +1,4 @@
-"""Serves an auction's page to browsers: who may see it, its events, and how much a viewer may use (docs/BOARD.md)."""
+"""Serves an auction's page to the browsers that may see it, with its events, and limits each viewer (docs/BOARD.md)."""
 import collections
 import contextlib
 import socket

@@ -23,9 +23,7 @@ class State(StrEnum):
 
 
 class Contact(NamedTuple):
-    """The state of the connection to the server, since when in seconds of the system's clock, and how many more connections may be
-    made.
-    """
+    """The state of the connection to the server, since when in seconds of the system's clock, and how many more connections may be made."""
 
     state: State
     since: float
@@ -99,7 +97,7 @@ def period(shown: Shown) -> tuple[int, bool]:
 
 
 def _is_another(old: Told, now: Told) -> bool:
-    """Whether the answers don't continue what was seen before: for example, an older copy of the file is served now."""
+    """Whether the answers don't continue the earlier ones: for example, an older copy of the file is served now."""
     same_period = period(now.shown) == period(old.shown)
     return now.shown.count < old.shown.count or (same_period and now.nodes != old.nodes)
 

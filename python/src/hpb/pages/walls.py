@@ -44,9 +44,7 @@ class Wall:
             return self._view, self._made(), self._number
 
     def next(self, number: int, seconds: float) -> tuple[Model, int, str]:
-        """The model after number `number`, its own number, and its announcement. If none comes within `seconds`, it is the current
-        one.
-        """
+        """The model after number `number`, its own number, and its announcement. If none comes within `seconds`, it is the current one."""
         with self._hung:
             self._hung.wait_for(lambda: self._number != number, seconds)
             return self._made(), self._number, self._said
@@ -61,9 +59,7 @@ class Guests(Protocol):
     """Decides who may look at which wall."""
 
     def wall_of(self, said: str) -> Wall:
-        """The wall for the text of the field `Authorization`, which is empty if the field is missing. If there is none, `Bad` is
-        raised.
-        """
+        """The wall for the text of the field `Authorization`, which is empty if the field is missing. If there is none, `Bad` is raised."""
 
     def hang(self, view: View) -> None:
         """Hangs a newer view on each wall."""

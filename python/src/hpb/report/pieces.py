@@ -1,5 +1,4 @@
-"""Parts of a page that is read, printed and checked by adding up: tables, sections and paragraphs. `report.css` gives their layout.
-"""
+"""Parts of a page that is read, printed and checked by adding up: tables, sections and paragraphs. `report.css` gives their layout."""
 from collections.abc import Collection, Iterator, Mapping, Sequence
 from dataclasses import dataclass
 from typing import TypeAlias

@@ -267,19 +267,19 @@ def answer(auction: Auction, line: str) -> tuple[Auction, Answer]:
 
 
 def show(auction: Auction) -> Shown:
-    """The answer to SHOW."""
+    """The answer to `SHOW`."""
     return Shown(auction.round, auction.stage, auction.is_over, auction.standing.revenue, auction.count)
 
 
 def show_node(auction: Auction, node: str) -> NodeShown:
-    """The answer to NODE, for a node of the definition."""
+    """The answer to `NODE`, for a node of the definition."""
     found, bid = auction.standing, auction.high.get(node)
     told = (bid.amount, bid.bidder) if bid else (0, None)
     return NodeShown(node, *told, found.prices[node], found.minima[node], node in found.winners)
 
 
 def show_bidder(auction: Auction, bidder: str) -> WhoShown:
-    """The answer to WHO, for a bidder of the definition."""
+    """The answer to `WHO`, for a bidder of the definition."""
     state = auction.bidders[bidder]
     ticket = state.last.command.ticket if state.last else 0
     waivers = state.waivers if auction.tree.definition.waivers else None

@@ -54,8 +54,7 @@ class Terms:
 
 @dataclass(frozen=True, slots=True)
 class Node:
-    """A licence, which has terms, or a package, which has none. A top node has no parent; any other node's parent stands before it.
-    """
+    """A licence, which has terms, or a package, which has none. A top node has no parent; any other node's parent stands before it."""
 
     name: str
     parent: str | None = None

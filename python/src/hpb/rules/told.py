@@ -1,4 +1,4 @@
-"""The state of an auction by its answers: to SHOW, to NODE for each node, and to WHO for some bidders."""
+"""The state of an auction by its answers: to `SHOW`, to `NODE` for each node, and to `WHO` for some bidders."""
 from collections.abc import Iterable, Mapping
 from dataclasses import dataclass
 

@@ -36,9 +36,7 @@ def read_fields(fields: Any) -> Definition:
 
 
 def read_script(text: bytes) -> Definition:
-    """The definition in a file: either JSON, or a script whose first line is the definition. Refused as `read_definition` refuses
-    it.
-    """
+    """The definition in a file: either JSON, or a script whose first line is the definition. Refused as `read_definition` refuses it."""
     try:
         return read_definition(text)
     except NotJson:
