@@ -18,7 +18,7 @@ TOP = pathlib.Path(__file__).resolve().parents[2]
 ENDLESS = "me = "
 WANTED: list[list[str]] = [
     ["Accepted(number=1)", "10 1"],
-    ["21 step: the amount is no multiple of the step. What to do: round it up to one"],
+    ["21 step: the amount isn't a multiple of the step. What to do: round it up to one"],
     ["[2, 'low', 4, 3]"],
     [
         "[WhoShown(bidder='x', eligibility=10, activity=10, ticket=1, waivers=None), "
