@@ -96,8 +96,8 @@ def test_a_limit_that_is_smaller_than_the_file(program: Program, file: Path, lim
     """The file is as before, and can be shown."""
     kept, conditions = file.read_bytes(), limit_of(limit).within(file.parent)
     for job, name in (("format", "new"), ("run", "F"), ("serve", "F")):
-        said = f"{name} wants {SIZE} bytes, and this process may write no more than {limit} to a file: let it write more (ulimit -f)"
-        is_refused(run_job(program, job, name, conditions), f"hpb: 91 device: {said}\n")
+        said = f"{name} wants {SIZE} bytes, and this process may write no more than {limit} to a file: let it write more"
+        is_refused(run_job(program, job, name, conditions), f"hpb: 91 device: {said} (ulimit -f)\n")
         assert [path.name for path in file.parent.iterdir()] == ["F"]
         assert file.read_bytes() == kept
     ran = program.check(file, conditions)
