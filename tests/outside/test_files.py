@@ -119,8 +119,8 @@ def test_a_limit_that_is_large_enough(program: Program, room: Path, limit: int) 
 
 DOUBT = (
     "hpb: a checkpoint is damaged, which no power cut does, and it may be the newest: COUNT is {} in the auction that was opened, "
-    "and {}. Copy the file before anything else, and hold COUNT against the number of the last OK: if that is greater, go back to your newest "
-    "backup, and send again, in their order, the commands since then\n"
+    "and {}. Copy the file before anything else, and hold COUNT against the number of the last OK: if that is greater, go back to "
+    "your newest backup, and send again, in their order, the commands since then\n"
 )
 
 
