@@ -312,65 +312,11 @@ class Server:
         self.process.communicate()
 
 
-def compare_answers(folder, told, definition, text, wanted, count, seconds=SECONDS):
-    """A script, runs and sessions, in files of both layouts, answer this text so, and then keep so many commands."""
-
-    def compare_run(what, *words, front=b""):
-        found = run(*words, text=front + text, seconds=seconds)
-        compare(f"{told}: {what}", (found.output, found.errors, found.status), (wanted, "", 0))
-
-    compare_run("a script", front=definition)
-    for layout, least in LEAST.items():
-        ran, served = (new_file(folder, f"{job}{layout}", least, definition, layout=layout) for job in ("run", "served"))
-        compare_run(f"a run, layout {layout}", "run", "--file", ran)
-        server = Server(served, 1)
-        compare(f"{told}: a session, layout {layout}", server.connect().tell(text, seconds), wanted)
-        compare(f"{told}: its end, layout {layout}", server.end(), (f"CLOSED {count}\n", 0, ""))
-        compare(f"{told}: what is kept, layout {layout}", (count_kept(ran), count_kept(served)), (count, count))
-        ran.unlink()
-        served.unlink()
-
-
-class Fell(Exception):
-    """What a check tells first."""
-
-
-class First(list):
-    """The faults of a check that ends with its first one."""
-
-    def append(self, fault):
-        raise Fell(fault.split(":\n")[0])
-
-
-def first_told(folder, limit, check):
-    """What a check tells first of a program that has a limit of examples/limited.py, or nothing."""
-    global PROGRAM, faults
-    whole, kept = PROGRAM, faults
-    room = folder / limit
-    room.mkdir()
-    limited = room / "hpb"
-    limited.write_text(f'#!/bin/sh\nexec {sys.executable} -S {HERE}/limited.py {limit} {whole} "$@"\n')
-    limited.chmod(0o755)
-    PROGRAM, faults = str(limited), First()
-    try:
-        check(room)
-        return "nothing"
-    except (Fell, OSError) as error:
-        return str(error)
-    finally:
-        PROGRAM, faults = whole, kept
-
-
 def great_definition():
     """One with 64 licences and 64 bidders, each of whom may bid on all."""
     nodes = [{"name": f"l{place}", "parent": None, "units": 1, "opening": 100} for place in range(64)]
     bidders = [{"name": f"b{place}", "units": 64} for place in range(64)]
     return json.dumps({"step": 10, "percent": 10, "stages": [80], "nodes": nodes, "bidders": bidders}, separators=(",", ":")).encode() + b"\n"
-
-
-def great_bids(count):
-    """So many bids under it, 4,096 at most, all of which are accepted."""
-    return b"".join(b"BID b%d %d l%d 100\n" % (place % 64, place // 64 + 1, place // 64) for place in range(count))
 
 
 def main(checks, what, program=None):

@@ -24,8 +24,8 @@ def without_places(said: str, sessions: int) -> str:
 
 
 def closes(server: Server, count: int, status: int = 0, said: str = "") -> Ran:
-    """Waits for the end of a server, whose places were all taken. AssertionError unless the auction then has so many commands, and the status
-    and the messages beside places are these."""
+    """Waits for the end of a server, whose places were all taken. AssertionError unless it has so many commands, this status, and these
+    messages beside those of places."""
     ran = server.ended()
     assert len(PLACE.findall(ran.errors)) == server.sessions, ran
     assert (ran.output, ran.status, without_places(ran.errors, server.sessions)) == (f"CLOSED {count}\n", status, said)

@@ -26,26 +26,27 @@ class Lines:
 
     def script(self, program: Program) -> None:
         """AssertionError if a script is answered otherwise."""
-        self._same(program.run(text=self.definition + self.text, seconds=self.seconds).told(), (self.answers, "", 0))
+        same(program.run(text=self.definition + self.text, seconds=self.seconds).told(), (self.answers, "", 0))
 
     def run(self, program: Program, file: Path, layout: Layout) -> None:
         """AssertionError if a run is answered otherwise, or the file then keeps something else."""
         assert program.format(file, layout, text=self.definition).status == 0
-        self._same(program.run_lines(file, self.text, seconds=self.seconds).told(), (self.answers, "", 0))
+        same(program.run_lines(file, self.text, seconds=self.seconds).told(), (self.answers, "", 0))
         assert program.count(file) == self.count
 
     def session(self, program: Program, file: Path, layout: Layout) -> None:
         """AssertionError if a session is answered otherwise, or the file then keeps something else."""
         assert program.format(file, layout, text=self.definition).status == 0
         with Server(program, file) as server:
-            self._same(server.connect(self.seconds).tell(self.text), self.answers)
+            same(server.connect(self.seconds).tell(self.text), self.answers)
             closes(server, self.count)
         assert program.count(file) == self.count
 
-    def _same(self, found: object, wanted: object) -> None:
-        """Compares without a difference of long texts, which takes long to make."""
-        is_same = found == wanted
-        assert is_same, f"{shortened(found)} is answered, wanted: {shortened(wanted)}"
+
+def same(found: object, wanted: object) -> None:
+    """AssertionError unless they are the same, with the front and the end of each: a difference of long texts takes long to make."""
+    is_same = found == wanted
+    assert is_same, f"{shortened(found)}, wanted: {shortened(wanted)}"
 
 
 def shortened(value: object) -> str:

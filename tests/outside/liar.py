@@ -2,22 +2,21 @@
 
     python3 -S -m outside.liar LIE PROGRAM words..
 
-It lets the program do the work on the same streams, and changes what comes of it. What each lie changes stands at its function.
+It lets the program do the work on the same streams, and changes what comes of it. What each lie changes stands at its function, here or
+in `outside.limited`.
 """
 
 from __future__ import annotations
 
-import ctypes
-import signal
 import subprocess
 import sys
 import time
 from collections.abc import Callable
 
+from outside.limited import LIMITS, end_with_parent, outcome
+
 # Longer than any test may take, in seconds.
 LONG = 3600
-# Of `prctl`: which signal a process gets when its parent ends.
-PARENT_ENDS = 1
 # What a reader of lines may make room for at a time, in bytes.
 PART = 1 << 16
 
@@ -66,11 +65,6 @@ def lines(text: bytes) -> bytes:
     return b"\n".join(line[at : at + PART] for line in text.split(b"\n") for at in range(0, max(1, len(line)), PART))
 
 
-def end_with_parent() -> None:
-    """From here on this process is killed when its parent ends."""
-    ctypes.CDLL(None).prctl(PARENT_ENDS, signal.SIGKILL)
-
-
 TEXTS: dict[str, Bytes] = {"lines": lines}
 OUTPUTS: dict[str, Bytes] = {"wrong": wrong, "late": late}
 ERRORS: dict[str, Bytes] = {"silent": silent, "blamed": blamed}
@@ -80,6 +74,11 @@ STATUSES: dict[str, Status] = {"well": well, "ill": ill, "endless": endless}
 def main() -> None:
     """Does what the words ask for, but for the lie."""
     lie, program, *words = sys.argv[1:]
+    if lie.partition(":")[0] in LIMITS:
+        output, status = outcome(lie, program, words)
+        sys.stdout.buffer.write(output)
+        sys.stdout.flush()
+        sys.exit(status)
     takes_text = lie in TEXTS and words[:1] in ([], ["run"])
     ran = subprocess.run(
         [program, *words],

@@ -96,8 +96,8 @@ def test_a_limit_that_is_smaller_than_the_file(program: Program, file: Path, lim
     """The file is as before, and can be shown."""
     kept, conditions = file.read_bytes(), limit_of(limit).within(file.parent)
     for job, name in (("format", "new"), ("run", "F"), ("serve", "F")):
-        said = f"{name} wants {SIZE} bytes, and this process may write no more than {limit} to a file: let it write more (ulimit -f)"
-        is_refused(run_job(program, job, name, conditions), f"hpb: 91 device: {said}\n")
+        said = f"{name} wants {SIZE} bytes, and this process may write no more than {limit} to a file: let it write more"
+        is_refused(run_job(program, job, name, conditions), f"hpb: 91 device: {said} (ulimit -f)\n")
         assert [path.name for path in file.parent.iterdir()] == ["F"]
         assert file.read_bytes() == kept
     ran = program.check(file, conditions)
@@ -119,8 +119,8 @@ def test_a_limit_that_is_large_enough(program: Program, room: Path, limit: int) 
 
 DOUBT = (
     "hpb: a checkpoint is damaged, which no power cut does, and it may be the newest: COUNT is {} in the auction that was opened, "
-    "and {}. Copy the file before anything else, and hold COUNT against the number of the last OK: if that is greater, go back to your newest "
-    "backup, and send again, in their order, the commands since then\n"
+    "and {}. Copy the file before anything else, and hold COUNT against the number of the last OK: if that is greater, go back to "
+    "your newest backup, and send again, in their order, the commands since then\n"
 )
 
 

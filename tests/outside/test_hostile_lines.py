@@ -1,4 +1,4 @@
-"""Lines that are none: of a million bytes, of all bytes, in pieces. Each is answered by scripts, runs and sessions, and so is the next one."""
+"""Lines that are none: of a million bytes, of all bytes, in pieces. Scripts, runs and sessions answer each, and the next one, too."""
 
 from __future__ import annotations
 

@@ -40,8 +40,8 @@ def refuses_journal(program: Program, file: Path, asked: tuple[int, Layout, str,
     """A journal that can't be is refused with the nearest that can, and no file is made."""
     journal, layout, possible, nearest, pages = asked
     of = "" if layout is Layout.PAGES else " --layout 2"
-    said = f"--journal {journal}{of} can't be: such a journal has {possible}. --journal {nearest}{of} can, and makes a file of {pages} pages"
-    assert program.format(file, layout, journal, COAST).told() == refused("43 length", said)
+    said = f"--journal {journal}{of} can't be: such a journal has {possible}. --journal {nearest}{of} can, and makes a file of"
+    assert program.format(file, layout, journal, COAST).told() == refused("43 length", f"{said} {pages} pages")
     assert not file.exists()
 
 

@@ -14,11 +14,10 @@ from harness.streams import Typed
 from outside.lies import Liar
 from outside.texts import COAST, NODES, SHOWN
 
-TYPE_A_SCRIPT = (
-    "hpb: standard input is a terminal: type the definition in JSON, in one line, then commands and questions, one a line; Ctrl-D ends the script\n"
-)
-TYPE_A_DEFINITION = "hpb: standard input is a terminal: type the definition in JSON, in as many lines as you like; Ctrl-D ends it\n"
-TYPE_LINES = "hpb: standard input is a terminal: type commands and questions, one a line; Ctrl-D ends the run\n"
+TYPE = "hpb: standard input is a terminal: type"
+TYPE_A_SCRIPT = f"{TYPE} the definition in JSON, in one line, then commands and questions, one a line; Ctrl-D ends the script\n"
+TYPE_A_DEFINITION = f"{TYPE} the definition in JSON, in as many lines as you like; Ctrl-D ends it\n"
+TYPE_LINES = f"{TYPE} commands and questions, one a line; Ctrl-D ends the run\n"
 LONG_LINES = "hpb: a terminal cuts a line at 4,095 bytes: put a longer one into a file F, and give it by < F\n"
 ACCEPTED = "hpb: the definition is accepted: type commands and questions\n"
 END = b"\x04"
