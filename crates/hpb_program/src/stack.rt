@@ -8,8 +8,8 @@ const STACK_BYTES: usize = 1_024 * 1_024;
 /// The bytes of one step down the stack. A single step of all bytes would be inlined into its caller.
 const STEP_BYTES: usize = 16 * 1_024;
 
-/// The number of steps. One of the compilers gives a step half as much again as its array, so the steps are for half of
-/// the bytes: they touch 512 KiB or more, and never more than was asked for.
+/// The number of steps. One of the compilers gives a step half as much again as its array. So the steps are for half of
+/// the bytes: they touch at least 512 KiB, and never more than was asked for.
 const STEPS: usize = STACK_BYTES / (2 * STEP_BYTES);
 
 /// The bytes that words and environment may always have. The system counts them as the stack's, and lets them have a
