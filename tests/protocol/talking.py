@@ -15,14 +15,15 @@ import signal
 import struct
 import subprocess
 import termios
+from collections.abc import Callable
 from dataclasses import dataclass
 from pathlib import Path
-from typing import Protocol
 
 from harness.auctions import Layout
 from harness.conditions import NORMAL, Conditions
 from harness.programs import Program, Ran, format_words, shown
 from harness.serving import Server, wait_until
+from harness.streams import read_bytes
 from protocol.page import PAGE
 
 SECONDS = 60
@@ -97,6 +98,35 @@ def unread(pipe: int) -> int:
     return count
 
 
+class Talk:
+    """A program that is sent lines and answers them while it waits for more."""
+
+    def __init__(self, process: subprocess.Popen[bytes]) -> None:
+        self.process = process
+
+    def send(self, text: str) -> None:
+        """These bytes come at once."""
+        assert self.process.stdin is not None
+        self.process.stdin.write(data(text))
+        self.process.stdin.flush()
+
+    def answers(self, wanted: str) -> None:
+        """It answers so before more comes."""
+        assert self.process.stdout is not None
+        assert shown(read_bytes(self.process.stdout, len(wanted))) == wanted
+
+    def asks(self, text: str) -> None:
+        """The lines of a transcript come at once, and its answers before more comes."""
+        lines, answers = transcript(text)
+        self.send(lines)
+        self.answers(answers)
+
+    def ends(self, status: int = 0, said: str = "") -> None:
+        """It answers no more, and ends so, with this front of what it says."""
+        output, errors = self.process.communicate(timeout=SECONDS)
+        assert (output, shown(errors)[: len(said) or None], self.process.returncode) == (b"", said, status)
+
+
 @dataclass(frozen=True)
 class Hpb:
     """The program in a folder. Each run is compared with its whole output, all that is said, and its status."""
@@ -139,6 +169,11 @@ class Hpb:
         lines, answers = transcript(text)
         self.gives(shlex.join(["run", "--file", "F", *words]), answers, lines)
 
+    def starts(self, words: str) -> Talk:
+        """It waits for lines, and no signal ends it."""
+        conditions = Conditions(folder=self.folder, last=no_signal)
+        return Talk(self.program.start(*shlex.split(words), input=subprocess.PIPE, conditions=conditions))
+
     def fills(self, words: str, text: str, said: str = FULL_DISK, output: int = subprocess.PIPE) -> None:
         """A run whose disk is full from its first line on answers as this transcript says, and ends with 1 after this front of a reason."""
         lines, answers = transcript(text)
@@ -155,11 +190,8 @@ class Hpb:
         assert (shown(written), shown(errors)[: len(said)], process.returncode) == wanted, words
 
 
-class Asks(Protocol):
-    """Compares the answers of a transcript with those of a program, on a definition: that of the page, or another."""
-
-    def __call__(self, text: str, definition: str = "") -> None:
-        """AssertionError where an answer, or the end of the program, is another."""
+# Compares the answers of a transcript with those of a program, on a definition: that of the page, or another.
+Asks = Callable[..., None]
 
 
 def asks_script(program: Program, text: str, definition: str = "") -> None:
@@ -186,5 +218,5 @@ def asks_server(program: Program, file: Path, layout: Layout, text: str, definit
 
 
 def without_places(errors: str) -> str:
-    """What is said but for the places that are taken, who has them and how that ends."""
+    """The lines of standard error without those about places: which are taken, who has them and how that ends."""
     return re.sub(r"hpb: (\d+ of \d+ places taken|place \d+ of \d+ (is held by [0-9.:]+|\([0-9.:]+\) has ended: [^\n]+))\n", "", errors)

@@ -8,7 +8,7 @@ import re
 import pytest
 
 from harness.programs import Program
-from protocol.page import PAGE, codes
+from protocol.page import PAGE, codes, sentences
 from protocol.talking import EMPTY, WORDS, Asks, Hpb, asks_script, changed, data, waivers
 
 MOST = 1_000_000_000_000
@@ -17,8 +17,8 @@ Fields = dict[str, str | None]
 
 
 def edited(fields: Fields) -> str:
-    """The definition of the page with these fields. Each key is a field of the top object, or a node or bidder by its name, a point and a
-    field; each value is JSON, or None for a field that isn't there."""
+    """The definition of the page with these fields. A key is a field of the top object, or NAME.FIELD of a node or a bidder. A value is
+    JSON, or None for a field that isn't there."""
     definition = json.loads(PAGE.definition)
     found = {thing["name"]: thing for thing in definition["nodes"] + definition["bidders"]}
     for place, (key, value) in enumerate(fields.items()):
@@ -105,10 +105,12 @@ FAULTS: dict[int, list[Fields]] = {
 }
 
 
+@sentences(
+    """Every field is required .. Object | Field | Type | Range, else .. A top node, too .. A number is a whole .. With a point, an .. `null` isn't
+    a number .. In a definition .."""
+)
 @pytest.mark.parametrize(("object_", "field"), VALUES, ids=".".join)
 def test_each_field_has_its_type_and_its_range(program: Program, object_: str, field: str) -> None:
-    """Every field is required .. Object | Field | Type | Range, else .. A top node, too, needs .. A number is a whole one .. With a point, an
-    exponent .. `null` isn't a number .. In a definition a number .."""
     key, values = VALUES[object_, field]
     for number, texts in values.items():
         for text in texts:
@@ -126,10 +128,12 @@ def test_each_row_of_the_table_is_tried_by_its_ends_and_by_its_refusals() -> Non
             assert str(least) in values[0] and {str(least - 1), str(most + 1)} <= set(values[number]), told
 
 
+@sentences(
+    """A node with `units` .. A node with neither .. A node with only .. Several faults give .. 60, the bytes aren't .. 61, anywhere in .. 62,
+    anywhere in .. 62, the step, the .. the smallest of .."""
+)
 @pytest.mark.parametrize("number", FAULTS)
 def test_several_faults_give_one_refusal(program: Program, number: int) -> None:
-    """A node with `units` and .. A node with neither is .. A node with only one .. Several faults give one .. 60, the bytes aren't .. 61, anywhere
-    in the text .. 62, anywhere in the text .. 62, the step, the percent .. the smallest of 50 to .."""
     for fields in FAULTS[number]:
         judge(program, edited(fields), number)
 
@@ -139,9 +143,11 @@ def test_a_number_that_is_not_whole_comes_before_one_out_of_range(program: Progr
     judge(program, edited({"percent": "51", "w.units": str(2**64)}), 62, "bidders[3].units: ")
 
 
+@sentences(
+    """Spaces, tabs and .. A byte order mark .. A definition without .. Then no line follows .. One JSON object .. If it is accepted .. If it is
+    refused .. It doesn't answer .. Standard error gives .."""
+)
 def test_the_text_of_a_definition(hpb: Hpb) -> None:
-    """Spaces, tabs and a CR .. A byte order mark may .. A definition without .. Then no line follows .. One JSON object on the .. If it is
-    accepted, it .. If it is refused, the .. It doesn't answer the .. Standard error gives .."""
     definition = PAGE.definition[:-1]
     judge(hpb.program, f"  \t\t\r{definition}\t\t  \r\n", 0)
     judge(hpb.program, f"{definition}\r\n", 0)
@@ -158,14 +164,14 @@ def test_the_text_of_a_definition(hpb: Hpb) -> None:
     judge(hpb.program, bare, 0)
 
 
+@sentences("Escapes in texts ..")
 def test_escapes_in_texts(asks: Asks) -> None:
-    """Escapes in texts are .."""
     asks(r"NODE e = NODE e HIGH 0 - PRICE 0 MIN 100 WIN no; NODE \u0065 = ERR 12 node", changed(r'"name":"d" -> "name":"\u0065"'))
     asks("NODE d = NODE d HIGH 0 - PRICE 0 MIN 100 WIN no", changed(r'"name":"d" -> "n\u0061me":"d"'))
 
 
+@sentences("`waivers` is a field ..")
 def test_each_bidder_starts_with_all_waivers(asks: Asks) -> None:
-    """`waivers` is a field .."""
     for count in (3, 20):
         asks("; ".join(f"WHO {b} = WHO {b} ELIGIBILITY {e} ACTIVITY 0 TICKET 0 WAIVERS {count}" for b, e in (("x", 10), ("w", 25))), waivers(count))
     asks("WHO x = WHO x ELIGIBILITY 10 ACTIVITY 0 TICKET 0; WAIVE x 1 = ERR 28 waiver")
@@ -215,8 +221,8 @@ def test_the_greatest_prices(asks: Asks) -> None:
     asks("; ".join([*bids, "CLOSE 1 = OK 65", shown, refused]), definition)
 
 
+@sentences("The longest line .. The longest answer ..")
 def test_the_longest_line_and_the_longest_answer(asks: Asks) -> None:
-    """The longest line that .. The longest answer has .."""
     name, bidder = "p" * 16, "b" * 16
     definition, bids = prices(name, bidder)
     answer = f"NODE {name} HIGH {MOST} {bidder} PRICE {64 * MOST} MIN {96 * MOST} WIN no"
@@ -226,9 +232,9 @@ def test_the_longest_line_and_the_longest_answer(asks: Asks) -> None:
     assert (len(line), len(answer)) == (69, 104)
 
 
+@sentences("At 1,000,000 accepted .. Bids since the last .. `COUNT` shows how .. 26 comes after 1,000,000 ..")
 @pytest.mark.timeout(300)
 def test_a_million_commands(program: Program) -> None:
-    """At 1,000,000 accepted .. Bids since the last close .. `COUNT` shows how many .. 26 comes after 1,000,000 .."""
     names, left, rounds, least, lines = [f"b{place}" for place in range(64)], 1_000_000, 0, 1, []
     while left > 64 * 64:
         lines += [f"BID {name} {64 * rounds + place + 1} l{place} {least}" for name in names for place in range(64)]
