@@ -3,11 +3,8 @@
 from __future__ import annotations
 
 import fcntl
-import os
 import re
 import resource
-from collections.abc import Callable
-from pathlib import Path
 
 import pytest
 
@@ -111,48 +108,6 @@ def test_faults_are_looked_for_in_their_order(hpb: Hpb) -> None:
         for name, refusal, conditions in serves:
             ran = hpb.ran(f"serve --file {name} {words}", conditions=conditions)
             assert (ran.output, ran.status) == (f"ERR {refusal}\n", 1), ran
-
-
-@sentences(
-    """`hpb --help` says .. `hpb format --help` .. `hpb --version` says .. All end with 0 .. 0 | the input was read to its end and .. Help and
-    version .. `hpb --version` writes .."""
-)
-def test_help_and_version(hpb: Hpb) -> None:
-    for words in ("--help", "format --help", "run --help", "check --help", "serve --help", "--version"):
-        ran = hpb.ran(words)
-        form = r"hpb \d.*\n.*\n" if words == "--version" else rf"(?s).*Usage: hpb {words[:-7] or '<'} .*".replace("  ", " ")
-        assert (ran.output, ran.status) == ("", 0) and re.fullmatch(form, ran.errors), ran
-
-
-def put(file: Path, at: int, byte: int) -> None:
-    """Writes one byte of a file."""
-    with open(file, "r+b") as opened:
-        opened.seek(at)
-        opened.write(bytes([byte]))
-
-
-# By the refusal of a file: what makes it so.
-DAMAGED: dict[str, Callable[[Path], object]] = {
-    "40 unformatted": lambda file: file.write_bytes(ZEROS),
-    "42 layout": lambda file: os.truncate(file, 19 * 4096),
-    "42 layout ": lambda file: os.truncate(file, 17 * 4096),
-    "44 checkpoint": lambda file: put(file, 3 * 4096, 0),
-    "45 frame": lambda file: put(file, 13 * 4096, 0xA5),
-}
-
-
-@sentences(
-    """If the file is refused, the .. No line of the input .. 1 | the file was .. 10 to 29 answer .. 41 and 43 are refusals .. `run`, `serve` and
-    .."""
-)
-@pytest.mark.parametrize("refusal", DAMAGED)
-def test_a_file_that_is_refused(hpb: Hpb, refusal: str) -> None:
-    file = hpb.formats(journal=5)
-    DAMAGED[refusal](file)
-    image = file.read_bytes()
-    for words in ("run", "check", "serve --port 5000 --sessions 1"):
-        hpb.refuses(f"{words} --file F", refusal.strip(), "SHOW\n")
-    assert file.read_bytes() == image
 
 
 @sentences("If `format`, `run` .. The name of a file .. A command between .. In it the name stands ..")

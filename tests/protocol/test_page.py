@@ -43,6 +43,10 @@ ELSEWHERE: dict[str, str] = {
         "def test_the_first_answers_leave_at_once(; most_in_flight"
     ),
     """The program reads .. At the next one .. too many bytes came ..""": "reading: more than 1,000,000,000 bytes",
+    """`hpb --help` says .. `hpb format --help` .. `hpb --version` says .. All end with 0 .. 0 | the input was read to its end and .. Help and
+    version .. `hpb --version` writes ..""": "def test_help(; def test_help_of_a_command(; def test_the_version(",
+    """If the file is refused, the .. No line of the input .. 1 | the file was .. 10 to 29 answer .. 41 and 43 are refusals .. `run`, `serve` and
+    ..""": "def test_a_damaged_file(; def test_an_auction_whose_length_changed(; def test_no_file(",
     """standard output ..""": "writing: nothing more was taken",
     """In a script, and .. If there isn't even .. `format` and `check` .. memory was refused ..""": (
         'self.each("run",; self.each("format",; self.each("check",'
