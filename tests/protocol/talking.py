@@ -1,7 +1,9 @@
 """What the tests of the page have `hpb` do: scripts, runs of a file and sessions, and commands with their words.
 
-A transcript is lines with their answers: `BID x 1 a 100 = OK 1; SHOW = ..`, parted by semicolons or line ends. FIRST stands for the
-first round of the page, and <EOF> at the end of a line for its missing LF. Letters up to U+00FF stand for the byte of that number.
+A transcript is lines with their answers: `BID x 1 a 100 = OK 1; SHOW = ..`, parted by semicolons or line ends. A number stands for the
+refusal with the word of the page's table, and `NODE a = HIGH 0 - ..` doesn't say `NODE a` again. FIRST stands for the first round of the
+page, and <EOF> at the end of a line for its missing LF. Letters up to U+00FF stand for the byte of that number. `waivers 2` and
+`OLD -> NEW` at the front change the definition.
 """
 
 from __future__ import annotations
@@ -41,7 +43,14 @@ def transcript(text: str) -> tuple[str, str]:
     """Its lines, and its answers. A line without ` = ` has none."""
     pairs = [pair.rsplit(" = ", 1) for pair in re.split(r"; |;?\n *", text.replace("FIRST", FIRST).strip("\n ;")) if pair]
     lines = "".join(f"{pair[0]}\n" for pair in pairs).replace("<EOF>\n", "")
-    return lines, "".join(f"{pair[1]}\n" for pair in pairs if len(pair) > 1)
+    return lines, "".join(f"{whole(*pair)}\n" for pair in pairs if len(pair) > 1)
+
+
+def whole(line: str, answer: str) -> str:
+    """The answer to a line. A number stands for its refusal, and the words of a line aren't said again."""
+    if answer.isdigit():
+        return f"ERR {answer} {WORDS[answer]}"
+    return f"{line} {answer}" if answer.startswith(("HIGH ", "ELIGIBILITY ")) else answer
 
 
 def same(answer: str, *lines: str) -> str:
@@ -57,11 +66,6 @@ def changed(*changes: str) -> str:
         assert old in definition, old
         definition = definition.replace(old, new, 1)
     return definition
-
-
-def waivers(count: int) -> str:
-    """The definition of the page, with so many waivers."""
-    return changed(f'"nodes" -> "waivers":{count},"nodes"')
 
 
 def data(text: str | bytes) -> bytes:
@@ -194,17 +198,26 @@ class Hpb:
 Asks = Callable[..., None]
 
 
+def prepared(text: str, definition: str) -> tuple[str, str, str]:
+    """The definition with the changes at the front of a transcript, its lines and its answers."""
+    changes = []
+    while found := re.match(r"\s*(?:waivers (\d+)|(\S+ -> \S+)); ", text):
+        changes.append(found[2] or f'"nodes" -> "waivers":{found[1]},"nodes"')
+        text = text[found.end() :]
+    return (changed(*changes) if changes else definition or PAGE.definition, *transcript(text))
+
+
 def asks_script(program: Program, text: str, definition: str = "") -> None:
     """By a script."""
-    lines, answers = transcript(text)
-    ran = program.run(text=data((definition or PAGE.definition) + lines), seconds=SECONDS)
+    definition, lines, answers = prepared(text, definition)
+    ran = program.run(text=data(definition + lines), seconds=SECONDS)
     assert (ran.output, ran.errors, ran.status) == (answers, "", 0)
 
 
 def asks_server(program: Program, file: Path, layout: Layout, text: str, definition: str = "") -> None:
     """By one session of a server on a new file, which then says how many commands it keeps."""
-    lines, answers = transcript(text)
-    program.format(file, layout, text=data(definition or PAGE.definition))
+    definition, lines, answers = prepared(text, definition)
+    program.format(file, layout, text=data(definition))
     with Server(program, file) as server:
         client = server.connect()
         client.send(data(lines))

@@ -48,9 +48,9 @@ def test_a_file_is_run_and_shown(hpb: Hpb, layout: Layout) -> None:
     hpb.runs(FIRST, "--batch", "64", "--every", "1")
     before = file.read_bytes()
     hpb.gives("check --file F", STATE, "CLOSE 2\n")
-    hpb.runs("BID x 1 a 100 = OK 1; BID x 2 a 150 = ERR 22 low; CLOSE 0 = ERR 13 old", "--batch", "3")
-    half = "NODE d = NODE d HIGH 0 - PRICE 0 MIN 100 WIN no; BID z 2 b 210<EOF> = ERR 10 line"
-    hpb.runs(f"{PAGE.definition[:-1]} = ERR 10 line; {half}", "--every", "007")
+    hpb.runs("BID x 1 a 100 = OK 1; BID x 2 a 150 = 22; CLOSE 0 = 13", "--batch", "3")
+    half = "NODE d = HIGH 0 - PRICE 0 MIN 100 WIN no; BID z 2 b 210<EOF> = 10"
+    hpb.runs(f"{PAGE.definition[:-1]} = 10; {half}", "--every", "007")
     assert file.read_bytes() == before
 
 
@@ -183,21 +183,21 @@ def test_an_output_that_nobody_reads(hpb: Hpb, conditions: Conditions) -> None:
     hpb.runs(f"SHOW = {SHOWN.format(1)}")
 
 
-BOUGHT = "BID x 1 a 100 = ERR 91 device; {} = {}; BID y 1 b 150 = ERR 93 failed"
+BOUGHT = "BID x 1 a 100 = 91; {} = {}; BID y 1 b 150 = 93"
 # By sentences: the greatest batch of a run whose disk is full, and its lines and answers.
 FULL = {
-    """A batch ends with ..""": ("1", "BID x 1 a 100 = ERR 91 device; BID y 1 b 150 = ERR 93 failed"),
-    "two": ("2", "BID x 1 a 100 = ERR 91 device; BID y 1 b 150 = ERR 91 device; BID z 1 all 500 = ERR 93 failed"),
-    "all": ("64", "BID x 1 a 100 = ERR 91 device; BID y 1 b 150 = ERR 91 device; BID z 1 all 500 = ERR 91 device"),
-    "sixty-four": ("64", "; ".join(["BID x 1 a 100 = ERR 91 device"] * 64) + "; CLOSE 1 = ERR 93 failed"),
+    """A batch ends with ..""": ("1", "BID x 1 a 100 = 91; BID y 1 b 150 = 93"),
+    "two": ("2", "BID x 1 a 100 = 91; BID y 1 b 150 = 91; BID z 1 all 500 = 93"),
+    "all": ("64", "BID x 1 a 100 = 91; BID y 1 b 150 = 91; BID z 1 all 500 = 91"),
+    "sixty-four": ("64", "; ".join(["BID x 1 a 100 = 91"] * 64) + "; CLOSE 1 = 93"),
     """It also ends before ..""": ("64", BOUGHT.format("SHOW", EMPTY[:-1])),
     "a line": ("64", BOUGHT.format("BID x 2 c", "ERR 10 line")),
     "no bidder": ("64", BOUGHT.format("BID nobody 1 b 150", "ERR 11 bidder")),
     "no node": ("64", BOUGHT.format("BID x 2 nowhere 100", "ERR 12 node")),
     """`SHOW`, `NODE` and ..""": (
         "2",
-        f"""BID x 1 a 100 = ERR 91 device; CLOSE 1 = ERR 91 device; SHOW = {EMPTY}NODE a = NODE a HIGH 0 - PRICE 0 MIN 100 WIN no
-        WHO x = WHO x ELIGIBILITY 10 ACTIVITY 0 TICKET 0""",
+        f"""BID x 1 a 100 = 91; CLOSE 1 = 91; SHOW = {EMPTY}NODE a = HIGH 0 - PRICE 0 MIN 100 WIN no
+        WHO x = ELIGIBILITY 10 ACTIVITY 0 TICKET 0""",
     ),
 }
 
@@ -217,12 +217,12 @@ def test_a_disk_that_is_full_keeps_what_was_answered_ok(hpb: Hpb, layout: Layout
     hpb.formats(journal=layout.least_journal, layout=layout)
     hpb.runs("BID x 1 a 100 = OK 1")
     repeat, low, new, later = "BID x 1 a 100", "BID y 1 b 155", "BID y 1 b 150", "BID z 1 all 500"
-    asked = f"SHOW = {SHOWN.format(1)}NODE b = NODE b HIGH 0 - PRICE 0 MIN 100 WIN no; WHO y = WHO y ELIGIBILITY 10 ACTIVITY 0 TICKET 0"
-    failed = "; ".join(f"{line} = ERR 91 device" for line in (repeat, low, new))
-    hpb.fills("run --file F --batch 3", f"{failed}; {later} = ERR 93 failed; {asked}; {repeat} = ERR 93 failed")
-    hpb.fills("format --file G --journal 4", f"{PAGE.definition[:-1]} = ERR 91 device", "hpb: 91 device: G ")
+    asked = f"SHOW = {SHOWN.format(1)}NODE b = HIGH 0 - PRICE 0 MIN 100 WIN no; WHO y = ELIGIBILITY 10 ACTIVITY 0 TICKET 0"
+    failed = "; ".join(f"{line} = 91" for line in (repeat, low, new))
+    hpb.fills("run --file F --batch 3", f"{failed}; {later} = 93; {asked}; {repeat} = 93")
+    hpb.fills("format --file G --journal 4", f"{PAGE.definition[:-1]} = 91", "hpb: 91 device: G ")
     # Such a disk takes nothing of the batch.
-    hpb.runs(f"SHOW = {SHOWN.format(1)}{repeat} = OK 1; {low} = ERR 21 step; {new} = OK 2; {later} = OK 3", "--batch", "3")
+    hpb.runs(f"SHOW = {SHOWN.format(1)}{repeat} = OK 1; {low} = 21; {new} = OK 2; {later} = OK 3", "--batch", "3")
 
 
 @sentences("An `OK` leaves when its command is durable, .. So no command waits .. `hpb run` also makes ..")
@@ -235,7 +235,7 @@ def test_an_ok_leaves_when_its_command_is_durable(hpb: Hpb, layout: Layout) -> N
             before, image = image, file.read_bytes()
             assert before != image, "a command is in the file before the next line"
         # A repeat, a refused command, and the end of them by a kill.
-        run.asks("CLOSE 1 = OK 5; BID x 1 a 110 = ERR 14 ticket; BID x 2 a 160 = OK 6")
+        run.asks("CLOSE 1 = OK 5; BID x 1 a 110 = 14; BID x 2 a 160 = OK 6")
         run.process.kill()
         run.process.communicate()
         assert hpb.ran("check --file F").output.startswith("ROUND 2 STAGE 1 OPEN REVENUE 500 COUNT 6\n")
@@ -247,8 +247,8 @@ def test_half_a_line_ends_no_batch(hpb: Hpb) -> None:
     run = hpb.starts("run --file F --batch 64")
     run.asks(f"SHOW = {EMPTY}")
     fill_disk(run.process)
-    run.asks("BID x 1 a 100 = ERR 91 device; BID y 1 b <EOF>")
-    run.asks("150 = ERR 93 failed")
+    run.asks("BID x 1 a 100 = 91; BID y 1 b <EOF>")
+    run.asks("150 = 93")
     run.ends(1, FULL_DISK)
 
 
@@ -260,11 +260,11 @@ def test_a_checkpoint_that_fails(hpb: Hpb, layout: Layout) -> None:
     for number, line in enumerate(lines, 1):
         run.asks(f"{line} = OK {number}")
     fill_disk(run.process)
-    asked = f"SHOW = {SHOWN.format(4)}NODE a = NODE a HIGH 0 - PRICE 0 MIN 100 WIN no; WHO x = WHO x ELIGIBILITY 10 ACTIVITY 10 TICKET 1"
-    run.asks(f"{last} = ERR 93 failed")
+    asked = f"SHOW = {SHOWN.format(4)}NODE a = HIGH 0 - PRICE 0 MIN 100 WIN no; WHO x = ELIGIBILITY 10 ACTIVITY 10 TICKET 1"
+    run.asks(f"{last} = 93")
     if layout is Layout.PAGES:
         run.asks(asked)
-    run.asks(f"{lines[0]} = ERR 93 failed; BID nobody 1 a 100 = ERR 11 bidder")
+    run.asks(f"{lines[0]} = 93; BID nobody 1 a 100 = 11")
     run.ends(1, FULL_DISK)
     assert hpb.program.count(hpb.folder / "F") == len(lines)
 
@@ -284,8 +284,8 @@ def test_checkpoints(hpb: Hpb) -> None:
 @sentences("Each line gets one answer, in .. Without a fault .. Standard output ..")
 def test_runs_answer_as_scripts(hpb: Hpb, layout: Layout) -> None:
     rows = PAGE.table("Line, behind the first example", "Answer", "Usual causes").pairs()
-    shows = "SHOW = ROUND 3 STAGE 2 CLOSED REVENUE 500 COUNT 9; NODE a = NODE a HIGH 160 x PRICE 183 MIN 210 WIN no"
-    asked = [*FIRST.split("; "), *(" = ".join(row) for row in rows), *shows.split("; "), "WHO x = WHO x ELIGIBILITY 0 ACTIVITY 0 TICKET 2"]
+    shows = "SHOW = ROUND 3 STAGE 2 CLOSED REVENUE 500 COUNT 9; NODE a = HIGH 160 x PRICE 183 MIN 210 WIN no"
+    asked = [*FIRST.split("; "), *(" = ".join(row) for row in rows), *shows.split("; "), "WHO x = ELIGIBILITY 0 ACTIVITY 0 TICKET 2"]
     for batch, every, cut in ((1, 0, 5), (1, 1, 0), (2, 3, 7), (3, 2, 15), (64, 0, 1), (64, 1, 20), (64, 4_294_967_295, 9)):
         file = hpb.formats(journal=layout.least_journal, layout=layout)
         for part in (asked[:cut], asked[cut:]):

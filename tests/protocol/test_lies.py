@@ -27,7 +27,7 @@ SEEN: list[tuple[str, Callable[[Hpb], None]]] = [
     *((lie, lambda hpb: hpb.runs(FIRST)) for lie in ("wrong", "blamed", "ill")),
     *((lie, lambda hpb: hpb.refuses("format --file F --journal 4", "41 formatted", PAGE.definition)) for lie in ("wrong", "silent", "well")),
     *((lie, lambda hpb: judge(hpb.program, "{}\n", 61)) for lie in ("wrong", "silent", "well")),
-    *((lie, lambda hpb: hpb.fills("run --file F", "BID x 1 a 100 = ERR 91 device")) for lie in ("wrong", "silent", "well")),
+    *((lie, lambda hpb: hpb.fills("run --file F", "BID x 1 a 100 = 91")) for lie in ("wrong", "silent", "well")),
     *((lie, lambda hpb: hpb.misreads("script")) for lie in ("silent", "well")),
 ]
 

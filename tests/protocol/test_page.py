@@ -13,7 +13,7 @@ from pathlib import Path
 import pytest
 
 from protocol.page import PAGE, TOP, Page, codes, sentences
-from protocol.talking import WORDS
+from protocol.talking import WORDS, prepared
 from protocol.test_transcripts import CASES, EXAMPLES
 
 HERE = Path(__file__).parent
@@ -130,5 +130,5 @@ def test_each_form_of_a_reason_is_tried() -> None:
 
 
 def test_each_refusal_of_a_line_is_tried() -> None:
-    tried = set(re.findall(r"ERR (\d+)", str([*EXAMPLES.values(), *CASES.values()])))
+    tried = {number for text in [*EXAMPLES.values(), *CASES.values()] for number in re.findall(r"ERR (\d+)", prepared(text, "")[2])}
     assert tried == {number for number in WORDS if 10 <= int(number) < 30} - {"26"}
