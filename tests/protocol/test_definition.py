@@ -194,21 +194,6 @@ def definition_of(nodes: list[dict[str, object]], bidders: list[str], **fields: 
     return json.dumps({"step": 10, "percent": 50, "stages": [80], **fields, "nodes": nodes, "bidders": named}) + "\n"
 
 
-def test_the_greatest_definitions(program: Program) -> None:
-    parents = [None, *(f"n{place // 2}" for place in range(126))]
-    tree = [(licence(f"n{place}", parent) if place > 62 else node(f"n{place}", parent)) for place, parent in enumerate(parents)]
-    levels = [node(f"p{level}", f"p{level - 1}" if level > 1 else None) for level in range(1, 9)]
-    eight = [*levels[:7], *(licence(f"l{level}", f"p{level}") for level in range(1, 8)), licence("l8", "p7")]
-    nine = [*levels, *(licence(f"l{level}", f"p{level}") for level in range(1, 9)), licence("l9", "p8")]
-    bidders = [f"b{place}" for place in range(65)]
-    judge(program, definition_of(tree, bidders[:64]), 0)
-    judge(program, definition_of([*tree, licence("more")], bidders[:1]), 56, "nodes: 128 are more than 127")
-    judge(program, definition_of([licence(f"l{place}") for place in range(65)], bidders[:1]), 56, "nodes: 65 licences are more than 64")
-    judge(program, definition_of(tree, bidders), 56, "bidders: 65 are more than 64")
-    judge(program, definition_of(eight, bidders[:1]), 0)
-    judge(program, definition_of(nine, bidders[:1]), 56)
-
-
 def prices(name: str, bidder: str) -> tuple[str, list[str]]:
     """A package of 64 licences with the greatest percent, and the greatest bid on each licence."""
     nodes = [node(name), *(licence(f"l{place}", name) for place in range(64))]

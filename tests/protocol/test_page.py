@@ -33,6 +33,7 @@ ELSEWHERE: dict[str, str] = {
         "def test_a_server_that_is_killed_keeps_what_it_answered(; def test_a_power_cut_loses_nothing_that_was_promised("
     ),
     """Nobody can connect ..""": "if is_served(address, server.port)] == []",
+    """| `nodes` | list of .. | `bidders` | list of ..""": "65 nodes on eight levels; nodes: 65 licences are more than 64; nodes[8]: on level 9",
     """A session waits ..""": "def test_a_session_that_misbehaves_stops_nobody_else(",
     """So a client sends one .. It never gives a ..""": (
         "def test_a_waiver_goes_out_alone_and_bids_go_out_behind_it(; def test_a_waiver_whose_line_was_lost_is_never_numbered_anew("
