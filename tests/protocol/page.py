@@ -3,10 +3,12 @@
 from __future__ import annotations
 
 import re
-from collections.abc import Iterator
+from collections.abc import Callable, Iterator
 from dataclasses import dataclass, field
 from pathlib import Path
+from typing import TypeVar
 
+Test = TypeVar("Test")
 TOP = Path(__file__).resolve().parents[2]
 LINK = re.compile(r"\[([^\[\]]*)\]\([^()\s]+\)")
 ITEM = re.compile(r"^\s*(?:-|\d+\.) ")
@@ -101,6 +103,11 @@ def kinds(text: str) -> Iterator[tuple[str, str]]:
             yield "code", line[indent if is_fenced else 4 :]
         else:
             yield ("none" if line.startswith("#") else "row" if line.startswith("|") else "text"), line
+
+
+def sentences(_fronts: str) -> Callable[[Test], Test]:
+    """Marks a test of the sentences of the page that begin with these words, each with two points behind it."""
+    return lambda test: test
 
 
 PAGE = Page((TOP / "docs" / "PROTOCOL.md").read_text(encoding="utf-8"))

@@ -1,7 +1,9 @@
 """What the tests of the page have `hpb` do: scripts, runs of a file and sessions, and commands with their words.
 
-A transcript is lines with their answers: `BID x 1 a 100 = OK 1; SHOW = ..`, parted by semicolons or line ends. FIRST stands for the
-first round of the page, and <EOF> at the end of a line for its missing LF. Letters up to U+00FF stand for the byte of that number.
+A transcript is lines with their answers: `BID x 1 a 100 = OK 1; SHOW = ..`, parted by semicolons or line ends. A number stands for the
+refusal with the word of the page's table, and `NODE a = HIGH 0 - ..` doesn't say `NODE a` again. FIRST stands for the first round of the
+page, and <EOF> at the end of a line for its missing LF. Letters up to U+00FF stand for the byte of that number. `waivers 2` and
+`OLD -> NEW` at the front change the definition.
 """
 
 from __future__ import annotations
@@ -15,14 +17,15 @@ import signal
 import struct
 import subprocess
 import termios
+from collections.abc import Callable
 from dataclasses import dataclass
 from pathlib import Path
-from typing import Protocol
 
 from harness.auctions import Layout
 from harness.conditions import NORMAL, Conditions
 from harness.programs import Program, Ran, format_words, shown
 from harness.serving import Server, wait_until
+from harness.streams import read_bytes
 from protocol.page import PAGE
 
 SECONDS = 60
@@ -40,7 +43,14 @@ def transcript(text: str) -> tuple[str, str]:
     """Its lines, and its answers. A line without ` = ` has none."""
     pairs = [pair.rsplit(" = ", 1) for pair in re.split(r"; |;?\n *", text.replace("FIRST", FIRST).strip("\n ;")) if pair]
     lines = "".join(f"{pair[0]}\n" for pair in pairs).replace("<EOF>\n", "")
-    return lines, "".join(f"{pair[1]}\n" for pair in pairs if len(pair) > 1)
+    return lines, "".join(f"{whole(*pair)}\n" for pair in pairs if len(pair) > 1)
+
+
+def whole(line: str, answer: str) -> str:
+    """The answer to a line. A number stands for its refusal, and the words of a line aren't said again."""
+    if answer.isdigit():
+        return f"ERR {answer} {WORDS[answer]}"
+    return f"{line} {answer}" if answer.startswith(("HIGH ", "ELIGIBILITY ")) else answer
 
 
 def same(answer: str, *lines: str) -> str:
@@ -56,11 +66,6 @@ def changed(*changes: str) -> str:
         assert old in definition, old
         definition = definition.replace(old, new, 1)
     return definition
-
-
-def waivers(count: int) -> str:
-    """The definition of the page, with so many waivers."""
-    return changed(f'"nodes" -> "waivers":{count},"nodes"')
 
 
 def data(text: str | bytes) -> bytes:
@@ -95,6 +100,35 @@ def unread(pipe: int) -> int:
     """How many bytes of a pipe nobody has read."""
     count: int = struct.unpack("i", fcntl.ioctl(pipe, termios.FIONREAD, b"\0" * 4))[0]
     return count
+
+
+class Talk:
+    """A program that is sent lines and answers them while it waits for more."""
+
+    def __init__(self, process: subprocess.Popen[bytes]) -> None:
+        self.process = process
+
+    def send(self, text: str) -> None:
+        """These bytes come at once."""
+        assert self.process.stdin is not None
+        self.process.stdin.write(data(text))
+        self.process.stdin.flush()
+
+    def answers(self, wanted: str) -> None:
+        """It answers so before more comes."""
+        assert self.process.stdout is not None
+        assert shown(read_bytes(self.process.stdout, len(wanted))) == wanted
+
+    def asks(self, text: str) -> None:
+        """The lines of a transcript come at once, and its answers before more comes."""
+        lines, answers = transcript(text)
+        self.send(lines)
+        self.answers(answers)
+
+    def ends(self, status: int = 0, said: str = "") -> None:
+        """It answers no more, and ends so, with this front of what it says."""
+        output, errors = self.process.communicate(timeout=SECONDS)
+        assert (output, shown(errors)[: len(said) or None], self.process.returncode) == (b"", said, status)
 
 
 @dataclass(frozen=True)
@@ -139,6 +173,11 @@ class Hpb:
         lines, answers = transcript(text)
         self.gives(shlex.join(["run", "--file", "F", *words]), answers, lines)
 
+    def starts(self, words: str) -> Talk:
+        """It waits for lines, and no signal ends it."""
+        conditions = Conditions(folder=self.folder, last=no_signal)
+        return Talk(self.program.start(*shlex.split(words), input=subprocess.PIPE, conditions=conditions))
+
     def fills(self, words: str, text: str, said: str = FULL_DISK, output: int = subprocess.PIPE) -> None:
         """A run whose disk is full from its first line on answers as this transcript says, and ends with 1 after this front of a reason."""
         lines, answers = transcript(text)
@@ -155,24 +194,30 @@ class Hpb:
         assert (shown(written), shown(errors)[: len(said)], process.returncode) == wanted, words
 
 
-class Asks(Protocol):
-    """Compares the answers of a transcript with those of a program, on a definition: that of the page, or another."""
+# Compares the answers of a transcript with those of a program, on a definition: that of the page, or another.
+Asks = Callable[..., None]
 
-    def __call__(self, text: str, definition: str = "") -> None:
-        """AssertionError where an answer, or the end of the program, is another."""
+
+def prepared(text: str, definition: str) -> tuple[str, str, str]:
+    """The definition with the changes at the front of a transcript, its lines and its answers."""
+    changes = []
+    while found := re.match(r"\s*(?:waivers (\d+)|(\S+ -> \S+)); ", text):
+        changes.append(found[2] or f'"nodes" -> "waivers":{found[1]},"nodes"')
+        text = text[found.end() :]
+    return (changed(*changes) if changes else definition or PAGE.definition, *transcript(text))
 
 
 def asks_script(program: Program, text: str, definition: str = "") -> None:
     """By a script."""
-    lines, answers = transcript(text)
-    ran = program.run(text=data((definition or PAGE.definition) + lines), seconds=SECONDS)
+    definition, lines, answers = prepared(text, definition)
+    ran = program.run(text=data(definition + lines), seconds=SECONDS)
     assert (ran.output, ran.errors, ran.status) == (answers, "", 0)
 
 
 def asks_server(program: Program, file: Path, layout: Layout, text: str, definition: str = "") -> None:
     """By one session of a server on a new file, which then says how many commands it keeps."""
-    lines, answers = transcript(text)
-    program.format(file, layout, text=data(definition or PAGE.definition))
+    definition, lines, answers = prepared(text, definition)
+    program.format(file, layout, text=data(definition))
     with Server(program, file) as server:
         client = server.connect()
         client.send(data(lines))
@@ -186,5 +231,5 @@ def asks_server(program: Program, file: Path, layout: Layout, text: str, definit
 
 
 def without_places(errors: str) -> str:
-    """What is said but for the places that are taken, who has them and how that ends."""
+    """The lines of standard error without those about places: which are taken, who has them and how that ends."""
     return re.sub(r"hpb: (\d+ of \d+ places taken|place \d+ of \d+ (is held by [0-9.:]+|\([0-9.:]+\) has ended: [^\n]+))\n", "", errors)

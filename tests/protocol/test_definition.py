@@ -8,8 +8,8 @@ import re
 import pytest
 
 from harness.programs import Program
-from protocol.page import PAGE, codes
-from protocol.talking import EMPTY, WORDS, Asks, Hpb, asks_script, changed, data, waivers
+from protocol.page import PAGE, codes, sentences
+from protocol.talking import EMPTY, WORDS, Asks, Hpb, asks_script, changed, data
 
 MOST = 1_000_000_000_000
 # JSON by fields; without one the field isn't there.
@@ -17,8 +17,8 @@ Fields = dict[str, str | None]
 
 
 def edited(fields: Fields) -> str:
-    """The definition of the page with these fields. Each key is a field of the top object, or a node or bidder by its name, a point and a
-    field; each value is JSON, or None for a field that isn't there."""
+    """The definition of the page with these fields. A key is a field of the top object, or NAME.FIELD of a node or a bidder. A value is
+    JSON, or None for a field that isn't there."""
     definition = json.loads(PAGE.definition)
     found = {thing["name"]: thing for thing in definition["nodes"] + definition["bidders"]}
     for place, (key, value) in enumerate(fields.items()):
@@ -105,10 +105,12 @@ FAULTS: dict[int, list[Fields]] = {
 }
 
 
+@sentences(
+    """Every field is required .. Object | Field | Type | Range, else .. A top node, too .. A number is a whole .. With a point, an .. `null` isn't
+    a number .. In a definition .."""
+)
 @pytest.mark.parametrize(("object_", "field"), VALUES, ids=".".join)
 def test_each_field_has_its_type_and_its_range(program: Program, object_: str, field: str) -> None:
-    """Every field is required .. Object | Field | Type | Range, else .. A top node, too, needs .. A number is a whole one .. With a point, an
-    exponent .. `null` isn't a number .. In a definition a number .."""
     key, values = VALUES[object_, field]
     for number, texts in values.items():
         for text in texts:
@@ -126,10 +128,12 @@ def test_each_row_of_the_table_is_tried_by_its_ends_and_by_its_refusals() -> Non
             assert str(least) in values[0] and {str(least - 1), str(most + 1)} <= set(values[number]), told
 
 
+@sentences(
+    """A node with `units` .. A node with neither .. A node with only .. Several faults give .. 60, the bytes aren't .. 61, anywhere in .. 62,
+    anywhere in .. 62, the step, the .. the smallest of .."""
+)
 @pytest.mark.parametrize("number", FAULTS)
 def test_several_faults_give_one_refusal(program: Program, number: int) -> None:
-    """A node with `units` and .. A node with neither is .. A node with only one .. Several faults give one .. 60, the bytes aren't .. 61, anywhere
-    in the text .. 62, anywhere in the text .. 62, the step, the percent .. the smallest of 50 to .."""
     for fields in FAULTS[number]:
         judge(program, edited(fields), number)
 
@@ -139,9 +143,11 @@ def test_a_number_that_is_not_whole_comes_before_one_out_of_range(program: Progr
     judge(program, edited({"percent": "51", "w.units": str(2**64)}), 62, "bidders[3].units: ")
 
 
+@sentences(
+    """Spaces, tabs and .. A byte order mark .. A definition without .. Then no line follows .. One JSON object .. If it is accepted .. If it is
+    refused .. It doesn't answer .. Standard error gives .."""
+)
 def test_the_text_of_a_definition(hpb: Hpb) -> None:
-    """Spaces, tabs and a CR .. A byte order mark may .. A definition without .. Then no line follows .. One JSON object on the .. If it is
-    accepted, it .. If it is refused, the .. It doesn't answer the .. Standard error gives .."""
     definition = PAGE.definition[:-1]
     judge(hpb.program, f"  \t\t\r{definition}\t\t  \r\n", 0)
     judge(hpb.program, f"{definition}\r\n", 0)
@@ -158,17 +164,18 @@ def test_the_text_of_a_definition(hpb: Hpb) -> None:
     judge(hpb.program, bare, 0)
 
 
+@sentences("Escapes in texts ..")
 def test_escapes_in_texts(asks: Asks) -> None:
-    """Escapes in texts are .."""
-    asks(r"NODE e = NODE e HIGH 0 - PRICE 0 MIN 100 WIN no; NODE \u0065 = ERR 12 node", changed(r'"name":"d" -> "name":"\u0065"'))
-    asks("NODE d = NODE d HIGH 0 - PRICE 0 MIN 100 WIN no", changed(r'"name":"d" -> "n\u0061me":"d"'))
+    asks(r""""name":"d" -> "name":"\u0065"; NODE e = HIGH 0 - PRICE 0 MIN 100 WIN no; NODE \u0065 = 12""")
+    asks(r""""name":"d" -> "n\u0061me":"d"; NODE d = HIGH 0 - PRICE 0 MIN 100 WIN no""")
 
 
+@sentences("`waivers` is a field ..")
 def test_each_bidder_starts_with_all_waivers(asks: Asks) -> None:
-    """`waivers` is a field .."""
     for count in (3, 20):
-        asks("; ".join(f"WHO {b} = WHO {b} ELIGIBILITY {e} ACTIVITY 0 TICKET 0 WAIVERS {count}" for b, e in (("x", 10), ("w", 25))), waivers(count))
-    asks("WHO x = WHO x ELIGIBILITY 10 ACTIVITY 0 TICKET 0; WAIVE x 1 = ERR 28 waiver")
+        x, w = (f"ELIGIBILITY {units} ACTIVITY 0 TICKET 0 WAIVERS {count}" for units in (10, 25))
+        asks(f"waivers {count}; WHO x = {x}; WHO w = {w}")
+    asks("WHO x = ELIGIBILITY 10 ACTIVITY 0 TICKET 0; WAIVE x 1 = 28")
 
 
 def node(name: str, parent: str | None = None) -> dict[str, object]:
@@ -187,21 +194,6 @@ def definition_of(nodes: list[dict[str, object]], bidders: list[str], **fields: 
     return json.dumps({"step": 10, "percent": 50, "stages": [80], **fields, "nodes": nodes, "bidders": named}) + "\n"
 
 
-def test_the_greatest_definitions(program: Program) -> None:
-    parents = [None, *(f"n{place // 2}" for place in range(126))]
-    tree = [(licence(f"n{place}", parent) if place > 62 else node(f"n{place}", parent)) for place, parent in enumerate(parents)]
-    levels = [node(f"p{level}", f"p{level - 1}" if level > 1 else None) for level in range(1, 9)]
-    eight = [*levels[:7], *(licence(f"l{level}", f"p{level}") for level in range(1, 8)), licence("l8", "p7")]
-    nine = [*levels, *(licence(f"l{level}", f"p{level}") for level in range(1, 9)), licence("l9", "p8")]
-    bidders = [f"b{place}" for place in range(65)]
-    judge(program, definition_of(tree, bidders[:64]), 0)
-    judge(program, definition_of([*tree, licence("more")], bidders[:1]), 56, "nodes: 128 are more than 127")
-    judge(program, definition_of([licence(f"l{place}") for place in range(65)], bidders[:1]), 56, "nodes: 65 licences are more than 64")
-    judge(program, definition_of(tree, bidders), 56, "bidders: 65 are more than 64")
-    judge(program, definition_of(eight, bidders[:1]), 0)
-    judge(program, definition_of(nine, bidders[:1]), 56)
-
-
 def prices(name: str, bidder: str) -> tuple[str, list[str]]:
     """A package of 64 licences with the greatest percent, and the greatest bid on each licence."""
     nodes = [node(name), *(licence(f"l{place}", name) for place in range(64))]
@@ -210,25 +202,25 @@ def prices(name: str, bidder: str) -> tuple[str, list[str]]:
 
 def test_the_greatest_prices(asks: Asks) -> None:
     definition, bids = prices("p", "x")
-    shown = f"NODE p = NODE p HIGH 0 - PRICE {64 * MOST} MIN {96 * MOST} WIN no"
-    refused = f"BID x 65 p {96 * MOST} = ERR 23 high; BID x 65 p {MOST} = ERR 22 low"
+    shown = f"NODE p = HIGH 0 - PRICE {64 * MOST} MIN {96 * MOST} WIN no"
+    refused = f"BID x 65 p {96 * MOST} = 23; BID x 65 p {MOST} = 22"
     asks("; ".join([*bids, "CLOSE 1 = OK 65", shown, refused]), definition)
 
 
+@sentences("The longest line .. The longest answer ..")
 def test_the_longest_line_and_the_longest_answer(asks: Asks) -> None:
-    """The longest line that .. The longest answer has .."""
     name, bidder = "p" * 16, "b" * 16
     definition, bids = prices(name, bidder)
     answer = f"NODE {name} HIGH {MOST} {bidder} PRICE {64 * MOST} MIN {96 * MOST} WIN no"
     line = f"BID {bidder} 4294967295 {name} 18446744073709551615"
     high = f"BID {bidder} 65 {name} {MOST} = OK 65"
-    asks("; ".join([*bids, high, "CLOSE 1 = OK 66", f"NODE {name} = {answer}", f"{line} = ERR 15 gap"]), definition)
+    asks("; ".join([*bids, high, "CLOSE 1 = OK 66", f"NODE {name} = {answer}", f"{line} = 15"]), definition)
     assert (len(line), len(answer)) == (69, 104)
 
 
+@sentences("At 1,000,000 accepted .. Bids since the last .. `COUNT` shows how .. 26 comes after 1,000,000 ..")
 @pytest.mark.timeout(300)
 def test_a_million_commands(program: Program) -> None:
-    """At 1,000,000 accepted .. Bids since the last close .. `COUNT` shows how many .. 26 comes after 1,000,000 .."""
     names, left, rounds, least, lines = [f"b{place}" for place in range(64)], 1_000_000, 0, 1, []
     while left > 64 * 64:
         lines += [f"BID {name} {64 * rounds + place + 1} l{place} {least}" for name in names for place in range(64)]
@@ -240,6 +232,6 @@ def test_a_million_commands(program: Program) -> None:
     pairs = [f"{line} = OK {number}" for number, line in enumerate([*lines, *last[:left]], 1)]
     shown = f"SHOW = ROUND {rounds + 1} STAGE 1 OPEN REVENUE {64 * high} COUNT 1000000"
     asked = [last[left], f"WAIVE b{left // 64} {64 * rounds + left % 64 + 1}", f"CLOSE {rounds + 1}", f"STAGE {rounds + 1}"]
-    node_shown = f"NODE l0 = NODE l0 HIGH {high} b0 PRICE {high} MIN {least} WIN yes"
-    pairs += [shown, *(f"{line} = ERR 26 limit" for line in asked), node_shown, f"{last[left - 1]} = OK 1000000", f"{last[0]} = ERR 13 old", shown]
+    node_shown = f"NODE l0 = HIGH {high} b0 PRICE {high} MIN {least} WIN yes"
+    pairs += [shown, *(f"{line} = 26" for line in asked), node_shown, f"{last[left - 1]} = OK 1000000", f"{last[0]} = 13", shown]
     asks_script(program, "\n".join(pairs), definition_of([licence(f"l{place}", None, 1) for place in range(64)], names, step=1, percent=1))

@@ -3,21 +3,17 @@
 from __future__ import annotations
 
 import fcntl
-import os
 import re
 import resource
-import subprocess
-from collections.abc import Callable
-from pathlib import Path
 
 import pytest
 
 from harness.auctions import FIRST_ROUND, Layout, commands
 from harness.conditions import NORMAL, Conditions
-from harness.programs import shown
-from harness.serving import Server, read_line
-from protocol.page import PAGE, codes
-from protocol.talking import EMPTY, FIRST, FULL_DISK, SHOWN, Hpb, data, fill_disk, no_signal, transcript
+from harness.serving import Server
+from harness.streams import WITHOUT_SIGNAL, full, unread
+from protocol.page import PAGE, codes, sentences
+from protocol.talking import EMPTY, FIRST, FULL_DISK, SHOWN, Hpb, fill_disk
 
 SLOTS = slice(3 * 4096, 13 * 4096)
 ZEROS = bytes(17 * 4096)
@@ -31,9 +27,8 @@ NODE d HIGH 0 - PRICE 0 MIN 100 WIN no
 """
 
 
+@sentences("`hpb format --file .. `--layout L` chooses .. Each frame takes .. Without the option .. 1 | a page of 4,096 .. 2 | three cells ..")
 def test_files_are_made_of_their_layout(hpb: Hpb) -> None:
-    """`hpb format --file F .. `--layout L` chooses .. Each frame takes a batch .. Without the option L .. 1 | a page of 4,096 bytes .. 2 | three
-    cells of 512 .."""
     made = {"F": ("0004", 17), "G": ("4 --layout 1", 17), "H": ("1024 --layout 1", 1037), "I": ("16 --layout 2", 19), "J": ("1024 --layout 2", 397)}
     for name, (journal, pages) in made.items():
         text = PAGE.definition.replace(",", ",\n") if name == "F" else PAGE.definition
@@ -47,46 +42,41 @@ def test_files_are_made_of_their_layout(hpb: Hpb) -> None:
     assert (len(images["F"]), len(images["I"])) == (69_632, 77_824)
 
 
+@sentences("`hpb run --file .. `hpb check --file .. `run`, `check` and .. OPERATIONS.md says .. Standard input has .. A batch in which ..")
 def test_a_file_is_run_and_shown(hpb: Hpb, layout: Layout) -> None:
-    """`hpb run --file F --batch .. `hpb check --file F` .. `run`, `check` and `serve` .. OPERATIONS.md says which .. Standard input has lines .. A
-    batch in which nothing .."""
     file = hpb.formats(journal=layout.least_journal, layout=layout)
     hpb.runs(FIRST, "--batch", "64", "--every", "1")
     before = file.read_bytes()
     hpb.gives("check --file F", STATE, "CLOSE 2\n")
-    hpb.runs("BID x 1 a 100 = OK 1; BID x 2 a 150 = ERR 22 low; CLOSE 0 = ERR 13 old", "--batch", "3")
-    half = "NODE d = NODE d HIGH 0 - PRICE 0 MIN 100 WIN no; BID z 2 b 210<EOF> = ERR 10 line"
-    hpb.runs(f"{PAGE.definition[:-1]} = ERR 10 line; {half}", "--every", "007")
+    hpb.runs("BID x 1 a 100 = OK 1; BID x 2 a 150 = 22; CLOSE 0 = 13", "--batch", "3")
+    half = "NODE d = HIGH 0 - PRICE 0 MIN 100 WIN no; BID z 2 b 210<EOF> = 10"
+    hpb.runs(f"{PAGE.definition[:-1]} = 10; {half}", "--every", "007")
     assert file.read_bytes() == before
 
 
 # By sentences: words of which each is wrong.
 WRONG = {
-    """A number has digits alone .. Zeros may stand in front .. Numbers are decimal ..""": (
-        """run --file F --every=-0; serve --file F --port +5000 --sessions 2; run --file F --batch 0x10
-        run --file F --batch 1.0; run --file F --every ten"""
-    ),
-    """2 | `hpb` doesn't know the words, or .. The path F has at least .. Any other number is a ..""": (
-        """script; format; check --file F again; check --file ''; format --file F --journal 16 --layout 0
-        format --file F --journal 16 --layout 3"""
-    ),
-    """2 | `hpb` doesn't know the words, a .. `--batch N` | 1 to 64 .. `--every K` | 0 to 4,294,967,295 ..""": (
-        """run; run --file F --journal 4; run --file F --batch 0; run --file F --batch 65; run --file F --every 4294967296
-        run --file F --every=-1"""
-    ),
-    """2 | `hpb` doesn't know the words, one .. All three have to be .. `--port P` | 1,024 to .. `--sessions N` | 1 to ..""": (
-        """serve --file F --port 5000 --sessions 1 --batch 1; serve --port 5000 --sessions 1; serve --file F --sessions 1
+    """A number has digits .. Zeros may stand .. Numbers are decimal ..""": """
+        run --file F --every=-0; serve --file F --port +5000 --sessions 2; run --file F --batch 0x10
+        run --file F --batch 1.0; run --file F --every ten""",
+    """2 | `hpb` doesn't know the words, or .. The path F has at .. Any other number ..""": """
+        script; format; check --file F again; check --file ''; format --file F --journal 16 --layout 0
+        format --file F --journal 16 --layout 3""",
+    """2 | `hpb` doesn't know the words, a .. `--batch N` | 1 .. `--every K` | 0 ..""": """
+        run; run --file F --journal 4; run --file F --batch 0; run --file F --batch 65; run --file F --every 4294967296
+        run --file F --every=-1""",
+    """2 | `hpb` doesn't know the words, one .. All three have to .. `--port P` | 1,024 .. `--sessions N` | 1 ..""": """
+        serve --file F --port 5000 --sessions 1 --batch 1; serve --port 5000 --sessions 1; serve --file F --sessions 1
         serve --file F --port 5000; serve --file F --port 0x1388 --sessions 1; serve --file F --port 5000 --sessions one
         serve --file F --port 1023 --sessions 1; serve --file F --port 65536 --sessions 1; serve --file F --port 5000 --sessions 0
-        serve --file F --port 5000 --sessions 33"""
-    ),
+        serve --file F --port 5000 --sessions 33""",
 }
 
 
+@sentences("One out of its range .. Wrong words are .. A word that isn't .. `--file F` | a path | | has .. `--file F` | a path | a ..")
 @pytest.mark.parametrize("fronts", WRONG, ids=[fronts[:30] for fronts in WRONG])
 def test_wrong_words_end_with_2_before_a_file_is_opened(hpb: Hpb, fronts: str) -> None:
-    """One out of its range .. Wrong words are explained .. A word that isn't UTF-8 .. `--file F` | a path | | has .. `--file F` | a path | a .."""
-    hpb.misreads(*re.split(r"; |\n +", WRONG[fronts]))
+    hpb.misreads(*re.split(r"; |\n +", WRONG[fronts].strip()))
     # These numbers are right, so that the file is looked for, which isn't there.
     for words in ("run --file F", "run --file F --batch 10", "serve --file F --port 1024 --sessions 32", "serve --file F --port 65535 --sessions 1"):
         hpb.refuses(words, "91 device", "SHOW\n", "F could not be opened: ")
@@ -96,10 +86,11 @@ def test_wrong_words_end_with_2_before_a_file_is_opened(hpb: Hpb, fronts: str) -
     assert not list(hpb.folder.iterdir())
 
 
+@sentences(
+    """Each command may .. The table of refusals .. `hpb` looks for .. the words .. whether a standard .. the definition; .. the number of frames ..
+    the file itself .. whether there may .. the contents of .. the port .. If the file is refused, that .. If the port can't .."""
+)
 def test_faults_are_looked_for_in_their_order(hpb: Hpb) -> None:
-    """Each command may instead .. The table of refusals .. `hpb` looks for faults .. the words .. whether a standard stream .. the definition; ..
-    the number of frames .. the file itself .. whether there may be .. the contents of the file .. the port .. If the file is refused, that .. If
-    the port can't be .. If the port can't be .."""
     (hpb.folder / "zeros").write_bytes(ZEROS)
     hpb.misreads("format --file none/F --journal three", "format --file none/F --journal 20 --layout 3", "run --file zeros --batch 65")
     with open(hpb.folder / "F.new", "wb") as stream:
@@ -119,54 +110,19 @@ def test_faults_are_looked_for_in_their_order(hpb: Hpb) -> None:
             assert (ran.output, ran.status) == (f"ERR {refusal}\n", 1), ran
 
 
-def test_help_and_version(hpb: Hpb) -> None:
-    """`hpb --help` says how .. `hpb format --help` .. `hpb --version` says .. All end with 0 .. 0 | the input was read to its end and .. Help and
-    version come .. `hpb --version` writes .."""
-    for words in ("--help", "format --help", "run --help", "check --help", "serve --help", "--version"):
-        ran = hpb.ran(words)
-        form = r"hpb \d.*\n.*\n" if words == "--version" else rf"(?s).*Usage: hpb {words[:-7] or '<'} .*".replace("  ", " ")
-        assert (ran.output, ran.status) == ("", 0) and re.fullmatch(form, ran.errors), ran
-
-
-def put(file: Path, at: int, byte: int) -> None:
-    """Writes one byte of a file."""
-    with open(file, "r+b") as opened:
-        opened.seek(at)
-        opened.write(bytes([byte]))
-
-
-# By the refusal of a file: what makes it so.
-DAMAGED: dict[str, Callable[[Path], object]] = {
-    "40 unformatted": lambda file: file.write_bytes(ZEROS),
-    "42 layout": lambda file: os.truncate(file, 19 * 4096),
-    "42 layout ": lambda file: os.truncate(file, 17 * 4096),
-    "44 checkpoint": lambda file: put(file, 3 * 4096, 0),
-    "45 frame": lambda file: put(file, 13 * 4096, 0xA5),
-}
-
-
-@pytest.mark.parametrize("refusal", DAMAGED)
-def test_a_file_that_is_refused(hpb: Hpb, refusal: str) -> None:
-    """If the file is refused, the .. No line of the input .. 1 | the file was refused .. 10 to 29 answer a line .. 41 and 43 are refusals .. `run`,
-    `serve` and `check` .."""
-    file = hpb.formats(journal=5)
-    DAMAGED[refusal](file)
-    image = file.read_bytes()
-    for words in ("run", "check", "serve --port 5000 --sessions 1"):
-        hpb.refuses(f"{words} --file F", refusal.strip(), "SHOW\n")
-    hpb.ran("format --file F --journal 5", PAGE.definition)
-    assert file.read_bytes() == image or refusal == "40 unformatted"
-
-
+@sentences("If `format`, `run` .. The name of a file .. A command between .. In it the name stands ..")
 def test_a_file_that_is_there(hpb: Hpb) -> None:
-    """If `format`, `run`, `check` .. The name of a file is .. A command between grave .. In it the name stands .."""
     for name in ("auction.hpb", "it's mine"):
         image = hpb.formats(f"{name}").read_bytes()
-        said = PAGE.block("hpb: 41 ").split(": ", 2)[2].strip().replace("auction.hpb`", r"'it'\''s mine'`" if "'" in name else "auction.hpb`")
-        hpb.refuses(f'format --file "{name}" --journal 4', "41 formatted", PAGE.definition, said.replace("auction.hpb keeps", f"{name} keeps"))
+        said = PAGE.block("hpb: 41 ").strip().removeprefix("hpb: 41 formatted: ")
+        if name != "auction.hpb":
+            said = said.replace("auction.hpb`", r"'it'\''s mine'`").replace("auction.hpb", name)
+        hpb.refuses(f'format --file "{name}" --journal 4', "41 formatted", PAGE.definition, said)
         assert (hpb.folder / name).read_bytes() == image
-    (hpb.folder / "longer").write_bytes(ZEROS + b"\0")
+    for name, image in (("longer", ZEROS + b"\0"), ("zeros", ZEROS)):
+        (hpb.folder / name).write_bytes(image)
     hpb.refuses("format --file longer --journal 4", "43 length", PAGE.definition)
+    hpb.formats("zeros")
     names = {"no\u202efile": r"no\u{202e}file", "n" * 100: "n" * 100, "n" * 101: "n" * 100 + ".."}
     for name, escaped in names.items():
         hpb.refuses(f"check --file {name}", "91 device", "", f"{escaped} could not be opened: ")
@@ -192,64 +148,56 @@ ALL_KEPT = PAGE.block(". All that was answered").strip()
 SAID = {row[0]: codes(row[1])[0] for row in PAGE.table("Event", "Its line").rows}
 
 
+@sentences(
+    """All answers go to .. Everything else .. 1 | the definition .. In a script, and .. Earlier answers .. `format` and `check` .. `format` writes
+    .. If standard output .. reading standard .. writing standard .. If a run of the .. If F's disk failed .. It has the system's .. It is the last
+    line .."""
+)
 def test_streams_that_fail(hpb: Hpb) -> None:
-    """All answers go to standard .. Everything else goes .. 1 | the definition, the .. In a script, and in a .. Earlier answers stand .. `format`
-    and `check` .. `format` writes that .. If standard output failed .. reading standard input .. writing standard output .. If a run of the file ..
-    If F's disk failed in .. It has the system's words .. It is the last line if .."""
     hpb.formats()
     writing, reading = SAID["writing standard output failed"], SAID["reading standard input failed"]
-    full = os.open("/dev/full", os.O_WRONLY)
-    for words, text, said in (
-        ("", PAGE.definition + "SHOW\n", writing),
-        ("format --file G --journal 4", PAGE.definition, writing),
-        ("check --file F", "", writing),
-        ("run --file F", "BID x 1 a 100\n", writing + ALL_KEPT),
-    ):
-        ran = hpb.ran(words, text, output=full)
-        assert (ran.errors, ran.status) == (f"{said}\n", 1), words
-    hpb.runs(f"SHOW = {SHOWN.format(1)}")
     both = f"{writing}{ALL_KEPT}\nhpb: 91 device: the disk of F failed: File too large (os error 27). "
-    hpb.fills("run --file F", "BID y 1 b 150", both, full)
-    os.close(full)
+    asked = [("", PAGE.definition), ("format --file G --journal 4", PAGE.definition), ("check --file F", ""), ("run --file F", "BID x 1 a 100\n")]
+    with full() as output:
+        for words, text in asked:
+            ran = hpb.ran(words, text + "SHOW\n" * (not words), output)
+            assert (ran.errors, ran.status) == (f"{writing}{ALL_KEPT if words[:3] == 'run' else ''}\n", 1), words
+        hpb.runs(f"SHOW = {SHOWN.format(1)}")
+        hpb.fills("run --file F", "BID y 1 b 150", both, output)
     # The memory of a process has nothing at its front, and a read there fails.
     reads = [("", "", f"{reading}\n"), ("run --file F", "", f"{reading}{ALL_KEPT}\n"), ("format --file H --journal 4", "ERR 92 stream\n", "")]
-    for words, output, said in reads:
+    for words, written, said in reads:
         with open("/proc/self/mem", "rb") as memory:
-            process = hpb.program.start(*words.split(), input=memory, conditions=Conditions(folder=hpb.folder))
-            written, errors = process.communicate(timeout=20)
-        assert (shown(written), shown(errors)[: len(said)], process.returncode) == (output, said, 1)
+            ran = hpb.program.run(*words.split(), input=memory, conditions=Conditions(folder=hpb.folder))
+        assert (ran.output, ran.errors[: len(said)], ran.status) == (written, said, 1)
 
 
-@pytest.mark.parametrize("restored", [False, True], ids=["SIGPIPE is ignored", "SIGPIPE as it comes"])
-def test_an_output_that_nobody_reads(hpb: Hpb, restored: bool) -> None:
-    """If nobody reads standard output any .. Commands that were accepted .."""
+@sentences("If nobody reads standard output any .. Commands that were accepted ..")
+@pytest.mark.parametrize("conditions", [NORMAL, WITHOUT_SIGNAL], ids=["SIGPIPE as it comes", "SIGPIPE is ignored"])
+def test_an_output_that_nobody_reads(hpb: Hpb, conditions: Conditions) -> None:
     hpb.formats()
-    for words, text in (((), PAGE.definition + "SHOW\n"), (("run", "--file", "F"), "BID x 1 a 100\n"), (("check", "--file", "F"), "")):
-        reader, writer = os.pipe()
-        os.close(reader)
-        ran = subprocess.run(
-            [hpb.program.path, *words], input=text.encode(), stdout=writer, stderr=-1, cwd=hpb.folder, restore_signals=restored, timeout=20
-        )
-        os.close(writer)
-        assert (ran.stderr[:39], ran.returncode) == (b"hpb: 92 stream: writing: Broken pipe (o", 1)
+    for words, text in (("", PAGE.definition + "SHOW\n"), ("run --file F", "BID x 1 a 100\n"), ("check --file F", "")):
+        with unread() as output:
+            ran = hpb.ran(words, text, output, conditions)
+        assert (ran.errors[:38], ran.status) == ("hpb: 92 stream: writing: Broken pipe (", 1)
     hpb.runs(f"SHOW = {SHOWN.format(1)}")
 
 
-BOUGHT = "BID x 1 a 100 = ERR 91 device; {} = {}; BID y 1 b 150 = ERR 93 failed"
+BOUGHT = "BID x 1 a 100 = 91; {} = {}; BID y 1 b 150 = 93"
 # By sentences: the greatest batch of a run whose disk is full, and its lines and answers.
 FULL = {
-    """A batch ends with its ..""": ("1", "BID x 1 a 100 = ERR 91 device; BID y 1 b 150 = ERR 93 failed"),
-    "two": ("2", "BID x 1 a 100 = ERR 91 device; BID y 1 b 150 = ERR 91 device; BID z 1 all 500 = ERR 93 failed"),
-    "all": ("64", "BID x 1 a 100 = ERR 91 device; BID y 1 b 150 = ERR 91 device; BID z 1 all 500 = ERR 91 device"),
-    "sixty-four": ("64", "; ".join(["BID x 1 a 100 = ERR 91 device"] * 64) + "; CLOSE 1 = ERR 93 failed"),
-    """It also ends before a ..""": ("64", BOUGHT.format("SHOW", EMPTY[:-1])),
+    """A batch ends with ..""": ("1", "BID x 1 a 100 = 91; BID y 1 b 150 = 93"),
+    "two": ("2", "BID x 1 a 100 = 91; BID y 1 b 150 = 91; BID z 1 all 500 = 93"),
+    "all": ("64", "BID x 1 a 100 = 91; BID y 1 b 150 = 91; BID z 1 all 500 = 91"),
+    "sixty-four": ("64", "; ".join(["BID x 1 a 100 = 91"] * 64) + "; CLOSE 1 = 93"),
+    """It also ends before ..""": ("64", BOUGHT.format("SHOW", EMPTY[:-1])),
     "a line": ("64", BOUGHT.format("BID x 2 c", "ERR 10 line")),
     "no bidder": ("64", BOUGHT.format("BID nobody 1 b 150", "ERR 11 bidder")),
     "no node": ("64", BOUGHT.format("BID x 2 nowhere 100", "ERR 12 node")),
-    """`SHOW`, `NODE` and `WHO` ..""": (
+    """`SHOW`, `NODE` and ..""": (
         "2",
-        f"""BID x 1 a 100 = ERR 91 device; CLOSE 1 = ERR 91 device; SHOW = {EMPTY}NODE a = NODE a HIGH 0 - PRICE 0 MIN 100 WIN no
-        WHO x = WHO x ELIGIBILITY 10 ACTIVITY 0 TICKET 0""",
+        f"""BID x 1 a 100 = 91; CLOSE 1 = 91; SHOW = {EMPTY}NODE a = HIGH 0 - PRICE 0 MIN 100 WIN no
+        WHO x = ELIGIBILITY 10 ACTIVITY 0 TICKET 0""",
     ),
 }
 
@@ -261,51 +209,33 @@ def test_a_disk_that_is_full(hpb: Hpb, layout: Layout, quotes: str) -> None:
     hpb.fills(f"run --file F --batch {batch}", text)
 
 
+@sentences(
+    """When a call of the device .. a call for a batch .. Each command that .. If a batch was answered .. No command that .. 0 | the input was read
+    to its end, .."""
+)
 def test_a_disk_that_is_full_keeps_what_was_answered_ok(hpb: Hpb, layout: Layout) -> None:
-    """When a call of the device .. a call for a batch | `ERR .. Each command that was .. If a batch was answered .. No command that was answered ..
-    0 | the input was read to its end, .."""
     hpb.formats(journal=layout.least_journal, layout=layout)
     hpb.runs("BID x 1 a 100 = OK 1")
     repeat, low, new, later = "BID x 1 a 100", "BID y 1 b 155", "BID y 1 b 150", "BID z 1 all 500"
-    asked = f"SHOW = {SHOWN.format(1)}NODE b = NODE b HIGH 0 - PRICE 0 MIN 100 WIN no; WHO y = WHO y ELIGIBILITY 10 ACTIVITY 0 TICKET 0"
-    failed = "; ".join(f"{line} = ERR 91 device" for line in (repeat, low, new))
-    hpb.fills("run --file F --batch 3", f"{failed}; {later} = ERR 93 failed; {asked}; {repeat} = ERR 93 failed")
+    asked = f"SHOW = {SHOWN.format(1)}NODE b = HIGH 0 - PRICE 0 MIN 100 WIN no; WHO y = ELIGIBILITY 10 ACTIVITY 0 TICKET 0"
+    failed = "; ".join(f"{line} = 91" for line in (repeat, low, new))
+    hpb.fills("run --file F --batch 3", f"{failed}; {later} = 93; {asked}; {repeat} = 93")
+    hpb.fills("format --file G --journal 4", f"{PAGE.definition[:-1]} = 91", "hpb: 91 device: G ")
     # Such a disk takes nothing of the batch.
-    hpb.runs(f"SHOW = {SHOWN.format(1)}{repeat} = OK 1; {low} = ERR 21 step; {new} = OK 2; {later} = OK 3", "--batch", "3")
+    hpb.runs(f"SHOW = {SHOWN.format(1)}{repeat} = OK 1; {low} = 21; {new} = OK 2; {later} = OK 3", "--batch", "3")
 
 
-class Run:
-    """A run of F that is sent lines and answers them while it waits for more."""
-
-    def __init__(self, hpb: Hpb, *words: str) -> None:
-        folder = Conditions(folder=hpb.folder, last=no_signal)
-        self.process = hpb.program.start("run", "--file", "F", *words, input=subprocess.PIPE, conditions=folder)
-
-    def asks(self, text: str) -> None:
-        """These lines come at once, and these answers before the next ones."""
-        assert self.process.stdin is not None
-        lines, answers = transcript(text)
-        self.process.stdin.write(lines.encode())
-        self.process.stdin.flush()
-        assert [read_line(self.process) for _ in answers.splitlines()] == answers.splitlines()
-
-    def ends(self, status: int = 0, said: str = "") -> None:
-        """It writes no more, and ends so."""
-        output, errors = self.process.communicate(timeout=20)
-        assert (output, shown(errors)[: len(said)], self.process.returncode) == (b"", said, status) and (said or not errors)
-
-
+@sentences("An `OK` leaves when its command is durable, .. So no command waits .. `hpb run` also makes ..")
 def test_an_ok_leaves_when_its_command_is_durable(hpb: Hpb, layout: Layout) -> None:
-    """An `OK` leaves when its command is durable, .. So no command waits for .. `hpb run` also makes .."""
     for batch in ("1", "2", "64"):
         file = hpb.formats(journal=layout.least_journal, layout=layout)
-        run, image = Run(hpb, "--batch", batch), file.read_bytes()
+        run, image = hpb.starts(f"run --file F --batch {batch}"), file.read_bytes()
         for number, line in enumerate(FIRST_ROUND, 1):
             run.asks(f"{line} = OK {number}")
             before, image = image, file.read_bytes()
             assert before != image, "a command is in the file before the next line"
         # A repeat, a refused command, and the end of them by a kill.
-        run.asks("CLOSE 1 = OK 5; BID x 1 a 110 = ERR 14 ticket; BID x 2 a 160 = OK 6")
+        run.asks("CLOSE 1 = OK 5; BID x 1 a 110 = 14; BID x 2 a 160 = OK 6")
         run.process.kill()
         run.process.communicate()
         assert hpb.ran("check --file F").output.startswith("ROUND 2 STAGE 1 OPEN REVENUE 500 COUNT 6\n")
@@ -314,25 +244,27 @@ def test_an_ok_leaves_when_its_command_is_durable(hpb: Hpb, layout: Layout) -> N
 
 def test_half_a_line_ends_no_batch(hpb: Hpb) -> None:
     hpb.formats()
-    run = Run(hpb, "--batch", "64")
+    run = hpb.starts("run --file F --batch 64")
     run.asks(f"SHOW = {EMPTY}")
     fill_disk(run.process)
-    run.asks("BID x 1 a 100 = ERR 91 device; BID y 1 b <EOF>")
-    run.asks("150 = ERR 93 failed")
+    run.asks("BID x 1 a 100 = 91; BID y 1 b <EOF>")
+    run.asks("150 = 93")
     run.ends(1, FULL_DISK)
 
 
+@sentences("a call for a checkpoint ..")
 def test_a_checkpoint_that_fails(hpb: Hpb, layout: Layout) -> None:
-    """a call for a checkpoint .."""
     hpb.formats(journal=layout.least_journal, layout=layout)
-    run = Run(hpb)
+    run = hpb.starts("run --file F")
     *lines, last = commands(layout.least_journal + 1)
     for number, line in enumerate(lines, 1):
         run.asks(f"{line} = OK {number}")
-    before = hpb.program.run(text=data(PAGE.definition + "".join(f"{line}\n" for line in [*lines, "SHOW", "NODE a", "WHO x"]))).lines()[-3:]
     fill_disk(run.process)
-    asked = "; ".join(f"{line} = {answer}" for line, answer in zip(("SHOW", "NODE a", "WHO x"), before, strict=True))
-    run.asks(f"{last} = ERR 93 failed; {asked}; {lines[0]} = ERR 93 failed; BID nobody 1 a 100 = ERR 11 bidder")
+    asked = f"SHOW = {SHOWN.format(4)}NODE a = HIGH 0 - PRICE 0 MIN 100 WIN no; WHO x = ELIGIBILITY 10 ACTIVITY 10 TICKET 1"
+    run.asks(f"{last} = 93")
+    if layout is Layout.PAGES:
+        run.asks(asked)
+    run.asks(f"{lines[0]} = 93; BID nobody 1 a 100 = 11")
     run.ends(1, FULL_DISK)
     assert hpb.program.count(hpb.folder / "F") == len(lines)
 
@@ -349,11 +281,11 @@ def test_checkpoints(hpb: Hpb) -> None:
         assert [count for count in range(1, 6) if slots[count] != slots[count - 1]] == wanted, every
 
 
+@sentences("Each line gets one answer, in .. Without a fault .. Standard output ..")
 def test_runs_answer_as_scripts(hpb: Hpb, layout: Layout) -> None:
-    """Each line gets one answer, in .. Without a fault, these .. Standard output has nothing .."""
     rows = PAGE.table("Line, behind the first example", "Answer", "Usual causes").pairs()
-    shows = "SHOW = ROUND 3 STAGE 2 CLOSED REVENUE 500 COUNT 9; NODE a = NODE a HIGH 160 x PRICE 183 MIN 210 WIN no"
-    asked = [*FIRST.split("; "), *(" = ".join(row) for row in rows), *shows.split("; "), "WHO x = WHO x ELIGIBILITY 0 ACTIVITY 0 TICKET 2"]
+    shows = "SHOW = ROUND 3 STAGE 2 CLOSED REVENUE 500 COUNT 9; NODE a = HIGH 160 x PRICE 183 MIN 210 WIN no"
+    asked = [*FIRST.split("; "), *(" = ".join(row) for row in rows), *shows.split("; "), "WHO x = ELIGIBILITY 0 ACTIVITY 0 TICKET 2"]
     for batch, every, cut in ((1, 0, 5), (1, 1, 0), (2, 3, 7), (3, 2, 15), (64, 0, 1), (64, 1, 20), (64, 4_294_967_295, 9)):
         file = hpb.formats(journal=layout.least_journal, layout=layout)
         for part in (asked[:cut], asked[cut:]):

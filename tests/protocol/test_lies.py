@@ -3,15 +3,12 @@
 from __future__ import annotations
 
 from collections.abc import Callable
-from pathlib import Path
 
 import pytest
 
-from harness.auctions import Layout
-from harness.programs import Program
 from outside.lies import stand_in
-from protocol.page import PAGE, TOP, Page
-from protocol.talking import FIRST, Hpb, asks_script
+from protocol.page import PAGE, TOP, Page, sentences
+from protocol.talking import FIRST, Asks, Hpb, asks_script
 from protocol.test_definition import judge
 from protocol.test_page import faults
 
@@ -30,15 +27,14 @@ SEEN: list[tuple[str, Callable[[Hpb], None]]] = [
     *((lie, lambda hpb: hpb.runs(FIRST)) for lie in ("wrong", "blamed", "ill")),
     *((lie, lambda hpb: hpb.refuses("format --file F --journal 4", "41 formatted", PAGE.definition)) for lie in ("wrong", "silent", "well")),
     *((lie, lambda hpb: judge(hpb.program, "{}\n", 61)) for lie in ("wrong", "silent", "well")),
-    *((lie, lambda hpb: hpb.fills("run --file F", "BID x 1 a 100 = ERR 91 device")) for lie in ("wrong", "silent", "well")),
+    *((lie, lambda hpb: hpb.fills("run --file F", "BID x 1 a 100 = 91")) for lie in ("wrong", "silent", "well")),
     *((lie, lambda hpb: hpb.misreads("script")) for lie in ("silent", "well")),
-    ("ill", lambda hpb: hpb.gives("check --file F", "")),
 ]
 
 
+@sentences("Each line begins .. If a line is about .. If all is well .. Exceptions are a ..")
 @pytest.mark.parametrize(("lie", "check"), SEEN)
 def test_a_stand_in_that_lies_is_seen(hpb: Hpb, lie: str, check: Callable[[Hpb], None]) -> None:
-    """Each line begins with .. If a line is about something .. If all is well, standard .. Exceptions are a terminal .."""
     with pytest.raises(AssertionError):
         check(tries(hpb, lie))
 
@@ -59,8 +55,8 @@ def test_a_page_that_says_something_else_is_seen(old: str, new: str) -> None:
 
 
 @pytest.mark.parametrize("row", range(5))
-def test_a_table_with_another_answer_is_seen(program: Program, row: int) -> None:
+def test_a_table_with_another_answer_is_seen(asks: Asks, row: int) -> None:
     pairs = PAGE.table("Line", "Answer").pairs()
     pairs[row] = (pairs[row][0], "ERR 22 low")
     with pytest.raises(AssertionError):
-        asks_script(program, "; ".join(map(" = ".join, pairs)))
+        asks("; ".join(map(" = ".join, pairs)))

@@ -17,7 +17,7 @@ from harness.auctions import EXAMPLES, Layout
 from harness.conditions import Conditions
 from harness.programs import Program
 from harness.serving import ADDRESS, Client, Serve, free_port, read_line
-from protocol.page import PAGE, TOP, codes
+from protocol.page import PAGE, TOP, codes, sentences
 from protocol.talking import EMPTY, FULL_DISK, SHOWN, fill_disk, no_signal, transcript, without_places
 
 MOST_BYTES = 1_000_000_000
@@ -30,9 +30,11 @@ def asks(client: Client, text: str) -> None:
     assert [client.line() for _ in answers.splitlines()] == answers.splitlines()
 
 
+@sentences(
+    """`hpb serve --file .. All sessions share .. First session | Answer | Second session | Answer .. It writes `LISTENING .. It writes `CLOSED .. N
+    connections are .. Any further one .. 0 | all sessions .."""
+)
 def test_two_sessions_share_one_auction(serve: Serve, file: Path) -> None:
-    """`hpb serve --file F --port .. All sessions share one .. First session | Answer | Second session | Answer .. It writes `LISTENING .. It writes
-    `CLOSED n` .. It writes `CLOSED n` .. N connections are taken .. Any further one is refused .. 0 | all sessions have .."""
     server = serve(file, sessions=2)
     clients = [server.connect(), server.connect()]
     for row in PAGE.table("First session", "Answer", "Second session", "Answer").rows:
@@ -41,27 +43,25 @@ def test_two_sessions_share_one_auction(serve: Serve, file: Path) -> None:
     assert clients[0].finish() == [] and server.process.poll() is None
     with suppress(OSError):
         assert server.connect().finish() == []
-    # A bidder isn't bound to a connection: the next one gives the ticket 2 of x to another command.
-    asks(clients[1], "CLOSE 1 = OK 3; BID x 2 a 110 = OK 4; BID x 2 a 120 = ERR 14 ticket")
     assert clients[1].finish() == []
     ran = server.ended()
-    assert (ran.output, ran.status, without_places(ran.errors)) == ("CLOSED 4\n", 0, "")
+    assert (ran.output, ran.status, without_places(ran.errors)) == ("CLOSED 2\n", 0, "")
     server = serve(file)
-    asks(server.connect(), "STAGE 2 = OK 5")
-    assert server.ended().output == "CLOSED 5\n"
+    asks(server.connect(), "STAGE 1 = OK 3")
+    assert server.ended().output == "CLOSED 3\n"
 
 
+@sentences("Any session may .. So one client should ..")
 def test_any_session_may_send_any_line(serve: Serve, file: Path) -> None:
-    """Any session may send .. So one client should .."""
     first, second = (server := serve(file, sessions=2)).connect(), server.connect()
     asks(first, "BID x 1 a 100 = OK 1")
     asks(second, "BID y 1 b 150 = OK 2; CLOSE 1 = OK 3; BID x 2 a 110 = OK 4")
-    asks(first, "BID x 2 a 120 = ERR 14 ticket")
+    asks(first, "BID x 2 a 120 = 14")
 
 
+@sentences("Each connection .. No definition stands .. Each line gets one answer, and ..")
 @pytest.mark.parametrize("script", sorted(path.stem for path in EXAMPLES.glob("*.txt")))
 def test_a_session_answers_as_a_script(program: Program, serve: Serve, room: Path, layout: Layout, script: str) -> None:
-    """Each connection is a .. No definition stands .. Each line gets one answer, and .."""
     definition, _, lines = (EXAMPLES / f"{script}.txt").read_bytes().partition(b"\n")
     assert program.format(room / "F", layout, text=definition).status == 0
     client = serve(room / "F").connect()
@@ -69,9 +69,8 @@ def test_a_session_answers_as_a_script(program: Program, serve: Serve, room: Pat
     assert client.finish() == (EXAMPLES / f"{script}.out").read_text().splitlines()
 
 
+@sentences("A session ends when .. Its accepted commands .. A client that ends .. Each session of .. A session waits .. One that is silent ..")
 def test_sessions_end(serve: Serve, file: Path) -> None:
-    """A session ends when its .. Its accepted commands .. A client that ends only .. Each session of `serve` .. A session waits for no .. One that
-    is silent, sends .."""
     server = serve(file, sessions=5)
     lost, ended, long, half, last = (server.connect() for _ in range(5))
     asks(lost, "BID x 1 a 100 = OK 1")
@@ -92,10 +91,15 @@ def test_sessions_end(serve: Serve, file: Path) -> None:
     assert server.ended().output == "CLOSED 3\n"
 
 
+def take_interrupts() -> None:
+    """Ctrl-C ends this process, even if it doesn't end the tests."""
+    signal.signal(signal.SIGINT, signal.SIG_DFL)
+
+
 CLIENTS = {
     """By hand, `nc 127.0.0.1 ..""": (PAGE.block("exec 3<>") + 'echo "$answer"\n', b""),
     "nc": (f"nc {ADDRESS} 5000", b"BID x 1 a 100\n"),
-    """`tools/client` does that ..""": (f"cd {TOP}; {PAGE.block('tools/client').replace('lines.txt', '/dev/stdin')}", b"BID x 1 a 100\n"),
+    """`tools/client` does ..""": (f"cd {TOP}; {PAGE.block('tools/client').replace('lines.txt', '/dev/stdin')}", b"BID x 1 a 100\n"),
 }
 
 
@@ -104,7 +108,7 @@ def test_a_client_by_hand(serve: Serve, file: Path, quotes: str) -> None:
     script, text = CLIENTS[quotes]
     server = serve(file)
     words = ["bash", "-c", script.replace("5000", str(server.port))]
-    client = subprocess.Popen(words, stdin=subprocess.PIPE, stdout=subprocess.PIPE, start_new_session=True)
+    client = subprocess.Popen(words, stdin=subprocess.PIPE, stdout=subprocess.PIPE, start_new_session=True, preexec_fn=take_interrupts)
     assert client.stdin is not None
     client.stdin.write(text)
     client.stdin.flush()
@@ -115,8 +119,8 @@ def test_a_client_by_hand(serve: Serve, file: Path, quotes: str) -> None:
     assert server.ended().output == "CLOSED 1\n"
 
 
+@sentences("A client that has no .. The command's ticket .. So send no next .. Each reconnection uses ..")
 def test_a_client_sends_again_what_has_no_answer(serve: Serve, file: Path) -> None:
-    """A client that has no .. The command's ticket .. So send no next command .. Each reconnection uses .."""
     server = serve(file, sessions=2)
     with server.connect() as client:
         client.send(b"BID x 1 a 100\n")
@@ -139,19 +143,22 @@ def test_a_client_sends_again_what_has_no_answer(serve: Serve, file: Path) -> No
     assert (tool.returncode, server.ended().output) == (0, "CLOSED 3\n")
 
 
+@sentences(
+    """You can skip this .. A client that sends ahead .. Up to 16 commands .. Each line is judged .. A refused command .. Behind a refused .. It
+    used none .. So each later command .. Commands of other .. Number those again .. Sent in this order | Answer .."""
+)
 def test_lines_that_are_sent_ahead(serve: Serve, file: Path) -> None:
-    """You can skip this section .. A client that sends ahead .. Up to 16 commands of .. Each line is judged by .. A refused command stops .. Behind
-    a refused command .. It used none .. So each later command .. Commands of other senders .. Number those again, from .. Sent at once | Answer
-    .."""
     server = serve(file, sessions=2)
-    gaps = "; ".join(f"BID z {ticket} d {ticket}00 = ERR 15 gap" for ticket in range(3, 18))
-    asks(server.connect(), f"BID z 1 d 100 = OK 1; BID z 2 d 200 = ERR 24 again; {gaps}")
+    gaps = "; ".join(f"BID z {ticket} d {ticket}00 = 15" for ticket in range(3, 18))
+    asks(server.connect(), f"BID z 1 d 100 = OK 1; BID z 2 d 200 = 24; {gaps}")
     asks(server.connect(), "BID z 2 c 100 = OK 2")
 
 
+@sentences(
+    """After a loss, send .. Then each command .. Of each sender's .. Here a 13 means .. You don't learn .. Of these lines the .. Sent again |
+    Answer .."""
+)
 def test_after_a_loss_all_lines_without_an_answer_are_sent_again(serve: Serve, file: Path, program: Program) -> None:
-    """After a loss, send all .. Then each command counts .. Of each sender, the last .. Here a 13 means that .. You don't learn its number .. Of
-    these lines the first .. Sent again | Answer .."""
     rows = PAGE.table("Sent again", "Answer").pairs()
     kept = "".join(f"{line}\n" for line, _ in rows[:2]).encode()
     for wanted in ("OK 1\nOK 2\n", "ERR 13 old\nOK 2\n"):
@@ -161,8 +168,8 @@ def test_after_a_loss_all_lines_without_an_answer_are_sent_again(serve: Serve, f
     assert server.ended().output == "CLOSED 3\n"
 
 
+@sentences("A line without an .. Under its ticket .. Under another ticket ..")
 def test_a_line_without_an_answer_may_still_be_judged(serve: Serve, file: Path) -> None:
-    """A line without an answer .. Under its ticket it then .. Under another ticket .."""
     server = serve(file, sessions=2)
     lines = b"BID z 1 a 100\nBID z 2 b 100\n"
     with server.connect() as client:
@@ -173,16 +180,18 @@ def test_a_line_without_an_answer_may_still_be_judged(serve: Serve, file: Path) 
     assert server.ended().output == "CLOSED 2\n"
 
 
+@sentences(
+    """When a call of the file's .. Commands are answered .. Each command that .. Of each session .. So a client sends that .. The program goes ..
+    Standard error has .. No session is answered .. 1 | the file or .. a call of the disk .."""
+)
 def test_a_disk_that_fails_under_sessions(serve: Serve, file: Path) -> None:
-    """When a call of the file's .. Commands are answered .. Each command that was .. Of each session, the .. So a client sends that .. The program
-    goes on until .. Standard error has 91 .. No session is answered .. 1 | the file or the port .. a call of the disk failed .."""
     server = serve(file, sessions=2, conditions=Conditions(folder=file.parent, last=no_signal))
     first, second = server.connect(), server.connect()
     asks(first, "BID x 1 a 100 = OK 1")
     fill_disk(server.process)
-    shown = f"SHOW = {SHOWN.format(1)}NODE a = NODE a HIGH 0 - PRICE 0 MIN 100 WIN no"
-    asks(first, f"CLOSE 1 = ERR 93 failed; {shown}; BID nobody 1 a 100 = ERR 11 bidder")
-    asks(second, "BID y 1 b 150 = ERR 93 failed; BID x 1 a 100 = ERR 93 failed; WHO x = WHO x ELIGIBILITY 10 ACTIVITY 10 TICKET 1")
+    shown = f"SHOW = {SHOWN.format(1)}NODE a = HIGH 0 - PRICE 0 MIN 100 WIN no"
+    asks(first, f"CLOSE 1 = 93; {shown}; BID nobody 1 a 100 = 11")
+    asks(second, "BID y 1 b 150 = 93; BID x 1 a 100 = 93; WHO x = ELIGIBILITY 10 ACTIVITY 10 TICKET 1")
     first.close()
     (said,) = [codes(row[1])[0] for row in PAGE.table("Event beside sessions", "Its line").rows if row[0] == "a call of the disk failed"]
     server.wait_until_said(said.replace(" of F ", f" of {file} ") + "\n")
@@ -195,8 +204,8 @@ def test_a_disk_that_fails_under_sessions(serve: Serve, file: Path) -> None:
     assert server.ended().output == "CLOSED 3\n"
 
 
+@sentences("If nobody reads standard output, .. It doesn't read ..")
 def test_an_output_that_nobody_reads_holds_up_the_start_and_the_end(program: Program, file: Path) -> None:
-    """If nobody reads standard output, .. It doesn't read standard .."""
     (reader, writer), port = os.pipe(), free_port()
     room = os.write(writer, b"x" * fcntl.fcntl(writer, fcntl.F_SETPIPE_SZ, 4096))
     with tempfile.TemporaryFile() as lines:
@@ -217,8 +226,8 @@ def test_an_output_that_nobody_reads_holds_up_the_start_and_the_end(program: Pro
     assert (os.read(reader, 4096), process.wait(20)) == (b"CLOSED 1\n", 0)
 
 
+@sentences("If F was served ..")
 def test_a_last_line_that_cannot_be_written(serve: Serve, file: Path, program: Program) -> None:
-    """If F was served and `CLOSED .."""
     server = serve(file)
     assert server.process.stdout is not None
     server.process.stdout.close()
@@ -231,12 +240,12 @@ def test_a_last_line_that_cannot_be_written(serve: Serve, file: Path, program: P
     assert (ran.errors, ran.status) == ("hpb: 92 stream: writing: No space left on device (os error 28)\n", 1)
 
 
+@sentences("Nothing comes unasked .. To see the next .. When `ROUND` is .. Several answers ..")
 def test_questions_write_nothing(serve: Serve, file: Path) -> None:
-    """Nothing comes unasked .. To see the next round .. When `ROUND` is another .. Several answers to `NODE` .."""
     before = (file.read_bytes(), file.stat().st_mtime_ns)
     server = serve(file)
     with server.connect() as client:
         for _ in range(100):
-            asks(client, f"SHOW = {EMPTY}NODE a = NODE a HIGH 0 - PRICE 0 MIN 100 WIN no; WHO x = WHO x ELIGIBILITY 10 ACTIVITY 0 TICKET 0")
+            asks(client, f"SHOW = {EMPTY}NODE a = HIGH 0 - PRICE 0 MIN 100 WIN no; WHO x = ELIGIBILITY 10 ACTIVITY 0 TICKET 0")
     assert server.ended().output == "CLOSED 0\n"
     assert (file.read_bytes(), file.stat().st_mtime_ns) == before

@@ -1,77 +1,53 @@
-"""What the page says of streams and terminals, of hints, and of what is said of definitions."""
+"""What the page says of streams and terminals, of hints, and of the reasons why a definition is refused."""
 
 from __future__ import annotations
 
 import json
 import os
-import pty
 import re
 import subprocess
-import termios
 from pathlib import Path
 
 import pytest
 
 from harness.auctions import EXAMPLES
-from harness.programs import Program, shown
-from protocol.page import PAGE, TOP, codes
+from harness.conditions import Conditions
+from harness.programs import Program, Ran, shown
+from harness.streams import terminal
+from protocol.page import PAGE, TOP, codes, sentences
 from protocol.talking import EMPTY, FIRST, SHOWN, Hpb, transcript
 
 COUNT = 10_000
 
 
-def read_all(pipe: int, count: int) -> str:
-    """So many bytes, or as many as come."""
-    found = b""
-    while len(found) < count and (part := os.read(pipe, count - len(found))):
-        found += part
-    return shown(found)
-
-
+@sentences(
+    """Answers are gathered .. So a client may .. A script that is .. `hpb run` also makes .. All this holds for .. No answer waits .. In `hpb run`
+    these .. All answers that .."""
+)
 @pytest.mark.parametrize("words", ["", "run --file F"], ids=["script", "run"])
 def test_answers_leave_before_the_program_waits(hpb: Hpb, words: str) -> None:
-    """Answers are gathered .. So a client may send .. A script that is piped .. `hpb run` also makes .. All this holds for a .. No answer waits for
-    other .. In `hpb run` these are .. All answers that are .."""
     hpb.formats()
-    reader, writer = os.pipe()
-    process = subprocess.Popen([hpb.program.path, *words.split()], stdin=reader, stdout=subprocess.PIPE, cwd=hpb.folder)
-    assert process.stdout is not None
-    os.write(writer, b"" if words else PAGE.definition.encode())
-    for text in (b"SHOW\n", b"SHOW\nSH", b"OW\n", b"SHOW\n" * COUNT):
-        os.write(writer, text)
-        assert read_all(process.stdout.fileno(), text.count(b"\n") * len(EMPTY)) == EMPTY * text.count(b"\n")
-    (writes,) = re.findall(r"^syscw: (\d+)$", Path(f"/proc/{process.pid}/io").read_text(), re.MULTILINE)
+    talk = hpb.starts(words)
+    talk.send("" if words else PAGE.definition)
+    for part, count in (("SHOW\n", 1), ("SHOW\nSH", 1), ("OW\n", 1), ("SHOW\n" * COUNT, COUNT)):
+        talk.send(part)
+        talk.answers(EMPTY * count)
+    (writes,) = re.findall(r"^syscw: (\d+)$", Path(f"/proc/{talk.process.pid}/io").read_text(), re.MULTILINE)
     assert 0 < int(writes) * 10 < COUNT
-    lines, answers = transcript(FIRST)
-    os.write(writer, lines.encode())
-    assert read_all(process.stdout.fileno(), len(answers)) == answers
-    os.close(writer)
-    assert (process.communicate(timeout=20)[0], process.returncode) == (b"", 0)
+    talk.asks(FIRST)
+    talk.ends()
 
 
-class Terminal:
-    """A program whose standard input and error are a terminal, set not to wait, and not to show what is typed."""
-
-    def __init__(self, hpb: Hpb, words: str) -> None:
-        self.typing, terminal = pty.openpty()
-        os.set_blocking(terminal, False)
-        settings = termios.tcgetattr(terminal)
-        settings[3] &= ~termios.ECHO
-        termios.tcsetattr(terminal, termios.TCSANOW, settings)
-        self.process = subprocess.Popen([hpb.program.path, *words.split()], stdin=terminal, stdout=-1, stderr=-1, cwd=hpb.folder)
-        os.close(terminal)
-
-    def type(self, text: str) -> None:
-        data = text.encode()
-        while data:
-            data = data[os.write(self.typing, data[:1000]) :]
-
-    def ends(self) -> tuple[str, str, int]:
-        """What it has written and said, and its status, once Ctrl-D was typed."""
-        self.type("\x04")
-        written, errors = self.process.communicate(timeout=20)
-        os.close(self.typing)
-        return shown(written), shown(errors), self.process.returncode
+def typed(hpb: Hpb, words: str, text: str) -> Ran:
+    """What it does at a terminal at which this is typed, and then Ctrl-D."""
+    with terminal() as (typing, device):
+        os.set_blocking(device, False)
+        process = hpb.program.start(*words.split(), input=device, conditions=Conditions(folder=hpb.folder))
+        data = f"{text}\x04".encode()
+        for place in range(0, len(data), 1000):
+            os.write(typing, data[place : place + 1000])
+        written, errors = process.communicate(timeout=20)
+    return Ran(shown(written), shown(errors), process.returncode, 0.0)
 
 
 COAST = (EXAMPLES / "coast.txt").read_text().splitlines()[0]
@@ -82,33 +58,30 @@ HINTS = [codes(row[1])[0] for row in PAGE.table("Refused by", "Its line").rows]
 HINTED = "BID ann 2 bay 1000; BID ann 1 bay 1025; BID ann 1 bay 950; BID ann 1 bay 1000000000050; BID bob 1 bay 1000; BID bob 2 cape 1500; CLOSE 2"
 
 
+@sentences(
+    """If standard input is a terminal, this .. Of | Its line .. Once a script has .. `check` and `serve` .. Behind the answer .. Refused by | Its
+    line .. If standard input is a terminal, standard .. From a file or a .."""
+)
 def test_hints_at_a_terminal(hpb: Hpb) -> None:
-    """If standard input is a terminal, this .. Of | Its line .. Once a script has the .. `check` and `serve` read .. Behind the answer of ..
-    Refused by | Its line .. If standard input is a terminal, standard .. From a file or a pipe .."""
     hpb.formats(definition=COAST)
     lines = HINTED.replace("; ", "\n") + "\n"
     wanted = [*HINTS, "hpb: 15 gap: the next ticket of the auctioneer is 1"]
     for words, before, start in (("", COAST + "\n", [AT_START[0], AT_START[2], ACCEPTED]), ("run --file F --batch 64", "", [AT_START[3]])):
-        terminal = Terminal(hpb, words)
-        terminal.type(before + lines)
-        written, errors, status = terminal.ends()
-        assert errors.splitlines() == start + wanted and status == 0
+        ran = typed(hpb, words, before + lines)
+        assert ran.errors.splitlines() == start + wanted and ran.status == 0
         if not words:
-            assert (hpb.ran("", before + lines).output, hpb.ran("", before + lines).errors) == (written, "")
-    terminal = Terminal(hpb, "format --file G --journal 4")
-    terminal.type(COAST + "\n")
-    assert terminal.ends() == ("FORMATTED 17\n", "".join(f"{line}\n" for line in AT_START[1:3]), 0)
-    assert Terminal(hpb, "check --file G").ends()[1:] == ("", 0)
+            hpb.gives("", ran.output, before + lines)
+    ran = typed(hpb, "format --file G --journal 4", COAST + "\n")
+    assert (ran.output, ran.errors, ran.status) == ("FORMATTED 17\n", "".join(f"{line}\n" for line in AT_START[1:3]), 0)
+    assert typed(hpb, "check --file G", "").errors == ""
 
 
+@sentences("A terminal of Linux .. A longer definition ..")
 @pytest.mark.parametrize("length", [4_095, 4_096, 6_000])
 def test_a_terminal_cuts_a_line(hpb: Hpb, length: int) -> None:
-    """A terminal of Linux cuts .. A longer definition comes .."""
     text = PAGE.definition[:-2].ljust(length - 1) + "}\nSHOW\n"
-    terminal = Terminal(hpb, "")
-    terminal.type(text)
-    written, _, status = terminal.ends()
-    assert (written, status) == ((EMPTY, 0) if length == 4_095 else ("ERR 60 json\n", 1))
+    ran = typed(hpb, "", text)
+    assert (ran.output, ran.status) == ((EMPTY, 0) if length == 4_095 else ("ERR 60 json\n", 1))
     hpb.gives("", EMPTY, text)
 
 
@@ -122,9 +95,11 @@ def bash(hpb: Hpb, script: str) -> str:
     return shown(ran.stdout) + shown(ran.stderr)
 
 
+@sentences(
+    """Which answer belongs .. To stop at the first .. Lines that are piped .. In bash .. A definition over .. `hpb format` takes .. `tools/explain
+    definition.json` .."""
+)
 def test_commands_of_the_page(hpb: Hpb) -> None:
-    """Which answer belongs .. To stop at the first .. Lines that are piped .. In bash .. A definition over many .. `hpb format` takes it ..
-    `tools/explain definition.json` .."""
     lines, answers = transcript(FIRST)
     assert bash(hpb, PAGE.block("hpb < ")) == answers + "ROUND 2 STAGE 1 OPEN REVENUE 500 COUNT 5\n"
     (hpb.folder / "script.txt").write_text(PAGE.definition + lines)
@@ -145,9 +120,11 @@ x has 4 units and can bid on nothing: the smallest node, d, has 5
     assert bash(hpb, "tools/explain definition.json") == warned
 
 
+@sentences(
+    """Here is a definition .. `examples/coast.txt` .. A path is as `jq` .. Only the first fault .. With a definition .. A script and `format` .. It
+    gives the place .. Lines count from .. Of one it doesn't .."""
+)
 def test_the_definition_of_coast(hpb: Hpb) -> None:
-    """Here is a definition .. `examples/coast.txt` .. A path is as `jq` takes .. Only the first fault .. With a definition that .. A script and
-    `format` .. It gives the place of .. Lines count from 1, columns .. Of one it doesn't: `bob` .."""
     definition = PAGE.block("{\n")
     assert json.loads(definition) == json.loads(COAST) and len((EXAMPLES / "coast.txt").read_text().splitlines()) > 1
     hpb.gives("format --file F --journal 4", "FORMATTED 17\n", definition)
@@ -164,9 +141,11 @@ def test_the_definition_of_coast(hpb: Hpb) -> None:
     hpb.refuses("", "51 name", twice.replace("0.05", "5"), 'bidders[1].name: "Bob" has "B"; a name has a to z, 0 to 9 and _ alone')
 
 
+@sentences(
+    """Each mistake stands .. Mistake | Answer | On standard error .. The first mistake .. Put the definition .. `format` takes it .. The ninth: the
+    answer .. With terms it is .."""
+)
 def test_ten_mistakes(program: Program, hpb: Hpb) -> None:
-    """Each mistake stands in .. Mistake | Answer | On standard error .. The first mistake: the .. Put the definition on .. `format` takes it as ..
-    The ninth: the answer .. With terms it is a licence .."""
     rows, scripts = PAGE.table("Mistake", "Answer", "On standard error").rows, sorted((EXAMPLES / "ten-mistakes").glob("*.txt"))
     for script, row in zip(scripts, rows, strict=True):
         ran = program.run(text=script.read_bytes())
