@@ -48,8 +48,9 @@ def amounts(count: int) -> Iterator[int]:
         yield amount
 
 
-def rounds(count: int) -> list[str]:
-    """The ten commands of each of `count` rounds after the first one, all accepted in this order. At most 180 rounds."""
+def rounds(count: int, waivers: int = 0) -> list[str]:
+    """The ten commands of each of `count` rounds after the first one, all accepted in this order. At most 180 rounds. If bidders have
+    waivers, each waives as often: one more command in each of the first rounds."""
     tickets = dict.fromkeys(NODES_OF, 1)
     lines = []
     for number, amount in enumerate(amounts(count), 1):
@@ -57,6 +58,10 @@ def rounds(count: int) -> list[str]:
             for node in nodes:
                 tickets[bidder] += 1
                 lines.append(f"BID {bidder} {tickets[bidder]} {node} {amount * LICENCES_OF.get(node, 1)}")
+        if number <= waivers * len(NODES_OF):
+            bidder = list(NODES_OF)[number % len(NODES_OF)]
+            tickets[bidder] += 1
+            lines.append(f"WAIVE {bidder} {tickets[bidder]}")
         lines.append(f"CLOSE {number + 1}")
     return lines
 

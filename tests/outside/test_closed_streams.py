@@ -26,8 +26,9 @@ IDS = ["none" if not choice else "".join(map(str, choice)) for choice in CHOICES
 
 @pytest.fixture(scope="session")
 def kept(program: Program, place: Path) -> bytes:
-    """The bytes of a file with one bid."""
+    """The bytes of a file with one bid. It is made anew if tests of another program come between."""
     file = place / f"kept-{program.path.parent.name}"
+    file.unlink(missing_ok=True)
     assert program.format(file).status == program.run_lines(file, FIRST_BID).status == 0
     return file.read_bytes()
 
