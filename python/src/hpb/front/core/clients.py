@@ -286,6 +286,7 @@ def sweep(step: Step) -> None:
         if connection.going == Going.CLOSED or silent <= (limits.idle_seconds if connection.token else limits.token_seconds):
             continue
         if connection.is_full and connection.token:
+            step.set_connection(number, going=Going.CLOSED)
             step.do(Abort(number))
         elif not connection.waiting and connection.going == Going.STAYS and not connection.held:
             dismiss(step, number, IDLE)
