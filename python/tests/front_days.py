@@ -97,11 +97,14 @@ class Rude:
 
 
 class Day:
-    """A world with its callers. `worst` says which faults there are: kills, losses of the server, bad syncs, reloads, jumps, stops."""
+    """A world with its callers. `faults` has the kinds of those that there are: the words of `wild`, and "slow" where lines have to wait by
+    their rate, "hangs" where the disk and the server do nothing any more once the front is told to stop."""
 
     def __init__(self, seed: int, faults: frozenset[str] = frozenset(), limits: Limits = LIMITS) -> None:
         source = random.Random(seed)
         self.promises = Promises()
+        if "slow" in faults:
+            limits = replace(limits, lines_per_second=5)
         self.world = World(source, self.promises, limits, 0.0005 if "kills" in faults else 0.0)
         self.callers = [Caller(self.world, name) for name in ("desk", "ann", "bob", "bob", "carl", "public")]
         self.rude = Rude(self.world)
@@ -128,7 +131,7 @@ class Day:
             "stops": [(lambda: world.post(events.Stop()), 1)],
             "vanishing": [(self.vanish, 4)],
         }
-        return self.benign() + [(self.rude.move, 20)] + [move for kind in sorted(self.faults) for move in faults[kind]]
+        return self.benign() + [(self.rude.move, 20)] + [move for kind in sorted(self.faults) for move in faults.get(kind, [])]
 
     def fail_start(self) -> None:
         if self.world.server.state == "starting":
@@ -178,6 +181,9 @@ class Day:
         """All of it: what goes wrong, then the rest of all lines, and the end."""
         for _ in range(moves):
             self.move(self.wild())
+        if "hangs" in self.faults:
+            self.hang()
+            return
         self.calm_down()
         for _ in range(MOST_MOVES):
             if all(caller.is_done for caller in self.callers):
@@ -197,6 +203,16 @@ class Day:
                 self.generation += 1
                 self.world.reload(name, self.generation)
 
+    def hang(self) -> None:
+        """It is told to stop, and then nothing happens but that time passes, and callers come and go."""
+        while not self.world.is_admitting:
+            self.move(self.benign())
+        count = len(self.world.ends)
+        self.world.post(events.Stop())
+        while len(self.world.ends) == count:
+            self.world.move_wires()
+            self.world.pass_time(self.world.source.choice([0.01, 0.3]))
+
     def end(self) -> None:
         """It is told to stop once it lets anybody in, and ends in order."""
         while not self.world.is_admitting:
@@ -213,8 +229,3 @@ class Day:
         for caller in self.callers:
             for number, line in caller.oks:
                 require(self.world.server.file[number - 1] == line.decode(), Promise.OK_IS_KEPT, (number, line))
-
-
-def slow(limits: Limits = LIMITS) -> Limits:
-    """Limits by which lines have to wait."""
-    return replace(limits, lines_per_second=5)

@@ -4,7 +4,7 @@ from __future__ import annotations
 import enum
 from collections import deque
 
-from front_world import ROLES, Server, Watch, Wire, World, token
+from front_world import LIMITS, ROLES, Server, Watch, Wire, World, token
 from hpb.front.core import effects, events
 from hpb.front.core.effects import Effect
 from hpb.front.core.events import Event, Left
@@ -37,6 +37,7 @@ class Promise(enum.Enum):
     ENDED = "Behind the word by which a connection ends it is answered nothing."
     NO_93 = "No connection is answered 93 or 95."
     WAITING = "More lines of one connection aren't read than may wait."
+    RATE = "A name may send so many lines a second over all its connections, and twice as many at once. More isn't read until it may."
     CONNECTIONS = "A name has no more connections than it may, and no more are unknown than may be."
     ENDS = "The front ends within ten seconds of its signal, whatever hangs, and says how."
     GOES_ON = "Lines are answered, by the next front if this one ended; nothing hangs."
@@ -92,6 +93,7 @@ class Promises(Watch):
         self.told: dict[int, bytes] = {}
         self.outstanding: set[int] = set()
         self.came: dict[str, deque[tuple[Wire, bytes]]] = {name: deque() for name in ROLES}
+        self.answered = dict.fromkeys(ROLES, 0)
         self.has_admitted = False
         self.stopped_at: float | None = None
 
@@ -171,6 +173,9 @@ class Promises(Watch):
         place = 1 + len(answers_of(wire))
         require(bool(wire.name) and place < len(wire.taken), Promise.ANSWERED_IN_ORDER, f"{line!r} answers nothing")
         asked = wire.taken[place]
+        assert world.front
+        rate, self.answered[wire.name] = world.limits.lines_per_second, self.answered[wire.name] + 1
+        require(self.answered[wire.name] <= rate * (2 + world.front.time), Promise.RATE, f"{self.answered[wire.name]} lines")
         refused = refusal(wire.name, asked)
         wanted = {refused} if refused else self.given.get(asked, set())
         require(line in wanted, Promise.ANSWERED_IN_ORDER, f"{asked!r} is answered {line!r}, not one of {wanted}")
@@ -197,7 +202,9 @@ class Promises(Watch):
         require(not all(wire.is_barred for wire in senders), Promise.REVOKED, line)
         if is_command(line):
             require(Left(name, line) in world.disk.beside.values(), Promise.BESIDE_FIRST, line)
-        self.look_at_turn(world, self.came[name], line)
+        # Lines that wait by their rate come to their turn some time later.
+        if world.limits.lines_per_second == LIMITS.lines_per_second:
+            self.look_at_turn(world, self.came[name], line)
 
     def look_at_turn(self, world: World, came: deque[tuple[Wire, bytes]], line: bytes) -> None:
         """No other line of the name was to be told before this one: what comes of a connection that is gone, or may say no more, isn't."""

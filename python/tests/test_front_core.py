@@ -3,11 +3,18 @@ import pytest
 
 from front_days import Day
 
-FAULTS = ["kills", "losses", "disks", "reloads", "jumps", "stops", "vanishing"]
+ALL = "kills losses disks reloads jumps stops vanishing"
+SEEDS, MORE_SEEDS = 10, 300
 
 
-@pytest.mark.parametrize("fault", [*FAULTS, "none", "all"])
-def test_each_promise_is_kept_on_days_with_this_fault(fault: str) -> None:
-    faults = {"none": frozenset[str](), "all": frozenset(FAULTS)}.get(fault, frozenset([fault]))
-    for seed in range(12):
-        Day(seed, faults).run()
+@pytest.mark.parametrize("faults", [*ALL.split(), "", "slow", "hangs", ALL, f"{ALL} slow", f"{ALL} hangs"])
+def test_each_promise_is_kept_on_days_with_these_faults(faults: str) -> None:
+    for seed in range(SEEDS):
+        Day(seed, frozenset(faults.split())).run()
+
+
+@pytest.mark.slow
+@pytest.mark.parametrize("faults", [ALL, f"{ALL} slow", f"{ALL} hangs"])
+def test_each_promise_is_kept_on_many_days(faults: str) -> None:
+    for seed in range(SEEDS, SEEDS + MORE_SEEDS):
+        Day(seed, frozenset(faults.split())).run()

@@ -42,8 +42,8 @@ def take(step: Step, event: OfClient) -> None:
 def come(step: Step, event: Came) -> None:
     """One more, of whom nothing is known yet."""
     make_room(step)
-    new = Connection(event.peer, event.network, step.front.time)
-    step.set(connections={**step.front.connections, event.connection: new}, unknown=(*step.front.unknown, event.connection))
+    step.own_connections()[event.connection] = Connection(event.peer, event.network, step.front.time)
+    step.set(unknown=(*step.front.unknown, event.connection))
 
 
 def make_room(step: Step) -> None:
@@ -72,7 +72,7 @@ def go(step: Step, number: int, why: str) -> None:
     forget(step, number)
     connection = step.front.connections[number]
     step.note("ended", **told_of(connection), lines=connection.taken, why=connection.why or why)
-    step.set(connections={other: one for other, one in step.front.connections.items() if other != number})
+    del step.own_connections()[number]
 
 
 def forget(step: Step, number: int) -> None:
@@ -172,15 +172,15 @@ def let_send(step: Step, number: int) -> None:
 def may_take(step: Step, number: int) -> bool:
     """Whether something that came is looked at. What comes behind it has to wait."""
     connection = step.front.connections[number]
-    step.set_connection(number, may_send=False)
-    return connection.may_send and connection.going == Going.STAYS
+    is_right = connection.may_send and connection.going == Going.STAYS
+    step.set_connection(number, may_send=False, seen=step.front.time if is_right else connection.seen)
+    return is_right
 
 
 def take_line(step: Step, number: int, line: bytes) -> None:
     """A whole line: of a connection that is unknown the token, else one for the server."""
     if not may_take(step, number):
         return
-    step.set_connection(number, seen=step.front.time)
     token = step.front.connections[number].token
     if token:
         take_in_turn(step, number, Item(number, line, step.front.names[token.name].role.refusal(line)))
@@ -217,7 +217,8 @@ def take_in_turn(step: Step, number: int, item: Item) -> None:
         step.set_connection(number, held=item)
         step.do(Wait(number, seconds))
         return
-    step.set_connection(number, held=None)
+    if step.front.connections[number].held:
+        step.set_connection(number, held=None)
     if item.refusal == LONG:
         step.set_connection(number, going=Going.LEAVES, why=LONG)
     queue(step, item)

@@ -1,5 +1,4 @@
 """The start: what the server accepted of the commands that the last front told it goes into the record, before anybody is let in."""
-from dataclasses import replace
 from typing import Any
 
 from hpb.front.core import sessions
@@ -8,6 +7,7 @@ from hpb.front.core.events import Left, RecordOpened
 from hpb.front.core.ledger import WHERE_THE_AUDIT_ENDS, Foreign, Held
 from hpb.front.core.state import Finding, For, Phase
 from hpb.front.core.stepping import Step
+from hpb.front.core.values import changed
 from hpb.front.rights import sender_and_ticket
 from hpb.record.entries import Entry, text_of
 from hpb.rules.told import NotTold, look_whose, read_told
@@ -34,9 +34,8 @@ def is_open(left: Left, event: RecordOpened) -> bool:
 
 
 def change(step: Step, **fields: Any) -> Finding:
-    changed = replace(step.front.finding, **fields)
-    step.set(finding=changed)
-    return changed
+    step.set(finding=changed(step.front.finding, **fields))
+    return step.front.finding
 
 
 def take_answer(step: Step, answer: bytes) -> None:

@@ -1,8 +1,9 @@
 """Commands in the order of their numbers, each once: what may be written into the record, and when."""
 from collections.abc import Mapping
-from dataclasses import dataclass, field, replace
+from dataclasses import dataclass, field
 
 from hpb.front.core.effects import Write
+from hpb.front.core.values import changed
 from hpb.record.entries import OK, Place, text_of
 
 WHERE_THE_AUDIT_ENDS = "the audit ends there"
@@ -57,20 +58,20 @@ class Ledger:
     def took_place(self) -> tuple["Ledger", int]:
         """A place beside the record for one more command."""
         if self.free:
-            return replace(self, free=self.free[:-1]), self.free[-1]
-        return replace(self, places=self.places + 1), self.places
+            return changed(self, free=self.free[:-1]), self.free[-1]
+        return changed(self, places=self.places + 1), self.places
 
     def tell(self, place: int) -> "Ledger":
         """The server is told the command in this place."""
-        return replace(self, sent=self.sent + 1, told={**self.told, place: self.sent + 1})
+        return changed(self, sent=self.sent + 1, told={**self.told, place: self.sent + 1})
 
     def judged(self, place: int) -> "Ledger":
         """That command has its answer."""
-        return replace(self, told={other: sent for other, sent in self.told.items() if other != place})
+        return changed(self, told={other: sent for other, sent in self.told.items() if other != place})
 
     def hold(self, number: int, held: Held) -> "Ledger":
         """A command was accepted under this number."""
-        return replace(self, held={**self.held, number: held})
+        return changed(self, held={**self.held, number: held})
 
     def next(self) -> Held | Foreign | None:
         """What is to be written now: what was accepted, as far as no smaller number may still come."""
@@ -86,4 +87,4 @@ class Ledger:
     def accept(self) -> "Ledger":
         """The entry of the next number is written."""
         held = {number: held for number, held in self.held.items() if number != self.count + 1}
-        return replace(self, count=self.count + 1, held=held, written=self.written + 1)
+        return changed(self, count=self.count + 1, held=held, written=self.written + 1)

@@ -38,9 +38,12 @@ def free(step: Step, place: int) -> None:
 def go_on(step: Step) -> None:
     """Hands out answers that may leave, and begins the next lines; looked at after each event. Names that share a session take turns, each by
     one line."""
-    for place in range(len(step.front.sessions)):
-        leave(step, place)
-        while step.front.phase in SERVES and (session := step.front.sessions[place]).stage == Stage.FREE and session.turns:
+    for place, known in enumerate(step.front.sessions):
+        if known.stage is Stage.ANSWERED:
+            leave(step, place)
+        elif not known.turns:
+            continue
+        while (session := step.front.sessions[place]).turns and session.stage is Stage.FREE and step.front.phase in SERVES:
             name, *others = session.turns
             item, *items = step.front.names[name].items
             step.set_name(name, items=tuple(items))
@@ -142,7 +145,7 @@ def note_foreign(step: Step, foreign: Foreign) -> None:
 def leave(step: Step, place: int) -> None:
     """The answer of a session leaves once its entry is on the disk, and all before it."""
     session, ledger = step.front.sessions[place], step.front.ledger
-    if session.stage != Stage.ANSWERED or session.item is None or session.entry is None or session.entry > ledger.synced:
+    if session.item is None or session.entry is None or session.entry > ledger.synced:
         return
     if session.beside is not None:
         step.set_ledger(free=(*ledger.free, session.beside))

@@ -1,6 +1,4 @@
 """From event to event."""
-from dataclasses import replace
-
 from hpb.front.core import clients, ending, finding, serving, sessions
 from hpb.front.core.effects import Effect
 from hpb.front.core.events import (
@@ -16,7 +14,8 @@ def step(front: Front, event: Event, clock: float) -> tuple[Front, list[Effect]]
     stands still for the front, as far as that goes."""
     if front.phase == Phase.ENDED:
         return front, []
-    taken = Step(replace(front, time=front.time + max(0.0, clock - front.clock), clock=clock))
+    taken = Step(front)
+    taken.set(time=front.time + max(0.0, clock - front.clock), clock=clock)
     take(taken, event)
     sessions.go_on(taken)
     finding.go_on(taken)

@@ -1,17 +1,21 @@
 """One event on its way through a front: the value as far as it has come, and the effects so far."""
-from dataclasses import replace
 from typing import Any
 
 from hpb.front.core.effects import Effect, Field, Finish, MustEnd, Note, Say, Write
 from hpb.front.core.state import Connection, Front, Name, Phase, Server, Session
+from hpb.front.core.values import changed
 
 
 class Step:
-    """Lives as long as one event is taken; `front` is always a whole value. Fields that change are named by their words."""
+    """Lives as long as one event is taken. `front` is the next value, which nobody else has yet: until the step is over it is filled in.
+    Fields that change are named by their words."""
 
     def __init__(self, front: Front) -> None:
-        self.front = front
+        self.front = changed(front)
         self.effects: list[Effect] = []
+        # What was copied of the mappings of the front before.
+        self.connections: dict[int, Connection] | None = None
+        self.names: dict[str, Name] | None = None
 
     def do(self, *effects: Effect) -> None:
         """Adds effects. A front that has ended has none."""
@@ -20,35 +24,45 @@ class Step:
 
     def set(self, **fields: Any) -> None:
         """Changes the front."""
-        self.front = replace(self.front, **fields)
+        for name, value in fields.items():
+            object.__setattr__(self.front, name, value)
+
+    def own_connections(self) -> dict[int, Connection]:
+        """Those of the next value."""
+        if self.connections is None:
+            self.connections = dict(self.front.connections)
+            self.set(connections=self.connections)
+        return self.connections
 
     def set_connection(self, number: int, **fields: Any) -> Connection:
         """Changes a connection."""
-        changed = replace(self.front.connections[number], **fields)
-        self.set(connections={**self.front.connections, number: changed})
-        return changed
+        connection = changed(self.front.connections[number], **fields)
+        self.own_connections()[number] = connection
+        return connection
 
     def set_name(self, name: str, **fields: Any) -> Name:
         """Changes a name."""
-        changed = replace(self.front.names[name], **fields)
-        self.set(names={**self.front.names, name: changed})
-        return changed
+        if self.names is None:
+            self.names = dict(self.front.names)
+            self.set(names=self.names)
+        self.names[name] = changed(self.front.names[name], **fields)
+        return self.names[name]
 
     def set_session(self, place: int, **fields: Any) -> Session:
         """Changes a session."""
-        changed = replace(self.front.sessions[place], **fields)
-        self.set(sessions=(*self.front.sessions[:place], changed, *self.front.sessions[place + 1 :]))
-        return changed
+        sessions = self.front.sessions
+        session = changed(sessions[place], **fields)
+        self.set(sessions=(*sessions[:place], session, *sessions[place + 1 :]))
+        return session
 
     def set_server(self, **fields: Any) -> Server:
         """Changes what is known of the server."""
-        changed = replace(self.front.server, **fields)
-        self.set(server=changed)
-        return changed
+        self.set(server=changed(self.front.server, **fields))
+        return self.front.server
 
     def set_ledger(self, **fields: Any) -> None:
         """Changes the ledger."""
-        self.set(ledger=replace(self.front.ledger, **fields))
+        self.set(ledger=changed(self.front.ledger, **fields))
 
     def say(self, text: str) -> None:
         """A line on standard error."""
