@@ -97,8 +97,8 @@ class Rude:
 
 
 class Day:
-    """A world with its callers. `faults` has the kinds of those that there are: the words of `wild`, and "slow" where lines have to wait by
-    their rate, "hangs" where the disk and the server do nothing any more once the front is told to stop."""
+    """A world with its callers. `faults` are words of `wild`, and besides: on "slow" days lines have to wait by their rate; on days with
+    "hangs" the disk and the server do nothing any more once the front has to stop."""
 
     def __init__(self, seed: int, faults: frozenset[str] = frozenset(), limits: Limits = LIMITS) -> None:
         source = random.Random(seed)
@@ -204,7 +204,7 @@ class Day:
                 self.world.reload(name, self.generation)
 
     def hang(self) -> None:
-        """It is told to stop, and then nothing happens but that time passes, and callers come and go."""
+        """It has to stop, and then nothing happens but that time passes, and callers come and go."""
         while not self.world.is_admitting:
             self.move(self.benign())
         count = len(self.world.ends)
@@ -214,7 +214,7 @@ class Day:
             self.world.pass_time(self.world.source.choice([0.01, 0.3]))
 
     def end(self) -> None:
-        """It is told to stop once it lets anybody in, and ends in order."""
+        """It has to stop once it lets anybody in, and ends in order."""
         while not self.world.is_admitting:
             self.move(self.benign())
         count = len(self.world.ends)

@@ -185,7 +185,7 @@ class Promises(Watch):
             require(are == [[pair], [pair]], Promise.OK_IS_KEPT, (pair, are))
 
     def look_at_line(self, world: World, session: int, line: bytes) -> None:
-        """A line that is told to the server."""
+        """A line to the server."""
         require(session not in self.outstanding, Promise.ONE_OUTSTANDING, line)
         self.outstanding.add(session)
         is_again = self.told.get(session) == line
@@ -207,7 +207,7 @@ class Promises(Watch):
             self.look_at_turn(world, self.came[name], line)
 
     def look_at_turn(self, world: World, came: deque[tuple[Wire, bytes]], line: bytes) -> None:
-        """No other line of the name was to be told before this one: what comes of a connection that is gone, or may say no more, isn't."""
+        """No other line of the name had its turn before this one. Lines of a connection that is gone, or whose token went, have none."""
         while came:
             wire, other = came.popleft()
             if wire.is_barred or world.wires.get(wire.number) is not wire or (other != line and other == b"SHOW"):

@@ -1,7 +1,7 @@
 """A world round the core of a front: a disk, a server that judges by the package's rules, a network and callers, moved on by a seed.
 
-The front may be killed between any two effects: then its core is thrown away, the disk keeps what was synced and some of what was written
-behind it, and a new core goes on. All that a promise is about stands in plain lists, which `front_promises` looks at.
+The front may be killed between any two effects. Then its core is thrown away, the disk keeps all synced entries and some of the others, and
+a new core goes on. Plain lists have all that a promise is about, and `front_promises` looks at them.
 """
 from __future__ import annotations
 
@@ -56,7 +56,7 @@ class Disk:
         del self.writes[:count]
 
     def sync_beside(self) -> Event | None:
-        """All that is to be put there is; what the front is told."""
+        """All that is to be put there is; the event that says so."""
         puts, self.puts = self.puts, []
         for put in puts:
             self.put(put)
@@ -74,7 +74,7 @@ class Disk:
             self.beside.clear()
 
     def crash(self, source: random.Random) -> None:
-        """What was written and not synced may be there or not: of entries a front of it, of places each by itself."""
+        """Writes that aren't synced may be there or not: of entries the first ones, of places each by itself."""
         self.sync(source.randint(0, len(self.writes)))
         self.writes = []
         for put in self.puts:
@@ -98,7 +98,7 @@ class Disk:
 
 @dataclass
 class Server:
-    """`file` has the commands that are durable, in their order. What is asked is judged, and what is judged is answered, some time later."""
+    """`file` has the commands that are durable, in their order. A line is judged some time after it comes, and answered some time later."""
 
     auction: Auction = field(default_factory=lambda: begin(read_definition(DEFINITION)))
     file: list[str] = field(default_factory=list)
@@ -117,7 +117,7 @@ class Server:
         self.answers[session] = self.judge(self.asked.pop(session))
 
     def die(self, source: random.Random) -> None:
-        """Of what it was asked it may have judged any, and nobody hears of it."""
+        """It may have judged any line that it had, and nobody hears of it."""
         for session in source.sample(sorted(self.asked), len(self.asked)):
             if source.random() < 0.5:
                 self.judge_one(session)

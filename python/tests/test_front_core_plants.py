@@ -33,12 +33,12 @@ def answer_before_sync(patch: pytest.MonkeyPatch) -> None:
 
 
 def entry_lost_at_kill(patch: pytest.MonkeyPatch) -> None:
-    """What stands beside the record isn't looked for after a kill."""
+    """Commands beside the record aren't looked for after a kill."""
     patch.setattr(finding, "begin", lambda step, event: begin(step, changed(event, left=())))
 
 
 def told_before_it_is_beside(patch: pytest.MonkeyPatch) -> None:
-    """A command is told to the server before it can be found after a kill."""
+    """A command goes to the server before it can be found after a kill."""
     begin_line = sessions.begin
 
     def early(step: Step, place: int, name: str, item: Item) -> None:
@@ -62,7 +62,7 @@ def command_told_twice(patch: pytest.MonkeyPatch) -> None:
 
 
 def left_line_told_anew(patch: pytest.MonkeyPatch) -> None:
-    """After a kill the server is told each line that has no answer, as after a crash of the server alone."""
+    """After a kill the server gets each line that has no answer, as after a crash of the server alone."""
     patch.setattr(finding, "sender_and_ticket", lambda line: (None, 0))
 
     def tell(step: Step) -> None:
@@ -80,7 +80,7 @@ def revoked_token_answered(patch: pytest.MonkeyPatch) -> None:
 
 
 def revoked_line_told(patch: pytest.MonkeyPatch) -> None:
-    """Lines that wait are told, though their connection's token went."""
+    """Lines that wait go to the server, though their connection's token went."""
     patch.setattr(sessions, "is_dropped", lambda step, item: item.connection not in step.front.connections)
 
 
@@ -97,7 +97,7 @@ def rights_not_looked_at(patch: pytest.MonkeyPatch) -> None:
 
 
 def last_connection_first(patch: pytest.MonkeyPatch) -> None:
-    """Of the connections of a name the last that sends something is told first."""
+    """Of the connections of a name the last that sends something has the first turn."""
 
     def backwards(step: Step, item: Item) -> None:
         queue(step, item)
@@ -125,7 +125,7 @@ def failed_disk_handed_on(patch: pytest.MonkeyPatch) -> None:
 
 
 def not_told_again(patch: pytest.MonkeyPatch) -> None:
-    """A server that comes again isn't told what has no answer."""
+    """A server that comes again doesn't get the lines that have no answer."""
     patch.setattr(serving, "Tell", lambda place, line: Wake(0.0))
 
 

@@ -38,7 +38,7 @@ class Board:
         self.child: Child | None = None
         self.shown: Terms | None = None
         self.tasks: list[asyncio.Task[None]] = []
-        # What was asked and has no answer, by number.
+        # Questions that have no answer yet, by number.
         self.asked: dict[int, asyncio.Future[bytes]] = {}
         self.numbers = itertools.count()
         self.is_kept = self.is_changed = False
@@ -55,7 +55,7 @@ class Board:
         await self.keep()
 
     async def start(self) -> str:
-        """Where it is, once it can be opened."""
+        """Its line with the page's address, once the page can be opened."""
         mine, its = socket.socketpair()
         try:
             self.child = self.begun(its)
@@ -77,7 +77,7 @@ class Board:
         return line
 
     def begun(self, its: socket.socket) -> Child:
-        """Its process, which is given what is in force now."""
+        """Its process, which gets the terms in force."""
         self.shown = self.reloading.terms
         given = in_memory(written(self.config, self.shown))
         try:
@@ -87,7 +87,7 @@ class Board:
             os.close(given)
 
     async def hear(self, child: Child) -> None:
-        """What is asked for at the page goes into the log."""
+        """Requests at the page go into the log."""
         while line := await child.next_line():
             try:
                 entry = json.loads(line)
@@ -112,7 +112,7 @@ class Board:
             writer.close()
 
     async def keep(self) -> None:
-        """Starts it again where it ends."""
+        """Starts it again whenever it ends."""
         pause = FIRST_PAUSE
         while True:
             began = time.monotonic()
@@ -126,7 +126,7 @@ class Board:
                 self.say(f"the board is gone; it is started again in {pause} seconds")
                 self.log.write("restart", what="board", outcome="gone")
                 await asyncio.sleep(pause)
-            # Where it doesn't come up it has said why; those who bid don't need it.
+            # If it doesn't come up it has said why; those who bid don't need it.
             with contextlib.suppress(Stops):
                 await self.start()
 

@@ -16,7 +16,7 @@ from hpb.front.terms import Terms
 from hpb.front.tls import Handshakes, Tls
 
 NO_DESCRIPTORS_PAUSE = 0.1
-# How long a connection that is told to go may take to read that.
+# How long a connection that has to go may take to read its last line.
 LEAVE_SECONDS = 2
 # A system that misses a connection's other end asks after this many silent seconds, so often and so many times.
 KEEPALIVE = {socket.TCP_KEEPIDLE: 30, socket.TCP_KEEPINTVL: 10, socket.TCP_KEEPCNT: 3}
@@ -48,7 +48,7 @@ class Connection(asyncio.Protocol):
         # What carries it, as soon as it can be written to; below that, what can end it before.
         self.transport: Carrier | None = None
         self.below: asyncio.BaseTransport | None = None
-        # What was read and isn't handed in; how long a line may be, 0 as long as none may come.
+        # Bytes that weren't handed in yet; how long a line may be, 0 as long as none may come.
         self.rest, self.most = bytearray(), 0
         self.has_ended = self.is_full = self.is_leaving = False
         self.why = ""

@@ -55,7 +55,7 @@ def read_limits(given: Table) -> Limits:
 
 @dataclass(frozen=True)
 class LogPlace:
-    """Where the log goes, and how much of it is kept. `path` is that of a file, if it goes into one."""
+    """The place of the log, and how much of it is kept. `path` is that of a file, if it goes into one."""
 
     to: str
     path: str | None
@@ -86,7 +86,7 @@ class LogPlace:
 
 @dataclass(frozen=True)
 class BoardPlace:
-    """Where the page is, and by which names it may be asked for."""
+    """The address of the page, and the names by which it may be asked for."""
 
     host: str
     port: int
@@ -143,7 +143,7 @@ class Config:
                             "clear; give certificate and key, or plain = true")
 
     def files(self) -> list[Kept]:
-        """Each file that it names. None may be two things: what is no record would be set aside as a torn one."""
+        """Each file that it names. None may be two things: another file would be set aside as a torn record."""
         files = [Kept("configuration", self.path), of_change("file", self.file), of_record(self.record), of_change("tokens", self.tokens)]
         if self.certificate:
             files.append(Kept("certificate", self.certificate))
@@ -198,7 +198,7 @@ class Config:
         return TokenFile(self.tokens, self.roles)
 
     def addresses(self) -> list[Address]:
-        """Where the front listens, and its board if it has one."""
+        """The addresses at which the front listens, and its board if it has one."""
         board = [Address("board.listen", self.board.host, self.board.port)] if self.board else []
         return [Address("listen", self.host, self.listen_port), *board]
 

@@ -31,7 +31,7 @@ class Given:
 
 
 def written(config: Config, terms: Terms) -> bytes:
-    """What is given of a configuration, as far as it stays as it is, and of the terms that are in force."""
+    """The fields of a configuration that stay as they are, and the terms in force."""
     certificate = terms.certificate
     assert config.board
     fields = {

@@ -10,7 +10,7 @@ from hpb.front.core.events import Event
 
 
 class Machine:
-    """`shells` has for each kind of effect what does it. What a shell posts meanwhile is taken afterwards."""
+    """`shells` has for each kind of effect what does it. If a shell posts an event meanwhile, that is taken afterwards."""
 
     def __init__(self, front: Front, clock: Callable[[], float] = time.monotonic) -> None:
         self.front, self.clock = front, clock
@@ -19,7 +19,7 @@ class Machine:
         self.is_at_work = self.has_ended = False
 
     def post(self, event: Event) -> None:
-        """Takes an event. Whatever a shell raises goes through, and what was to be done behind it isn't: then the front has to end."""
+        """Takes an event. Whatever a shell raises goes through, and the other effects are left undone: then the front has to end."""
         self.events.append(event)
         if self.is_at_work:
             return

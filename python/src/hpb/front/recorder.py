@@ -1,4 +1,4 @@
-"""The record of a front on its disk: what is written there by threads of their own, in the order in which it came (docs/FRONT.md)."""
+"""The record of a front on its disk: threads of their own write entries there, in the order in which they came (docs/FRONT.md)."""
 import asyncio
 import os
 from collections.abc import Callable
@@ -39,7 +39,7 @@ class Record(Protocol):
 
 
 def open_record(path: str, definition: Any, may_set_aside: bool) -> tuple[RecordFile, Entry | None]:
-    """The record of an auction, and what was set aside of it. A Stops says why the front can't go on with it, and what to do."""
+    """The record of an auction, and its torn end, if that was set aside. A Stops says why the front can't go on with it, and what to do."""
     name = os.path.basename(path)
     try:
         record = RecordFile(path)
@@ -105,13 +105,13 @@ class Writer(Generic[Item]):
                 self.post(Failed(f"the record can't be written: {fault if isinstance(fault, (OSError, Damaged)) else repr(fault)}"))
                 return
             if event:
-                # What comes of it is no failure of the record.
+                # If that fails, it is no failure of the record.
                 loop.call_soon(self.post, event)
         self.writing = None
 
 
 class Recorder:
-    """Writes entries into a record, and commands beside it; each is told once it is on the disk."""
+    """Writes entries into a record, and commands beside it. An event says when they are on the disk."""
 
     def __init__(self, record: Record, post: Callable[[Event], None]) -> None:
         self.record = record

@@ -150,7 +150,7 @@ class Running:
     def wake(self, effect: effects.Wake) -> None:
         self.finished.get_loop().call_later(effect.seconds, self.machine.post, events.Tick())
 
-    # Who is let in, and by which terms.
+    # The door, and the terms in force.
 
     def admit(self, _: effects.Admit) -> None:
         self.admitting = self.begin(self.clients.admit())

@@ -14,7 +14,7 @@ from hpb.front.tokens import Tokens
 
 @dataclass(frozen=True)
 class Terms:
-    """What is in force."""
+    """Those in force."""
 
     limits: Limits
     tokens: Tokens
@@ -22,7 +22,7 @@ class Terms:
 
 
 def read_terms(path: str, in_force: Config | None = None) -> tuple[Config, Terms]:
-    """A configuration, and what is read again while one is in force: that has names and the file of tokens."""
+    """A configuration and its terms. Names and the file of tokens are those of the one in force, if there is one."""
     config = Config(path)
     return config, Terms(config.limits, (in_force or config).token_file().tokens(), config.read_certificate())
 

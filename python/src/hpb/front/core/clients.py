@@ -1,4 +1,4 @@
-"""Who is let in: connections that come and go, what each may send, and when one ends."""
+"""Connections that come and go, what each may send, and when one ends."""
 import collections
 
 from hpb.front.core.effects import Abort, Answer, End, Field, Take, Wait
@@ -88,7 +88,7 @@ def without(numbers: tuple[int, ...], number: int) -> tuple[int, ...]:
 
 
 def dismiss(step: Step, number: int, word: str = "") -> None:
-    """One is told to go, by a line if there is a word for it. Nothing is written to it afterwards."""
+    """One has to go; a line says why, if there is a word for it. Nothing is written to it afterwards."""
     connection = step.front.connections[number]
     if connection.going == Going.CLOSED:
         return
@@ -253,7 +253,7 @@ def queue(step: Step, item: Item) -> None:
 
 
 def answer(step: Step, number: int, line: bytes) -> None:
-    """The answer to a connection's line, if it is still there and wasn't told to go."""
+    """The answer to a connection's line, if it is still there and doesn't have to go."""
     if (connection := step.front.connections.get(number)) is None:
         return
     step.set_connection(number, waiting=connection.waiting - 1, seen=step.front.time)

@@ -80,7 +80,7 @@ class EndServer:
 
 @dataclass(frozen=True, slots=True)
 class Tell:
-    """A line to the server. Where the server goes before its answer, `ServerGone` comes in place of that."""
+    """A line to the server. If the server goes before its answer, `ServerGone` comes instead."""
 
     session: int
     line: bytes
@@ -170,7 +170,7 @@ class MustEnd:
 
 @dataclass(frozen=True, slots=True)
 class Finish:
-    """The front has ended; `why` says why it couldn't go on, and is empty where all is in order."""
+    """The front has ended; `why` says why it couldn't go on, and is empty if all is in order."""
 
     why: str
 

@@ -1,11 +1,11 @@
-"""How a front ends: what was taken is answered, the record gets its last entry, and the server ends; each within its time."""
+"""How a front ends: lines that it has are answered, the record gets its last entry, and the server ends; each within its time."""
 from hpb.front.core import clients
 from hpb.front.core.effects import EndServer, MustEnd, Publish, Shut, Wake
 from hpb.front.core.state import For, Phase, Stage
 from hpb.front.core.stepping import Step
 
-# When the front is told to stop, lines that were taken may be answered for so long; by so long its record has to be written, and by so long its
-# server has to have ended. What then comes takes less than is left to the limit of hpb.front.watch.
+# Seconds from the signal until lines aren't answered any more, until the record has to be written, and until the server has to have ended.
+# The rest takes less than is left to the limit of hpb.front.watch.
 LINES_SECONDS, RECORD_SECONDS, SERVER_SECONDS = 5.0, 6.0, 7.0
 # By so long nothing is waited for any more.
 LAST_SECONDS = 8.0
@@ -45,7 +45,7 @@ def is_answering(step: Step) -> bool:
 
 
 def close(step: Step) -> None:
-    """The last entry of the record. From here on no line is told to the server, and no answer leaves."""
+    """The last entry of the record. From here on the server gets no line of a name, and no answer leaves."""
     left = step.front.waiting
     if left:
         step.say(f"{left} lines that were taken have no answer, as when a disk hangs: their clients send them again")

@@ -100,7 +100,7 @@ class ServerFailed:
 
 @dataclass(frozen=True, slots=True)
 class ServerGone:
-    """A server that was up is gone; `how` it ended is empty where nobody knows."""
+    """A server that was up is gone; `how` it ended is empty if nobody knows."""
 
     how: str
 

@@ -118,7 +118,7 @@ def compare(step: Step) -> None:
 
 
 def note(step: Step) -> None:
-    """Puts into the record what was found, in the order of the numbers."""
+    """Puts the found commands into the record, in the order of their numbers."""
     finding = step.front.finding
     for kind, fields in finding.others:
         step.write(kind, **fields)

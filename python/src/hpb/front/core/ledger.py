@@ -13,7 +13,7 @@ WHERE_THE_AUDIT_ENDS = "the audit ends there"
 class Held:
     """A command that was accepted, and waits for those of smaller numbers."""
 
-    # How many commands had been told to the server when its answer came.
+    # How many commands the server had got when its answer came.
     sent: int
     name: str
     line: bytes
@@ -52,7 +52,7 @@ class Ledger:
     places: int = 0
 
     def explained(self) -> tuple[int, int]:
-        """How many commands the file has at least, and at most, by what was told to the server."""
+        """How many commands the file has at least, and at most, by those that the server got."""
         return max([self.count, *self.held]), self.count + len(self.held) + len(self.told)
 
     def took_place(self) -> tuple["Ledger", int]:
@@ -62,7 +62,7 @@ class Ledger:
         return changed(self, places=self.places + 1), self.places
 
     def tell(self, place: int) -> "Ledger":
-        """The server is told the command in this place."""
+        """The server gets the command in this place."""
         return changed(self, sent=self.sent + 1, told={**self.told, place: self.sent + 1})
 
     def judged(self, place: int) -> "Ledger":
@@ -74,7 +74,7 @@ class Ledger:
         return changed(self, held={**self.held, number: held})
 
     def next(self) -> Held | Foreign | None:
-        """What is to be written now: what was accepted, as far as no smaller number may still come."""
+        """The next entry: a command that was accepted, unless a smaller number may still come."""
         if not self.held:
             return None
         if self.count + 1 in self.held:

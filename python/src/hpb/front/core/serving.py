@@ -1,4 +1,4 @@
-"""Keeps a server: starts it again where it is gone, looks at what its file has, and tells it again what has no answer."""
+"""Keeps a server: starts it again when it is gone, looks at what its file has, and sends it again the lines that have no answer."""
 import re
 
 from hpb.front.core import ending, finding, sessions
@@ -40,7 +40,7 @@ def start(step: Step) -> None:
 
 
 def begin(step: Step) -> None:
-    """A server that has come is told each line again that has no answer."""
+    """A server that has come gets each line again that has no answer."""
     step.set_server(is_up=True, since=step.front.time, pause=FIRST_PAUSE)
     step.note("restart", what="server", outcome="started")
     for place, session in enumerate(step.front.sessions):

@@ -1,6 +1,6 @@
-"""The sessions with the server: whose line each tells it next, and when the answer may leave.
+"""The sessions with the server: whose line goes there next, and when the answer may leave.
 
-A command is put beside the record, told to the server, and written into the record once it is accepted; then its answer leaves. A session
+A command is put beside the record, sent to the server, and written into the record once it is accepted; then its answer leaves. A session
 takes no other line meanwhile.
 """
 from hpb.front.core import clients
@@ -12,9 +12,9 @@ from hpb.front.rights import is_command, refused
 from hpb.record.entries import OK, text_of
 
 OVER = b" CLOSED "
-# What a session has that is free.
+# The fields of a session that is free.
 IDLE = {name: getattr(Session(), name) for name in ("stage", "purpose", "line", "name", "item", "beside", "answer", "entry")}
-# Lines of names are told to the server.
+# The phases in which lines of names go to the server.
 SERVES = (Phase.OPEN, Phase.ANSWERING)
 
 
@@ -52,7 +52,7 @@ def go_on(step: Step) -> None:
 
 
 def begin(step: Step, place: int, name: str, item: Item) -> None:
-    """One line. Whose connection is gone, or came by a token that went, isn't told any more."""
+    """One line. If its connection is gone, or its token, the line is dropped."""
     if is_dropped(step, item):
         clients.drop(step, item.connection)
     elif item.refusal:
@@ -76,7 +76,7 @@ def is_dropped(step: Step, item: Item) -> bool:
 
 
 def take_beside(step: Step, places: tuple[int, ...]) -> None:
-    """These commands are found after a crash from now on: the server may be told."""
+    """These commands are found after a crash from now on: they may go to the server."""
     for place, session in enumerate(step.front.sessions if step.front.phase in SERVES else ()):
         if session.stage == Stage.BESIDE and session.beside in places and session.item:
             if is_dropped(step, session.item):
@@ -124,7 +124,7 @@ def judge(step: Step, place: int, answer: bytes) -> None:
 
 
 def release(step: Step) -> None:
-    """Writes what was accepted, as far as no smaller number may still come."""
+    """Writes accepted commands, unless a smaller number may still come."""
     while found := step.front.ledger.next():
         if isinstance(found, Foreign):
             note_foreign(step, found)
@@ -167,7 +167,7 @@ def note(step: Step, name: str, line: bytes, answer: bytes) -> None:
 
 
 def tell_close(step: Step, shown: bytes) -> None:
-    """What a close came to, and where the record stands."""
+    """What a close came to, and the record's last entry."""
     number, digest = step.front.ledger.place
     step.do(Publish(f"{text_of(shown)} RECORD {number} {digest}"))
     look_whether_over(step, shown)

@@ -27,7 +27,7 @@ class Phase(enum.IntEnum):
     SHOWING = enum.auto()
     BOARD = enum.auto()
     OPEN = enum.auto()
-    # What was taken is answered; the last entry is written; the server ends.
+    # Lines that it has are answered; the last entry is written; the server ends.
     ANSWERING = enum.auto()
     CLOSING = enum.auto()
     ENDING = enum.auto()
@@ -50,7 +50,7 @@ class Setting:
 
 
 class Going(enum.Enum):
-    """Whether a connection stays, goes once its lines are answered, or is told to go: then nothing more is written to it."""
+    """Whether a connection stays, goes once its lines are answered, or goes now: then nothing more is written to it."""
 
     STAYS = enum.auto()
     LEAVES = enum.auto()
@@ -82,7 +82,7 @@ class Connection:
     may_send: bool = False
     held: Item | None = None
     has_ended: bool = False
-    # It doesn't read its answers; its token went, and what waits isn't told any more.
+    # It doesn't read its answers; its token went, and its lines are dropped.
     is_full: bool = False
     is_barred: bool = False
     going: Going = Going.STAYS
@@ -111,7 +111,7 @@ class For(enum.Enum):
 
 
 class Stage(enum.Enum):
-    """How far a session is with its line: a command is put beside the record, the server is told, and the answer waits for the record."""
+    """How far a session is with its line: a command is put beside the record, the server has it, and the answer waits for the record."""
 
     FREE = enum.auto()
     BESIDE = enum.auto()
@@ -148,7 +148,7 @@ class Server:
 
 @dataclass(frozen=True, slots=True)
 class Finding:
-    """How far it is found out what the last front left: what was asked and answered, and the lines that are still to be looked at."""
+    """How far the search for the commands of the last front has come: questions, answers, and the lines that are still to be looked at."""
 
     questions: tuple[bytes, ...] = ()
     answers: tuple[str, ...] = ()

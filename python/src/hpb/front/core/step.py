@@ -10,8 +10,8 @@ from hpb.front.core.stepping import Step
 
 
 def step(front: Front, event: Event, clock: float) -> tuple[Front, list[Effect]]:
-    """What a front is after an event at this time of a clock, in seconds, and what is to be done then, in this order. A clock that goes back
-    stands still for the front, as far as that goes."""
+    """The front after an event at this time of a clock, in seconds, and the effects, which are to be done in this order. If the clock goes
+    back it stands still for the front meanwhile."""
     if front.phase == Phase.ENDED:
         return front, []
     taken = Step(front)
@@ -62,7 +62,7 @@ def take_record(step: Step, event: OfRecord) -> None:
 
 
 def tick(step: Step) -> None:
-    """Time has passed: who is silent goes, a server is tried again, and an auction that is over ends the front."""
+    """Time has passed: silent connections go, a server is tried again, and an auction that is over ends the front."""
     clients.sweep(step)
     serving.look_at_time(step)
     if step.front.over_at is not None and step.front.time >= step.front.over_at:

@@ -13,7 +13,7 @@ class Step:
     def __init__(self, front: Front) -> None:
         self.front = changed(front)
         self.effects: list[Effect] = []
-        # What was copied of the mappings of the front before.
+        # The mappings that were copied for the next value.
         self.connections: dict[int, Connection] | None = None
         self.names: dict[str, Name] | None = None
 
@@ -56,7 +56,7 @@ class Step:
         return session
 
     def set_server(self, **fields: Any) -> Server:
-        """Changes what is known of the server."""
+        """Changes the server."""
         self.set(server=changed(self.front.server, **fields))
         return self.front.server
 
