@@ -2,6 +2,7 @@
 from __future__ import annotations
 
 from collections.abc import Callable
+from dataclasses import replace
 
 import pytest
 
@@ -12,7 +13,6 @@ from hpb.front.core.effects import Wake
 from hpb.front.core.ledger import Held, Ledger
 from hpb.front.core.state import For, Item, Stage
 from hpb.front.core.stepping import Step
-from hpb.front.core.values import changed
 from hpb.front.rights import Role
 
 SEEDS = 40
@@ -34,7 +34,7 @@ def answer_before_sync(patch: pytest.MonkeyPatch) -> None:
 
 def entry_lost_at_kill(patch: pytest.MonkeyPatch) -> None:
     """Commands beside the record aren't looked for after a kill."""
-    patch.setattr(finding, "begin", lambda step, event: begin(step, changed(event, left=())))
+    patch.setattr(finding, "begin", lambda step, event: begin(step, replace(event, left=())))
 
 
 def told_before_it_is_beside(patch: pytest.MonkeyPatch) -> None:

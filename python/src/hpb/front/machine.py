@@ -19,7 +19,8 @@ class Machine:
         self.is_at_work = self.has_ended = False
 
     def post(self, event: Event) -> None:
-        """Takes an event. Whatever a shell raises goes through, and the other effects are left undone: then the front has to end."""
+        """Takes an event. Whatever a shell raises goes through. Then effects are left undone, so nothing comes of any event any more, and the
+        front has to end."""
         self.events.append(event)
         if self.is_at_work:
             return
@@ -29,6 +30,9 @@ class Machine:
                 self.front, effects = step(self.front, self.events.popleft(), self.clock())
                 for effect in effects:
                     self.shells[type(effect)](effect)
+        except BaseException:
+            self.has_ended = True
+            raise
         finally:
             self.is_at_work = False
 

@@ -45,7 +45,7 @@ def is_answering(step: Step) -> bool:
 
 
 def close(step: Step) -> None:
-    """The last entry of the record. From here on the server gets no line of a name, and no answer leaves."""
+    """The last entry of the record. From here on the server gets no line of a name."""
     left = step.front.waiting
     if left:
         step.say(f"{left} lines that were taken have no answer, as when a disk hangs: their clients send them again")

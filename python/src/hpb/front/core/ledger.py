@@ -9,7 +9,7 @@ from hpb.record.entries import OK, Place, text_of
 WHERE_THE_AUDIT_ENDS = "the audit ends there"
 
 
-@dataclass(frozen=True, slots=True)
+@dataclass(frozen=True)
 class Held:
     """A command that was accepted, and waits for those of smaller numbers."""
 
@@ -27,7 +27,7 @@ class Held:
         return Write("accepted", {"name": self.name, "line": text_of(self.line), "answer": f"{OK}{number}", **asked})
 
 
-@dataclass(frozen=True, slots=True)
+@dataclass(frozen=True)
 class Foreign:
     """Numbers of commands that didn't come through this front."""
 
@@ -35,7 +35,7 @@ class Foreign:
     last: int
 
 
-@dataclass(frozen=True, slots=True)
+@dataclass(frozen=True)
 class Ledger:
     """`count` is how many commands the record has once all is written. Of its entries `written` were handed out and `synced` are on the disk,
     counted from this front's start; `place` is the last that is. `told` has the places of commands that the server may have and that have no

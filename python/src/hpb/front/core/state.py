@@ -57,7 +57,7 @@ class Going(enum.Enum):
     CLOSED = enum.auto()
 
 
-@dataclass(frozen=True, slots=True)
+@dataclass(frozen=True)
 class Item:
     """A line that waits, whose it is, and by which word the front refuses it, if it does."""
 
@@ -66,7 +66,7 @@ class Item:
     refusal: str | None = None
 
 
-@dataclass(frozen=True, slots=True)
+@dataclass(frozen=True)
 class Connection:
     """One connection. Until its first line has said who it is nothing is known of it."""
 
@@ -89,7 +89,7 @@ class Connection:
     why: str = ""
 
 
-@dataclass(frozen=True, slots=True)
+@dataclass(frozen=True)
 class Name:
     """Somebody who has a token: the role, the session, the connections, the lines that wait, and how many may still come at once."""
 
@@ -119,7 +119,7 @@ class Stage(enum.Enum):
     ANSWERED = enum.auto()
 
 
-@dataclass(frozen=True, slots=True)
+@dataclass(frozen=True)
 class Session:
     """A session with the server, which has one line outstanding at most. `turns` are the names whose lines wait; each has one in turn."""
 
@@ -135,7 +135,7 @@ class Session:
     entry: int | None = None
 
 
-@dataclass(frozen=True, slots=True)
+@dataclass(frozen=True)
 class Server:
     """Whether it is up, since when; how often it was started since it last answered; and when it is started again, after which pause."""
 
@@ -146,7 +146,7 @@ class Server:
     pause: float = FIRST_PAUSE
 
 
-@dataclass(frozen=True, slots=True)
+@dataclass(frozen=True)
 class Finding:
     """How far the search for the commands of the last front has come: questions, answers, and the lines that are still to be looked at."""
 
@@ -160,7 +160,7 @@ class Finding:
     others: tuple[tuple[str, Entry], ...] = ()
 
 
-@dataclass(frozen=True, slots=True)
+@dataclass(frozen=True)
 class Front:
     """All of it. `time` are seconds that have passed, whatever the clock did; `clock` is what that showed last."""
 

@@ -43,7 +43,6 @@ def take(step: Step, event: Event) -> None:
         case Stop():
             ending.stop(step)
         case Failed(why):
-            step.note("failed", why=why)
             step.finish(why)
 
 

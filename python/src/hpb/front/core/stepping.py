@@ -24,8 +24,7 @@ class Step:
 
     def set(self, **fields: Any) -> None:
         """Changes the front."""
-        for name, value in fields.items():
-            object.__setattr__(self.front, name, value)
+        self.front.__dict__.update(fields)
 
     def own_connections(self) -> dict[int, Connection]:
         """Those of the next value."""

@@ -5,11 +5,7 @@ Value = TypeVar("Value")
 
 
 def changed(value: Value, **fields: Any) -> Value:
-    """The same value but for these fields, of a frozen dataclass with slots: as `dataclasses.replace`, which takes twice as long."""
+    """The same value but for these fields, of a frozen dataclass without slots: as `dataclasses.replace`, but several times as fast."""
     made: Value = object.__new__(type(value))
-    fill = object.__setattr__
-    for name in type(value).__slots__:  # type: ignore[attr-defined]
-        fill(made, name, getattr(value, name))
-    for name, field in fields.items():
-        fill(made, name, field)
+    made.__dict__.update(value.__dict__, **fields)
     return made
