@@ -205,6 +205,7 @@ class Day:
 
     def hang(self) -> None:
         """It has to stop, and then nothing happens but that time passes, and callers come and go."""
+        self.world.kill_chance = 0.0
         while not self.world.is_admitting:
             self.move(self.benign())
         count = len(self.world.ends)

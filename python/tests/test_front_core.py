@@ -4,7 +4,7 @@ import pytest
 from front_days import Day
 
 ALL = "kills losses disks reloads jumps stops vanishing"
-SEEDS, MORE_SEEDS = 10, 300
+SEEDS, MORE_SEEDS = 10, 100
 
 
 @pytest.mark.parametrize("faults", [*ALL.split(), "", "slow", "hangs", ALL, f"{ALL} slow", f"{ALL} hangs"])

@@ -11,13 +11,14 @@ from front_promises import Broken, Promise
 from hpb.front.core import clients, ending, finding, serving, sessions
 from hpb.front.core.effects import Wake
 from hpb.front.core.ledger import Held, Ledger
-from hpb.front.core.state import For, Item, Stage
+from hpb.front.core.state import Connection, For, Item, Stage
 from hpb.front.core.stepping import Step
-from hpb.front.rights import Role
+from hpb.front.rights import Role, refused
 
 SEEDS = 40
 Plant = Callable[[pytest.MonkeyPatch], None]
-leave, begin, queue, take_beside, look = sessions.leave, finding.begin, clients.queue, sessions.take_beside, finding.look
+leave, tell, take_beside, queue, sweep_all = sessions.leave, sessions.tell, sessions.take_beside, clients.queue, clients.sweep
+begin, look = finding.begin, finding.look
 
 
 def answer_before_sync(patch: pytest.MonkeyPatch) -> None:
@@ -157,6 +158,45 @@ def let_in_before_it_is_found(patch: pytest.MonkeyPatch) -> None:
     patch.setattr(finding, "note", lambda step: finding.admit(step))
 
 
+def told_twice_at_once(patch: pytest.MonkeyPatch) -> None:
+    """The server gets a line again before it has answered."""
+
+    def twice(step: Step, place: int, line: bytes, purpose: For) -> None:
+        tell(step, place, line, purpose)
+        tell(step, place, line, purpose)
+
+    patch.setattr(sessions, "tell", twice)
+
+
+def refusal_before_its_turn(patch: pytest.MonkeyPatch) -> None:
+    """A line that the front refuses is answered when it comes, and lines before it wait."""
+
+    def at_once(step: Step, item: Item) -> None:
+        if item.refusal:
+            waiting = step.front.connections[item.connection].waiting
+            step.set_connection(item.connection, waiting=waiting + 1)
+            clients.answer(step, item.connection, refused(item.refusal))
+        else:
+            queue(step, item)
+
+    patch.setattr(clients, "queue", at_once)
+
+
+def answered_behind_its_end(patch: pytest.MonkeyPatch) -> None:
+    """A connection that doesn't read its answers is ended, and answered all the same."""
+    set_connection = Step.set_connection
+
+    def stay(step: Step, number: int, **fields: object) -> Connection:
+        return set_connection(step, number, **{name: value for name, value in fields.items() if name != "going"})
+
+    def sweep(step: Step) -> None:
+        patch.setattr(Step, "set_connection", stay)
+        sweep_all(step)
+        patch.setattr(Step, "set_connection", set_connection)
+
+    patch.setattr(clients, "sweep", sweep)
+
+
 PLANTS: list[tuple[Plant, Promise, str]] = [
     (answer_before_sync, Promise.OK_IS_KEPT, ""),
     (entry_lost_at_kill, Promise.NOTHING_LOST, "kills"),
@@ -166,6 +206,9 @@ PLANTS: list[tuple[Plant, Promise, str]] = [
     (revoked_token_answered, Promise.REVOKED, "reloads"),
     (revoked_line_told, Promise.REVOKED, "reloads"),
     (stop_waits_for_ever, Promise.ENDS, "hangs"),
+    (told_twice_at_once, Promise.ONE_OUTSTANDING, ""),
+    (refusal_before_its_turn, Promise.ANSWERED_IN_ORDER, ""),
+    (answered_behind_its_end, Promise.ENDED, "jumps"),
     (rights_not_looked_at, Promise.RIGHTS, ""),
     (last_connection_first, Promise.TOLD_IN_ORDER, ""),
     (number_out_of_turn, Promise.NEXT_NUMBER, ""),
