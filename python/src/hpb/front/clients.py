@@ -192,10 +192,13 @@ class Clients:
 
     # Those who come.
 
-    async def admit(self) -> None:
-        """Takes connections until it is cancelled."""
+    def start(self) -> None:
+        """Before the first comes. A RuntimeError says that the system has no thread."""
         if self.is_tls:
             self.handshakes.start()
+
+    async def admit(self) -> None:
+        """Takes connections until it is cancelled."""
         loop, told = asyncio.get_running_loop(), False
         while True:
             try:

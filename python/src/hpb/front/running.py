@@ -153,6 +153,7 @@ class Running:
     # The door, and the terms in force.
 
     def admit(self, _: effects.Admit) -> None:
+        self.clients.start()
         self.admitting = self.begin(self.clients.admit())
         self.begin(self.reloading.keep_looking_at_certificate())
 

@@ -3,6 +3,8 @@
 A command is put beside the record, sent to the server, and written into the record once it is accepted; then its answer leaves. A session
 takes no other line meanwhile.
 """
+from collections.abc import Iterable
+
 from hpb.front.core import clients
 from hpb.front.core.effects import AnswerBoard, FreeBeside, Publish, PutBeside, Tell, Wake
 from hpb.front.core.ledger import WHERE_THE_AUDIT_ENDS, Foreign, Held
@@ -35,14 +37,12 @@ def free(step: Step, place: int) -> None:
     step.set_session(place, **IDLE)
 
 
-def go_on(step: Step) -> None:
-    """Hands out answers that may leave, and begins the next lines; looked at after each event. Names that share a session take turns, each by
-    one line."""
-    for place, known in enumerate(step.front.sessions):
-        if known.stage is Stage.ANSWERED:
+def go_on(step: Step, places: Iterable[int]) -> None:
+    """Hands out answers of these sessions that may leave, and begins their next lines. Names that share a session take turns, each by one
+    line."""
+    for place in places:
+        if step.front.sessions[place].stage is Stage.ANSWERED:
             leave(step, place)
-        elif not known.turns:
-            continue
         while (session := step.front.sessions[place]).turns and session.stage is Stage.FREE and step.front.phase in SERVES:
             name, *others = session.turns
             item, *items = step.front.names[name].items

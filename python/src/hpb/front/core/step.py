@@ -17,7 +17,8 @@ def step(front: Front, event: Event, clock: float) -> tuple[Front, list[Effect]]
     taken = Step(front)
     taken.set(time=front.time + max(0.0, clock - front.clock), clock=clock)
     take(taken, event)
-    sessions.go_on(taken)
+    # An entry that is on the disk may let any answer leave; else only those sessions go on that were changed.
+    sessions.go_on(taken, range(len(front.sessions)) if isinstance(event, Synced) else sorted(taken.touched))
     finding.go_on(taken)
     ending.go_on(taken)
     return taken.front, taken.effects

@@ -16,6 +16,8 @@ class Step:
         # The mappings that were copied for the next value.
         self.connections: dict[int, Connection] | None = None
         self.names: dict[str, Name] | None = None
+        # The sessions that were changed.
+        self.touched: set[int] = set()
 
     def do(self, *effects: Effect) -> None:
         """Adds effects. A front that has ended has none."""
@@ -50,6 +52,7 @@ class Step:
     def set_session(self, place: int, **fields: Any) -> Session:
         """Changes a session."""
         sessions = self.front.sessions
+        self.touched.add(place)
         session = changed(sessions[place], **fields)
         self.set(sessions=(*sessions[:place], session, *sessions[place + 1 :]))
         return session
