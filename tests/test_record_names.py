@@ -13,7 +13,7 @@ import pytest
 from harness.users import User
 
 from hpb.front.faults import Stops
-from hpb.front.ledger import open_record
+from hpb.front.recorder import open_record
 from hpb.record import Damaged, read_record
 from hpb.record.asked import AskedFile
 from hpb.record.entries import InTheWay, New

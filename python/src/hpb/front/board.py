@@ -1,35 +1,61 @@
 """The board of a front: a process that serves the page, and asks by a session of the front's own (docs/BOARD.md)."""
 import asyncio
 import contextlib
+import itertools
 import json
 import os
 import socket
 import sys
 import time
+from collections.abc import Callable
 
+from hpb.front.config import Config
+from hpb.front.core.effects import AnswerBoard, StartBoard
+from hpb.front.core.events import BoardAsks, BoardUp, Event
 from hpb.front.faults import Stops
 from hpb.front.given import in_memory, written
 from hpb.front.process import Child, StartsNot
+from hpb.front.server import Begin
+from hpb.front.shell import Shell
+from hpb.front.terms import Reload, Terms
 
 PROGRAM = "hpb.front.viewers"
 QUESTIONS = (b"SHOW", b"NODE", b"WHO")
-# One that has run for so long has come up; else the next one waits, each time twice as long.
+# One that has run for so many seconds has come up; else the next one waits, each time twice as long.
 STEADY, FIRST_PAUSE, MOST_PAUSE = 10, 1, 60
 PATIENCE = 30
 
 
 class Board:
-    """Keeps the process. `ask` gives the answer to a question; neither stands in the record, since nobody sent it. `terms` gives those that
-    are in force, and `shown` has those that the page was given."""
+    """Keeps the process. What it asks doesn't stand in the record, since nobody sent it. `reloading` has the terms that are in force, and
+    `shown` those that the page was given."""
 
-    def __init__(self, config, terms, listener, ask, begin, say, log):
-        self.config, self.terms, self.ask, self.begin, self.say, self.log = config, terms, ask, begin, say, log
-        self.listener, self.shown = listener, None
-        self.child = self.answering = self.hearing = None
-        self.is_changed = False
+    def __init__(
+        self, config: Config, reloading: Reload, listener: socket.socket, post: Callable[[Event], None], begin: Begin, shell: Shell
+    ) -> None:
+        self.config, self.reloading, self.listener, self.post, self.begin = config, reloading, listener, post, begin
+        self.say, self.log = shell.teller.say, shell.log
+        self.child: Child | None = None
+        self.shown: Terms | None = None
+        self.tasks: list[asyncio.Task[None]] = []
+        # Questions that have no answer yet, by number.
+        self.asked: dict[int, asyncio.Future[bytes]] = {}
+        self.numbers = itertools.count()
+        self.is_kept = self.is_changed = False
 
-    async def start(self):
-        """Where it is, once it can be opened."""
+    def begin_up(self, _: StartBoard) -> None:
+        self.begin(self.come_up())
+
+    async def come_up(self) -> None:
+        """The first process. When it doesn't come up the front doesn't."""
+        self.post(BoardUp(await self.start()))
+        self.is_kept = True
+        # Other terms may be in force since it was begun.
+        self.change()
+        await self.keep()
+
+    async def start(self) -> str:
+        """Its line with the page's address, once the page can be opened."""
         mine, its = socket.socketpair()
         try:
             self.child = self.begun(its)
@@ -41,18 +67,18 @@ class Board:
             raise
         finally:
             its.close()
-        self.answering = self.begin(self.answer(mine))
+        self.tasks = [self.begin(self.answer(mine))]
         line = await self.child.line(PATIENCE)
         if not line.startswith("BOARD "):
             await self.stop()
             raise Stops("the board doesn't come up")
         self.log.write("restart", what="board", outcome="started")
-        self.hearing = self.begin(self.hear(self.child))
+        self.tasks.append(self.begin(self.hear(self.child)))
         return line
 
-    def begun(self, its):
-        """Its process, which is given what is in force now."""
-        self.shown = self.terms()
+    def begun(self, its: socket.socket) -> Child:
+        """Its process, which gets the terms in force."""
+        self.shown = self.reloading.terms
         given = in_memory(written(self.config, self.shown))
         try:
             words = [sys.executable, "-P", "-m", PROGRAM, self.config.path, str(self.listener.fileno()), str(given)]
@@ -60,8 +86,8 @@ class Board:
         finally:
             os.close(given)
 
-    async def hear(self, child):
-        """What is asked for at the page goes into the log."""
+    async def hear(self, child: Child) -> None:
+        """Requests at the page go into the log."""
         while line := await child.next_line():
             try:
                 entry = json.loads(line)
@@ -69,7 +95,7 @@ class Board:
             except (ValueError, KeyError, TypeError, AttributeError):
                 self.say("the board writes what is no line of a log")
 
-    async def answer(self, connection):
+    async def answer(self, connection: socket.socket) -> None:
         """One question after the other, until its end is closed."""
         try:
             reader, writer = await asyncio.open_connection(sock=connection)
@@ -85,8 +111,8 @@ class Board:
         finally:
             writer.close()
 
-    async def keep(self):
-        """Starts it again where it ends."""
+    async def keep(self) -> None:
+        """Starts it again whenever it ends."""
         pause = FIRST_PAUSE
         while True:
             began = time.monotonic()
@@ -100,20 +126,35 @@ class Board:
                 self.say(f"the board is gone; it is started again in {pause} seconds")
                 self.log.write("restart", what="board", outcome="gone")
                 await asyncio.sleep(pause)
-            # Where it doesn't come up it has said why; those who bid don't need it.
+            # If it doesn't come up it has said why; those who bid don't need it.
             with contextlib.suppress(Stops):
                 await self.start()
 
-    def change(self):
+    async def ask(self, line: bytes) -> bytes:
+        """The answer to a question."""
+        number, answer = next(self.numbers), asyncio.get_running_loop().create_future()
+        self.asked[number] = answer
+        self.post(BoardAsks(number, line))
+        answered: bytes = await answer
+        return answered
+
+    def take_answer(self, effect: AnswerBoard) -> None:
+        """Of a process that is gone nobody waits for it."""
+        answer = self.asked.pop(effect.number)
+        if not answer.done():
+            answer.set_result(effect.line)
+
+    def change(self) -> None:
         """If there are other tokens, limits or another certificate than it was given, it begins anew, and viewers connect again."""
-        if self.child and self.shown is not self.terms():
+        if self.child and self.is_kept and self.shown is not self.reloading.terms:
             self.is_changed = True
             self.child.process.kill()
 
-    async def stop(self):
+    async def stop(self) -> None:
+        """It is gone, if the system lets it."""
         child, self.child = self.child, None
-        for task in filter(None, (self.answering, self.hearing)):
+        for task in self.tasks:
             task.cancel()
-        self.answering = self.hearing = None
+        self.tasks = []
         if child:
             await child.end()

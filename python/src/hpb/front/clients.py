@@ -1,95 +1,203 @@
-"""Who is let in to a front: its connections, the names that they are of, and the limits of both (docs/FRONT.md)."""
+"""The connections of a front: its listener, and what each connection reads and writes (docs/FRONT.md)."""
 import asyncio
 import collections
 import ipaddress
+import itertools
 import socket
 import time
-from dataclasses import dataclass
+from collections.abc import Callable
+from typing import Protocol
 
-from hpb.front.certificate import Certificate
-from hpb.front.config import Limits
-from hpb.front.connection import Connection
-from hpb.front.rights import IDLE, MANY, TOKEN, UNKNOWN, welcome
-from hpb.front.tls import Handshakes, Rates, Tls
-from hpb.front.tokens import Tokens
+from hpb.front.core.effects import Abort, Answer, End, Take, Wait
+from hpb.front.core.events import Came, Event, Gone, Line, LinesEnded, Opened, Stuffed, TooLong, Waited
+from hpb.front.limits import BURST_SECONDS
+from hpb.front.log import Log
+from hpb.front.terms import Terms
+from hpb.front.tls import Handshakes, Tls
 
-SWEEP_SECONDS = 0.5
 NO_DESCRIPTORS_PAUSE = 0.1
+# How long a connection that has to go may take to read its last line.
+LEAVE_SECONDS = 2
 # A system that misses a connection's other end asks after this many silent seconds, so often and so many times.
 KEEPALIVE = {socket.TCP_KEEPIDLE: 30, socket.TCP_KEEPINTVL: 10, socket.TCP_KEEPCNT: 3}
-BURST_SECONDS = 2
 NETWORK_BITS = 64
+# So many addresses are remembered.
+MOST_ADDRESSES = 10_000
 # Why a connection ends at once that hasn't said anything: its address begins TLS too often.
 HANDSHAKES = "handshakes"
 
-
-@dataclass(frozen=True)
-class Terms:
-    """What is read again at SIGHUP."""
-
-    limits: Limits
-    tokens: Tokens
-    certificate: Certificate | None
+Post = Callable[[Event], None]
 
 
-class Name:
-    """Somebody who has a token: the connections, and the lines that wait."""
+class Carrier(Protocol):
+    """What a connection writes to: a transport, or TLS over one."""
 
-    def __init__(self, name, role, limits, session):
-        self.name, self.role, self.session = name, role, session
-        self.connections, self.items = [], collections.deque()
-        self.limits, self.credit, self.seen = limits, float(BURST_SECONDS * limits.lines_per_second), time.monotonic()
-
-    def wait_seconds(self):
-        """Takes leave for one line, or says how long that has to wait."""
-        now, rate = time.monotonic(), self.limits.lines_per_second
-        self.credit = min(self.credit + (now - self.seen) * rate, BURST_SECONDS * rate)
-        self.seen = now
-        if self.credit < 1:
-            return (1 - self.credit) / rate
-        self.credit -= 1
-        return 0
-
-    def add(self, item):
-        self.items.append(item)
-        if len(self.items) == 1:
-            self.session.add(self)
+    def write(self, data: bytes) -> None: ...
+    def is_closing(self) -> bool: ...
+    def pause_reading(self) -> None: ...
+    def resume_reading(self) -> None: ...
+    def close(self) -> None: ...
+    def abort(self) -> None: ...
 
 
-class Turns:
-    """Whose lines a session takes next: those who share it take turns, each by one line."""
+class Connection(asyncio.Protocol):
+    """One connection. It hands in one line whenever it may, and reads no more until then."""
 
-    def __init__(self):
-        self.names, self.come = collections.deque(), asyncio.Event()
+    def __init__(self, number: int, post: Post, forget: Callable[[int], None], is_tls: bool) -> None:
+        self.number, self.post, self.forget, self.is_tls = number, post, forget, is_tls
+        # What carries it, as soon as it can be written to; below that, what can end it before.
+        self.transport: Carrier | None = None
+        self.below: asyncio.BaseTransport | None = None
+        # Bytes that weren't handed in yet; how long a line may be, 0 as long as none may come.
+        self.rest, self.most = bytearray(), 0
+        self.has_ended = self.is_full = self.is_leaving = False
+        self.why = ""
 
-    def add(self, name):
-        self.names.append(name)
-        self.come.set()
+    # As the protocol of what carries it.
 
-    async def next(self):
-        while not self.names:
-            self.come.clear()
-            await self.come.wait()
-        name = self.names.popleft()
-        item = name.items.popleft()
-        if name.items:
-            self.names.append(name)
-        return name, item
+    def connection_made(self, transport: Carrier) -> None:  # type: ignore[override]
+        self.transport = transport
+        self.post(Opened(self.number))
+        self.pump()
+
+    def connection_lost(self, fault: Exception | None) -> None:
+        self.forget(self.number)
+        self.post(Gone(self.number, self.why or ("lost" if fault else "ended")))
+
+    def tls_failed(self, why: str) -> None:
+        self.why = f"TLS: {why}"
+
+    def pause_writing(self) -> None:
+        self.is_full = True
+        self.post(Stuffed(self.number, True))
+        self.pump()
+
+    def resume_writing(self) -> None:
+        self.is_full = False
+        self.post(Stuffed(self.number, False))
+        self.pump()
+
+    def data_received(self, data: bytes) -> None:
+        if not self.is_leaving:
+            self.rest += data
+            self.pump()
+
+    def eof_received(self) -> bool:
+        self.has_ended = True
+        self.pump()
+        return not self.is_tls
+
+    # As the front has it.
+
+    def take(self, most: int) -> None:
+        self.most = most
+        self.pump()
+
+    def write(self, line: bytes) -> None:
+        if self.transport and not self.transport.is_closing():
+            self.transport.write(line + b"\n")
+
+    def end(self) -> None:
+        self.is_leaving = True
+        if self.transport:
+            self.transport.close()
+            asyncio.get_running_loop().call_later(LEAVE_SECONDS, self.transport.abort)
+
+    def abort(self) -> None:
+        self.is_leaving = True
+        carrier = self.transport or self.below
+        if carrier:
+            carrier.abort()  # type: ignore[union-attr]
+
+    def pump(self) -> None:
+        """Hands in what has come, as far as it may, and reads more only if that may come."""
+        if self.most and not self.is_full and (event := self.next(self.most)):
+            self.most = 0
+            self.post(event)
+        if self.transport and not self.transport.is_closing() and not self.has_ended:
+            if self.most and not self.is_full:
+                self.transport.resume_reading()
+            else:
+                self.transport.pause_reading()
+
+    def next(self, most: int) -> Event | None:
+        """The next line, or the end of lines."""
+        end = self.rest.find(b"\n", 0, most + 1)
+        if end >= 0:
+            line = bytes(self.rest[:end])
+            del self.rest[: end + 1]
+            return Line(self.number, line)
+        beginning = bytes(self.rest[:most])
+        if len(self.rest) > most:
+            self.rest.clear()
+            return TooLong(self.number, beginning)
+        return LinesEnded(self.number, beginning) if self.has_ended else None
 
 
-class Door:
-    """Takes connections, and knows who they are."""
+class Rates:
+    """How many handshakes each address may still begin."""
 
-    def __init__(self, terms, names, listener, log, say, fail):
-        self.terms, self.names, self.log, self.say = terms, names, log, say
-        self.unknown, self.is_tls = collections.OrderedDict(), terms.certificate is not None
+    def __init__(self, per_second: float) -> None:
+        self.per_second = per_second
+        self.credits: collections.OrderedDict[str, tuple[float, float]] = collections.OrderedDict()
+
+    def may(self, address: str, now: float) -> bool:
+        most = BURST_SECONDS * self.per_second
+        credit, seen = self.credits.pop(address, (most, now))
+        credit = min(credit + (now - seen) * self.per_second, most)
+        is_right = credit >= 1
+        self.credits[address] = (credit - is_right, now)
+        if len(self.credits) > MOST_ADDRESSES:
+            self.credits.popitem(last=False)
+        return is_right
+
+
+class Clients:
+    """Takes connections, and does with each as the front has it. `terms` gives those in force."""
+
+    def __init__(self, listener: socket.socket, terms: Terms, post: Post, log: Log, say: Callable[[str], None], fail: Callable[[str], None]) -> None:
+        self.listener, self.terms, self.post, self.log, self.say = listener, terms, post, log, say
+        self.is_tls = terms.certificate is not None
+        self.connections: dict[int, Connection] = {}
+        self.numbers = itertools.count(1)
         self.rates = Rates(terms.limits.handshakes_per_second)
         self.handshakes = Handshakes(terms.limits.all_handshakes_per_second, fail)
+
+    def change(self, terms: Terms) -> None:
+        """Other terms hold from now on."""
+        self.terms = terms
+        self.rates.per_second = terms.limits.handshakes_per_second
+        self.handshakes.per_second = terms.limits.all_handshakes_per_second
+
+    # What the front has done.
+
+    def take(self, effect: Take) -> None:
+        if connection := self.connections.get(effect.connection):
+            connection.take(effect.most_bytes)
+
+    def wait(self, effect: Wait) -> None:
+        asyncio.get_running_loop().call_later(effect.seconds, self.post, Waited(effect.connection))
+
+    def answer(self, effect: Answer) -> None:
+        if connection := self.connections.get(effect.connection):
+            connection.write(effect.line)
+
+    def end(self, effect: End) -> None:
+        if connection := self.connections.get(effect.connection):
+            connection.end()
+
+    def abort(self, effect: Abort) -> None:
+        if connection := self.connections.get(effect.connection):
+            connection.abort()
+
+    # Those who come.
+
+    def start(self) -> None:
+        """Before the first comes. A RuntimeError says that the system has no thread."""
         if self.is_tls:
             self.handshakes.start()
-        self.listener, self.address = listener, listener.getsockname()[:2]
 
-    async def admit(self):
+    async def admit(self) -> None:
         """Takes connections until it is cancelled."""
         loop, told = asyncio.get_running_loop(), False
         while True:
@@ -102,145 +210,52 @@ class Door:
                 await asyncio.sleep(NO_DESCRIPTORS_PAUSE)
                 continue
             told = False
-            await self.take(taken, *address[:2])
+            await self.let_in(taken, *address[:2])
             # Those who are in have their turn.
             await asyncio.sleep(0)
 
-    async def take(self, taken, address, port):
-        if self.is_tls and not self.rates.may(neighbourhood(address), time.monotonic()):
-            self.log.write("connection", peer=f"{address} {port}", outcome="refused", why=HANDSHAKES)
+    async def let_in(self, taken: socket.socket, address: str, port: int) -> None:
+        peer, network = f"{address} {port}", network_of(address)
+        if self.is_tls and not self.rates.may(network, time.monotonic()):
+            self.log.write("connection", peer=peer, outcome="refused", why=HANDSHAKES)
             taken.close()
             return
-        self.make_room()
-        connection = Connection(self, f"{address} {port}", neighbourhood(address))
-        self.unknown[connection] = None
+        number = next(self.numbers)
+        connection = Connection(number, self.post, self.forget, self.is_tls)
+        self.connections[number] = connection
+        self.post(Came(number, peer, network))
         try:
             set_up(taken)
-            protocol = self.over_tls(connection) if self.is_tls else connection
+            protocol = self.over_tls(connection, network)
             connection.below, _ = await asyncio.get_running_loop().connect_accepted_socket(lambda: protocol, taken)
-            self.log.write("connection", peer=connection.peer, outcome="taken")
+            self.log.write("connection", peer=peer, outcome="taken")
         except OSError as fault:
-            self.log.write("connection", peer=connection.peer, outcome="lost", why=fault.strerror)
+            self.log.write("connection", peer=peer, outcome="lost", why=fault.strerror)
             taken.close()
-            self.forget(connection)
+            self.forget(number)
+            self.post(Gone(number, "lost"))
 
-    def over_tls(self, connection):
-        return Tls(connection, self.terms.certificate.context, self.handshakes, connection.neighbourhood)
+    def over_tls(self, connection: Connection, network: str) -> asyncio.Protocol:
+        """The connection, or TLS before it."""
+        certificate = self.terms.certificate
+        return Tls(connection, certificate.context, self.handshakes, network) if self.is_tls and certificate else connection
 
-    def make_room(self):
-        """Of those who haven't said who they are the first one of the address that has the most of them has to go."""
-        while len(self.unknown) >= self.terms.limits.unknown_connections:
-            of_address = collections.Counter(connection.neighbourhood for connection in self.unknown)
-            crowd = max(of_address, key=of_address.get)
-            first = next(connection for connection in self.unknown if connection.neighbourhood == crowd)
-            self.forget(first)
-            first.leave(MANY)
-            if first.below:
-                first.below.abort()
-
-    def know(self, connection, line):
-        """By the first line of a connection."""
-        token = self.terms.tokens.find(line[len(TOKEN):]) if line.startswith(TOKEN) else None
-        if token is None:
-            self.log.write("token", peer=connection.peer, outcome="unknown" if line.startswith(TOKEN) else "none")
-            connection.leave(UNKNOWN)
-            return
-        known = self.names[token.name]
-        is_many = len(known.connections) >= self.terms.limits.connections and not self.displace(known)
-        connection.token = token
-        self.log.write("token", **told_of(connection), outcome=MANY if is_many else "welcome")
-        if is_many:
-            connection.leave(MANY)
-            return
-        self.unknown.pop(connection, None)
-        connection.name = known
-        known.connections.append(connection)
-        connection.transport.write(welcome(known.name) + b"\n")
-
-    def displace(self, known):
-        """Whether the longest silent connection that waits for nothing could be ended."""
-        idle = [connection for connection in known.connections if not connection.waiting and not connection.leaving]
-        if not idle:
-            return False
-        silent = min(idle, key=lambda connection: connection.seen)
-        self.forget(silent)
-        silent.leave(MANY)
-        return True
-
-    def forget(self, connection):
-        self.unknown.pop(connection, None)
-        if connection.name and connection in connection.name.connections:
-            connection.name.connections.remove(connection)
-
-    def has_gone(self, connection):
-        self.forget(connection)
-        self.log.write("ended", **told_of(connection), lines=connection.taken, why=connection.why)
-
-    def change(self, terms):
-        """Other tokens, limits or another certificate. Who came by a token that went has to go; lines that wait aren't told any more."""
-        self.terms = terms
-        self.rates.per_second = terms.limits.handshakes_per_second
-        self.handshakes.per_second = terms.limits.all_handshakes_per_second
-        known = set(terms.tokens.known)
-        for name in self.names.values():
-            name.limits = terms.limits
-            for connection in [one for one in name.connections if one.token not in known]:
-                self.forget(connection)
-                connection.is_barred = True
-                connection.leave(UNKNOWN)
-
-    async def sweep(self):
-        """Ends connections that don't say who they are, and such as are silent for too long."""
-        while True:
-            await asyncio.sleep(SWEEP_SECONDS)
-            now = time.monotonic()
-            for connection in list(self.unknown):
-                if connection.silent_seconds(now) > self.terms.limits.token_seconds:
-                    connection.leave(IDLE)
-            for name in self.names.values():
-                for connection in list(name.connections):
-                    self.sweep_known(connection, now)
-
-    def sweep_known(self, connection, now):
-        if connection.silent_seconds(now) <= self.terms.limits.idle_seconds:
-            return
-        if connection.is_full:
-            connection.transport.abort()
-        elif not connection.waiting and not connection.leaving and not connection.timer:
-            connection.leave(IDLE)
-
-    def close(self):
-        """Nothing more is taken. Each connection ends once what it waits for is answered."""
-        self.listener.close()
-        for connection in self.everyone():
-            if connection.waiting:
-                connection.leaving = True
-            else:
-                connection.leave()
-
-    def everyone(self):
-        return [*self.unknown, *(connection for name in self.names.values() for connection in name.connections)]
-
-    def lines_waiting(self):
-        return sum(connection.waiting for name in self.names.values() for connection in name.connections)
+    def forget(self, number: int) -> None:
+        self.connections.pop(number, None)
 
 
-def told_of(connection):
-    """What a line of the log says of a connection: whose it is, and by which token."""
-    token = connection.token
-    return {"peer": connection.peer, "name": token.name if token else None, "token": token.id if token else None}
-
-
-def neighbourhood(address):
+def network_of(address: str) -> str:
     """What counts as one address: of IPv6 the network of 64 bits, any address of which one machine may take. An address of IPv4 that stands
     in one of IPv6 counts as itself."""
     found = ipaddress.ip_address(address)
-    if found.version == 4 or found.ipv4_mapped:
-        return str(found if found.version == 4 else found.ipv4_mapped)
+    if isinstance(found, ipaddress.IPv4Address):
+        return str(found)
+    if found.ipv4_mapped:
+        return str(found.ipv4_mapped)
     return str(ipaddress.ip_network((int(found), NETWORK_BITS), strict=False))
 
 
-def set_up(taken):
+def set_up(taken: socket.socket) -> None:
     taken.setblocking(False)
     taken.setsockopt(socket.IPPROTO_TCP, socket.TCP_NODELAY, 1)
     taken.setsockopt(socket.SOL_SOCKET, socket.SO_KEEPALIVE, 1)

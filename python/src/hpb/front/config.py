@@ -1,38 +1,33 @@
 """The configuration of a front, and its tokens (docs/FRONT.md)."""
 import ipaddress
+import os
 import pathlib
 import re
 import tomllib
+from collections.abc import Callable
+from dataclasses import dataclass
+from typing import Any
 
 from hpb.file import read_head, read_image
 from hpb.front.certificate import Certificate
 from hpb.front.faults import Wrong
 from hpb.front.files import Kept, look_at_files, of_change, of_log, of_record
-from hpb.front.log import JOURNAL, STANDARD_ERROR, Journal, Log, Rotated, Stream
+from hpb.front.limits import LIMITS, Limits
+from hpb.front.log import JOURNAL, STANDARD_ERROR, Journal, Log, Rotated, Sink, Stream
 from hpb.front.network import Address
 from hpb.front.rights import AUCTIONEER, BIDDER, OBSERVER, Role
 from hpb.front.tokens import TokenFile
 from hpb.limits import NAME
 from hpb.refusals import Refused
-from hpb.rules.tree import tree_of
+from hpb.rules.tree import Tree, tree_of
+
+# What stands in a file of TOML.
+Table = dict[str, Any]
 
 MOST_SESSIONS = 32
 LEAST_PORT, MOST_PORT = 1024, 65535
 STANDARD_ERROR_DESCRIPTOR = 2
-# Each limit: its default, and its range.
-LIMITS = {
-    "line_bytes": (128, 32, 128),
-    "lines_waiting": (16, 1, 1024),
-    "lines_per_second": (50, 1, 1_000_000),
-    "connections": (16, 1, 1024),
-    "unknown_connections": (64, 1, 1024),
-    "token_seconds": (10, 1, 600),
-    "idle_seconds": (600, 1, 604_800),
-    "handshakes_per_second": (50, 1, 10_000),
-    "all_handshakes_per_second": (200, 1, 10_000),
-    "after_end_seconds": (60, 0, 604_800),
-}
-# The same of the log.
+# Each limit of the log: its default, and its range.
 LOG_LIMITS = {
     "bytes": (64_000_000, 100_000, 10_000_000_000),
     "files": (8, 1, 1_000),
@@ -49,61 +44,70 @@ BOARD_FIELDS = {"listen", "names"}
 HOST_NAME = re.compile(r"[A-Za-z0-9-]{1,63}(\.[A-Za-z0-9-]{1,63})*")
 
 
-class Limits:
-    """The limits of a configuration, each an attribute."""
-
-    def __init__(self, given):
-        for name in given:
-            if name not in LIMITS:
-                raise Wrong(f"limits.{name}: there is no such limit")
-        for name, (default, least, most) in LIMITS.items():
-            setattr(self, name, whole(given.get(name, default), least, most, f"limits.{name}"))
+def read_limits(given: Table) -> Limits:
+    """Those of a configuration."""
+    for name in given:
+        if name not in LIMITS:
+            raise Wrong(f"limits.{name}: there is no such limit")
+    wanted = {name: whole(given.get(name, default), least, most, f"limits.{name}") for name, (default, least, most) in LIMITS.items()}
+    return Limits(**wanted)
 
 
+@dataclass(frozen=True)
 class LogPlace:
-    """Where the log goes, and how much of it is kept."""
+    """The place of the log, and how much of it is kept. `path` is that of a file, if it goes into one."""
 
-    def __init__(self, given, folder, default):
+    to: str
+    path: str | None
+    bytes: int
+    files: int
+    lines_per_second: int
+
+    @classmethod
+    def read(cls, given: Table, folder: pathlib.Path, default: str) -> "LogPlace":
         for name in given:
             if name != "to" and name not in LOG_LIMITS:
                 raise Wrong(f"log.{name}: there is no such field")
-        self.to = text_of(given, "to", "log.") if "to" in given else default
-        self.path = str(folder / self.to) if self.to not in (STANDARD_ERROR, JOURNAL) else None
-        for name, (standard, least, most) in LOG_LIMITS.items():
-            setattr(self, name, whole(given.get(name, standard), least, most, f"log.{name}"))
+        to = text_of(given, "to", "log.") if "to" in given else default
+        wanted = {name: whole(given.get(name, standard), least, most, f"log.{name}") for name, (standard, least, most) in LOG_LIMITS.items()}
+        return cls(to, str(folder / to) if to not in (STANDARD_ERROR, JOURNAL) else None, **wanted)
 
-    def __eq__(self, other):
-        return vars(self) == vars(other)
-
-    def open(self, warn):
+    def open(self, warn: Callable[[str], None]) -> Log:
         """The log, which isn't started."""
+        sink: Sink
         if self.path:
             sink = Rotated(self.path, self.bytes, self.files)
+        elif self.to == JOURNAL:
+            sink = Journal()
         else:
-            sink = Journal() if self.to == JOURNAL else Stream(STANDARD_ERROR_DESCRIPTOR)
+            sink = Stream(STANDARD_ERROR_DESCRIPTOR)
         return Log(sink, dict.fromkeys(STRANGERS, self.lines_per_second), warn)
 
 
-class Board:
-    """Where the page is, and by which names it may be asked for."""
+@dataclass(frozen=True)
+class BoardPlace:
+    """The address of the page, and the names by which it may be asked for."""
 
-    def __init__(self, given):
+    host: str
+    port: int
+    names: list[str]
+
+    @classmethod
+    def read(cls, given: Table) -> "BoardPlace":
         for field in given:
             if field not in BOARD_FIELDS:
                 raise Wrong(f"board.{field}: there is no such field")
-        self.host, self.port = read_address(text_of(given, "listen", "board."), "board.listen")
-        self.names = given.get("names", [])
-        if type(self.names) is not list or not all(type(name) is str and HOST_NAME.fullmatch(name) for name in self.names):
+        host, port = read_address(text_of(given, "listen", "board."), "board.listen")
+        names = given.get("names", [])
+        if type(names) is not list or not all(type(name) is str and HOST_NAME.fullmatch(name) for name in names):
             raise Wrong("board.names has to be a list of names as auction.example is")
-
-    def __eq__(self, other):
-        return vars(self) == vars(other)
+        return cls(host, port, names)
 
 
 class Config:
     """What a configuration says. Paths in it are those of its folder."""
 
-    def __init__(self, path):
+    def __init__(self, path: str | os.PathLike[str]) -> None:
         self.path = str(pathlib.Path(path).resolve())
         given = read_toml(path)
         for field in given:
@@ -116,11 +120,11 @@ class Config:
         self.host, self.listen_port = read_address(texts["listen"])
         self.program = program_of(self.folder, more.get("program", "hpb"))
         self.port = whole(given["port"], LEAST_PORT, MOST_PORT, "port") if "port" in given else None
-        self.limits = Limits(table_of(given, "limits", is_needed=False))
-        self.board = Board(table_of(given, "board")) if "board" in given else None
+        self.limits = read_limits(table_of(given, "limits", is_needed=False))
+        self.board = BoardPlace.read(table_of(given, "board")) if "board" in given else None
         self.roles = read_roles(table_of(given, "names"))
         self.certificate, self.key = (str(self.folder / more[field]) if field in more else None for field in OPTIONAL_TEXTS[1:])
-        self.log = LogPlace(table_of(given, "log", is_needed=False), self.folder, f"{texts['record']}.log")
+        self.log = LogPlace.read(table_of(given, "log", is_needed=False), self.folder, f"{texts['record']}.log")
         self.look_at_transport(truth(given, "plain"))
         self.shared_network = truth(given, "shared_network")
         if self.port and not self.shared_network:
@@ -128,7 +132,8 @@ class Config:
                         "shared_network = true says that this is meant")
         look_at_files(self.files())
 
-    def look_at_transport(self, plain):
+    def look_at_transport(self, plain: bool) -> None:
+        """Nobody's token is sent in clear, unless that is meant."""
         if self.key and not self.certificate:
             raise Wrong("key: there is no certificate to it")
         places = {"listen": self.host, **({"board.listen": self.board.host} if self.board else {})}
@@ -137,8 +142,8 @@ class Config:
                 raise Wrong(f"{field}: {host} is no address of this machine alone, and without a certificate tokens would be sent in "
                             "clear; give certificate and key, or plain = true")
 
-    def files(self):
-        """Each file that it names. None may be two things: what is no record would be set aside as a torn one."""
+    def files(self) -> list[Kept]:
+        """Each file that it names. None may be two things: another file would be set aside as a torn record."""
         files = [Kept("configuration", self.path), of_change("file", self.file), of_record(self.record), of_change("tokens", self.tokens)]
         if self.certificate:
             files.append(Kept("certificate", self.certificate))
@@ -150,15 +155,19 @@ class Config:
             files.append(of_log(self.log.path, self.log.files))
         return files
 
-    def sessions(self):
+    def record_name(self) -> str:
+        """The name of the record's first file."""
+        return os.path.basename(self.record)
+
+    def sessions(self) -> int:
         """How many sessions names have with the server: each one, as far as it has them."""
         return min(len(self.roles), MOST_SESSIONS - (self.board is not None))
 
-    def places(self):
+    def places(self) -> int:
         """How many there are in all: the board has the last."""
         return self.sessions() + (self.board is not None)
 
-    def tree(self):
+    def tree(self) -> Tree:
         """The definition, out of the head of the auction's file. Each name's bidders have to be in it."""
         try:
             tree = tree_of(read_head(read_image(self.file, is_quiet=False)).definition)
@@ -170,30 +179,31 @@ class Config:
                     raise Wrong(f"names.{name}: {bidder!r} is no bidder of the definition")
         return tree
 
-    def silent_bidders(self, tree):
+    def silent_bidders(self, tree: Tree) -> list[str]:
         """Those of the definition for whom nobody may bid."""
         spoken_for = {bidder for role in self.roles.values() for bidder in role.bidders}
         return [bidder for bidder in tree.bidders if bidder not in spoken_for]
 
-    def read_certificate(self):
+    def read_certificate(self) -> Certificate | None:
         """That of TLS, or nothing."""
         return Certificate.read(self.certificate, self.key) if self.certificate else None
 
-    def differs_in(self, other):
+    def differs_in(self, other: "Config") -> list[str]:
         """The fields in which another configuration differs that is of the same file: those that can't change while a front runs."""
         is_other = [field for field in FIXED if getattr(self, field) != getattr(other, field)]
         return is_other + (["certificate"] if bool(self.certificate) != bool(other.certificate) else [])
 
-    def token_file(self):
+    def token_file(self) -> TokenFile:
+        """That which it names."""
         return TokenFile(self.tokens, self.roles)
 
-    def addresses(self):
-        """Where the front listens, and its board if it has one."""
+    def addresses(self) -> list[Address]:
+        """The addresses at which the front listens, and its board if it has one."""
         board = [Address("board.listen", self.board.host, self.board.port)] if self.board else []
         return [Address("listen", self.host, self.listen_port), *board]
 
 
-def read_toml(path):
+def read_toml(path: str | os.PathLike[str]) -> Table:
     try:
         with open(path, "rb") as file:
             return tomllib.load(file)
@@ -205,34 +215,34 @@ def read_toml(path):
         raise Wrong(f"{path}: it is nested too deep") from None
 
 
-def text_of(given, field, where=""):
+def text_of(given: Table, field: str, where: str = "") -> str:
     value = given.get(field)
     if not isinstance(value, str) or not value or "\0" in value:
         raise Wrong(f"{where}{field} has to be there, as a text")
     return value
 
 
-def table_of(given, field, is_needed=True):
+def table_of(given: Table, field: str, is_needed: bool = True) -> Table:
     value = given.get(field, None if is_needed else {})
     if not isinstance(value, dict) or (is_needed and not value):
         raise Wrong(f"{field} has to be there, as a table")
     return value
 
 
-def truth(given, field):
+def truth(given: Table, field: str) -> bool:
     value = given.get(field, False)
-    if type(value) is not bool:
+    if not isinstance(value, bool):
         raise Wrong(f"{field} has to be true or false")
     return value
 
 
-def whole(value, least, most, where):
-    if type(value) is not int or not least <= value <= most:
+def whole(value: object, least: int, most: int, where: str) -> int:
+    if not isinstance(value, int) or isinstance(value, bool) or not least <= value <= most:
         raise Wrong(f"{where}: {value!r} is no number from {least:,} to {most:,}")
     return value
 
 
-def read_address(text, where="listen"):
+def read_address(text: str, where: str = "listen") -> tuple[str, int]:
     """An address and a port: `127.0.0.1:6000`, `[::1]:6000`, `0.0.0.0:6000`. Port 0 is any that is free."""
     host, _, port = text.rpartition(":")
     host = host.removeprefix("[").removesuffix("]")
@@ -245,17 +255,18 @@ def read_address(text, where="listen"):
     return host, int(port)
 
 
-def is_loopback(host):
+def is_loopback(host: str) -> bool:
     return ipaddress.ip_address(host).is_loopback
 
 
-def program_of(folder, word):
+def program_of(folder: pathlib.Path, word: str) -> str:
     """A path of the configuration's folder, or a name that is looked for as a shell does."""
     return str(folder / word) if "/" in word else word
 
 
-def read_roles(names):
-    roles, spoken_for = {}, {}
+def read_roles(names: Table) -> dict[str, Role]:
+    roles: dict[str, Role] = {}
+    spoken_for: dict[str, str] = {}
     for name, given in names.items():
         if not NAME.fullmatch(name):
             raise Wrong(f"names.{name}: a name is 1 to 16 of a to z, 0 to 9 and _")
@@ -269,7 +280,7 @@ def read_roles(names):
     return roles
 
 
-def read_role(name, given):
+def read_role(name: str, given: Any) -> Role:
     if given in (AUCTIONEER, OBSERVER):
         return Role(given)
     if isinstance(given, list) and given and all(isinstance(bidder, str) for bidder in given):

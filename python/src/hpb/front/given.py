@@ -5,11 +5,12 @@ So both take the same when these are read again, and a page that is started anew
 import json
 import os
 from dataclasses import dataclass
-from typing import Any
 
 from hpb.file import read_head, read_image
 from hpb.front.certificate import Certificate
+from hpb.front.config import Config
 from hpb.front.rights import Role, role_of
+from hpb.front.terms import Terms
 from hpb.front.tokens import Tokens
 from hpb.rules.tree import Tree, tree_of
 
@@ -29,9 +30,10 @@ class Given:
     certificate: Certificate | None
 
 
-def written(config: Any, terms: Any) -> bytes:
-    """What is given of a configuration, as far as it stays as it is, and of the terms that are in force."""
+def written(config: Config, terms: Terms) -> bytes:
+    """The fields of a configuration that stay as they are, and the terms in force."""
     certificate = terms.certificate
+    assert config.board
     fields = {
         "file": config.file,
         "roles": {name: role.shown() for name, role in config.roles.items()},

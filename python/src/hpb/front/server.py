@@ -1,229 +1,192 @@
-"""`hpb serve` behind a front: its sessions, all of which the front has, and how it is started again (docs/FRONT.md)."""
+"""`hpb serve` behind a front: its process, and its sessions, all of which the front has (docs/FRONT.md)."""
 import asyncio
-import contextlib
-import re
 import socket
 import subprocess
 import time
-from dataclasses import dataclass
+from collections.abc import Callable, Coroutine
+from typing import Any
 
-from hpb.front.faults import Stops
+from hpb.front.config import Config
+from hpb.front.core.effects import DropServer, EndServer, StartServer, Tell
+from hpb.front.core.ending import told_of
+from hpb.front.core.events import Answered, Event, ServerEnded, ServerFailed, ServerGone, ServerUp, SessionOpened
+from hpb.front.core.serving import GIVEN_UP
 from hpb.front.process import Child, StartsNot
 
 ADDRESS = "127.0.0.1"
-# How often a server is started that doesn't come up, or ends before it has answered anything.
-MOST_STARTS = 8
-FIRST_PAUSE, MOST_PAUSE = 0.05, 2.0
-# One that has run for so long has come up.
-STEADY = 10
 # How long one may take until it listens, as it reads its file, and until a session answers.
 START_SECONDS, PATIENCE = 60, 30
 # One whose sessions are lost has ended, or isn't waited for.
 STATUS_SECONDS = 0.2
 # A file or a port may be in use for a moment, by a server that is ending.
 PASSING = ("ERR 91 device", "ERR 92 stream")
-GIVEN_UP, FAILED = b"ERR 95 order", b"ERR 93 failed"
-COUNT = re.compile(rb"ROUND .* COUNT ([0-9]+)")
+# No answer is so long.
+MOST_ANSWER = 65_536
 
-
-class Lost(Exception):
-    """A session that has ended."""
+Begin = Callable[[Coroutine[Any, Any, None]], asyncio.Task[None]]
 
 
 class ComesNot(Exception):
-    """A server that can't be had now."""
+    """A server that can't be had; `is_final` says that another start can't help."""
+
+    def __init__(self, text: str, is_final: bool = False) -> None:
+        super().__init__(text)
+        self.is_final = is_final
 
 
-def free_port():
+def free_port() -> int:
     with socket.socket() as probe:
         probe.bind((ADDRESS, 0))
-        return probe.getsockname()[1]
+        port: int = probe.getsockname()[1]
+        return port
 
 
-def told_of(status):
-    """A status as a person reads it."""
-    return f"status {status}" if status >= 0 else f"signal {-status}"
+class Session(asyncio.Protocol):
+    """A connection to the server, whose lines `hear` gets; `lost` is set when it ends."""
+
+    def __init__(self, hear: Callable[[bytes], None], lost: asyncio.Event) -> None:
+        self.hear, self.lost = hear, lost
+        self.transport: asyncio.Transport | None = None
+        self.rest, self.has_ended = b"", False
+
+    def connection_made(self, transport: asyncio.BaseTransport) -> None:
+        assert isinstance(transport, asyncio.Transport)
+        self.transport = transport
+
+    def connection_lost(self, fault: Exception | None) -> None:
+        self.lost.set()
+
+    def data_received(self, data: bytes) -> None:
+        *lines, self.rest = (self.rest + data).split(b"\n")
+        for line in lines:
+            self.hear(line)
+        if len(self.rest) > MOST_ANSWER:
+            self.close()
+
+    def tell(self, line: bytes) -> None:
+        if self.transport and not self.has_ended and not self.transport.is_closing():
+            self.transport.write(line + b"\n")
+
+    def end_lines(self) -> None:
+        self.has_ended = True
+        if self.transport and not self.transport.is_closing():
+            self.transport.write_eof()
+
+    def close(self) -> None:
+        if self.transport:
+            self.transport.abort()
 
 
-@dataclass(frozen=True)
-class End:
-    """What a server wrote in the end, and its status; nothing if there was none, or it didn't end by itself."""
+class Server:
+    """Starts a server, and tells it the lines of its sessions."""
 
-    words: str
-    status: int | None
+    def __init__(self, config: Config, post: Callable[[Event], None], begin: Begin) -> None:
+        self.config, self.post, self.begin = config, post, begin
+        self.child: Child | None = None
+        self.sessions: list[Session] = []
+        self.keeping: asyncio.Task[None] | None = None
+        self.lost, self.is_up, self.is_ending = asyncio.Event(), False, False
 
-    def look(self, count, left, say):
-        """Whether all is in order behind a record with so many commands, and so many lines that have no answer. A Stops says that the server
-        found a fault, or has other commands."""
-        if self.status == 0 and self.words == f"CLOSED {count}":
-            return
-        how = "" if self.status is None else f" and {told_of(self.status)}"
-        said = f"the server ended by {self.words!r}{how}, and the record has {count} commands"
-        # A line without an answer may be in the file.
-        if self.status or (self.status == 0 and not left):
-            raise Stops(f"{said}: see what it said before this, and docs/OPERATIONS.md")
-        say(said)
+    def start(self, _: StartServer) -> None:
+        self.keeping = self.begin(self.keep())
 
+    def tell(self, effect: Tell) -> None:
+        if effect.session < len(self.sessions):
+            self.sessions[effect.session].tell(effect.line)
 
-class Session:
-    """A connection to the server, with one line outstanding at most."""
+    def drop(self, _: DropServer) -> None:
+        self.lost.set()
 
-    def __init__(self, reader, writer):
-        self.reader, self.writer = reader, writer
+    def end(self, effect: EndServer) -> None:
+        self.begin(self.end_within(effect.seconds))
 
-    async def ask(self, line):
+    async def keep(self) -> None:
+        """One server, from its start to its loss."""
+        self.lost = asyncio.Event()
         try:
-            self.writer.write(line + b"\n")
-            answer = await self.reader.readline()
-        except (OSError, ValueError):
-            raise Lost from None
-        if not answer.endswith(b"\n") or answer[:-1] == GIVEN_UP:
-            raise Lost
-        return answer[:-1]
+            await self.come()
+        except ComesNot as fault:
+            await self.stop()
+            self.post(ServerFailed(str(fault), fault.is_final))
+            return
+        self.is_up = True
+        self.post(ServerUp())
+        await self.wait_for_loss()
+        if not self.is_ending:
+            how = await self.how_it_ended()
+            await self.stop()
+            self.post(ServerGone(how))
 
-    def end_lines(self):
-        with contextlib.suppress(OSError):
-            if self.writer.can_write_eof():
-                self.writer.write_eof()
+    async def come(self) -> None:
+        port = self.config.port or await self.come_up()
+        for place in range(self.config.places()):
+            self.post(SessionOpened(await self.connect(place, port)))
 
+    async def come_up(self) -> int:
+        """The port of a new process that listens."""
+        port = free_port()
+        words = ["serve", "--file", self.config.file, "--port", str(port), "--sessions", str(self.config.places())]
+        try:
+            self.child = Child([self.config.program, *words], subprocess.DEVNULL)
+        except StartsNot as fault:
+            raise ComesNot(str(fault), not fault.may_pass) from None
+        line = await self.child.line(START_SECONDS)
+        if line == f"LISTENING {port}":
+            return port
+        if line and line not in PASSING:
+            raise ComesNot(f"the server refuses the file: {line}", True)
+        raise ComesNot(f"the server doesn't come up: {line or 'it says nothing'}")
 
-class Auction:
-    """All sessions of a server that is kept running: a line that has no answer is told to the next one again."""
+    async def connect(self, place: int, port: int) -> bytes:
+        """What a new session is answered to SHOW. Were one of its places taken by another, the server would refuse the last one."""
+        shown: asyncio.Future[bytes] = asyncio.get_running_loop().create_future()
+        hear = lambda line: self.post(Answered(place, line)) if shown.done() else shown.set_result(line)
+        try:
+            connecting = asyncio.get_running_loop().create_connection(lambda: Session(hear, self.lost), ADDRESS, port)
+            _, session = await asyncio.wait_for(connecting, PATIENCE)
+            self.sessions.append(session)
+            session.tell(b"SHOW")
+            lost = asyncio.ensure_future(self.lost.wait())
+            awaited: list[asyncio.Future[Any]] = [shown, lost]
+            await asyncio.wait(awaited, timeout=PATIENCE, return_when=asyncio.FIRST_COMPLETED)
+            lost.cancel()
+        except OSError:
+            pass
+        if not shown.done() or shown.result() == GIVEN_UP:
+            raise ComesNot(f"port {port} gives no session")
+        return shown.result()
 
-    def __init__(self, config, fail, say, log):
-        self.config, self.fail, self.say, self.log = config, fail, say, log
-        self.child, self.sessions = None, []
-        self.ready, self.lost, self.ending = asyncio.Event(), asyncio.Event(), False
-        self.starts = 0
-        # How many commands a server has when it comes: at least those that were accepted, at most those that were told besides.
-        self.explained = lambda: (0, float("inf"))
-
-    async def keep(self):
-        """Has a server until the end."""
-        while not self.ending:
-            await self.begin()
-            self.lost.clear()
-            self.ready.set()
-            began = time.monotonic()
-            await self.wait_for_loss()
-            self.ready.clear()
-            if time.monotonic() - began > STEADY:
-                self.starts = 0
-            if not self.ending:
-                how = await self.how_it_ended()
-                self.say(f"the server is gone{how}; it is started again")
-                self.log.write("restart", what="server", outcome="gone", why=how.strip(" ()"))
-                await self.stop()
-
-    async def how_it_ended(self):
-        """Its status, if it ended by itself; a server of somebody else has none that is known."""
-        status = await self.child.status(STATUS_SECONDS) if self.child else None
-        return "" if status is None else f" ({told_of(status)})"
-
-    async def wait_for_loss(self):
+    async def wait_for_loss(self) -> None:
         lost = asyncio.create_task(self.lost.wait())
         try:
             await asyncio.wait([lost, self.child.exited] if self.child else [lost], return_when=asyncio.FIRST_COMPLETED)
         finally:
             lost.cancel()
 
-    async def begin(self):
-        pause = FIRST_PAUSE
-        while True:
-            self.starts += 1
-            try:
-                port = self.config.port or await self.start()
-                for _ in range(self.config.places()):
-                    self.sessions.append(await self.connect(port))
-                self.log.write("restart", what="server", outcome="started")
-                return
-            except ComesNot as fault:
-                await self.stop()
-                self.log.write("restart", what="server", outcome="failed", why=str(fault))
-                if self.config.port is None and self.starts >= MOST_STARTS:
-                    raise Stops(str(fault)) from None
-                if self.starts == 1:
-                    self.say(f"{fault}; it is tried again")
-            await asyncio.sleep(pause)
-            pause = min(2 * pause, MOST_PAUSE)
+    async def how_it_ended(self) -> str:
+        """Its status, if it ended by itself; a server of somebody else has none that is known."""
+        status = await self.child.status(STATUS_SECONDS) if self.child else None
+        return "" if status is None else f" ({told_of(status)})"
 
-    async def start(self):
-        port = free_port()
-        words = ["serve", "--file", self.config.file, "--port", str(port), "--sessions", str(self.config.places())]
-        try:
-            self.child = Child([self.config.program, *words], subprocess.DEVNULL)
-        except StartsNot as fault:
-            raise (ComesNot if fault.may_pass else Stops)(str(fault)) from None
-        line = await self.child.line(START_SECONDS)
-        if line == f"LISTENING {port}":
-            return port
-        if line and line not in PASSING:
-            raise Stops(f"the server refuses the file: {line}")
-        raise ComesNot(f"the server doesn't come up: {line or 'it says nothing'}")
+    async def end_within(self, seconds: float) -> None:
+        """Ends all sessions, and the server."""
+        self.is_ending, end = True, time.monotonic() + seconds
+        ended = ServerEnded("", None)
+        if not self.is_up and self.keeping:
+            self.keeping.cancel()
+        elif self.child:
+            for session in self.sessions:
+                session.end_lines()
+            ended = ServerEnded(await self.child.rest(seconds), await self.child.status(end - time.monotonic()))
+        await self.stop()
+        self.post(ended)
 
-    async def connect(self, port):
-        """A session that answers. Were one of its places taken by another, the server would refuse the last one."""
-        try:
-            session = Session(*await asyncio.wait_for(asyncio.open_connection(ADDRESS, port), PATIENCE))
-        except (OSError, asyncio.TimeoutError):
-            raise ComesNot(f"port {port} gives no session") from None
-        try:
-            shown = await asyncio.wait_for(session.ask(b"SHOW"), PATIENCE)
-            self.look_at_count(shown)
-        except (Lost, asyncio.TimeoutError):
-            session.writer.close()
-            raise ComesNot(f"port {port} gives no session") from None
-        except BaseException:
-            session.writer.close()
-            raise
-        return session
-
-    def look_at_count(self, shown):
-        """The file has what the record explains: no accepted command is lost, and nobody else told it any."""
-        found, (least, most) = COUNT.fullmatch(shown), self.explained()
-        if not found or int(found[1]) < least:
-            raise Stops(f"the file has lost commands: {least} were accepted, and it shows {shown.decode('latin-1')!r}")
-        if int(found[1]) > most:
-            raise Stops(f"the file has {found[1].decode()} commands, and the record explains {most} at most: it was told commands by "
-                        "another way. Keep copies of both, and see docs/FRONT.md, when something fails")
-
-    async def ask(self, place, line):
-        """The answer to a line; after a crash of the server that of the next one."""
-        while True:
-            await self.ready.wait()
-            session = self.sessions[place]
-            try:
-                answer = await session.ask(line)
-            except Lost:
-                if session in self.sessions:
-                    self.ready.clear()
-                    self.lost.set()
-                continue
-            if answer == FAILED:
-                self.fail("the disk of the file failed: see docs/OPERATIONS.md, after a 91 or 93. Lines without an answer are looked "
-                          "for in the file when the front is started again")
-                await asyncio.Event().wait()
-            self.starts = 0
-            return answer
-
-    async def stop(self):
+    async def stop(self) -> None:
+        """No session is left, and no process."""
+        self.is_up = False
         for session in self.sessions:
-            session.writer.close()
+            session.close()
         self.sessions = []
         child, self.child = self.child, None
         if child:
             await child.end()
-
-    async def end(self, seconds):
-        """Ends all sessions, and the server."""
-        self.ending = True
-        self.lost.set()
-        for session in self.sessions:
-            session.end_lines()
-        child, end = self.child, time.monotonic() + seconds
-        if not child:
-            return End("", None)
-        try:
-            return End(await child.rest(seconds), await child.status(end - time.monotonic()))
-        finally:
-            await self.stop()

@@ -1,12 +1,14 @@
 """What a front has of its process: its words, its log, signals, sockets, and the file of tokens that it changes (docs/FRONT.md)."""
 import argparse
 import os
+import socket
+from typing import IO, NoReturn
 
 from hpb.front.config import Config
 from hpb.front.faults import Stops
 from hpb.front.network import Refused, enter_own, handed_in, take
 from hpb.front.watch import Watch
-from hpb.front.words import cry
+from hpb.front.words import Teller, cry
 from hpb.streams import STANDARD_OUTPUT, write_all
 
 
@@ -14,7 +16,7 @@ from hpb.streams import STANDARD_OUTPUT, write_all
 SAID = (OSError, RuntimeError, MemoryError)
 
 
-def fault_says(fault):
+def fault_says(fault: BaseException) -> str:
     """A fault's kind, and its words if nobody else's can be among them: others may carry what nobody is to read, as a token."""
     if isinstance(fault, Stops):
         return str(fault)
@@ -22,18 +24,20 @@ def fault_says(fault):
     return f"a fault of the front: {type(fault).__name__}{words}"
 
 
-def end_at_once():
+def end_at_once() -> NoReturn:
+    """Without a call that needs more than is left."""
     cry(b"front: a fault of the front, for which there is no memory left to say more\n")
     os._exit(1)
 
 
 class Shell:
-    """What a front has of its process: the words that it writes, its log, and the signals."""
+    """What a front has of its process: the words that it was given and that it writes, its log, and the signals."""
 
-    def __init__(self, config, teller):
-        self.teller, self.log, self.watch = teller, config.log.open(teller.say), Watch()
+    def __init__(self, config: Config, given: argparse.Namespace, teller: Teller) -> None:
+        self.given, self.teller, self.log, self.watch = given, teller, config.log.open(teller.say), Watch()
 
-    def start(self):
+    def start(self) -> None:
+        """Starts its threads."""
         try:
             self.watch.start()
             self.teller.start()
@@ -42,7 +46,7 @@ class Shell:
             raise Stops(f"the system gives the front no thread: {fault}") from None
 
 
-def take_sockets(config):
+def take_sockets(config: Config) -> list[socket.socket]:
     """Those that it listens on, one for each address. The server is behind them in a network of its own."""
     given = handed_in()
     sockets = [take(address, given) for address in config.addresses()]
@@ -56,7 +60,7 @@ def take_sockets(config):
     return sockets
 
 
-def change_tokens(given, teller):
+def change_tokens(given: argparse.Namespace, teller: Teller) -> None:
     """`tokens add`, `revoke` and `list`. A token that can't be shown is nobody's."""
     file = Config(given.config).token_file()
     if given.what == "list":
@@ -71,7 +75,7 @@ def change_tokens(given, teller):
         raise Stops(f"{fault}{lost}") from None
 
 
-def show(text):
+def show(text: str) -> None:
     """Writes on standard output. A Stops says that it can't be written."""
     try:
         write_all(STANDARD_OUTPUT, text.encode())
@@ -82,11 +86,12 @@ def show(text):
 class Words(argparse.ArgumentParser):
     """Those of the front. Its help is written as all else is: a failure isn't passed over."""
 
-    def print_help(self, file=None):
+    def print_help(self, file: IO[str] | None = None) -> None:
         show(self.format_help())
 
 
-def read_words(text, name):
+def read_words(text: str, name: str) -> argparse.Namespace:
+    """What the front was given; it ends by help, and by words that it hasn't."""
     words = Words(prog=name, description=text, formatter_class=argparse.RawDescriptionHelpFormatter)
     words.add_argument("--config", required=True, help="the configuration, a file of TOML")
     words.add_argument("--make-tokens", action="store_true", help="make the file of tokens, with one for each name, and end")

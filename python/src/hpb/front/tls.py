@@ -19,11 +19,8 @@ MOST_HANDSHAKE = 65_536
 MOST_READ = 65_536
 # How much lower than the others the thread stands with the system's scheduler.
 NICE = 10
-BURST_SECONDS = 2
 # All handshakes of so many seconds may come at once.
 AHEAD_SECONDS = 0.25
-# So many addresses are remembered.
-MOST_ADDRESSES = 10_000
 
 
 class Inner(Protocol):
@@ -36,24 +33,6 @@ class Inner(Protocol):
     def pause_writing(self) -> None: ...
     def resume_writing(self) -> None: ...
     def tls_failed(self, why: str) -> None: ...
-
-
-class Rates:
-    """How many handshakes each address may still begin."""
-
-    def __init__(self, per_second: float) -> None:
-        self.per_second = per_second
-        self.credits: collections.OrderedDict[str, tuple[float, float]] = collections.OrderedDict()
-
-    def may(self, address: str, now: float) -> bool:
-        most = BURST_SECONDS * self.per_second
-        credit, seen = self.credits.pop(address, (most, now))
-        credit = min(credit + (now - seen) * self.per_second, most)
-        is_right = credit >= 1
-        self.credits[address] = (credit - is_right, now)
-        if len(self.credits) > MOST_ADDRESSES:
-            self.credits.popitem(last=False)
-        return is_right
 
 
 class Handshakes:

@@ -1,0 +1,302 @@
+"""Connections that come and go, what each may send, and when one ends."""
+import collections
+
+from hpb.front.core.effects import Abort, Answer, End, Field, Take, Wait
+from hpb.front.core.events import Came, Gone, Line, LinesEnded, OfClient, Opened, Reloaded, Stuffed, TooLong, Waited
+from hpb.front.core.state import Connection, Going, Item, Name
+from hpb.front.core.stepping import Step
+from hpb.front.limits import BURST_SECONDS
+from hpb.front.rights import FORM, IDLE, LONG, MANY, TOKEN, UNKNOWN, refused, welcome
+
+# The first line has a token of 128 characters at most.
+MOST_FIRST_LINE = 160
+
+
+def take(step: Step, event: OfClient) -> None:
+    """What comes of a connection; of one that is gone nothing is taken."""
+    if isinstance(event, Came):
+        come(step, event)
+        return
+    if event.connection not in step.front.connections:
+        return
+    match event:
+        case Opened(number):
+            open_up(step, number)
+        case Line(number, line):
+            take_line(step, number, line)
+        case TooLong(number, beginning):
+            take_long(step, number, beginning)
+        case LinesEnded(number, rest):
+            take_end(step, number, rest)
+        case Stuffed(number, is_full):
+            step.set_connection(number, is_full=is_full)
+        case Waited(number):
+            wait_over(step, number)
+        case Gone(number, why):
+            go(step, number, why)
+
+
+# Coming and going.
+
+
+def come(step: Step, event: Came) -> None:
+    """One more, of whom nothing is known yet."""
+    make_room(step)
+    step.own_connections()[event.connection] = Connection(event.peer, event.network, step.front.time)
+    step.set(unknown=(*step.front.unknown, event.connection))
+
+
+def make_room(step: Step) -> None:
+    """The oldest unknown connection of the address that has the most of them ends, as long as there are too many."""
+    while len(unknown := step.front.unknown) >= step.front.limits.unknown_connections:
+        connections = step.front.connections
+        crowds = collections.Counter(connections[one].network for one in unknown)
+        crowd = max(crowds, key=lambda network: crowds[network])
+        first = next(one for one in unknown if connections[one].network == crowd)
+        forget(step, first)
+        dismiss(step, first, MANY)
+        step.do(Abort(first))
+
+
+def open_up(step: Step, number: int) -> None:
+    """It can be written to; one that was to go meanwhile does."""
+    connection = step.set_connection(number, is_open=True)
+    if connection.going == Going.STAYS:
+        let_send(step, number)
+    else:
+        step.do(Abort(number))
+
+
+def go(step: Step, number: int, why: str) -> None:
+    """One is gone. What it had sent is dropped, but for the line that the server has."""
+    forget(step, number)
+    connection = step.front.connections[number]
+    step.note("ended", **told_of(connection), lines=connection.taken, why=connection.why or why)
+    del step.own_connections()[number]
+
+
+def forget(step: Step, number: int) -> None:
+    """One doesn't count any more among those that its name has, or that are unknown."""
+    token = step.front.connections[number].token
+    if token:
+        step.set_name(token.name, connections=without(step.front.names[token.name].connections, number))
+    step.set(unknown=without(step.front.unknown, number))
+
+
+def without(numbers: tuple[int, ...], number: int) -> tuple[int, ...]:
+    return tuple(other for other in numbers if other != number)
+
+
+def dismiss(step: Step, number: int, word: str = "") -> None:
+    """One has to go; a line says why, if there is a word for it. Nothing is written to it afterwards."""
+    connection = step.front.connections[number]
+    if connection.going == Going.CLOSED:
+        return
+    step.set_connection(number, going=Going.CLOSED, why=connection.why or word)
+    if not connection.is_open:
+        step.do(Abort(number))
+        return
+    if word:
+        step.do(Answer(number, refused(word)))
+    step.do(End(number))
+
+
+def told_of(connection: Connection) -> dict[str, Field]:
+    """What a line of the log says of a connection: whose it is, and by which token."""
+    token = connection.token
+    return {"peer": connection.peer, "name": token.name if token else None, "token": token.id if token else None}
+
+
+# Tokens.
+
+
+def know(step: Step, number: int, line: bytes) -> None:
+    """By the first line of a connection."""
+    connection = step.front.connections[number]
+    token = step.front.tokens.find(line[len(TOKEN):]) if line.startswith(TOKEN) else None
+    if token is None:
+        step.note("token", peer=connection.peer, outcome="unknown" if line.startswith(TOKEN) else "none")
+        dismiss(step, number, UNKNOWN)
+        return
+    is_many = not has_room(step, step.front.names[token.name])
+    connection = step.set_connection(number, token=token)
+    step.note("token", **told_of(connection), outcome=MANY if is_many else "welcome")
+    if is_many:
+        dismiss(step, number, MANY)
+        return
+    step.set(unknown=without(step.front.unknown, number))
+    step.set_name(token.name, connections=(*step.front.names[token.name].connections, number))
+    step.do(Answer(number, welcome(token.name)))
+
+
+def has_room(step: Step, name: Name) -> bool:
+    """Whether one more may come. If there are as many as may be, the longest silent one that waits for nothing ends."""
+    if len(name.connections) < step.front.limits.connections:
+        return True
+    connections = step.front.connections
+    idle = [one for one in name.connections if not connections[one].waiting and connections[one].going == Going.STAYS]
+    if not idle:
+        return False
+    silent = min(idle, key=lambda one: connections[one].seen)
+    forget(step, silent)
+    dismiss(step, silent, MANY)
+    return True
+
+
+def reload(step: Step, event: Reloaded) -> None:
+    """Other limits and tokens. Anyone whose token went has to go; the lines of such a connection aren't told any more."""
+    step.set(limits=event.limits, tokens=event.tokens)
+    known = set(event.tokens.known)
+    for number, connection in step.front.connections.items():
+        if connection.token and connection.token not in known:
+            forget(step, number)
+            step.set_connection(number, is_barred=True)
+            dismiss(step, number, UNKNOWN)
+        else:
+            step.set_connection(number, may_send=False)
+            let_send(step, number)
+
+
+# Lines.
+
+
+def let_send(step: Step, number: int) -> None:
+    """Lets a connection send a line, if there is room for it."""
+    connection, limits = step.front.connections[number], step.front.limits
+    is_ready = connection.is_open and connection.going == Going.STAYS and not connection.has_ended
+    if is_ready and not connection.may_send and not connection.held and connection.waiting < limits.lines_waiting:
+        step.set_connection(number, may_send=True)
+        step.do(Take(number, limits.line_bytes if connection.token else MOST_FIRST_LINE))
+
+
+def may_take(step: Step, number: int) -> bool:
+    """Whether something that came is looked at. What comes behind it has to wait."""
+    connection = step.front.connections[number]
+    is_right = connection.may_send and connection.going == Going.STAYS
+    step.set_connection(number, may_send=False, seen=step.front.time if is_right else connection.seen)
+    return is_right
+
+
+def take_line(step: Step, number: int, line: bytes) -> None:
+    """A whole line: of a connection that is unknown the token, else one for the server."""
+    if not may_take(step, number):
+        return
+    token = step.front.connections[number].token
+    if token:
+        take_in_turn(step, number, Item(number, line, step.front.names[token.name].role.refusal(line)))
+    else:
+        know(step, number, line)
+    let_send(step, number)
+
+
+def take_long(step: Step, number: int, beginning: bytes) -> None:
+    """What stands behind the beginning of a line that is too long is never looked at: the connection ends."""
+    if not may_take(step, number):
+        return
+    if step.front.connections[number].token:
+        take_in_turn(step, number, Item(number, beginning, LONG))
+    else:
+        dismiss(step, number, UNKNOWN)
+
+
+def take_end(step: Step, number: int, rest: bytes) -> None:
+    """Half a line at the end is refused; then the connection goes, once all is answered."""
+    if not may_take(step, number):
+        return
+    step.set_connection(number, has_ended=True, going=Going.LEAVES)
+    if rest and step.front.connections[number].token:
+        queue(step, Item(number, rest, FORM))
+    go_when_answered(step, number)
+
+
+def take_in_turn(step: Step, number: int, item: Item) -> None:
+    """Takes a line now, or once its name may send one more."""
+    token = step.front.connections[number].token
+    assert token
+    if seconds := wait_seconds(step, token.name):
+        step.set_connection(number, held=item)
+        step.do(Wait(number, seconds))
+        return
+    if step.front.connections[number].held:
+        step.set_connection(number, held=None)
+    if item.refusal == LONG:
+        step.set_connection(number, going=Going.LEAVES, why=LONG)
+    queue(step, item)
+
+
+def wait_over(step: Step, number: int) -> None:
+    """A line that had to wait is looked at again."""
+    connection = step.front.connections[number]
+    if connection.held and connection.going == Going.STAYS:
+        take_in_turn(step, number, connection.held)
+        let_send(step, number)
+
+
+def wait_seconds(step: Step, name: str) -> float:
+    """Takes leave for one line, or says how long that has to wait."""
+    known, now, rate = step.front.names[name], step.front.time, step.front.limits.lines_per_second
+    credit = min(known.credit + (now - known.seen) * rate, BURST_SECONDS * rate)
+    has_leave = credit >= 1
+    step.set_name(name, credit=credit - has_leave, seen=now)
+    return 0 if has_leave else (1 - credit) / rate
+
+
+def queue(step: Step, item: Item) -> None:
+    """A line that is to be answered waits for its turn."""
+    connection = step.front.connections[item.connection]
+    assert connection.token
+    step.set_connection(item.connection, waiting=connection.waiting + 1, taken=connection.taken + 1)
+    name, known = connection.token.name, step.front.names[connection.token.name]
+    step.set_name(name, items=(*known.items, item))
+    if not known.items:
+        step.set_session(known.session, turns=(*step.front.sessions[known.session].turns, name))
+
+
+def answer(step: Step, number: int, line: bytes) -> None:
+    """The answer to a connection's line, if it is still there and doesn't have to go."""
+    if (connection := step.front.connections.get(number)) is None:
+        return
+    step.set_connection(number, waiting=connection.waiting - 1, seen=step.front.time)
+    if connection.going != Going.CLOSED:
+        step.do(Answer(number, line))
+        go_when_answered(step, number)
+        let_send(step, number)
+
+
+def drop(step: Step, number: int) -> None:
+    """A line of a connection is never told."""
+    if connection := step.front.connections.get(number):
+        step.set_connection(number, waiting=connection.waiting - 1)
+
+
+def go_when_answered(step: Step, number: int) -> None:
+    """One that is to go does, once it waits for nothing."""
+    connection = step.front.connections[number]
+    if connection.going == Going.LEAVES and not connection.waiting:
+        dismiss(step, number)
+
+
+# Silence, and the end.
+
+
+def sweep(step: Step) -> None:
+    """Ends connections that don't say who they are, such as are silent for too long, and such as don't read their answers."""
+    limits = step.front.limits
+    for number, connection in step.front.connections.items():
+        silent = step.front.time - connection.seen
+        if connection.going == Going.CLOSED or silent <= (limits.idle_seconds if connection.token else limits.token_seconds):
+            continue
+        if connection.is_full and connection.token:
+            step.set_connection(number, going=Going.CLOSED)
+            step.do(Abort(number))
+        elif not connection.waiting and connection.going == Going.STAYS and not connection.held:
+            dismiss(step, number, IDLE)
+
+
+def close(step: Step) -> None:
+    """Nothing more is taken. Each connection ends once what it waits for is answered."""
+    for number, connection in step.front.connections.items():
+        if connection.waiting and connection.going == Going.STAYS:
+            step.set_connection(number, going=Going.LEAVES, held=None)
+        elif not connection.waiting:
+            dismiss(step, number)

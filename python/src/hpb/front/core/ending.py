@@ -1,0 +1,77 @@
+"""How a front ends: lines that it has are answered, the record gets its last entry, and the server ends; each within its time."""
+from hpb.front.core import clients
+from hpb.front.core.effects import EndServer, MustEnd, Publish, Shut, Wake
+from hpb.front.core.state import For, Phase, Stage
+from hpb.front.core.stepping import Step
+
+# Seconds from the signal until lines aren't answered any more, until the record has to be written, and until the server has to have ended.
+# The rest takes less than is left to the limit of hpb.front.watch.
+LINES_SECONDS, RECORD_SECONDS, SERVER_SECONDS = 5.0, 6.0, 7.0
+# By so long nothing is waited for any more.
+LAST_SECONDS = 8.0
+
+
+def stop(step: Step) -> None:
+    """The front is to end."""
+    if step.front.phase > Phase.OPEN:
+        return
+    step.do(MustEnd())
+    if step.front.phase < Phase.OPEN:
+        step.say("it was told to stop before clients were let in")
+        step.finish()
+        return
+    step.set(phase=Phase.ANSWERING, stopped_at=step.front.time)
+    step.do(Shut(), *(Wake(seconds) for seconds in (LINES_SECONDS, RECORD_SECONDS, LAST_SECONDS)))
+    clients.close(step)
+
+
+def go_on(step: Step) -> None:
+    """Whether the next part of the end may begin; looked at after each event."""
+    passed = step.front.time - step.front.stopped_at
+    if step.front.phase == Phase.ANSWERING and (passed >= LINES_SECONDS or not is_answering(step)):
+        close(step)
+    elif step.front.phase == Phase.CLOSING and step.front.ledger.synced == step.front.ledger.written:
+        step.set(phase=Phase.ENDING)
+        step.do(EndServer(SERVER_SECONDS - passed))
+    elif step.front.phase == Phase.CLOSING and passed >= RECORD_SECONDS:
+        step.finish("the record can't be written: its disk doesn't answer")
+    elif step.front.phase == Phase.ENDING and passed >= LAST_SECONDS:
+        look_at_end(step, "", None)
+
+
+def is_answering(step: Step) -> bool:
+    """Whether a line waits for its answer, or a close for what it came to."""
+    return step.front.waiting > 0 or any(one.stage == Stage.TOLD and one.purpose == For.CLOSE for one in step.front.sessions)
+
+
+def close(step: Step) -> None:
+    """The last entry of the record. From here on the server gets no line of a name."""
+    left = step.front.waiting
+    if left:
+        step.say(f"{left} lines that were taken have no answer, as when a disk hangs: their clients send them again")
+    step.set(phase=Phase.CLOSING, left=left)
+    step.write("stopped", count=step.front.ledger.count)
+
+
+def look_at_end(step: Step, words: str, status: int | None) -> None:
+    """Whether the server has ended as it should, and with as many commands as the record has."""
+    if step.front.phase != Phase.ENDING:
+        return
+    count = step.front.ledger.count
+    if step.front.setting.starts_server and not (status == 0 and words == f"CLOSED {count}"):
+        how = "" if status is None else f" and {told_of(status)}"
+        said = f"the server ended by {words!r}{how}, and the record has {count} commands"
+        # A line without an answer may be in the file.
+        if status or (status == 0 and not step.front.left):
+            step.finish(f"{said}: see what it said before this, and docs/OPERATIONS.md")
+            return
+        step.say(said)
+    number, digest = step.front.ledger.place
+    step.note("stopped", count=count)
+    step.do(Publish(f"STOPPED {count} RECORD {number} {digest}"))
+    step.finish()
+
+
+def told_of(status: int) -> str:
+    """A status as a person reads it."""
+    return f"status {status}" if status >= 0 else f"signal {-status}"

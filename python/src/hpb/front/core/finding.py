@@ -1,0 +1,179 @@
+"""The start: what the server accepted of the commands that the last front told it goes into the record, before anybody is let in."""
+from typing import Any
+
+from hpb.front.core import sessions
+from hpb.front.core.effects import Admit, EmptyBeside, Publish, StartBoard
+from hpb.front.core.events import Left, RecordOpened
+from hpb.front.core.ledger import WHERE_THE_AUDIT_ENDS, Foreign, Held
+from hpb.front.core.state import Finding, For, Phase
+from hpb.front.core.stepping import Step
+from hpb.front.core.values import changed
+from hpb.front.rights import sender_and_ticket
+from hpb.record.entries import Entry, text_of
+from hpb.rules.told import NotTold, look_whose, read_told
+
+# The session that asks before anybody is let in.
+FIRST = 0
+
+
+def begin(step: Step, event: RecordOpened) -> None:
+    """The record is open: the server is asked what it has."""
+    tree = step.front.setting.tree
+    questions = ["SHOW", *(f"NODE {name}" for name in tree.nodes), *(f"WHO {bidder}" for bidder in tree.bidders)]
+    asked = tuple(question.encode() for question in questions)
+    # Of the commands beside the record those aren't looked for that it has.
+    left = tuple(one for one in event.left if one.asked or is_open(one, event))
+    step.set(phase=Phase.ASKING, finding=Finding(asked, (), event.used, event.foreign, left=left))
+    step.set_ledger(count=event.count, place=event.place)
+    sessions.tell(step, FIRST, asked[0], For.START)
+
+
+def is_open(left: Left, event: RecordOpened) -> bool:
+    sender, ticket = sender_and_ticket(left.line)
+    return not ticket or ticket > event.used.get(sender, 0)
+
+
+def change(step: Step, **fields: Any) -> Finding:
+    step.set(finding=changed(step.front.finding, **fields))
+    return step.front.finding
+
+
+def take_answer(step: Step, answer: bytes) -> None:
+    """What the server has answered to the question of this phase."""
+    sessions.free(step, FIRST)
+    match step.front.phase:
+        case Phase.ASKING:
+            hear(step, answer)
+        case Phase.LOOKING:
+            hear_left(step, answer)
+        case Phase.SHOWING:
+            sessions.look_whether_over(step, answer)
+            let_in(step)
+
+
+def hear(step: Step, answer: bytes) -> None:
+    """An answer by which it is known how many commands the server has of each sender."""
+    _, *questions = step.front.finding.questions
+    finding = change(step, questions=tuple(questions), answers=(*step.front.finding.answers, text_of(answer)))
+    if questions:
+        sessions.tell(step, FIRST, questions[0], For.START)
+        return
+    tree = step.front.setting.tree
+    try:
+        told = read_told(tree, finding.answers)
+        look_whose(tree, told)
+        whos = {bidder: told.whos[bidder].ticket for bidder in tree.bidders}
+    except (NotTold, LookupError) as fault:
+        step.finish(f"the server has another auction than the file: {fault}")
+        return
+    change(step, used={None: told.shown.next_ticket - 1, **whos})
+    step.set(phase=Phase.LOOKING)
+    look(step)
+
+
+def look(step: Step) -> None:
+    """The next command that the last front left. If the server has its ticket it is asked for the answer: the command is its sender's last,
+    or another one under that ticket. If not it never had the command or refused it, and isn't told it now."""
+    while left := step.front.finding.left:
+        sender, ticket = sender_and_ticket(left[0].line)
+        if ticket and step.front.finding.used.get(sender) == ticket:
+            sessions.tell(step, FIRST, left[0].line, For.START)
+            return
+        change(step, left=left[1:], others=(*step.front.finding.others, ("lapsed", fields_of(left[0]))))
+    compare(step)
+
+
+def hear_left(step: Step, answer: bytes) -> None:
+    """The answer to such a command."""
+    finding, number = step.front.finding, sessions.number_of(answer)
+    first, *left = finding.left
+    change(step, left=tuple(left))
+    if number > step.front.ledger.count:
+        change(step, found={**finding.found, number: first})
+    elif first.asked:
+        change(step, others=(*finding.others, ("answered", {**fields_of(first), "answer": text_of(answer)})))
+    look(step)
+
+
+def fields_of(left: Left) -> Entry:
+    return {"name": left.name, "line": text_of(left.line), **({"asked": left.asked} if left.asked else {})}
+
+
+def compare(step: Step) -> None:
+    """Whether the file has of each sender what the record has, and no more. Until that is clear nothing is written."""
+    finding, count = step.front.finding, step.front.ledger.count
+    recorded = dict(finding.recorded)
+    for left in finding.found.values():
+        sender, ticket = sender_and_ticket(left.line)
+        recorded[sender] = max(recorded.get(sender, 0), ticket)
+    compared = [(sender or "the auctioneer", has, recorded.get(sender, 0)) for sender, has in finding.used.items()]
+    if finding.foreign:
+        compared = [("all", sum(finding.used.values()), count + len(finding.found))]
+    for who, has, wanted in compared:
+        if has != wanted and (has < wanted or not step.front.setting.may_be_foreign):
+            record = step.front.setting.record
+            step.finish(f"the file has {has} commands of {who}, and {record} has {wanted}: {advice(has < wanted)}")
+            return
+    note(step)
+
+
+def note(step: Step) -> None:
+    """Puts the found commands into the record, in the order of their numbers."""
+    finding = step.front.finding
+    for kind, fields in finding.others:
+        step.write(kind, **fields)
+    held = {number: Held(0, left.name, left.line, asked=left.asked) for number, left in finding.found.items()}
+    step.set_ledger(held=held)
+    sessions.release(step)
+    if (count := sum(finding.used.values())) > step.front.ledger.count:
+        sessions.note_foreign(step, Foreign(step.front.ledger.count + 1, count))
+    step.set(phase=Phase.NOTING)
+    go_on(step)
+
+
+def go_on(step: Step) -> None:
+    """Whether all that was written is on the disk; looked at after each event."""
+    if step.front.ledger.synced < step.front.ledger.written:
+        return
+    if step.front.phase == Phase.NOTING:
+        step.set(phase=Phase.EMPTYING)
+        step.do(EmptyBeside())
+    elif step.front.phase == Phase.STARTED:
+        step.set(phase=Phase.SHOWING)
+        sessions.tell(step, FIRST, b"SHOW", For.START)
+
+
+def take_emptied(step: Step) -> None:
+    """Nothing stands beside the record any more: the front begins."""
+    if found := len(step.front.finding.found):
+        step.say(f"{found} commands that the last front told the server, and that the file has, were put into the record")
+    step.set(phase=Phase.STARTED, finding=Finding())
+    step.write("started", names={name: role.shown() for name, role in step.front.setting.roles.items()}, count=step.front.ledger.count)
+
+
+def let_in(step: Step) -> None:
+    """Everything is found: the page comes up, if there is one, and clients are let in."""
+    if step.front.setting.has_board:
+        step.set(phase=Phase.BOARD)
+        step.do(StartBoard())
+    else:
+        admit(step)
+
+
+def admit(step: Step, board: str = "") -> None:
+    """Clients are let in."""
+    step.set(phase=Phase.OPEN)
+    step.do(Admit(), Publish(f"LISTENING {step.front.setting.address}"))
+    step.note("started", count=step.front.ledger.count)
+    if board:
+        step.do(Publish(board))
+
+
+def advice(is_older_file: bool) -> str:
+    """What to do about a file and a record that don't go together."""
+    if is_older_file:
+        return ("an older copy of the file was taken back, or the record is that of another file. Name the right file and the right record, "
+                "or bring the file up to date by the record: docs/FRONT.md says how")
+    return ("the record is an older one, or that of another file. Look for the right record, or else for its newest backup, and start "
+            "again with that. Only if the file was told commands by another way, as by `hpb run`, and no record has them, start with "
+            f"--foreign: it notes their numbers and goes on, and {WHERE_THE_AUDIT_ENDS}")

@@ -1,0 +1,90 @@
+"""Commands in the order of their numbers, each once: what may be written into the record, and when."""
+from collections.abc import Mapping
+from dataclasses import dataclass, field
+
+from hpb.front.core.effects import Write
+from hpb.front.core.values import changed
+from hpb.record.entries import OK, Place, text_of
+
+WHERE_THE_AUDIT_ENDS = "the audit ends there"
+
+
+@dataclass(frozen=True)
+class Held:
+    """A command that was accepted, and waits for those of smaller numbers."""
+
+    # How many commands the server had got when its answer came.
+    sent: int
+    name: str
+    line: bytes
+    # The session that waits for its entry, if one does; the entry that asked, of a record of the first form.
+    session: int | None = None
+    asked: int = 0
+
+    def entry(self, number: int) -> Write:
+        """What the record gets."""
+        asked = {"asked": self.asked} if self.asked else {}
+        return Write("accepted", {"name": self.name, "line": text_of(self.line), "answer": f"{OK}{number}", **asked})
+
+
+@dataclass(frozen=True)
+class Foreign:
+    """Numbers of commands that didn't come through this front."""
+
+    first: int
+    last: int
+
+
+@dataclass(frozen=True)
+class Ledger:
+    """`count` is how many commands the record has once all is written. Of its entries `written` were handed out and `synced` are on the disk,
+    counted from this front's start; `place` is the last that is. `told` has the places of commands that the server may have and that have no
+    answer."""
+
+    count: int = 0
+    written: int = 0
+    synced: int = 0
+    place: Place = Place()
+    sent: int = 0
+    told: Mapping[int, int] = field(default_factory=dict)
+    held: Mapping[int, Held] = field(default_factory=dict)
+    free: tuple[int, ...] = ()
+    places: int = 0
+
+    def explained(self) -> tuple[int, int]:
+        """How many commands the file has at least, and at most, by those that the server got."""
+        return max([self.count, *self.held]), self.count + len(self.held) + len(self.told)
+
+    def took_place(self) -> tuple["Ledger", int]:
+        """A place beside the record for one more command."""
+        if self.free:
+            return changed(self, free=self.free[:-1]), self.free[-1]
+        return changed(self, places=self.places + 1), self.places
+
+    def tell(self, place: int) -> "Ledger":
+        """The server gets the command in this place."""
+        return changed(self, sent=self.sent + 1, told={**self.told, place: self.sent + 1})
+
+    def judged(self, place: int) -> "Ledger":
+        """That command has its answer."""
+        return changed(self, told={other: sent for other, sent in self.told.items() if other != place})
+
+    def hold(self, number: int, held: Held) -> "Ledger":
+        """A command was accepted under this number."""
+        return changed(self, held={**self.held, number: held})
+
+    def next(self) -> Held | Foreign | None:
+        """The next entry: a command that was accepted, unless a smaller number may still come."""
+        if not self.held:
+            return None
+        if self.count + 1 in self.held:
+            return self.held[self.count + 1]
+        least = min(self.held)
+        if min(self.told.values(), default=self.sent + 1) <= self.held[least].sent:
+            return None
+        return Foreign(self.count + 1, least - 1)
+
+    def accept(self) -> "Ledger":
+        """The entry of the next number is written."""
+        held = {number: held for number, held in self.held.items() if number != self.count + 1}
+        return changed(self, count=self.count + 1, held=held, written=self.written + 1)

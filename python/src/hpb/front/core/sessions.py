@@ -1,0 +1,190 @@
+"""The sessions with the server: whose line goes there next, and when the answer may leave.
+
+A command is put beside the record, sent to the server, and written into the record once it is accepted; then its answer leaves. A session
+takes no other line meanwhile.
+"""
+from collections.abc import Iterable
+
+from hpb.front.core import clients
+from hpb.front.core.effects import AnswerBoard, FreeBeside, Publish, PutBeside, Tell, Wake
+from hpb.front.core.ledger import WHERE_THE_AUDIT_ENDS, Foreign, Held
+from hpb.front.core.state import For, Item, Phase, Session, Stage
+from hpb.front.core.stepping import Step
+from hpb.front.rights import is_command, refused
+from hpb.record.entries import OK, text_of
+
+OVER = b" CLOSED "
+# The fields of a session that is free.
+IDLE = {name: getattr(Session(), name) for name in ("stage", "purpose", "line", "name", "item", "beside", "answer", "entry")}
+# The phases in which lines of names go to the server.
+SERVES = (Phase.OPEN, Phase.ANSWERING)
+
+
+def number_of(answer: bytes) -> int:
+    """The number of an `OK`, and else 0."""
+    return int(answer[len(OK):]) if answer.startswith(OK.encode()) else 0
+
+
+def tell(step: Step, place: int, line: bytes, purpose: For) -> None:
+    """A session's line, now or once there is a server."""
+    step.set_session(place, stage=Stage.TOLD, purpose=purpose, line=line)
+    if step.front.server.is_up:
+        step.do(Tell(place, line))
+
+
+def free(step: Step, place: int) -> None:
+    """A session has nothing to do any more."""
+    step.set_session(place, **IDLE)
+
+
+def go_on(step: Step, places: Iterable[int]) -> None:
+    """Hands out answers of these sessions that may leave, and begins their next lines. Names that share a session take turns, each by one
+    line."""
+    for place in places:
+        if step.front.sessions[place].stage is Stage.ANSWERED:
+            leave(step, place)
+        while (session := step.front.sessions[place]).turns and session.stage is Stage.FREE and step.front.phase in SERVES:
+            name, *others = session.turns
+            item, *items = step.front.names[name].items
+            step.set_name(name, items=tuple(items))
+            step.set_session(place, turns=(*others, name) if items else tuple(others))
+            begin(step, place, name, item)
+
+
+def begin(step: Step, place: int, name: str, item: Item) -> None:
+    """One line. If its connection is gone, or its token, the line is dropped."""
+    if is_dropped(step, item):
+        clients.drop(step, item.connection)
+    elif item.refusal:
+        answer = refused(item.refusal)
+        note(step, name, item.line, answer)
+        clients.answer(step, item.connection, answer)
+    elif is_command(item.line):
+        ledger, beside = step.front.ledger.took_place()
+        step.set(ledger=ledger)
+        step.set_session(place, stage=Stage.BESIDE, purpose=For.LINE, line=item.line, name=name, item=item, beside=beside)
+        step.do(PutBeside(beside, name, item.line))
+    else:
+        step.set_session(place, name=name, item=item)
+        tell(step, place, item.line, For.LINE)
+
+
+def is_dropped(step: Step, item: Item) -> bool:
+    """Whether nobody is there any more who may be answered."""
+    connection = step.front.connections.get(item.connection)
+    return connection is None or connection.is_barred
+
+
+def take_beside(step: Step, places: tuple[int, ...]) -> None:
+    """These commands are found after a crash from now on: they may go to the server."""
+    for place, session in enumerate(step.front.sessions if step.front.phase in SERVES else ()):
+        if session.stage == Stage.BESIDE and session.beside in places and session.item:
+            if is_dropped(step, session.item):
+                give_back(step, session.beside)
+                clients.drop(step, session.item.connection)
+                free(step, place)
+            else:
+                step.set(ledger=step.front.ledger.tell(session.beside))
+                tell(step, place, session.line, For.LINE)
+
+
+def take_answer(step: Step, place: int, answer: bytes) -> None:
+    """What the server has answered: to the page, to a close, or to a line of a name."""
+    session = step.front.sessions[place]
+    if session.purpose == For.BOARD:
+        (number, _), *others = step.front.questions
+        step.set(questions=tuple(others))
+        step.do(AnswerBoard(number, answer))
+        free(step, place)
+        ask_for_board(step)
+    elif session.purpose == For.CLOSE:
+        tell_close(step, answer)
+        free(step, place)
+    elif step.front.phase in SERVES:
+        judge(step, place, answer)
+
+
+def judge(step: Step, place: int, answer: bytes) -> None:
+    """The answer to a line of a name: a command that is new goes into the record, and all else into the log."""
+    session = step.front.sessions[place]
+    number = number_of(answer) if session.beside is not None else 0
+    if session.beside is not None:
+        step.set(ledger=step.front.ledger.judged(session.beside))
+    ledger = step.front.ledger
+    if number > ledger.count:
+        step.set_session(place, stage=Stage.ANSWERED, answer=answer, entry=None)
+        step.set(ledger=ledger.hold(number, Held(ledger.sent, session.name, session.line, place)))
+    else:
+        note(step, session.name, session.line, answer)
+        if session.beside is not None:
+            give_back(step, session.beside)
+        # A repeat: its entry may not be on the disk yet.
+        step.set_session(place, stage=Stage.ANSWERED, answer=answer, entry=ledger.written if number else 0, beside=None)
+    release(step)
+
+
+def release(step: Step) -> None:
+    """Writes accepted commands, unless a smaller number may still come."""
+    while found := step.front.ledger.next():
+        if isinstance(found, Foreign):
+            note_foreign(step, found)
+            continue
+        step.set(ledger=step.front.ledger.accept())
+        step.do(found.entry(step.front.ledger.count))
+        if found.session is not None:
+            step.set_session(found.session, entry=step.front.ledger.written)
+
+
+def note_foreign(step: Step, foreign: Foreign) -> None:
+    """Numbers that were given to commands which didn't come through this front."""
+    step.say(f"commands {foreign.first} to {foreign.last} of the auction stand in no record: this front didn't tell them, and {WHERE_THE_AUDIT_ENDS}")
+    step.write("foreign", **{"from": foreign.first, "to": foreign.last})
+    step.set_ledger(count=foreign.last)
+
+
+def leave(step: Step, place: int) -> None:
+    """The answer of a session leaves once its entry is on the disk, and all before it."""
+    session, ledger = step.front.sessions[place], step.front.ledger
+    if session.item is None or session.entry is None or session.entry > ledger.synced:
+        return
+    if session.beside is not None:
+        step.set_ledger(free=(*ledger.free, session.beside))
+    clients.answer(step, session.item.connection, session.answer)
+    free(step, place)
+    if session.line.startswith(b"CLOSE ") and number_of(session.answer):
+        tell(step, place, b"SHOW", For.CLOSE)
+
+
+def give_back(step: Step, beside: int) -> None:
+    """A place beside the record has nothing to be found any more."""
+    step.do(FreeBeside(beside))
+    step.set_ledger(free=(*step.front.ledger.free, beside))
+
+
+def note(step: Step, name: str, line: bytes, answer: bytes) -> None:
+    """What changed nothing is logged."""
+    step.note("answered", name=name, line=text_of(line), answer=text_of(answer))
+
+
+def tell_close(step: Step, shown: bytes) -> None:
+    """What a close came to, and the record's last entry."""
+    number, digest = step.front.ledger.place
+    step.do(Publish(f"{text_of(shown)} RECORD {number} {digest}"))
+    look_whether_over(step, shown)
+
+
+def look_whether_over(step: Step, shown: bytes) -> None:
+    """An auction that is over ends the front, some time later."""
+    if OVER in shown:
+        seconds = step.front.limits.after_end_seconds
+        step.say(f"the auction is over; the front stops in {seconds} seconds")
+        step.set(over_at=step.front.time + seconds)
+        step.do(Wake(seconds))
+
+
+def ask_for_board(step: Step, *questions: tuple[int, bytes]) -> None:
+    """The page asks by a session of its own, which is the last."""
+    step.set(questions=(*step.front.questions, *questions))
+    place = len(step.front.sessions) - 1
+    if step.front.questions and step.front.sessions[place].stage == Stage.FREE:
+        tell(step, place, step.front.questions[0][1], For.BOARD)

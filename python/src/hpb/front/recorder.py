@@ -1,0 +1,145 @@
+"""The record of a front on its disk: threads of their own write entries there, in the order in which they came (docs/FRONT.md)."""
+import asyncio
+import os
+from collections.abc import Callable
+from concurrent.futures import ThreadPoolExecutor
+from typing import Any, Generic, Protocol, TypeVar
+
+from hpb.front.core.effects import EmptyBeside, FreeBeside, PutBeside, Write
+from hpb.front.core.events import BesideEmptied, Event, Failed, Left, RecordOpened, StandsBeside, Synced
+from hpb.front.core.ledger import WHERE_THE_AUDIT_ENDS
+from hpb.front.faults import Stops
+from hpb.record import Damaged, Entry, InTheWay, InUse, New, Place, RecordFile, State, WrongSegment, time_now
+from hpb.record.asked import Asked
+
+# So many entries go by one write at most, and so many commands beside the record by one sync.
+MOST_AT_ONCE = 128
+
+Item = TypeVar("Item")
+Beside = PutBeside | FreeBeside | EmptyBeside
+
+
+class Places(Protocol):
+    """What stands beside a record."""
+
+    def put(self, places: dict[int, Asked | None]) -> None: ...
+    def left(self) -> list[Asked]: ...
+    def clear(self) -> None: ...
+
+
+class Record(Protocol):
+    """A record that is open."""
+
+    place: Place
+    state: State
+
+    @property
+    def asked(self) -> Places: ...
+    def write(self, entries: list[New]) -> None: ...
+
+
+def open_record(path: str, definition: Any, may_set_aside: bool) -> tuple[RecordFile, Entry | None]:
+    """The record of an auction, and its torn end, if that was set aside. A Stops says why the front can't go on with it, and what to do."""
+    name = os.path.basename(path)
+    try:
+        record = RecordFile(path)
+        torn = record.open(may_set_aside)
+        if record.state.definition not in (None, definition):
+            raise Stops(f"{name} is the record of an auction with another definition: name the right record in the configuration")
+        if not record.place.number:
+            record.begin(definition)
+        if torn:
+            record.write([New("mended", torn, time_now())])
+    except InUse:
+        raise Stops("another front has the record") from None
+    except InTheWay as fault:
+        raise Stops(f"{fault}. If it is a copy or another file move it to another folder, and start again. {way_out(name, fault)}; "
+                    f"{WHERE_THE_AUDIT_ENDS}") from None
+    except Damaged as fault:
+        raise Stops(f"the record is damaged or isn't the right one: {fault}. {way_out(name, fault)}; {WHERE_THE_AUDIT_ENDS}") from None
+    except (LookupError, TypeError, AttributeError, ValueError):
+        raise Stops("the record has an entry that no front writes") from None
+    except OSError as fault:
+        raise Stops(f"{fault.filename or path}: {fault.strerror or fault}") from None
+    return record, torn
+
+
+def way_out(name: str, fault: Damaged) -> str:
+    """What to do about a record that can't be gone on with: what loses something comes last."""
+    first = f"Look for the right record, all its segments and {name}.asked, or else for its newest backup, and start again with that. Only if there is none, "
+    if isinstance(fault, WrongSegment):
+        return f"{first}name a new record in the configuration, and start with --foreign"
+    return f"{first}start with --set-aside, which puts all from there on into a file beside it"
+
+
+def opened(record: Record) -> RecordOpened:
+    """What a record comes to that is open."""
+    state = record.state
+    left = [Left(name, line, number) for number, (name, line) in sorted(state.open.items())]
+    left += [Left(asked.name, asked.line) for asked in record.asked.left()]
+    return RecordOpened(state.count, dict(state.used), state.foreign, tuple(left), record.place)
+
+
+class Writer(Generic[Item]):
+    """Hands items to a call in a thread of its own, as many at once as have come meanwhile; `done` gets what the call gives."""
+
+    def __init__(self, call: Callable[[list[Item]], Event | None], post: Callable[[Event], None]) -> None:
+        self.call, self.post = call, post
+        self.waiting: list[Item] = []
+        self.writing: asyncio.Task[None] | None = None
+        self.thread = ThreadPoolExecutor(1)
+
+    def add(self, item: Item) -> None:
+        self.waiting.append(item)
+        if self.writing is None:
+            self.writing = asyncio.create_task(self.write())
+
+    async def write(self) -> None:
+        loop = asyncio.get_running_loop()
+        while self.waiting:
+            items, self.waiting = self.waiting[:MOST_AT_ONCE], self.waiting[MOST_AT_ONCE:]
+            # Whatever fails, memory too: nobody is answered any more, so the front ends, by words.
+            try:
+                event = await loop.run_in_executor(self.thread, self.call, items)
+            except Exception as fault:
+                self.post(Failed(f"the record can't be written: {fault if isinstance(fault, (OSError, Damaged)) else repr(fault)}"))
+                return
+            if event:
+                # If that fails, it is no failure of the record.
+                loop.call_soon(self.post, event)
+        self.writing = None
+
+
+class Recorder:
+    """Writes entries into a record, and commands beside it. An event says when they are on the disk."""
+
+    def __init__(self, record: Record, post: Callable[[Event], None]) -> None:
+        self.record = record
+        self.entries: Writer[New] = Writer(self.write_all, post)
+        self.beside: Writer[Beside] = Writer(self.put_all, post)
+
+    def write(self, effect: Write) -> None:
+        """An entry, with the time at which it came."""
+        self.entries.add(New(effect.kind, dict(effect.fields), time_now()))
+
+    def put(self, effect: Beside) -> None:
+        """A command beside the record, or its end there."""
+        self.beside.add(effect)
+
+    def write_all(self, entries: list[New]) -> Event:
+        """In the thread of entries."""
+        self.record.write(entries)
+        return Synced(len(entries), self.record.place)
+
+    def put_all(self, effects: list[Beside]) -> Event | None:
+        """In the thread of what stands beside."""
+        if any(isinstance(effect, EmptyBeside) for effect in effects):
+            self.record.asked.clear()
+            return BesideEmptied()
+        places: dict[int, Asked | None] = {}
+        for effect in effects:
+            if not isinstance(effect, EmptyBeside):
+                places[effect.place] = Asked(effect.name, effect.line) if isinstance(effect, PutBeside) else None
+        self.record.asked.put(places)
+        put = tuple(place for place, asked in places.items() if asked)
+        return StandsBeside(put) if put else None

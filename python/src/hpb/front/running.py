@@ -1,0 +1,185 @@
+"""A front that runs: its core, and the shells round it (docs/FRONT.md)."""
+import asyncio
+import resource
+import socket
+from argparse import Namespace
+from collections.abc import Coroutine
+from typing import Any
+
+from hpb.front.board import Board
+from hpb.front.clients import Clients
+from hpb.front.config import Config
+from hpb.front.core import Setting, effects, events, new_front
+from hpb.front.faults import Stops
+from hpb.front.machine import Machine
+from hpb.front.recorder import Recorder, open_record, opened
+from hpb.front.server import Server
+from hpb.front.shell import Shell, end_at_once, fault_says
+from hpb.front.terms import Reload, Terms
+from hpb.rules.tree import Tree
+from hpb.rules.writing import fields_of
+
+# What waits for time is looked at so often. A loop that the system didn't wake once is awake again by then, too.
+TICK_SECONDS = 0.5
+# Descriptors beside those of connections and sessions.
+MORE_DESCRIPTORS = 48
+
+Work = Coroutine[Any, Any, None]
+
+
+class Running:
+    """It ends when `run` does: a Stops says why it couldn't go on."""
+
+    def __init__(self, config: Config, terms: Terms, tree: Tree, sockets: list[socket.socket], shell: Shell) -> None:
+        loop = asyncio.get_running_loop()
+        self.config, self.tree, self.shell = config, tree, shell
+        self.finished: asyncio.Future[str] = loop.create_future()
+        self.tasks: set[asyncio.Task[None]] = set()
+        host, port = sockets[0].getsockname()[:2]
+        setting = Setting(
+            tree, config.roles, config.sessions(), has_board=config.board is not None, starts_server=config.port is None,
+            may_be_foreign=shell.given.foreign, record=config.record_name(), address=f"{host} {port}",
+        )
+        self.machine = Machine(new_front(setting, terms.limits, terms.tokens, loop.time()), loop.time)
+        post, say, log = self.machine.post, shell.teller.say, shell.log
+        self.reloading = Reload(config, terms, self.take_terms, say, log)
+        self.server = Server(config, post, self.begin)
+        self.clients = Clients(sockets[0], terms, post, log, say, self.fail_from_thread)
+        self.board = Board(config, self.reloading, sockets[1], post, self.begin, shell) if config.board else None
+        self.admitting: asyncio.Task[None] | None = None
+        self.connect_shells()
+
+    def connect_shells(self) -> None:
+        """What does each kind of effect; the record does once it is open."""
+        clients, server, shell = self.clients, self.server, self.shell
+        self.machine.shells |= {
+            effects.Admit: self.admit, effects.Shut: self.shut,
+            effects.Take: clients.take, effects.Wait: clients.wait, effects.Answer: clients.answer, effects.End: clients.end,
+            effects.Abort: clients.abort, effects.StartServer: server.start, effects.DropServer: server.drop,
+            effects.EndServer: server.end, effects.Tell: server.tell, effects.Wake: self.wake,
+            effects.Publish: lambda effect: shell.teller.tell(effect.text), effects.Say: lambda effect: shell.teller.say(effect.text),
+            effects.Note: lambda effect: shell.log.write(effect.kind, **effect.fields),
+            effects.MustEnd: lambda _: shell.watch.arm(), effects.Finish: lambda effect: self.finish(effect.why),
+        }
+        if self.board:
+            self.machine.shells |= {effects.StartBoard: self.board.begin_up, effects.AnswerBoard: self.board.take_answer}
+
+    async def run(self) -> None:
+        loop = asyncio.get_running_loop()
+        loop.set_exception_handler(self.take_fault)
+        self.begin(self.keep_ticking())
+        self.shell.watch.attach(loop, lambda: self.machine.post(events.Stop()), lambda: self.reload())
+        self.allow_descriptors()
+        self.begin(self.open_record())
+        try:
+            why = await self.finished
+        finally:
+            await self.leave()
+        if why:
+            raise Stops(why)
+
+    async def open_record(self) -> None:
+        """Its disk may hang: a thread waits for that."""
+        given, definition = self.shell.given, fields_of(self.tree.definition)
+        record, torn = await asyncio.to_thread(open_record, self.config.record, definition, given.set_aside)
+        if torn:
+            self.shell.teller.say(f"the record's end was torn: {torn['bytes']} bytes are set aside as {torn['aside']}")
+        recorder = Recorder(record, self.machine.post)
+        self.machine.shells |= {
+            effects.Write: recorder.write,
+            effects.PutBeside: recorder.put, effects.FreeBeside: recorder.put, effects.EmptyBeside: recorder.put,
+        }
+        self.machine.post(await asyncio.to_thread(opened, record))
+
+    async def leave(self) -> None:
+        """Nothing goes on; the server and the page are gone, if the system lets them."""
+        self.machine.end()
+        for task in self.tasks:
+            task.cancel()
+        if self.board:
+            await self.board.stop()
+        await self.server.stop()
+
+    # Work beside the rest, and what goes wrong.
+
+    def begin(self, work: Work) -> asyncio.Task[None]:
+        """What goes on beside the rest. When it fails the front does."""
+        task = asyncio.create_task(work)
+        self.tasks.add(task)
+        task.add_done_callback(self.look_at_end)
+        return task
+
+    def look_at_end(self, task: asyncio.Task[None]) -> None:
+        self.tasks.discard(task)
+        if not task.cancelled() and (fault := task.exception()):
+            self.fail(fault_says(fault))
+
+    def finish(self, why: str) -> None:
+        self.machine.end()
+        if not self.finished.done():
+            self.finished.set_result(why)
+
+    def fail(self, why: str) -> None:
+        """The front ends by this, in any case within some seconds."""
+        self.shell.watch.arm()
+        self.finish(why)
+
+    def fail_from_thread(self, why: str) -> None:
+        try:
+            self.finished.get_loop().call_soon_threadsafe(self.fail, why)
+        except Exception:  # Nothing is sure to work any more; the front mustn't stay as it is.
+            end_at_once()
+
+    def take_fault(self, _: asyncio.AbstractEventLoop, context: dict[str, Any]) -> None:
+        """What goes wrong in the loop itself, and would only be logged."""
+        try:
+            if fault := context.get("exception"):
+                self.fail(fault_says(fault))
+            else:
+                self.shell.teller.say(context["message"])
+        except Exception:  # As above.
+            end_at_once()
+
+    # Time.
+
+    async def keep_ticking(self) -> None:
+        while True:
+            await asyncio.sleep(TICK_SECONDS)
+            self.machine.post(events.Tick())
+
+    def wake(self, effect: effects.Wake) -> None:
+        self.finished.get_loop().call_later(effect.seconds, self.machine.post, events.Tick())
+
+    # The door, and the terms in force.
+
+    def admit(self, _: effects.Admit) -> None:
+        self.clients.start()
+        self.admitting = self.begin(self.clients.admit())
+        self.begin(self.reloading.keep_looking_at_certificate())
+
+    def shut(self, _: effects.Shut) -> None:
+        if self.admitting:
+            self.admitting.cancel()
+        self.clients.listener.close()
+
+    def reload(self) -> None:
+        self.begin(self.reloading.change())
+
+    def take_terms(self, terms: Terms) -> None:
+        """Those that were read again hold from now on."""
+        self.allow_descriptors()
+        self.clients.change(terms)
+        self.machine.post(events.Reloaded(terms.limits, terms.tokens))
+        if self.board:
+            self.board.change()
+
+    def allow_descriptors(self) -> None:
+        """As many as the limits need, if the system lets the front have them."""
+        limits, names = self.reloading.terms.limits, len(self.config.roles)
+        wanted = names * limits.connections + limits.unknown_connections + 2 * self.config.places() + MORE_DESCRIPTORS
+        soft, hard = resource.getrlimit(resource.RLIMIT_NOFILE)
+        most = hard if hard != resource.RLIM_INFINITY else max(soft, wanted)
+        if soft < wanted:
+            resource.setrlimit(resource.RLIMIT_NOFILE, (min(wanted, most), hard))
+        if most < wanted:
+            self.shell.teller.say(f"as many connections as the limits allow need {wanted} descriptors, and there may be {most} (ulimit -n)")

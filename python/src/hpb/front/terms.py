@@ -1,0 +1,70 @@
+"""What a front reads again at SIGHUP: tokens, limits and certificate (docs/FRONT.md)."""
+import asyncio
+import time
+from collections.abc import Callable
+from dataclasses import dataclass, replace
+
+from hpb.front.certificate import LOOK_SECONDS, Certificate
+from hpb.front.config import Config
+from hpb.front.faults import Wrong
+from hpb.front.limits import Limits
+from hpb.front.log import Log
+from hpb.front.tokens import Tokens
+
+
+@dataclass(frozen=True)
+class Terms:
+    """Those in force."""
+
+    limits: Limits
+    tokens: Tokens
+    certificate: Certificate | None
+
+
+def read_terms(path: str, in_force: Config | None = None) -> tuple[Config, Terms]:
+    """A configuration and its terms. Names and the file of tokens are those of the one in force, if there is one."""
+    config = Config(path)
+    return config, Terms(config.limits, (in_force or config).token_file().tokens(), config.read_certificate())
+
+
+class Reload:
+    """Keeps the terms in force; `take` is given those that take their place."""
+
+    def __init__(self, config: Config, terms: Terms, take: Callable[[Terms], None], say: Callable[[str], None], log: Log) -> None:
+        self.config, self.terms, self.take, self.say, self.log = config, terms, take, say, log
+        self.in_turn = asyncio.Lock()
+
+    async def change(self) -> None:
+        """Reads all again, one time after another: the last signal's files are those that stay in force. If anything is wrong with them the
+        old ones do."""
+        async with self.in_turn:
+            try:
+                config, terms = await asyncio.to_thread(read_terms, self.config.path, self.config)
+            except (Wrong, OSError, RuntimeError, MemoryError) as fault:
+                self.say(f"what was read again is refused, and the old tokens, certificate and limits stay in force: {fault}")
+                self.log.write("reload", outcome="refused", why=str(fault))
+                return
+            self.change_to(self.config.differs_in(config), terms)
+
+    def change_to(self, differs: list[str], terms: Terms) -> None:
+        """Puts these in force. `differs` are fields that stay as they were."""
+        if differs:
+            self.say(f"these stay as they were until the front is started again: {', '.join(differs)}")
+        if "certificate" in differs:
+            terms = replace(terms, certificate=self.terms.certificate)
+        self.terms = terms
+        self.take(terms)
+        self.say("tokens, certificate and limits were read again")
+        self.log.write("reload", outcome="taken")
+        self.look_at_certificate()
+
+    def look_at_certificate(self) -> None:
+        """Says when it ends, if that is soon."""
+        if self.terms.certificate and (said := self.terms.certificate.says(time.time())):
+            self.say(said)
+
+    async def keep_looking_at_certificate(self) -> None:
+        """At the start, and daily."""
+        while self.terms.certificate:
+            self.look_at_certificate()
+            await asyncio.sleep(LOOK_SECONDS)

@@ -1,0 +1,236 @@
+"""The promises of docs/FRONT.md, each by its sentence, and a watch that looks at every effect of a front whether it keeps them."""
+from __future__ import annotations
+
+import enum
+from collections import deque
+
+from front_world import LIMITS, ROLES, Server, Watch, Wire, World, token
+from hpb.front.core import effects, events
+from hpb.front.core.effects import Effect
+from hpb.front.core.events import Event, Left
+
+# Of each kind of line: how many words it has, and who may send it. By hand, from the tables of docs/FRONT.md.
+WORDS = {"BID": 5, "WAIVE": 3, "CLOSE": 2, "STAGE": 2, "SHOW": 1, "NODE": 2, "WHO": 2}
+BIDDERS = {"ann": "x", "bob": "yz", "carl": "w", "desk": "xyzw", "public": ""}
+MAY = {"desk": "CLOSE STAGE SHOW NODE WHO", "public": "SHOW NODE"}
+BIDDER_MAY = "BID WAIVE SHOW NODE WHO"
+COMMANDS = ("BID", "WAIVE", "CLOSE", "STAGE")
+GOODBYES = (b"ERR front token", b"ERR front many", b"ERR front idle")
+HANDED_TO_NOBODY = (b"ERR 93", b"ERR 95")
+LONG, HALF = b"(a line that is too long)", b"(half a line)"
+END_SECONDS = 10.0
+
+
+class Promise(enum.Enum):
+    """What a front promises."""
+
+    OK_IS_KEPT = "Every OK that a client read is in the file and in the record, once, in the order of its number. It left after both were synced."
+    NEXT_NUMBER = "An entry accepted is written for the next number alone, and one that is repeated has its entry already."
+    RIGHTS = "No line reaches the server that its name may not send, and none before its connection said who it is."
+    NOTHING_LOST = "No kill of server or front loses or doubles a command."
+    BESIDE_FIRST = "A command is put beside the record, and synced, before it is told to the server."
+    NOT_TOLD_NOW = "A line that the file hasn't is not told to it by a front that starts again."
+    ONE_OUTSTANDING = "A session has one line outstanding."
+    ANSWERED_IN_ORDER = "Each connection's lines are answered in their order, each once."
+    TOLD_IN_ORDER = "The lines of all connections of a name are told to the server in the order in which they came."
+    REVOKED = "A connection whose token went is answered ERR front token, and ends."
+    ENDED = "Behind the word by which a connection ends it is answered nothing."
+    NO_93 = "No connection is answered 93 or 95."
+    WAITING = "More lines of one connection aren't read than may wait."
+    RATE = "A name may send so many lines a second over all its connections, and twice as many at once. More isn't read until it may."
+    CONNECTIONS = "A name has no more connections than it may, and no more are unknown than may be."
+    ENDS = "The front ends within ten seconds of its signal, whatever hangs, and says how."
+    GOES_ON = "Lines are answered, by the next front if this one ended; nothing hangs."
+    AGREES = "When anybody is let in the record has what the file has."
+
+
+class Broken(AssertionError):
+    """A promise that isn't kept."""
+
+    def __init__(self, promise: Promise, how: object) -> None:
+        super().__init__(f"{promise.name}: {promise.value} {how}")
+        self.promise = promise
+
+
+def require(is_kept: bool, promise: Promise, how: object = "") -> None:
+    if not is_kept:
+        raise Broken(promise, how)
+
+
+def refusal(name: str, line: bytes) -> bytes | None:
+    """What a front answers itself to a line of a name."""
+    if line == LONG:
+        return b"ERR front long"
+    words = line.decode("latin-1").split(" ")
+    if line == HALF or len(words) != WORDS.get(words[0]) or "" in words:
+        return b"ERR front line"
+    if words[0] not in MAY.get(name, BIDDER_MAY).split():
+        return b"ERR front rights"
+    is_others = words[0] in ("BID", "WAIVE", "WHO") and name != "desk" and words[1] not in tuple(BIDDERS[name])
+    return b"ERR front rights" if is_others else None
+
+
+def is_command(line: bytes) -> bool:
+    return line.decode("latin-1").split(" ")[0] in COMMANDS
+
+
+def is_new(server: Server, line: bytes) -> bool:
+    """Whether a server has no command with this one's ticket."""
+    words = line.decode("latin-1").split(" ")
+    sender, ticket = (words[1], words[2]) if words[0] in ("BID", "WAIVE") else (None, words[1])
+    return int(ticket) > server.ticket(sender)
+
+
+class Promises(Watch):
+    """Raises a Broken at the first effect that breaks a promise."""
+
+    def __init__(self) -> None:
+        self.names = list(ROLES)
+        self.given: dict[bytes, set[bytes]] = {}
+        self.forget()
+
+    def forget(self) -> None:
+        self.told: dict[int, bytes] = {}
+        self.outstanding: set[int] = set()
+        self.came: dict[str, deque[tuple[Wire, bytes]]] = {name: deque() for name in ROLES}
+        self.answered = dict.fromkeys(ROLES, 0)
+        self.has_admitted = False
+        self.stopped_at: float | None = None
+
+    def started(self, world: World) -> None:
+        self.forget()
+
+    # Events.
+
+    def event(self, world: World, event: Event) -> None:
+        match event:
+            case events.Line(number, line):
+                self.take(world, world.wires[number], line)
+            case events.TooLong(number):
+                self.take(world, world.wires[number], LONG)
+            case events.Answered(session, answer):
+                self.outstanding.discard(session)
+                # By 93 or 95 nothing is answered.
+                if answer[:6] not in HANDED_TO_NOBODY:
+                    self.given.setdefault(self.told.pop(session), set()).add(answer)
+            case events.ServerGone() | events.ServerFailed():
+                self.outstanding.clear()
+            case events.Stop():
+                self.stopped_at = self.stopped_at or world.passed
+        self.look_at_time(world)
+        unknown = [wire for wire in world.wires.values() if not wire.name and not wire.is_closed]
+        most = world.limits.unknown_connections + isinstance(event, events.Came)
+        require(len(unknown) <= most, Promise.CONNECTIONS, f"{len(unknown)} are unknown")
+
+    def look_at_time(self, world: World) -> None:
+        if self.stopped_at is not None:
+            require(world.passed - self.stopped_at <= END_SECONDS, Promise.ENDS, f"{world.passed - self.stopped_at:.1f} s")
+
+    def take(self, world: World, wire: Wire, line: bytes) -> None:
+        wire.taken.append(line)
+        if wire.name:
+            waiting = len(wire.taken) - 1 - len(answers_of(wire))
+            require(waiting <= world.limits.lines_waiting, Promise.WAITING, f"{waiting} wait")
+            if not refusal(wire.name, line):
+                self.came[wire.name].append((wire, line))
+
+    # Effects.
+
+    def effect(self, world: World, effect: Effect) -> None:
+        match effect:
+            case effects.Answer(number, line) if number in world.wires:
+                self.look_at_answer(world, world.wires[number], line)
+            case effects.Tell(session, line):
+                self.look_at_line(world, session, line)
+            case effects.StartServer():
+                self.outstanding.clear()
+            case effects.Write("accepted", fields):
+                self.look_at_entry(world, fields["line"], fields["answer"])
+            case effects.Admit():
+                self.has_admitted = True
+                require(world.disk.accepted() == kept(world), Promise.AGREES, (world.disk.accepted(), kept(world)))
+            case effects.Finish(why):
+                self.look_at_time(world)
+                require(bool(why or world.published or world.said), Promise.ENDS, "it ended in silence")
+                require(not why.startswith("the file has"), Promise.NOTHING_LOST, why)
+
+    def look_at_answer(self, world: World, wire: Wire, line: bytes) -> None:
+        require(line[:6] not in HANDED_TO_NOBODY, Promise.NO_93, line)
+        require(not wire.is_closed, Promise.ENDED, line)
+        require(not wire.is_barred or line == GOODBYES[0], Promise.REVOKED, line)
+        if line.startswith(b"WELCOME "):
+            name = line.split()[1].decode()
+            said = token(name, world.tokens[name])
+            require(wire.taken == [b"TOKEN " + said], Promise.RIGHTS, wire.taken)
+            wire.name, wire.token = name, said
+            others = [one for one in world.wires.values() if one.name == name and not one.is_closed]
+            require(len(others) <= world.limits.connections, Promise.CONNECTIONS, f"{len(others)} of {name}")
+        elif line not in GOODBYES:
+            self.look_at_pair(world, wire, line)
+
+    def look_at_pair(self, world: World, wire: Wire, line: bytes) -> None:
+        """The answer to the next line of a connection."""
+        place = 1 + len(answers_of(wire))
+        require(bool(wire.name) and place < len(wire.taken), Promise.ANSWERED_IN_ORDER, f"{line!r} answers nothing")
+        asked = wire.taken[place]
+        assert world.front
+        rate, self.answered[wire.name] = world.limits.lines_per_second, self.answered[wire.name] + 1
+        require(self.answered[wire.name] <= rate * (2 + world.front.time), Promise.RATE, f"{self.answered[wire.name]} lines")
+        refused = refusal(wire.name, asked)
+        wanted = {refused} if refused else self.given.get(asked, set())
+        require(line in wanted, Promise.ANSWERED_IN_ORDER, f"{asked!r} is answered {line!r}, not one of {wanted}")
+        if line.startswith(b"OK "):
+            number, pair = int(line[3:]), (asked.decode(), line.decode())
+            are = [some[number - 1 : number] for some in (kept(world), world.disk.accepted())]
+            require(are == [[pair], [pair]], Promise.OK_IS_KEPT, (pair, are))
+
+    def look_at_line(self, world: World, session: int, line: bytes) -> None:
+        """A line to the server."""
+        require(session not in self.outstanding, Promise.ONE_OUTSTANDING, line)
+        self.outstanding.add(session)
+        is_again = self.told.get(session) == line
+        self.told[session] = line
+        if not self.has_admitted:
+            require(not is_command(line) or not is_new(world.server, line), Promise.NOT_TOLD_NOW, line)
+        elif not is_again and session < len(self.names) and line != b"SHOW":
+            self.look_at_sender(world, self.names[session], line)
+
+    def look_at_sender(self, world: World, name: str, line: bytes) -> None:
+        require(not refusal(name, line), Promise.RIGHTS, (name, line))
+        senders = [wire for wire in world.wires.values() if wire.name == name and line in wire.taken]
+        require(bool(senders), Promise.RIGHTS, f"nobody there has sent {line!r}")
+        require(not all(wire.is_barred for wire in senders), Promise.REVOKED, line)
+        if is_command(line):
+            require(Left(name, line) in world.disk.beside.values(), Promise.BESIDE_FIRST, line)
+        # Lines that wait by their rate come to their turn some time later.
+        if world.limits.lines_per_second == LIMITS.lines_per_second:
+            self.look_at_turn(world, self.came[name], line)
+
+    def look_at_turn(self, world: World, came: deque[tuple[Wire, bytes]], line: bytes) -> None:
+        """No other line of the name had its turn before this one. Lines of a connection that is gone, or whose token went, have none."""
+        while came:
+            wire, other = came.popleft()
+            if wire.is_barred or world.wires.get(wire.number) is not wire or (other != line and other == b"SHOW"):
+                continue
+            require(other == line, Promise.TOLD_IN_ORDER, f"{line!r} before {other!r}")
+            return
+        raise Broken(Promise.TOLD_IN_ORDER, f"{line!r} is told once more")
+
+    def look_at_entry(self, world: World, line: str, answer: str) -> None:
+        pair = (line, answer)
+        before = len(world.disk.accepted()) + sum(write.kind == "accepted" for write in world.disk.writes)
+        require(answer == f"OK {before + 1}" and kept(world)[before : before + 1] == [pair], Promise.NEXT_NUMBER, (pair, before))
+
+    def at_the_end(self, world: World) -> None:
+        """A day that went well to its end."""
+        require(world.disk.accepted() == kept(world), Promise.NOTHING_LOST, (world.disk.accepted(), kept(world)))
+
+
+def answers_of(wire: Wire) -> list[bytes]:
+    """What a connection was answered to its lines behind the first."""
+    return [line for line in wire.heard if line not in GOODBYES and not line.startswith(b"WELCOME ")]
+
+
+def kept(world: World) -> list[tuple[str, str]]:
+    """What the file has, as the record should have it."""
+    return [(line, f"OK {number}") for number, line in enumerate(world.server.file, 1)]

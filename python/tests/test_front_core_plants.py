@@ -1,0 +1,230 @@
+"""Bugs that are planted in the core of a front: each is caught by the promise that it breaks, so the days of `test_front_core` can fail."""
+from __future__ import annotations
+
+from collections.abc import Callable
+from dataclasses import replace
+
+import pytest
+
+from front_days import Day
+from front_promises import Broken, Promise
+from hpb.front.core import clients, ending, finding, serving, sessions
+from hpb.front.core.effects import Wake
+from hpb.front.core.ledger import Held, Ledger
+from hpb.front.core.state import Connection, For, Item, Stage
+from hpb.front.core.stepping import Step
+from hpb.front.rights import Role, refused
+
+SEEDS = 40
+Plant = Callable[[pytest.MonkeyPatch], None]
+leave, tell, take_beside, queue, sweep_all = sessions.leave, sessions.tell, sessions.take_beside, clients.queue, clients.sweep
+begin, look = finding.begin, finding.look
+
+
+def answer_before_sync(patch: pytest.MonkeyPatch) -> None:
+    """An answer leaves as soon as its entry is written."""
+
+    def early(step: Step, place: int) -> None:
+        synced = step.front.ledger.synced
+        step.set_ledger(synced=step.front.ledger.written)
+        leave(step, place)
+        step.set_ledger(synced=synced)
+
+    patch.setattr(sessions, "leave", early)
+
+
+def entry_lost_at_kill(patch: pytest.MonkeyPatch) -> None:
+    """Commands beside the record aren't looked for after a kill."""
+    patch.setattr(finding, "begin", lambda step, event: begin(step, replace(event, left=())))
+
+
+def told_before_it_is_beside(patch: pytest.MonkeyPatch) -> None:
+    """A command goes to the server before it can be found after a kill."""
+    begin_line = sessions.begin
+
+    def early(step: Step, place: int, name: str, item: Item) -> None:
+        begin_line(step, place, name, item)
+        session = step.front.sessions[place]
+        if session.stage is Stage.BESIDE and session.beside is not None:
+            take_beside(step, (session.beside,))
+
+    patch.setattr(sessions, "begin", early)
+
+
+def command_told_twice(patch: pytest.MonkeyPatch) -> None:
+    """A line waits twice."""
+
+    def twice(step: Step, item: Item) -> None:
+        queue(step, item)
+        if not item.refusal:
+            queue(step, item)
+
+    patch.setattr(clients, "queue", twice)
+
+
+def left_line_told_anew(patch: pytest.MonkeyPatch) -> None:
+    """After a kill the server gets each line that has no answer, as after a crash of the server alone."""
+    patch.setattr(finding, "sender_and_ticket", lambda line: (None, 0))
+
+    def tell(step: Step) -> None:
+        if step.front.finding.left:
+            sessions.tell(step, finding.FIRST, step.front.finding.left[0].line, For.START)
+        else:
+            look(step)
+
+    patch.setattr(finding, "look", tell)
+
+
+def revoked_token_answered(patch: pytest.MonkeyPatch) -> None:
+    """Tokens that are read again hold for whoever comes from then on."""
+    patch.setattr(clients, "reload", lambda step, event: step.set(limits=event.limits, tokens=event.tokens))
+
+
+def revoked_line_told(patch: pytest.MonkeyPatch) -> None:
+    """Lines that wait go to the server, though their connection's token went."""
+    patch.setattr(sessions, "is_dropped", lambda step, item: item.connection not in step.front.connections)
+
+
+def stop_waits_for_ever(patch: pytest.MonkeyPatch) -> None:
+    """The end has no limit of time."""
+    for limit in ("LINES_SECONDS", "RECORD_SECONDS", "LAST_SECONDS"):
+        patch.setattr(ending, limit, 1e9)
+
+
+def rights_not_looked_at(patch: pytest.MonkeyPatch) -> None:
+    """Everybody may send every line that is one."""
+    refusal = Role.refusal
+    patch.setattr(Role, "refusal", lambda self, line: (found := refusal(self, line)) and (found if found != "rights" else None))
+
+
+def last_connection_first(patch: pytest.MonkeyPatch) -> None:
+    """Of the connections of a name the last that sends something has the first turn."""
+
+    def backwards(step: Step, item: Item) -> None:
+        queue(step, item)
+        token = step.front.connections[item.connection].token
+        assert token
+        *others, last = step.front.names[token.name].items
+        if all(other.connection != item.connection for other in others):
+            step.set_name(token.name, items=(last, *others))
+
+    patch.setattr(clients, "queue", backwards)
+
+
+def number_out_of_turn(patch: pytest.MonkeyPatch) -> None:
+    """An entry is written as soon as its answer comes."""
+
+    def any_number(ledger: Ledger) -> Held | None:
+        return ledger.held[min(ledger.held)] if ledger.held else None
+
+    patch.setattr(Ledger, "next", any_number)
+
+
+def failed_disk_handed_on(patch: pytest.MonkeyPatch) -> None:
+    """A 93 goes to the client."""
+    patch.setattr(serving, "FAILED", b"")
+
+
+def not_told_again(patch: pytest.MonkeyPatch) -> None:
+    """A server that comes again doesn't get the lines that have no answer."""
+    patch.setattr(serving, "Tell", lambda place, line: Wake(0.0))
+
+
+def more_lines_than_may_wait(patch: pytest.MonkeyPatch) -> None:
+    """Lines are taken however many wait."""
+    let_send = clients.let_send
+
+    def always(step: Step, number: int) -> None:
+        waiting = step.front.connections[number].waiting
+        step.set_connection(number, waiting=0)
+        let_send(step, number)
+        step.set_connection(number, waiting=waiting)
+
+    patch.setattr(clients, "let_send", always)
+
+
+def more_lines_a_second(patch: pytest.MonkeyPatch) -> None:
+    """Nobody has to wait."""
+    patch.setattr(clients, "wait_seconds", lambda step, name: 0.0)
+
+
+def more_connections(patch: pytest.MonkeyPatch) -> None:
+    """A name may have as many connections as come."""
+    patch.setattr(clients, "has_room", lambda step, name: True)
+
+
+def let_in_before_it_is_found(patch: pytest.MonkeyPatch) -> None:
+    """Clients are let in while the record lacks what the last front left."""
+    patch.setattr(finding, "note", lambda step: finding.admit(step))
+
+
+def told_twice_at_once(patch: pytest.MonkeyPatch) -> None:
+    """The server gets a line again before it has answered."""
+
+    def twice(step: Step, place: int, line: bytes, purpose: For) -> None:
+        tell(step, place, line, purpose)
+        tell(step, place, line, purpose)
+
+    patch.setattr(sessions, "tell", twice)
+
+
+def refusal_before_its_turn(patch: pytest.MonkeyPatch) -> None:
+    """A line that the front refuses is answered when it comes, and lines before it wait."""
+
+    def at_once(step: Step, item: Item) -> None:
+        if item.refusal:
+            waiting = step.front.connections[item.connection].waiting
+            step.set_connection(item.connection, waiting=waiting + 1)
+            clients.answer(step, item.connection, refused(item.refusal))
+        else:
+            queue(step, item)
+
+    patch.setattr(clients, "queue", at_once)
+
+
+def answered_behind_its_end(patch: pytest.MonkeyPatch) -> None:
+    """A connection that doesn't read its answers is ended, and answered all the same."""
+    set_connection = Step.set_connection
+
+    def stay(step: Step, number: int, **fields: object) -> Connection:
+        return set_connection(step, number, **{name: value for name, value in fields.items() if name != "going"})
+
+    def sweep(step: Step) -> None:
+        patch.setattr(Step, "set_connection", stay)
+        sweep_all(step)
+        patch.setattr(Step, "set_connection", set_connection)
+
+    patch.setattr(clients, "sweep", sweep)
+
+
+PLANTS: list[tuple[Plant, Promise, str]] = [
+    (answer_before_sync, Promise.OK_IS_KEPT, ""),
+    (entry_lost_at_kill, Promise.NOTHING_LOST, "kills"),
+    (told_before_it_is_beside, Promise.BESIDE_FIRST, ""),
+    (command_told_twice, Promise.TOLD_IN_ORDER, ""),
+    (left_line_told_anew, Promise.NOT_TOLD_NOW, "kills"),
+    (revoked_token_answered, Promise.REVOKED, "reloads"),
+    (revoked_line_told, Promise.REVOKED, "reloads"),
+    (stop_waits_for_ever, Promise.ENDS, "hangs"),
+    (told_twice_at_once, Promise.ONE_OUTSTANDING, ""),
+    (refusal_before_its_turn, Promise.ANSWERED_IN_ORDER, ""),
+    (answered_behind_its_end, Promise.ENDED, "jumps"),
+    (rights_not_looked_at, Promise.RIGHTS, ""),
+    (last_connection_first, Promise.TOLD_IN_ORDER, ""),
+    (number_out_of_turn, Promise.NEXT_NUMBER, ""),
+    (failed_disk_handed_on, Promise.NO_93, "disks"),
+    (not_told_again, Promise.GOES_ON, "losses"),
+    (more_lines_than_may_wait, Promise.WAITING, ""),
+    (more_lines_a_second, Promise.RATE, "slow"),
+    (more_connections, Promise.CONNECTIONS, ""),
+    (let_in_before_it_is_found, Promise.AGREES, "kills"),
+]
+
+
+@pytest.mark.parametrize(("plant", "promise", "faults"), PLANTS, ids=[plant.__name__ for plant, _, _ in PLANTS])
+def test_a_planted_bug_is_caught(plant: Plant, promise: Promise, faults: str, monkeypatch: pytest.MonkeyPatch) -> None:
+    plant(monkeypatch)
+    with pytest.raises(Broken) as caught:
+        for seed in range(SEEDS):
+            Day(seed, frozenset(faults.split())).run()
+    assert caught.value.promise == promise, caught.value

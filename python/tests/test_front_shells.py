@@ -1,0 +1,270 @@
+"""The shells round a front's core, each tried call by call, with calls that fail."""
+from __future__ import annotations
+
+import asyncio
+import threading
+from collections.abc import Callable
+from dataclasses import dataclass, field
+
+import pytest
+
+from front_world import LIMITS, ROLES, TREE, tokens_of
+from hpb.front.clients import Connection
+from hpb.front.core import Setting, effects, events, new_front
+from hpb.front.core.events import Event
+from hpb.front.machine import Machine
+from hpb.front.recorder import Recorder, opened
+from hpb.front.server import Session
+from hpb.record import New, Place, State
+from hpb.record.asked import Asked
+
+SECONDS = 10
+
+
+# Connections.
+
+
+@dataclass
+class Carrier:
+    """What a connection writes to, in memory."""
+
+    written: bytes = b""
+    is_reading: bool = True
+    is_closed: bool = False
+
+    def write(self, data: bytes) -> None:
+        self.written += data
+
+    def is_closing(self) -> bool:
+        return self.is_closed
+
+    def pause_reading(self) -> None:
+        self.is_reading = False
+
+    def resume_reading(self) -> None:
+        self.is_reading = True
+
+    def close(self) -> None:
+        self.is_closed = True
+
+    def abort(self) -> None:
+        self.is_closed = True
+
+
+@pytest.fixture
+def connection() -> Connection:
+    """One that is open, and whose events are in `posted`."""
+    posted: list[Event] = []
+    made = Connection(1, posted.append, lambda number: None, is_tls=False)
+    made.connection_made(Carrier())
+    made.posted = posted  # type: ignore[attr-defined]
+    return made
+
+
+def posted(connection: Connection) -> list[Event]:
+    """What it has posted since it was asked last."""
+    found: list[Event] = list(connection.posted)  # type: ignore[attr-defined]
+    connection.posted.clear()  # type: ignore[attr-defined]
+    return found
+
+
+def carrier_of(connection: Connection) -> Carrier:
+    assert isinstance(connection.transport, Carrier)
+    return connection.transport
+
+
+def test_a_connection_hands_in_one_line_each_time_it_may(connection: Connection) -> None:
+    connection.data_received(b"SHOW\nNODE a\nWHO")
+    assert posted(connection) == [events.Opened(1)]
+    assert not carrier_of(connection).is_reading
+    connection.take(128)
+    assert posted(connection) == [events.Line(1, b"SHOW")]
+    connection.take(128)
+    assert posted(connection) == [events.Line(1, b"NODE a")]
+    connection.take(128)
+    assert posted(connection) == [] and carrier_of(connection).is_reading
+    connection.data_received(b" x\n")
+    assert posted(connection) == [events.Line(1, b"WHO x")]
+    assert not carrier_of(connection).is_reading
+
+
+def test_a_line_that_is_too_long_is_cut_and_what_stands_behind_it_is_gone(connection: Connection) -> None:
+    posted(connection)
+    connection.take(4)
+    connection.data_received(b"SHOW\n")
+    connection.take(4)
+    connection.data_received(b"SHOWS\nSHOW\n")
+    assert posted(connection) == [events.Line(1, b"SHOW"), events.TooLong(1, b"SHOW")]
+    assert not connection.rest
+
+
+@pytest.mark.parametrize(("data", "told"), [(b"", []), (b"BID x", []), (b"SHOW\nBID x", [events.Line(1, b"SHOW")])])
+def test_half_a_line_comes_with_the_end(connection: Connection, data: bytes, told: list[Event]) -> None:
+    posted(connection)
+    connection.data_received(data)
+    assert connection.eof_received()
+    for _ in range(len(told) + 1):
+        connection.take(128)
+    assert posted(connection) == [*told, events.LinesEnded(1, data.split(b"\n")[-1])]
+
+
+def test_who_reads_no_answers_sends_no_more(connection: Connection) -> None:
+    posted(connection)
+    connection.take(128)
+    connection.pause_writing()
+    connection.data_received(b"SHOW\n")
+    assert posted(connection) == [events.Stuffed(1, True)] and not carrier_of(connection).is_reading
+    connection.resume_writing()
+    assert posted(connection) == [events.Stuffed(1, False), events.Line(1, b"SHOW")]
+
+
+@pytest.mark.parametrize(("fault", "why"), [(None, "ended"), (OSError("reset"), "lost")])
+def test_one_that_is_gone_says_how_and_nothing_is_written_to_it(connection: Connection, fault: Exception | None, why: str) -> None:
+    posted(connection)
+    carrier_of(connection).close()
+    connection.write(b"OK 1")
+    connection.connection_lost(fault)
+    assert posted(connection) == [events.Gone(1, why)] and carrier_of(connection).written == b""
+
+
+# The record.
+
+
+@dataclass
+class SlowRecord:
+    """A record in memory, whose writes wait until they may be done, and fail by `fault`."""
+
+    place: Place = Place()
+    state: State = field(default_factory=State)
+    kinds: list[str] = field(default_factory=list)
+    beside: dict[int, Asked | None] = field(default_factory=dict)
+    may_write: threading.Event = field(default_factory=threading.Event)
+    fault: Exception | None = None
+
+    @property
+    def asked(self) -> SlowRecord:
+        return self
+
+    def write(self, entries: list[New]) -> None:
+        self.wait()
+        self.kinds += [entry.kind for entry in entries]
+        self.place = Place(self.place.number + len(entries))
+
+    def put(self, places: dict[int, Asked | None]) -> None:
+        self.wait()
+        self.beside |= places
+
+    def left(self) -> list[Asked]:
+        return [asked for asked in self.beside.values() if asked]
+
+    def clear(self) -> None:
+        self.wait()
+        self.beside.clear()
+
+    def wait(self) -> None:
+        assert self.may_write.wait(SECONDS)
+        if self.fault:
+            raise self.fault
+
+
+async def until(is_so: Callable[[], bool]) -> None:
+    async with asyncio.timeout(SECONDS):
+        while not is_so():
+            await asyncio.sleep(0.001)
+
+
+def test_an_entry_is_told_once_it_is_on_the_disk_and_those_that_come_meanwhile_go_together() -> None:
+    async def talk() -> None:
+        record, told = SlowRecord(), list[Event]()
+        recorder = Recorder(record, told.append)
+        for kind in ("a", "b", "c"):
+            recorder.write(effects.Write(kind, {}))
+            await asyncio.sleep(0.02)
+        assert told == []
+        record.may_write.set()
+        await until(lambda: len(told) == 2)
+        assert told == [events.Synced(1, Place(1)), events.Synced(2, Place(3))] and record.kinds == ["a", "b", "c"]
+
+    asyncio.run(talk())
+
+
+def test_commands_beside_the_record_are_told_and_freed_places_are_not() -> None:
+    async def talk() -> None:
+        record, told = SlowRecord(), list[Event]()
+        record.may_write.set()
+        recorder = Recorder(record, told.append)
+        recorder.put(effects.PutBeside(0, "ann", b"BID x 1 a 100"))
+        await until(lambda: told == [events.StandsBeside((0,))])
+        assert opened(record).left == (events.Left("ann", b"BID x 1 a 100"),)
+        recorder.put(effects.FreeBeside(0))
+        recorder.put(effects.PutBeside(1, "bob", b"BID y 1 b 150"))
+        await until(lambda: told[1:] == [events.StandsBeside((1,))])
+        recorder.put(effects.EmptyBeside())
+        await until(lambda: told[2:] == [events.BesideEmptied()])
+        assert record.left() == []
+
+    asyncio.run(talk())
+
+
+@pytest.mark.parametrize("fault", [OSError(28, "No space left on device"), MemoryError(), ValueError("1,025 bytes")])
+def test_a_record_that_fails_is_told_once_and_nothing_more_is_written(fault: Exception) -> None:
+    async def talk() -> None:
+        record, told = SlowRecord(fault=fault), list[Event]()
+        record.may_write.set()
+        recorder = Recorder(record, told.append)
+        recorder.write(effects.Write("a", {}))
+        await until(lambda: len(told) == 1)
+        recorder.write(effects.Write("b", {}))
+        await asyncio.sleep(0.05)
+        assert isinstance(told[0], events.Failed) and told[0].why.startswith("the record can't be written: ")
+        assert len(told) == 1 and record.kinds == []
+
+    asyncio.run(talk())
+
+
+# The server, and what runs all of it.
+
+
+def test_a_session_hands_in_whole_lines_and_says_that_it_is_lost() -> None:
+    heard: list[bytes] = []
+    lost = asyncio.Event()
+    session = Session(heard.append, lost)
+    for part in (b"OK", b" 1\nOK 2\nERR", b" 22 low\n"):
+        session.data_received(part)
+    assert heard == [b"OK 1", b"OK 2", b"ERR 22 low"] and not lost.is_set()
+    session.connection_lost(None)
+    assert lost.is_set()
+
+
+def new_machine() -> Machine:
+    machine = Machine(new_front(Setting(TREE, ROLES, len(ROLES)), LIMITS, tokens_of(dict.fromkeys(ROLES, 1)), 0.0), lambda: 1.0)
+    machine.shells = {kind: lambda effect: None for kind in (effects.StartServer, effects.MustEnd, effects.Finish, effects.Say)}
+    return machine
+
+
+def test_an_event_that_a_shell_posts_is_taken_behind_all_effects() -> None:
+    machine, done = new_machine(), list[str]()
+
+    def start(effect: effects.StartServer) -> None:
+        machine.post(events.ServerFailed("it is gone", is_final=True))
+        done.append("start")
+
+    machine.shells[effects.StartServer] = start
+    machine.shells[effects.Finish] = lambda effect: done.append(effect.why)
+    machine.post(events.RecordOpened(0, {}, 0, (), Place()))
+    assert done == ["start", "it is gone"]
+
+
+def test_a_shell_that_fails_is_heard_of_and_nothing_comes_of_any_event_afterwards() -> None:
+    """Else an entry that was never written might be taken for one that is synced."""
+    machine, done = new_machine(), list[str]()
+
+    def fail(effect: effects.StartServer) -> None:
+        raise RuntimeError("can't start new thread")
+
+    machine.shells[effects.StartServer] = fail
+    machine.shells[effects.Finish] = lambda effect: done.append(effect.why)
+    with pytest.raises(RuntimeError):
+        machine.post(events.RecordOpened(0, {}, 0, (), Place()))
+    machine.post(events.Failed("another"))
+    assert done == []
