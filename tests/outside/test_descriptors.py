@@ -142,10 +142,8 @@ def is_done(program: Program, job: str, file: Path, pages: int) -> bool:
 
 
 @pytest.mark.parametrize("job", ["check", "run", "format"])
-def test_little_memory(program: Program, built: Path, file: Path, job: str) -> None:
+def test_little_memory(program: Program, file: Path, job: str) -> None:
     """Page by page, from the least by which the program is loaded to enough of it."""
-    if built.suffix == ".by-rattle":
-        pytest.skip("this build takes more of its stack than is held for it: at some limits of memory a signal ends it")
     low, high = LEAST_PAGES, MOST_PAGES
     while low < high:
         middle = (low + high) // 2
