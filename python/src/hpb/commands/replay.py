@@ -64,10 +64,10 @@ def _read_words() -> argparse.Namespace:
     words = parser(__doc__)
     words.add_argument("record", help="the record that a front wrote")
     words.add_argument("--program", default="hpb", help="the program (default: hpb, as the shell finds it)")
-    words.add_argument("--file", help="the auction's file, or a copy: what it keeps is compared")
-    words.add_argument("--log", help="a log of the front: what SHOW was answered is compared")
-    words.add_argument("--svg", help="where the picture is written")
-    words.add_argument("--commands", type=int, metavar="FROM", help="print the commands from this number on, and nothing else")
+    words.add_argument("--file", help="the auction's file, or a copy: its contents are compared")
+    words.add_argument("--log", help="a log of the front: its answers to SHOW are compared")
+    words.add_argument("--svg", help="the file for the picture")
+    words.add_argument("--commands", type=int, metavar="FROM", help="print only the commands from this number on")
     return words.parse_args()
 
 
