@@ -1,4 +1,4 @@
-"""Shows an auction that `hpb serve` serves on a web page, and follows it.
+"""Serves a web page about an auction of `hpb serve`, and keeps it up to date.
 
     tools/board --port 5000 --definition definition.json --bidders x,y
     tools/board --port 5000 --definition definition.json --listen 127.0.0.1:8080 --places 3

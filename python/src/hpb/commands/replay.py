@@ -1,10 +1,10 @@
-"""Replays a front's record to an auction in memory, and shows who bid what.
+"""Replays a front's record in an auction in memory, and shows who bid what.
 
     tools/replay RECORD                              checks the record, and prints each bid by its round
-    tools/replay RECORD --file auction.hpb           compares with what the file keeps, too
-    tools/replay RECORD --log front.log              compares what SHOW was answered by the front's log, too
+    tools/replay RECORD --file auction.hpb           compares with the file's contents, too
+    tools/replay RECORD --log front.log              compares with the answers to SHOW in the front's log, too
     tools/replay RECORD --svg rounds.svg             draws revenue, prices and eligibility by round
-    tools/replay RECORD --commands 41                prints nothing but the commands from number 41 on, for a copy of the file
+    tools/replay RECORD --commands 41                prints only the commands from number 41 on, for a copy of the file
 
 RECORD is the record's first segment; the others stand beside it, as RECORD.2, RECORD.3, and all are read. It checks that:
 

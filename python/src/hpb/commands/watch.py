@@ -1,4 +1,4 @@
-"""Shows an auction that `hpb serve` or a front serves in a terminal, and follows it.
+"""Shows an auction of `hpb serve` or of a front in a terminal, and follows it.
 
     tools/watch --port 5000 --definition definition.json --bidders x,y
     tools/watch --port 5000 --definition definition.json --once
