@@ -96,7 +96,7 @@ def used(process):
 
 @contextlib.contextmanager
 def noise(count):
-    """Runs so many processes beside, each of which takes a core."""
+    """Runs so many other processes meanwhile, each of which takes a core."""
     words = [sys.executable, "-c", NOISE, str(os.getpid())]
     beside = [subprocess.Popen(words, stdin=subprocess.DEVNULL) for _ in range(count)]
     try:
@@ -338,7 +338,7 @@ def add_options(words):
 
 
 def add_ways(words):
-    """Adds the options about how bids are sent, and what runs beside."""
+    """Adds the options about how bids are sent, and about other processes that run meanwhile."""
     words.add_argument("--pipeline", type=int, choices=PIPELINES, default=1, help="bids of a session in flight (default 1)")
     words.add_argument("--noise", type=int, default=0, metavar="N", help="processes beside, each of which takes a core")
 

@@ -154,7 +154,7 @@ def test_each_byte_counts(calm: Path, layout: Layout, serve: Serve, number: int)
 
 
 def test_what_the_engine_writes_is_no_difference(kept: Path, serve: Serve) -> None:
-    """Over many checkpoints, with questions beside."""
+    """Over many checkpoints, while another client asks questions."""
     server = serve(kept, 2)
     with server.connect() as client, server.connect() as other:
         for last in range(BEFORE + 10, BEFORE + 300, 10):

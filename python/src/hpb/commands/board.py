@@ -1,4 +1,4 @@
-"""Shows an auction that `hpb serve` serves on a web page, and follows it.
+"""Serves a web page about an auction of `hpb serve`, and keeps it up to date.
 
     tools/board --port 5000 --definition definition.json --bidders x,y
     tools/board --port 5000 --definition definition.json --listen 127.0.0.1:8080 --places 3
@@ -37,10 +37,10 @@ def main() -> int:
 def _read_words() -> argparse.Namespace:
     words = parser(__doc__)
     words.add_argument(
-        "--listen", type=_listen_address, default=("127.0.0.1", 8080), help="where the page is (default 127.0.0.1:8080; port 0 is any)"
+        "--listen", type=_listen_address, default=("127.0.0.1", 8080), help="the page's address (default 127.0.0.1:8080; with port 0 the system chooses one)"
     )
     words.add_argument(
-        "--name", action="append", default=[], help="a name by which the page may be asked for, besides addresses and localhost"
+        "--name", action="append", default=[], help="another name for the page, besides addresses and localhost"
     )
     add_options(words)
     return words.parse_args()

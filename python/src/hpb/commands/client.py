@@ -89,7 +89,7 @@ def shown(answer: bytes) -> bytes:
 
 def read_words() -> argparse.Namespace:
     words = parser(__doc__)
-    words.add_argument("place", type=read_place, metavar="PORT|HOST:PORT", help="where the auction is")
+    words.add_argument("place", type=read_place, metavar="PORT|HOST:PORT", help="the auction's address")
     add_options(words)
     given = words.parse_args()
     look_at_options(words, given)

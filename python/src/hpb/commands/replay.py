@@ -1,10 +1,10 @@
-"""Replays a front's record to an auction in memory, and shows who bid what.
+"""Replays a front's record in an auction in memory, and shows who bid what.
 
     tools/replay RECORD                              checks the record, and prints each bid by its round
-    tools/replay RECORD --file auction.hpb           compares with what the file keeps, too
-    tools/replay RECORD --log front.log              compares what SHOW was answered by the front's log, too
+    tools/replay RECORD --file auction.hpb           compares with the file's contents, too
+    tools/replay RECORD --log front.log              compares with the answers to SHOW in the front's log, too
     tools/replay RECORD --svg rounds.svg             draws revenue, prices and eligibility by round
-    tools/replay RECORD --commands 41                prints nothing but the commands from number 41 on, for a copy of the file
+    tools/replay RECORD --commands 41                prints only the commands from number 41 on, for a copy of the file
 
 RECORD is the record's first segment; the others stand beside it, as RECORD.2, RECORD.3, and all are read. It checks that:
 
@@ -64,10 +64,10 @@ def _read_words() -> argparse.Namespace:
     words = parser(__doc__)
     words.add_argument("record", help="the record that a front wrote")
     words.add_argument("--program", default="hpb", help="the program (default: hpb, as the shell finds it)")
-    words.add_argument("--file", help="the auction's file, or a copy: what it keeps is compared")
-    words.add_argument("--log", help="a log of the front: what SHOW was answered is compared")
-    words.add_argument("--svg", help="where the picture is written")
-    words.add_argument("--commands", type=int, metavar="FROM", help="print the commands from this number on, and nothing else")
+    words.add_argument("--file", help="the auction's file, or a copy: its contents are compared")
+    words.add_argument("--log", help="a log of the front: its answers to SHOW are compared")
+    words.add_argument("--svg", help="the file for the picture")
+    words.add_argument("--commands", type=int, metavar="FROM", help="print only the commands from this number on")
     return words.parse_args()
 
 

@@ -33,8 +33,8 @@ def main() -> int:
     """Reads the arguments, and returns the status."""
     words = parser(__doc__)
     words.add_argument("file", metavar="FILE", help="a copy of an auction's file")
-    words.add_argument("--program", default="hpb", help="what is asked (default hpb)")
-    words.add_argument("--picture", action="store_true", help="the tree alone, as SVG")
+    words.add_argument("--program", default="hpb", help="the program to ask (default hpb)")
+    words.add_argument("--picture", action="store_true", help="only the tree, as SVG")
     chosen = words.parse_args()
     try:
         report = read_report(chosen.program, read_image(chosen.file))

@@ -1,4 +1,4 @@
-"""Shows an auction that `hpb serve` or a front serves in a terminal, and follows it.
+"""Shows an auction of `hpb serve` or of a front in a terminal, and follows it.
 
     tools/watch --port 5000 --definition definition.json --bidders x,y
     tools/watch --port 5000 --definition definition.json --once
@@ -175,7 +175,7 @@ def _keys() -> list[str]:
 
 def _read_words() -> argparse.Namespace:
     words = parser(__doc__)
-    words.add_argument("--once", action="store_true", help="write what there is, and end")
+    words.add_argument("--once", action="store_true", help="write the auction as it is now, and end")
     add_options(words, with_front=True)
     given = words.parse_args()
     look_at_options(words, given)

@@ -1,4 +1,4 @@
-"""The places of the parts in an auction's file, for both layouts of its journal (docs/DEVICE.md). All numbers are of bytes."""
+"""The places of the parts in an auction's file, for both layouts of its journal (docs/DEVICE.md). All numbers count bytes."""
 from enum import IntEnum
 from typing import Final
 

@@ -32,14 +32,14 @@ def add_options(words: argparse.ArgumentParser, with_front: bool = False) -> Non
     where = words.add_mutually_exclusive_group(required=True)
     where.add_argument("--port", type=int, help="the port of 127.0.0.1 at which hpb serve listens")
     if with_front:
-        where.add_argument("--front", type=reaching.read_place, metavar="HOST:PORT", help="where a front listens")
+        where.add_argument("--front", type=reaching.read_place, metavar="HOST:PORT", help="the address of a front")
         reaching.add_options(words)
     words.add_argument("--definition", required=True, help="the auction's definition: JSON, or a script whose first line it is")
     own = words.add_mutually_exclusive_group()
-    own.add_argument("--bidders", default="", help="whose standing is shown, as x,y (default: nobody's)")
-    own.add_argument("--all-bidders", action="store_true", help="the standing of each bidder is shown")
+    own.add_argument("--bidders", default="", help="the bidders whose standing is shown, as x,y (default: none)")
+    own.add_argument("--all-bidders", action="store_true", help="show the standing of every bidder")
     words.add_argument(
-        "--places", type=int, help="how many connections may be made in all, each of which takes one of hpb serve's (default 1)"
+        "--places", type=int, help="how many connections may be made in all; each uses up a place of hpb serve (default 1)"
     )
     words.add_argument("--pace", type=float, default=PACE, help=f"seconds between two questions (default {PACE:g})")
 

@@ -28,10 +28,10 @@ def read_place(text: str) -> tuple[str, int]:
 
 def add_options(words: argparse.ArgumentParser) -> None:
     """Adds the options for a front, besides its address."""
-    words.add_argument("--token", metavar="FILE", help="of a front: a file with the token, which nobody else may read")
-    words.add_argument("--name", help="whose token it is, where the file has several")
-    words.add_argument("--ca", metavar="FILE", help="the certificate by which a front is known (default: those that the system knows)")
-    words.add_argument("--plain", action="store_true", help="a front without a certificate: token and lines go in clear")
+    words.add_argument("--token", metavar="FILE", help="for a front: a file with the token, which only you may read")
+    words.add_argument("--name", help="the name whose token it is, if the file has several")
+    words.add_argument("--ca", metavar="FILE", help="the certificate to trust for a front (default: those that the system trusts)")
+    words.add_argument("--plain", action="store_true", help="for a front without a certificate: token and lines are sent unencrypted")
 
 
 def look_at_options(words: argparse.ArgumentParser, given: argparse.Namespace) -> None:

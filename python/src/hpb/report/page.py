@@ -48,8 +48,8 @@ def _notices(report: Report) -> Iterator[Markup]:
         )
     if not shown.is_over and report.closed is None:
         yield notice(
-            strong("Nothing is accepted any more"), f", a close neither: there have been {money(MOST_COMMANDS)} commands. "
-            "What was bid since the last close never counts.", is_fault=False,
+            strong("Nothing is accepted any more"), f", and no close either: there have been {money(MOST_COMMANDS)} commands. "
+            "Bids since the last close never count.", is_fault=False,
         )
 
 

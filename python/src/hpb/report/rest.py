@@ -39,8 +39,8 @@ def _told_of_bidders(report: Report, falling: Sequence[str]) -> Iterator[str]:
     if not report.closed:
         return
     yield (
-        f"In this stage a close wants an activity of {report.percentage} percent of the eligibility, rounded up: the activity needed. Who "
-        f"has less, and no waiver, falls to activity \N{MULTIPLICATION SIGN} 100 / {report.percentage}, rounded down."
+        f"In this stage a close wants an activity of {report.percentage} percent of the eligibility, rounded up: the activity needed. A "
+        f"bidder with less, and without a waiver, falls to activity \N{MULTIPLICATION SIGN} 100 / {report.percentage}, rounded down."
     )
     yield f"At a close now {counted(len(falling), 'bidder')} of {len(report.prospects)} would lose eligibility."
 

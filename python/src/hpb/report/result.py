@@ -15,8 +15,8 @@ from hpb.rules.tree import Tree
 
 _NONE = "\N{EN DASH}"
 _HOW_DRAWN: Final = {
-    "columns": "A package stands to the left of what it sells, and is as high.",
-    "outline": "What a package sells stands below it, set in.",
+    "columns": "A package stands to the left of its nodes, and is as high as they are together.",
+    "outline": "The nodes of a package stand below it, indented.",
 }
 
 
@@ -28,7 +28,7 @@ def tree_section(report: Report) -> Markup:
         names = f"tree {picture.kind}" if len(drawn) == 1 else f"tree {picture.kind} one-of-two"
         parts += [paragraph(_HOW_DRAWN[picture.kind], class_=names), *(element("div", part, class_=names) for part in picture.parts())]
     told = (
-        "What wins is green and has a check mark; nothing above or under a winner wins. Amounts are dollars, after the last close. Bids of "
+        "Winners are green and have a check mark. Nothing above or under a winner wins. Amounts are dollars, after the last close. Bids of "
         "the open round aren't shown."
     )
     return section("tree", "The tree", paragraph(told), *parts)
@@ -70,16 +70,16 @@ def certificate_section(report: Report) -> Markup:
     steps = [
         ("The winners' bids", "No winner lies in another one, and their bids together are the revenue:", equation(winners, revenue)),
         ("The licences' prices", "All of them together, in the order of the definition, are the revenue too:", equation(licences, revenue)),
-        ("The nodes' prices", "Each package's price is what the prices of its licences come to:", _package_sums(tree, nodes)),
+        ("The nodes' prices", "Each package's price is the sum of its licences' prices:", _package_sums(tree, nodes)),
         ("The high bids", "None is above its node's price:", _bids_and_prices(nodes)),
     ]
     told = (
-        "With the definition and the high bids anybody can check with pencil and paper that no other choice of these bids, each licence "
-        "sold once at most, brings more than the revenue. Four things have to hold."
+        "Anyone can check the result with pencil and paper, from the definition and the high bids: no other choice of these bids that "
+        "sells each licence at most once brings more than the revenue. For that, four things have to hold."
     )
     why = (
-        "So take any other choice of these bids. Each is at most its node's price, which is the price of the licences that it sells; none "
-        "of these is sold twice, and all licences' prices together are the revenue. What these sums don't show is that the high bids "
+        "So take any other choice of these bids. Each bid is at most its node's price, which is the sum of the prices of the licences that "
+        "it sells. No licence is sold twice, and all licences' prices together are the revenue. These sums don't show that the high bids "
         "are those of the bids that were made."
     )
     items = (element("li", element("h3", title), paragraph(text), shown) for title, text, shown in steps)
@@ -115,9 +115,10 @@ def found_again_section(report: Report) -> Markup:
             worth = (values.high[name], values.inside[name], values.value[name], surplus(tree, values, name), came[name])
             rows.append((name, *worth, listed([f"{child} {money(came[child])}" for child in tree.children[name]])))
     told = (
-        "This page found winners, prices and revenue once more from the high bids alone, by the rules. Inside a package is what its "
-        "children are worth together; it wins where its bid is more than that, and no package above it wins. What the bid exceeds it by "
-        "is its surplus. With what came from above it goes down to the children in equal parts, dollars that are left to the first ones."
+        "This page found winners, prices and revenue once more from the high bids alone, by the rules. The value inside a package is the "
+        "sum of its children's values. A package wins if its bid is more than that, and no package above it wins. The difference is its "
+        "surplus. The surplus, and the dollars that came from above, go down to the children in equal parts. Dollars that are left over "
+        "go to the first ones."
     )
     agree = f"Winners, revenue and the prices of {counted(len(tree.nodes), 'node')} are those that the program tells."
     found = "Not all is right: see the top of the page." if report.faults else agree
