@@ -24,10 +24,10 @@ WAS_SPOILED = (
 )
 UNNAMED = (
     "hpb: {0} was removed or replaced while it was served, but its file has another name, which `find / -inum {2}` finds: "
-    "what {1}, and is kept as long as that name stays. See that it gets its name again\n"
+    "commands that {1}, and are kept as long as that name stays. See that it gets its name again\n"
 )
 HEAD_PAGES = 3
-GOES_ON, IS_IN_IT = "is answered by OK goes on into it", "was answered by OK is in it"
+GOES_ON, IS_IN_IT = "get OK go on into it", "got OK are in it"
 # How many commands there are before a file is served, before it is changed, and after that. The last are more than a journal has
 # room for, with one in a batch.
 BEFORE, MEANWHILE, BEHIND = 3, 8, 80
