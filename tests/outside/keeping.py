@@ -22,7 +22,7 @@ class Kept:
             self._take(lines, count)
         # The slot of the newer checkpoint, and how many batches it covers.
         self.newest, self.covered = 0, 0
-        # Where the next batch goes. The frames of batches from the first unclean one to the last that is covered aren't clean.
+        # The number of the next batch. The frames of batches from the first unclean one to the last that is covered aren't clean.
         self.next, self.first_unclean, self.since_due = 0, 0, 0
 
     def _take(self, lines: Sequence[str], count: int) -> None:

@@ -22,7 +22,7 @@ def with_waivers(number: int) -> bytes:
 
 
 class Asked:
-    """An auction of a script, and what is known of it by the commands that it accepts. The script ends with `with`."""
+    """An auction of a script, and the same one worked out from the commands that it accepts. The script ends with `with`."""
 
     def __init__(self, program: Program, seed: str) -> None:
         self._dice, self._seconds = random.Random(seed), program.seconds
