@@ -1,4 +1,4 @@
-"""Files of auctions of any size: how they are made, run, served and shown, and what is known of them by hand."""
+"""Files of auctions of any size, which are made, run, served and shown. All answers are known by hand."""
 
 from __future__ import annotations
 

@@ -26,7 +26,7 @@ WAIVERS = definition().replace(b'"nodes"', b'"waivers":2,"nodes"', 1)
 
 
 def differ(some: bytes, others: bytes | bytearray) -> str:
-    """Where two texts of bytes differ first, or how long they are."""
+    """The first place at which two texts of bytes differ, or their lengths."""
     if len(some) != len(others):
         return f"{len(some)} and {len(others)} bytes"
     return next((f"at {place}" for place in range(len(some)) if some[place] != others[place]), "")
