@@ -86,7 +86,8 @@ class Disk:
         state = State()
         for entry in self.entries:
             state.take(entry)
-        return events.RecordOpened(state.count, state.used, state.foreign, tuple(self.beside.values()), self.place)
+        left = [Left(name, line, number) for number, (name, line) in sorted(state.open.items())]
+        return events.RecordOpened(state.count, state.used, state.foreign, (*left, *self.beside.values()), self.place)
 
     @property
     def place(self) -> Place:
