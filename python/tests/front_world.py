@@ -204,7 +204,9 @@ class World:
         if self.front is None:
             return
         self.watch.event(self, event)
-        self.front, done = step(self.front, event, self.clock)
+        before = self.front
+        self.front, done = step(before, event, self.clock)
+        self.watch.stepped(before, event, self.clock, (self.front, done))
         for effect in done:
             if self.source.random() < self.kill_chance:
                 self.kill()
@@ -380,6 +382,9 @@ class Watch:
 
     def event(self, world: World, event: Event) -> None:
         """Before it is taken."""
+
+    def stepped(self, before: Front, event: Event, clock: float, outcome: tuple[Front, list[Effect]]) -> None:
+        """Behind the step of an event, before any effect."""
 
     def effect(self, world: World, effect: Effect) -> None:
         """Before it is done."""
