@@ -86,7 +86,8 @@ class Disk:
         state = State()
         for entry in self.entries:
             state.take(entry)
-        return events.RecordOpened(state.count, state.used, state.foreign, tuple(self.beside.values()), self.place)
+        left = [Left(name, line, number) for number, (name, line) in sorted(state.open.items())]
+        return events.RecordOpened(state.count, state.used, state.foreign, (*left, *self.beside.values()), self.place)
 
     @property
     def place(self) -> Place:
@@ -203,7 +204,9 @@ class World:
         if self.front is None:
             return
         self.watch.event(self, event)
-        self.front, done = step(self.front, event, self.clock)
+        before = self.front
+        self.front, done = step(before, event, self.clock)
+        self.watch.stepped(before, event, self.clock, (self.front, done))
         for effect in done:
             if self.source.random() < self.kill_chance:
                 self.kill()
@@ -379,6 +382,9 @@ class Watch:
 
     def event(self, world: World, event: Event) -> None:
         """Before it is taken."""
+
+    def stepped(self, before: Front, event: Event, clock: float, outcome: tuple[Front, list[Effect]]) -> None:
+        """Behind the step of an event, before any effect."""
 
     def effect(self, world: World, effect: Effect) -> None:
         """Before it is done."""

@@ -1,10 +1,24 @@
 """Days of a front's core by seeds: whatever happens, each promise of docs/FRONT.md is kept (`front_promises`)."""
+from __future__ import annotations
+
+import ast
+import dataclasses
+import pathlib
+from collections.abc import Mapping
+
 import pytest
 
+import hpb.front.core
 from front_days import Day
+from front_promises import Promises
+from hpb.front.core import Front, effects, events, ledger, state, step
+from hpb.front.core.effects import Effect
+from hpb.front.core.events import Event
 
 ALL = "kills losses disks reloads jumps stops vanishing"
 SEEDS, MORE_SEEDS = 10, 100
+# Modules without a clock, a socket, a file, a thread or a task.
+PURE = {"collections", "dataclasses", "enum", "hpb", "re", "typing"}
 
 
 @pytest.mark.parametrize("faults", [*ALL.split(), "", "slow", "hangs", ALL, f"{ALL} slow", f"{ALL} hangs"])
@@ -18,3 +32,53 @@ def test_each_promise_is_kept_on_days_with_these_faults(faults: str) -> None:
 def test_each_promise_is_kept_on_many_days(faults: str) -> None:
     for seed in range(SEEDS, SEEDS + MORE_SEEDS):
         Day(seed, frozenset(faults.split())).run()
+
+
+class Values(Promises):
+    """Looks besides whether a step changes the value that it was given, and gives the same when it is taken again."""
+
+    def __init__(self) -> None:
+        super().__init__()
+        self.before: object = None
+        self.steps = 0
+
+    def stepped(self, before: Front, event: Event, clock: float, outcome: tuple[Front, list[Effect]]) -> None:
+        whole = parts(before)
+        assert step(before, event, clock) == outcome
+        assert parts(before) == whole and (self.before is None or whole == self.before or before.time == 0)
+        self.before = parts(outcome[0])
+        self.steps += 1
+
+
+def parts(value: object) -> object:
+    """All that a value is made of, in mappings of its own."""
+    if isinstance(value, Mapping):
+        return {key: parts(one) for key, one in value.items()}
+    if isinstance(value, tuple):
+        return [parts(one) for one in value]
+    is_value = dataclasses.is_dataclass(value) and type(value).__module__.startswith("hpb.front.core")
+    return {field.name: parts(getattr(value, field.name)) for field in dataclasses.fields(value)} if is_value else value
+
+
+def test_a_step_changes_no_value_and_gives_the_same_each_time() -> None:
+    day = Day(1, frozenset(ALL.split()))
+    day.world.watch = day.promises = watch = Values()
+    day.run(300)
+    assert watch.steps > 300
+
+
+@pytest.mark.parametrize("module", [events, effects, state, ledger])
+def test_events_effects_and_states_are_frozen(module: object) -> None:
+    kinds = [kind for kind in vars(module).values() if dataclasses.is_dataclass(kind)]
+    assert kinds and all(kind.__dataclass_params__.frozen for kind in kinds)
+
+
+def test_the_core_imports_nothing_that_has_input_or_output() -> None:
+    imported = set()
+    for path in pathlib.Path(hpb.front.core.__file__).parent.glob("*.py"):
+        for node in ast.walk(ast.parse(path.read_text())):
+            if isinstance(node, ast.Import):
+                imported |= {alias.name.split(".")[0] for alias in node.names}
+            elif isinstance(node, ast.ImportFrom):
+                imported.add(str(node.module).split(".")[0])
+    assert imported <= PURE

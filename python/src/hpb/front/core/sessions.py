@@ -14,8 +14,6 @@ from hpb.front.rights import is_command, refused
 from hpb.record.entries import OK, text_of
 
 OVER = b" CLOSED "
-# The fields of a session that is free.
-IDLE = {name: getattr(Session(), name) for name in ("stage", "purpose", "line", "name", "item", "beside", "answer", "entry")}
 # The phases in which lines of names go to the server.
 SERVES = (Phase.OPEN, Phase.ANSWERING)
 
@@ -34,7 +32,7 @@ def tell(step: Step, place: int, line: bytes, purpose: For) -> None:
 
 def free(step: Step, place: int) -> None:
     """A session has nothing to do any more."""
-    step.set_session(place, **IDLE)
+    step.put_session(place, Session(step.front.sessions[place].turns))
 
 
 def go_on(step: Step, places: Iterable[int]) -> None:

@@ -51,9 +51,12 @@ class Step:
 
     def set_session(self, place: int, **fields: Any) -> Session:
         """Changes a session."""
+        return self.put_session(place, changed(self.front.sessions[place], **fields))
+
+    def put_session(self, place: int, session: Session) -> Session:
+        """Puts a session in the place of what it was."""
         sessions = self.front.sessions
         self.touched.add(place)
-        session = changed(sessions[place], **fields)
         self.set(sessions=(*sessions[:place], session, *sessions[place + 1 :]))
         return session
 

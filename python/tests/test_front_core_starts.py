@@ -1,0 +1,171 @@
+"""How a front's core starts: what it finds in the file and the record, and when it doesn't let anybody in."""
+from __future__ import annotations
+
+import random
+
+import pytest
+
+from front_world import ROLES, Server, Watch, World
+from hpb.front.core import effects, events
+from hpb.front.core.events import Left
+from hpb.front.core.ledger import Foreign, Held, Ledger
+from hpb.record import Entry
+from hpb.rules import begin, read_definition
+from serving import DEFINITION
+
+ACCEPTED: list[Entry] = [{"kind": "accepted", "name": "ann", "line": "BID x 1 a 100", "answer": "OK 1"}]
+
+
+def world_of(file: list[str], entries: list[Entry], *left: Left) -> World:
+    """A world whose file and record have these commands, and these beside."""
+    world = World(random.Random(1), Watch())
+    for line in file:
+        world.server.judge(line.encode())
+    assert world.server.file == file
+    world.disk.entries = [{"entry": number, **entry} for number, entry in enumerate(entries, 1)]
+    world.disk.beside = dict(enumerate(left))
+    return world
+
+
+def started(world: World, moves: int = 2000) -> World:
+    """Once it lets anybody in, or has ended."""
+    world.start()
+    for _ in range(moves):
+        if world.is_admitting or world.front is None:
+            return world
+        for move in (world.move_server, world.move_disk, world.move_board):
+            move()
+    raise AssertionError("it neither lets anybody in nor ends")
+
+
+def entries(world: World) -> list[tuple[str, str]]:
+    """Kind and line of each entry behind those that were there."""
+    return [(entry["kind"], entry.get("line", "")) for entry in world.disk.entries if entry["kind"] != "started"]
+
+
+def test_a_command_that_the_file_has_and_the_record_has_not_is_put_there() -> None:
+    world = started(world_of(["BID x 1 a 100", "BID y 1 b 150"], ACCEPTED, Left("bob", b"BID y 1 b 150"), Left("ann", b"BID x 1 a 100")))
+    assert world.disk.accepted() == [("BID x 1 a 100", "OK 1"), ("BID y 1 b 150", "OK 2")]
+    assert world.disk.beside == {} and world.ends == []
+    assert world.said == ["1 commands that the last front told the server, and that the file has, were put into the record"]
+
+
+def test_commands_are_found_in_the_order_of_their_numbers() -> None:
+    file = ["BID z 1 all 500", "BID w 1 c 100", "CLOSE 1"]
+    left = [Left("carl", b"BID w 1 c 100"), Left("desk", b"CLOSE 1"), Left("bob", b"BID z 1 all 500"), Left("ann", b"BID x 1 a 100")]
+    world = started(world_of(file, [], *left))
+    assert entries(world) == [("lapsed", "BID x 1 a 100"), *(("accepted", line) for line in file)]
+    assert world.server.file == file
+
+
+@pytest.mark.parametrize(
+    ("file", "words"),
+    [
+        (["BID x 1 a 100", "BID y 1 b 150"], "the file has 1 commands of y, and the record has 0: the record is an older one"),
+        ([], "the file has lost commands: 1 were accepted, and it shows 'ROUND 1"),
+    ],
+)
+def test_a_file_and_a_record_that_dont_go_together_let_nobody_in_and_nothing_is_written(file: list[str], words: str) -> None:
+    world = started(world_of(file, ACCEPTED))
+    assert world.ends[0].startswith(words), world.ends
+    assert [entry["kind"] for entry in world.disk.entries] == ["accepted"] and world.disk.writes == []
+
+
+def test_a_left_line_of_the_first_form_gets_the_entry_that_answers_it() -> None:
+    """The file has another command under its ticket: what the line was answered is known, and it is in no file."""
+    asked: Entry = {"kind": "asked", "name": "ann", "line": "BID x 1 b 100"}
+    world = started(world_of(["BID x 1 a 100"], [*ACCEPTED, asked]))
+    answered = [entry for entry in world.disk.entries if entry["kind"] == "answered"]
+    assert [(entry["line"], entry["asked"], entry["answer"][:3]) for entry in answered] == [("BID x 1 b 100", 2, "ERR")]
+
+
+def running() -> World:
+    """One that lets clients in, behind one command."""
+    return started(world_of(["BID x 1 a 100"], ACCEPTED))
+
+
+def back(world: World) -> World:
+    """Its server was lost, and comes again."""
+    world.lose_server()
+    for _ in range(3):
+        world.move_server()
+    return world
+
+
+def test_a_server_that_comes_again_with_a_stranger_s_command_ends_the_front() -> None:
+    world = running()
+    world.lose_server()
+    world.server.judge(b"BID y 1 b 150")
+    for _ in range(2):
+        world.move_server()
+    assert world.ends[0].startswith("the file has 2 commands, and the record explains 1 at most: it was told commands by another way")
+
+
+def test_a_server_that_comes_again_with_an_older_file_ends_the_front() -> None:
+    world = running()
+    world.lose_server()
+    world.server = Server(begin(read_definition(DEFINITION)), state="lost")
+    for _ in range(2):
+        world.move_server()
+    assert world.ends[0].startswith("the file has lost commands: 1 were accepted, and it shows")
+
+
+def test_a_server_that_comes_again_as_it_was_goes_on() -> None:
+    world = back(running())
+    assert world.ends == [] and world.server.state == "up"
+    assert "the server is gone (signal 9); it is started again" in world.said
+
+
+def test_a_server_that_never_comes_ends_the_front_with_its_words() -> None:
+    world = world_of([], [])
+    world.start()
+    for _ in range(40):
+        if world.server.state == "starting":
+            world.server.state = "down"
+            world.post(events.ServerFailed("the server doesn't come up: ERR 91 device", False))
+        world.pass_time(2.0)
+    assert world.ends == ["the server doesn't come up: ERR 91 device"]
+    assert world.said == ["the server doesn't come up: ERR 91 device; it is tried again"]
+
+
+@pytest.mark.parametrize("moves", range(0, 30, 3))
+def test_a_stop_before_anybody_is_let_in_ends_at_once_and_says_so(moves: int) -> None:
+    world = world_of([], [], *(Left(name, b"BID x 1 a 100") for name in ROLES))
+    world.start()
+    for _ in range(moves):
+        world.move_server()
+        world.move_disk()
+    assert not world.is_admitting
+    world.post(events.Stop())
+    assert world.ends == [""] and world.said[-1] == "it was told to stop before clients were let in"
+
+
+# The ledger.
+
+
+def held(ledger: Ledger, number: int, sent: int) -> Ledger:
+    return ledger.hold(number, Held(sent, "ann", b"BID x 1 a 100", session=0))
+
+
+def test_a_number_waits_for_smaller_ones_that_may_still_come() -> None:
+    first, one = Ledger().took_place()
+    second, other = first.took_place()
+    told = second.tell(one).tell(other)
+    assert (one, other, told.explained()) == (0, 1, (0, 2))
+    waiting = held(told.judged(other), 2, 2)
+    assert waiting.next() is None and waiting.explained() == (2, 2)
+    both = held(waiting.judged(one), 1, 2)
+    found = both.next()
+    assert isinstance(found, Held) and found.entry(1) == effects.Write(
+        "accepted", {"name": "ann", "line": "BID x 1 a 100", "answer": "OK 1"}
+    )
+    assert isinstance(both.accept().next(), Held) and both.accept().accept().next() is None
+
+
+def test_a_number_that_is_nobody_s_is_foreign() -> None:
+    """Once every command that was told before it is answered otherwise."""
+    ledger, one = Ledger(count=2).took_place()
+    told = ledger.tell(one)
+    waiting = held(told, 5, 1)
+    assert waiting.next() is None
+    assert waiting.judged(one).next() == Foreign(3, 4)
