@@ -15,7 +15,8 @@ import sys
 import tempfile
 from statistics import median
 
-from front_trial import Front
+from fronts import Front
+from harness.programs import Program
 from servers import Fails, Load, add_options, seconds_used
 
 FASTEST = {"lines_per_second": 1_000_000}
@@ -34,18 +35,18 @@ def of_front(load, sessions):
     """The figures of the front. `cost` is how many microseconds of the processor it uses for a command."""
     file = pathlib.Path(load.new_file())
     names = names_of(sessions, load.given.bidders)
-    front = Front(load.given.program, file.parent, names, limits=FASTEST, file=file.name).start()
+    program = Program(pathlib.Path(load.given.program).resolve())
+    front = Front(program, file.parent, names, limits=FASTEST, fields={"file": file.name}).start()
     try:
         before = seconds_used(front.process)
         figures = load.measure("front", front.port, sessions)
         used = seconds_used(front.process) - before
-        written, said, status = front.stop()
-        if status != 0:
-            raise Fails(f"the front ended with {status}: {said}")
-        figures.cost = used / int(written.split("STOPPED ")[1].split()[0]) * 1e6
+        ran = front.stop()
+        if ran.status != 0:
+            raise Fails(f"the front ended with {ran.status}: {ran.errors}")
+        figures.cost = used / int(ran.output.split("STOPPED ")[1].split()[0]) * 1e6
     finally:
-        if front.process.poll() is None:
-            front.kill()
+        front.kill()
     return figures
 
 

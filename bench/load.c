@@ -236,7 +236,7 @@ static void await_ready(struct session *session) {
     session->read = 0;
 }
 
-/* A front learns each session's name from a token, as tests/tools/front_trial.py makes them. */
+/* A front learns each session's name from a token, as tests/fronts.py makes them. */
 static void begin_front(struct session *session) {
     char text[LINE];
     send_all(session, text, (size_t)snprintf(text, sizeof text, "TOKEN token-of-s%d-in-a-trial\n", (int)(session - sessions)));

@@ -16,14 +16,16 @@ from contextlib import AbstractContextManager, ExitStack, suppress
 from pathlib import Path
 from typing import TypeVar
 
+import fronts
 import pytest
+from boards import Tools
 
 from harness import building
 from harness.auctions import Layout
 from harness.conditions import NORMAL, Conditions
 from harness.disks import SOURCE, CutDisk, mounted_disk
 from harness.file_systems import FileSystem, Lacking
-from harness.fronts import Configured, Front, LetIn, with_package
+from harness.fronts import with_package
 from harness.namespaces import Network, leave_mounts, new_network
 from harness.programs import Program, Stream
 from harness.serving import Serve, Server
@@ -31,6 +33,7 @@ from harness.users import User
 
 TOP = Path(__file__).resolve().parents[1]
 BUILT = TOP / "crates" / "hpb" / "out" / "hpb"
+MEMORY = Path("/dev/shm")
 REACHABLE = 0o711
 PROGRAMS = pytest.StashKey[list[Path]]()
 
@@ -125,6 +128,13 @@ def room(place: Path) -> Iterator[Path]:
     shutil.rmtree(made, ignore_errors=True)
 
 
+@pytest.fixture
+def memory() -> Iterator[Path]:
+    """A folder of this test in memory: a sync of it takes no time."""
+    with tempfile.TemporaryDirectory(dir=MEMORY if os.access(MEMORY, os.W_OK) else None) as folder:
+        yield Path(folder)
+
+
 @pytest.fixture(scope="session")
 def program(built: Path, place: Path, request: pytest.FixtureRequest) -> Program:
     """The program under test: a copy that every user may run, made once in a run."""
@@ -176,21 +186,18 @@ def serve(program: Program, cleanup: ExitStack) -> Serve:
 
 
 @pytest.fixture
-def configured(program: Program, file: Path, room: Path) -> Configured:
-    """The configuration of a front for `file`, not written yet: an auctioneer desk, ann with x, bob with y and z, carl with w, and an
-    observer public. The record is `R` beside the file."""
-    names = {"desk": "auctioneer", "ann": ["x"], "bob": ["y", "z"], "carl": ["w"], "public": "observer"}
-    return Configured(room, program, file, room / "R", names)
+def front(program: Program, room: Path) -> Iterator[fronts.Front]:
+    """A front of a new auction of the first example, which isn't started: `front.start()`. It is killed with the test."""
+    made = fronts.Front(program, room)
+    program.keep(made.file)
+    yield made
+    made.kill()
 
 
 @pytest.fixture
-def let_in(cleanup: ExitStack) -> LetIn:
-    """Starts a front: `let_in(configured.write())`. It is killed with the test."""
-
-    def lets_in(configured: Configured, *words: str, conditions: Conditions = NORMAL) -> Front:
-        return cleanup.enter_context(Front(configured, *words, conditions=conditions))
-
-    return lets_in
+def tools(cleanup: ExitStack, room: Path) -> Tools:
+    """Starts boards and watches of the first example's auction, with a waiver for each bidder. They are killed with the test."""
+    return Tools(cleanup, room)
 
 
 @pytest.fixture(scope="session")

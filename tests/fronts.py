@@ -6,24 +6,27 @@ Libraries loaded before a front aren't loaded before its server, which is starte
 from __future__ import annotations
 
 import base64
-import contextlib
 import http.client
 import json
 import os
 import signal
 import socket
 import ssl
+import struct
 import subprocess
 import tempfile
 import time
-from collections.abc import Iterator, Mapping
+from collections.abc import Mapping
 from dataclasses import dataclass, field
 from pathlib import Path
+from types import TracebackType
 
 from harness.conditions import NORMAL, Conditions
-from harness.fronts import tool_words, with_package
+from harness.fronts import children_of, descendants_of, is_running, tool_words, with_package, words_of
 from harness.programs import Program, Ran, shown
-from harness.serving import Client, Ended, read_line
+from harness.serving import Client, Ended, read_line, wait_until
+
+from hpb.record import Entry, read_record
 
 ADDRESS = "127.0.0.1"
 # How many seconds anything quick may take on a busy machine.
@@ -56,6 +59,7 @@ class Front:
     names: Mapping[str, object] = field(default_factory=lambda: NAMES)
     limits: Mapping[str, int] = field(default_factory=dict)
     fields: Mapping[str, object] = field(default_factory=dict)
+    tables: Mapping[str, Mapping[str, object]] = field(default_factory=dict)
     has_board: bool = False
     context: ssl.SSLContext | None = None
 
@@ -64,18 +68,16 @@ class Front:
         self.said = tempfile.TemporaryFile()
         self.port = self.board_port = 0
         self.write_tokens({name: token_of(name) for name in self.names})
-        script = self.folder / "P"
-        script.write_text(f'#!/bin/sh\nunset LD_PRELOAD PYTHONMALLOC\nexec {self.program.path} "$@"\n')
-        script.chmod(0o755)
+        script(self.folder / "P", f'unset LD_PRELOAD PYTHONMALLOC\nexec {self.program.path} "$@"')
         self.write_config()
 
     @property
     def file(self) -> Path:
-        return self.folder / "F"
+        return self.folder / str(self.fields.get("file", "F"))
 
     @property
     def record(self) -> Path:
-        return self.folder / "R"
+        return self.folder / str(self.fields.get("record", "R"))
 
     @property
     def tokens(self) -> Path:
@@ -99,7 +101,14 @@ class Front:
         tables: dict[str, Mapping[str, object]] = {"names": self.names, "limits": self.limits}
         if self.has_board:
             tables["board"] = {"listen": f"{ADDRESS}:0"}
-        self.config.write_text(toml({**fields, **self.fields, **more}, tables))
+        self.config.write_text(toml({**fields, **self.fields, **more}, {**tables, **self.tables}))
+
+    def configure(self, limits: Mapping[str, int] | None = None, **fields: object) -> Front:
+        """Writes the configuration with these limits, and with these fields in the place of others."""
+        self.limits = self.limits if limits is None else limits
+        self.fields = {**self.fields, **fields}
+        self.write_config()
+        return self
 
     def words(self, *words: str) -> list[str]:
         return [*tool_words("front"), "--config", str(self.config), *words]
@@ -123,14 +132,19 @@ class Front:
         return self.process
 
     def start(self, *words: str, conditions: Conditions = NORMAL, descriptors: tuple[int, ...] = ()) -> Front:
-        """Starts it, and returns once it listens. If it ends before that, or takes too long, StartsNot is raised."""
-        process = self.begin(*words, conditions=conditions, descriptors=descriptors)
-        first = read_line(process, SECONDS)
+        """Starts it, and returns once it listens. If it ends before that, StartsNot is raised; if it takes too long, AssertionError."""
+        self.begin(*words, conditions=conditions, descriptors=descriptors)
+        return self.listens()
+
+    def listens(self) -> Front:
+        """Returns once a front that was begun listens, or raises the same."""
+        assert self.process
+        first = read_line(self.process, SECONDS)
         if not first.startswith("LISTENING "):
             raise StartsNot(self.ended())
         self.port = int(first.split()[2])
         if self.has_board:
-            self.board_port = int(read_line(process, SECONDS).removesuffix("/").rsplit(":", 1)[1])
+            self.board_port = int(read_line(self.process, SECONDS).removesuffix("/").rsplit(":", 1)[1])
         return self
 
     def run(self, *words: str, conditions: Conditions = NORMAL) -> Ran:
@@ -163,9 +177,18 @@ class Front:
         return Ran(shown(written), self.words_said(), self.process.returncode, time.monotonic() - began)
 
     def kill(self) -> None:
+        """Ends it by SIGKILL if it runs, and waits until all that it has started has ended, too."""
         if self.process and self.process.poll() is None:
+            left = descendants_of(self.process.pid)
             self.process.kill()
             self.process.communicate()
+            wait_until(lambda: not any(map(is_running, left)), SECONDS, f"of the processes {left} some outlive their front")
+
+    def __enter__(self) -> Front:
+        return self
+
+    def __exit__(self, kind: type[BaseException] | None, fault: BaseException | None, trace: TracebackType | None) -> None:
+        self.kill()
 
     def words_said(self) -> str:
         """Its messages on standard error since it was started."""
@@ -181,12 +204,8 @@ class Front:
     def child(self, word: str) -> int:
         """Its child process with a word that ends like this, such as `serve`; 0 if there is none."""
         assert self.process
-        for number in children(self.process.pid):
-            with contextlib.suppress(OSError):
-                words = Path(f"/proc/{number}/cmdline").read_bytes().split(b"\0")
-                if any(known.endswith(word.encode()) for known in words[:4]):
-                    return number
-        return 0
+        known = ((number, words_of(number)[:4]) for number in children_of(self.process.pid))
+        return next((number for number, words in known if any(one.endswith(word.encode()) for one in words)), 0)
 
     def client(self, name: str | None = None, seconds: float = SECONDS, token: str | None = None) -> Client:
         """A connection; with a name, one that was welcomed. If it was ended before that, `Ended` is raised."""
@@ -210,15 +229,48 @@ class Front:
         finally:
             connection.close()
 
+    def entries(self, *kinds: str) -> list[Entry]:
+        """The record's entries of these kinds."""
+        return [entry for entry in read_record(self.record)[0] if entry["kind"] in kinds]
+
+    def accepted(self) -> list[tuple[str, str]]:
+        """The record's commands, with their answers."""
+        return [(entry["line"], entry["answer"]) for entry in self.entries("accepted")]
+
+    def ask(self, name: str, line: str) -> str:
+        """What a line of a name is answered, on a connection of its own."""
+        caller = Caller(self, name)
+        answer = caller.ask(line)
+        caller.hang_up()
+        return answer
+
     def log_lines(self, *kinds: str) -> list[dict[str, object]]:
         """The log's lines of these kinds, or all of them."""
         lines = [json.loads(line) for line in self.log.read_text().splitlines()]
         return [line for line in lines if not kinds or line["kind"] in kinds]
 
 
-def children(process: int) -> Iterator[int]:
-    with contextlib.suppress(OSError):
-        yield from map(int, Path(f"/proc/{process}/task/{process}/children").read_text().split())
+def rest_of(client: Client) -> list[str]:
+    """The lines that still come, until the connection ends or breaks."""
+    lines = []
+    try:
+        while True:
+            lines.append(client.line())
+    except (Ended, ConnectionError):
+        return lines
+
+
+def break_off(client: Client) -> None:
+    """Resets a connection."""
+    client.socket.setsockopt(socket.SOL_SOCKET, socket.SO_LINGER, struct.pack("ii", 1, 0))
+    client.close()
+
+
+def script(path: Path, text: str) -> Path:
+    """A script of the shell, that may be run."""
+    path.write_text(f"#!/bin/sh\n{text}\n")
+    path.chmod(0o755)
+    return path
 
 
 def toml(fields: Mapping[str, object], tables: Mapping[str, Mapping[str, object]]) -> str:
@@ -238,6 +290,8 @@ class Caller:
     name: str
     seconds: float = SECONDS
     client: Client | None = None
+    # How many it has made.
+    connections: int = 0
 
     def ask(self, line: str) -> str:
         """The answer. If there is none within this caller's time, TimeoutError is raised."""
@@ -246,6 +300,7 @@ class Caller:
             try:
                 if self.client is None:
                     self.client = self.front.client(self.name, seconds=self.seconds)
+                    self.connections += 1
                 return self.client.ask(line)
             except (OSError, Ended):
                 self.hang_up()

@@ -11,7 +11,6 @@ from pathlib import Path
 import pytest
 from fronts import Front, token_of
 from harness.fronts import with_package
-from harness.programs import Program
 from harness.serving import wait_until
 from harness.users import User
 from test_front_tokens import id_of, refused, tokens
@@ -26,14 +25,6 @@ AT_ONCE = 8
 
 
 @pytest.fixture
-def front(program: Program, room: Path) -> Front:
-    """A front of a new auction, not started yet."""
-    made = Front(program, room)
-    assert program.format(made.file).status == 0
-    return made
-
-
-@pytest.fixture
 def file(room: Path) -> TokenFile:
     """A file of two names, with a token each."""
     path = room / "T"
@@ -44,6 +35,11 @@ def file(room: Path) -> TokenFile:
 
 def lines(file: TokenFile) -> list[str]:
     return Path(file.path).read_text().splitlines()
+
+
+def is_written(new: Path) -> bool:
+    """Whether a change has its lock, and has written the file that it will rename."""
+    return new.exists() and b"sha256" in new.read_bytes()
 
 
 def test_no_change_is_lost_that_is_made_beside_another(front: Front) -> None:
@@ -66,7 +62,7 @@ def test_a_change_that_was_killed_hinders_none(front: Front) -> None:
     (slow / "sitecustomize.py").write_text("import os, time\nos.replace = lambda *_: time.sleep(1000)\n")
     words = front.words("tokens", "add", "ann")
     with subprocess.Popen(words, env=with_package({**os.environ, "PYTHONPATH": str(slow)})) as killed:
-        wait_until(lambda: (front.folder / "T.new").exists() and b"sha256" in (front.folder / "T.new").read_bytes(), 30, "a change")
+        wait_until(lambda: is_written(front.folder / "T.new"), 30, "a change")
         killed.kill()
     assert (front.folder / "T.new").exists()
     [[name, id, _]] = tokens(front, "add", "ann")
@@ -123,7 +119,7 @@ def test_a_change_that_is_stopped_is_told_to_the_next(front: Front) -> None:
     slow.mkdir()
     (slow / "sitecustomize.py").write_text("import os, time\nos.replace = lambda *_: time.sleep(1000)\n")
     with subprocess.Popen(front.words("tokens", "add", "ann"), env=with_package({**os.environ, "PYTHONPATH": str(slow)})) as stopped:
-        wait_until(lambda: (front.folder / "T.new").exists(), 30, "a change")
+        wait_until(lambda: is_written(front.folder / "T.new"), 30, "a change")
         stopped.send_signal(signal.SIGSTOP)
         said = refused(front, "revoke", id_of(token_of("ann")))
         stopped.kill()

@@ -4,23 +4,11 @@ from __future__ import annotations
 
 import os
 import signal
-from collections.abc import Iterator
-from pathlib import Path
 
 import pytest
 from fronts import Caller, Front
-from harness.programs import Program
 
 DOCUMENT = "see what it said before this, and docs/OPERATIONS.md"
-
-
-@pytest.fixture
-def front(program: Program, room: Path) -> Iterator[Front]:
-    """A front of a new auction, not started yet."""
-    made = Front(program, room)
-    assert program.format(made.file).status == 0
-    yield made
-    made.kill()
 
 
 def behind(front: Front, *lines: str) -> None:

@@ -6,12 +6,10 @@ import errno
 import json
 import os
 import signal
-from collections.abc import Iterator
 from pathlib import Path
 
 import pytest
 from fronts import Front
-from harness.programs import Program
 from harness.users import User
 
 from hpb.front.config import Config
@@ -234,15 +232,6 @@ def test_a_line_that_standard_error_took_in_part_is_ended(monkeypatch: pytest.Mo
 
 
 # With a front.
-
-
-@pytest.fixture
-def front(program: Program, room: Path) -> Iterator[Front]:
-    """A front of a new auction, not started yet."""
-    made = Front(program, room)
-    assert program.format(made.file).status == 0
-    yield made
-    made.kill()
 
 
 def test_a_log_that_would_be_moved_over_the_auction_is_refused(front: Front) -> None:

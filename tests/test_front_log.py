@@ -8,25 +8,12 @@ import signal
 import socket
 import ssl
 import time
-from collections.abc import Iterator
-from pathlib import Path
 
-import pytest
 from fronts import ADDRESS, Caller, Front, make_certificate, token_of
-from harness.programs import Program
 from harness.serving import wait_until
 from test_front_tokens import id_of
 
 SECRET = "a-token-that-nobody-has-0123"
-
-
-@pytest.fixture
-def front(program: Program, room: Path) -> Iterator[Front]:
-    """A front of a new auction, not started yet."""
-    made = Front(program, room)
-    assert program.format(made.file).status == 0
-    yield made
-    made.kill()
 
 
 def peer_of(connection: socket.socket) -> str:

@@ -11,14 +11,12 @@ import subprocess
 import sys
 from collections.abc import Iterator
 from contextlib import ExitStack
-from pathlib import Path
 
 import pytest
 from fronts import ADDRESS, Caller, Front, StartsNot, listening_socket, token_of
 from harness.auctions import text_of
 from harness.conditions import Conditions
 from harness.namespaces import Network
-from harness.programs import Program
 from harness.serving import Server, free_port, wait_until
 from harness.users import User
 
@@ -58,15 +56,6 @@ for turn in itertools.count():
         if (answer := tried(port)).startswith(b"OK "):
             print(port, answer.decode().strip(), flush=True)
 """
-
-
-@pytest.fixture
-def front(program: Program, room: Path, cleanup: ExitStack) -> Iterator[Front]:
-    """A front of a new auction, not started yet."""
-    made = Front(program, room)
-    assert program.format(made.file).status == 0
-    yield made
-    made.kill()
 
 
 @pytest.fixture

@@ -8,7 +8,6 @@ import signal
 import ssl
 import subprocess
 import time
-from collections.abc import Iterator
 from contextlib import ExitStack
 from pathlib import Path
 
@@ -17,22 +16,12 @@ from cryptography import x509
 from cryptography.hazmat.primitives import hashes, serialization
 from cryptography.hazmat.primitives.asymmetric import rsa
 from cryptography.x509.oid import NameOID
-from fronts import Caller, Front, make_certificate, token_of
+from fronts import Caller, Front, make_certificate, rest_of, token_of
 from harness.conditions import Conditions
-from harness.programs import Program
-from harness.serving import Client, Ended, wait_until
+from harness.serving import wait_until
 
 READ_AGAIN = "tokens, certificate and limits were read again"
 REFUSED = "the old tokens, certificate and limits stay in force"
-
-
-@pytest.fixture
-def front(program: Program, room: Path) -> Iterator[Front]:
-    """A front of a new auction, not started yet."""
-    made = Front(program, room)
-    assert program.format(made.file).status == 0
-    yield made
-    made.kill()
 
 
 def reload(front: Front, words: str = READ_AGAIN) -> None:
@@ -55,16 +44,6 @@ def refused(front: Front, *words: str) -> str:
     return ran.stderr
 
 
-def ended(client: Client) -> list[str]:
-    """The lines that still come, until the connection ends."""
-    lines = []
-    try:
-        while True:
-            lines.append(client.line())
-    except (Ended, ConnectionError):
-        return lines
-
-
 def test_a_token_is_added_and_revoked_while_the_front_runs(front: Front) -> None:
     front.start()
     old = front.client("ann")
@@ -80,7 +59,7 @@ def test_a_token_is_added_and_revoked_while_the_front_runs(front: Front) -> None
     assert tokens(front, "revoke", first) == [["ann", first]]
     assert old.ask("SHOW").endswith(" COUNT 1"), "a token is good until the front is told"
     reload(front)
-    assert ended(old) == ["ERR front token"]
+    assert rest_of(old) == ["ERR front token"]
     assert new.ask("SHOW").endswith(" COUNT 1"), "another token of the same name stays"
     assert said_to(front, token_of("ann")) == "ERR front token"
     assert front.stop().status == 0
@@ -116,7 +95,7 @@ def test_the_last_token_of_a_name_may_be_revoked(front: Front) -> None:
     tokens(front, "revoke", id_of(token_of("carl")))
     assert "carl -" in front.tokens.read_text().splitlines()
     reload(front)
-    assert ended(carl) == ["ERR front token"]
+    assert rest_of(carl) == ["ERR front token"]
     [[_, _, token]] = tokens(front, "add", "carl")
     assert "carl -" not in front.tokens.read_text().splitlines()
     reload(front)
@@ -140,7 +119,7 @@ def test_lines_that_wait_when_a_token_goes_are_not_told(front: Front) -> None:
     front.write_tokens({name: token_of(name) for name in front.names if name != "ann"} | {"ann": "-"})
     reload(front)
     os.kill(front.child("serve"), signal.SIGCONT)
-    assert "ERR front token" in ended(ann)
+    assert "ERR front token" in rest_of(ann)
     desk = Caller(front, "desk")
     wait_until(lambda: desk.ask("WHO x") == "WHO x ELIGIBILITY 10 ACTIVITY 10 TICKET 1", 20, "the bid that was told")
     assert front.stop().status == 0
@@ -187,7 +166,7 @@ def test_limits_are_read_again(front: Front) -> None:
     front.write_config()
     reload(front)
     second = front.client("ann")
-    assert ended(first) == ["ERR front many"]
+    assert rest_of(first) == ["ERR front many"]
     assert second.ask("SHOW").startswith("ROUND 1 ")
 
 

@@ -5,13 +5,14 @@ from __future__ import annotations
 import os
 import resource
 import socket
+from collections.abc import Iterator
 from pathlib import Path
 
 import pytest
-
+from fronts import Front
 from harness.auctions import Layout, commands, text_of
 from harness.conditions import Conditions
-from harness.fronts import Configured, LetIn, is_running, run_tool
+from harness.fronts import is_running, run_tool
 from harness.namespaces import Network
 from harness.ports import listening
 from harness.programs import Program, TookTooLong
@@ -85,22 +86,26 @@ def test_each_file_system_keeps_an_auction(program: Program, mounted: Path, layo
     assert program.count(mounted / "F") == 5
 
 
-def test_a_front_lets_its_names_in(configured: Configured, let_in: LetIn) -> None:
-    front = let_in(configured.write())
+@pytest.fixture
+def front(program: Program, file: Path, room: Path) -> Iterator[Front]:
+    """A front of a file of each layout."""
+    with Front(program, room, fields={"file": str(file)}) as made:
+        yield made.start()
+
+
+def test_a_front_lets_its_names_in(front: Front) -> None:
     with front.client("ann") as ann, front.client("bob") as bob:
         assert ann.ask("BID x 1 a 100") == "OK 1"
         assert bob.ask("BID x 2 a 110").startswith("ERR ")
         assert bob.ask("BID y 1 b 150") == "OK 2"
-    assert front.server() is not None
+    assert front.child("serve")
     ran = front.stop()
     assert ran.status == 0 and ran.output.startswith("STOPPED 2 "), ran
-    words = (configured.record, "--file", configured.file, "--program", configured.program.path)
-    assert run_tool("replay", *words).status == 0
+    assert run_tool("replay", front.record, "--file", front.file, "--program", front.program.path).status == 0
 
 
-def test_a_front_that_is_killed_leaves_no_server(configured: Configured, let_in: LetIn) -> None:
-    front = let_in(configured.write())
-    server = front.server()
-    assert server is not None
+def test_a_front_that_is_killed_leaves_no_server(front: Front) -> None:
+    server = front.child("serve")
+    assert server
     front.kill()
     assert not is_running(server)

@@ -6,12 +6,12 @@ from __future__ import annotations
 
 import random
 from contextlib import ExitStack
-from pathlib import Path
 
 from cuts.bidders import AHEAD, BIDDERS, BIDS, cutting, hold, new_bidders
 from cuts.setting import Setting, new_file
+from fronts import Front
 from harness.bidding import Bidder, attend_all, bidders_definition
-from harness.fronts import Configured, Front, NotLetting, run_tool
+from harness.fronts import run_tool
 
 CUTS = 4
 LIMITS = {"lines_per_second": 100_000}
@@ -24,18 +24,18 @@ def story(setting: Setting, seed: int) -> None:
     setting.disk.reset(setting.lie)
     setting.disk.put(setting.file.name, data)
     bidders = new_bidders()
-    configured = configuration(setting, bidders)
+    front = configured(setting, bidders)
     for _ in range(CUTS):
-        let_in_until_cut(configured, setting, dice, bidders)
+        let_in_until_cut(front, setting, dice, bidders)
         hold(setting.program, setting.file, bidders, setting.leave(dice))
-    agree(configured, bidders)
+    agree(front, bidders)
 
 
-def configuration(setting: Setting, bidders: list[Bidder]) -> Configured:
-    """A configuration with a name for each bidder. File and record are on the disk, but the tokens aren't."""
-    names: dict[str, str | list[str]] = {name_of(bidder): [bidder.name] for bidder in bidders}
-    names["desk"] = "auctioneer"
-    return Configured(setting.beside, setting.program, setting.file, record(setting), names, LIMITS).write()
+def configured(setting: Setting, bidders: list[Bidder]) -> Front:
+    """A front with a name for each bidder. File and record are on the disk, but the tokens aren't."""
+    names: dict[str, object] = {name_of(bidder): [bidder.name] for bidder in bidders}
+    places = {"file": str(setting.file), "record": str(setting.disk.folder / "R")}
+    return Front(setting.program, setting.beside, {**names, "desk": "auctioneer"}, LIMITS, places)
 
 
 def name_of(bidder: Bidder) -> str:
@@ -43,22 +43,17 @@ def name_of(bidder: Bidder) -> str:
     return f"name_of_{bidder.name}"
 
 
-def record(setting: Setting) -> Path:
-    """The record on the disk."""
-    return setting.disk.folder / "R"
-
-
-def let_in_until_cut(configured: Configured, setting: Setting, dice: random.Random, bidders: list[Bidder]) -> None:
+def let_in_until_cut(front: Front, setting: Setting, dice: random.Random, bidders: list[Bidder]) -> None:
     """Lets all bidders in until the power is cut or all have bid. Or cuts it while the front starts. Then kills the front."""
     if dice.randrange(4) == 0:
         setting.disk.arm(dice.randint(1, 8))
         try:
-            front = Front(configured)
-        except NotLetting as fault:
+            front.start()
+        except AssertionError as fault:
             assert setting.disk.is_cut(), fault
             return
     else:
-        front = Front(configured)
+        front.start()
     with front, ExitStack() as stack:
         try:
             clients = [stack.enter_context(front.client(name_of(bidder))) for bidder in bidders]
@@ -68,9 +63,9 @@ def let_in_until_cut(configured: Configured, setting: Setting, dice: random.Rand
         attend_all(list(zip(bidders, clients)), BIDS, dice.choice(AHEAD), cutting(setting, dice))
 
 
-def agree(configured: Configured, bidders: list[Bidder]) -> None:
-    """With power, the front lets each bidder go on, stops when asked to, and leaves a record that agrees with the file."""
-    with Front(configured) as front:
+def agree(front: Front, bidders: list[Bidder]) -> None:
+    """A front with power lets each go on, stops when it is told to, and leaves a record that agrees with the file."""
+    with front.start():
         for bidder in bidders:
             with front.client(name_of(bidder)) as client:
                 if bidder.ticket:
@@ -79,5 +74,5 @@ def agree(configured: Configured, bidders: list[Bidder]) -> None:
                 assert not bidder.refused, bidder
         ran = front.stop()
         assert ran.status == 0, ran
-    ran = run_tool("replay", configured.record, "--file", configured.file, "--program", configured.program.path)
+    ran = run_tool("replay", front.record, "--file", front.file, "--program", front.program.path)
     assert ran.status == 0, ran

@@ -29,9 +29,10 @@ class Layout(enum.IntEnum):
         return FIRST_PAGES + (journal if self is Layout.PAGES else journal * 3 // 8)
 
 
-def definition() -> bytes:
-    """The definition of the first example, with its newline: nodes all, east, a, b, c, d; bidders x, y, z, w."""
-    return (EXAMPLES / "package-beats-parts.txt").read_bytes().split(b"\n")[0] + b"\n"
+def definition(waivers: int = 0) -> bytes:
+    """The definition of the first example, with its newline: nodes all, east, a, b, c, d; bidders x, y, z, w, with so many waivers each."""
+    first = (EXAMPLES / "package-beats-parts.txt").read_bytes().split(b"\n")[0] + b"\n"
+    return first.replace(b'"nodes"', b'"waivers":%d,"nodes"' % waivers, 1) if waivers else first
 
 
 FIRST_ROUND = ("BID x 1 a 100", "BID y 1 b 150", "BID z 1 all 500", "BID w 1 c 100", "CLOSE 1")

@@ -4,11 +4,12 @@ from __future__ import annotations
 
 import subprocess
 import time
+from collections.abc import Sequence
 from dataclasses import dataclass
 from pathlib import Path
 from typing import IO
 
-from harness.auctions import Layout, definition
+from harness.auctions import PAGE, Layout, definition, text_of
 from harness.conditions import NORMAL, Conditions
 
 SECONDS = 20
@@ -105,6 +106,22 @@ class Program:
     def run_lines(self, file: Path, text: bytes, *words: object, conditions: Conditions = NORMAL, seconds: float | None = None) -> Ran:
         """Runs `run` on a file, with these lines and further words."""
         return self.run("run", "--file", file, *words, text=text, conditions=conditions, seconds=seconds)
+
+    def keep(
+        self,
+        file: Path,
+        lines: Sequence[str] = (),
+        text: bytes | None = None,
+        layout: Layout = Layout.PAGES,
+        journal: int | None = None,
+    ) -> Path:
+        """A new file, on which these lines were run. AssertionError if that fails; what the lines are answered isn't looked at."""
+        made = self.format(file, layout, journal, text)
+        assert (made.output, made.status) == (f"FORMATTED {file.stat().st_size // PAGE}\n", 0), made
+        if lines:
+            ran = self.run_lines(file, text_of(lines))
+            assert (ran.errors, ran.status) == ("", 0), ran
+        return file
 
     def check(self, file: Path, conditions: Conditions = NORMAL) -> Ran:
         """Runs `check` on a file."""
