@@ -1,4 +1,4 @@
-"""Pages that follow an auction, for the tests: who asks for them, their events, what has to stand there, and go-betweens."""
+"""Pages that follow an auction, for the tests: requests, events, the texts that have to stand there, and go-betweens."""
 
 from __future__ import annotations
 
@@ -39,7 +39,7 @@ class Asks(Protocol):
 
 @dataclass(frozen=True)
 class Site:
-    """Where a page is: at a port, over TLS if there is a context, and asked for as somebody if there is a name."""
+    """The place of a page: a port. With a context it is reached over TLS; with a name, requests sign in by name and token."""
 
     port: int
     who: str | None = None

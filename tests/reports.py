@@ -1,4 +1,4 @@
-"""What a page of `tools/report` has to show of a file: the numbers of the program, sums that add up, and what a close of a copy shows."""
+"""The things that a page of `tools/report` has to show of a file: the program's numbers, sums that add up, and the effect of a close of a copy."""
 
 from __future__ import annotations
 
@@ -148,7 +148,7 @@ def look_at_packages(found: ReportPage, told: Told) -> None:
 
 
 def look_at_pictures(found: ReportPage, told: Told) -> None:
-    """Each node stands once in each way in which the tree is drawn, and so does what a reader is told of it."""
+    """Each way of drawing the tree has each node once, and its description, too."""
     wanted, descriptions = Counter[str](), Counter[str]()
     for _, name, _, high, bidder, _, price, _, least, _, wins in told.nodes.values():
         bid = f"{plain(high)} of {bidder}" if bidder != "-" else "no bid"
@@ -175,7 +175,7 @@ def look_at_bidders(found: ReportPage, told: Told) -> None:
 
 
 def look_at_close(found: ReportPage, told: Told) -> None:
-    """What is needed is the least whole number that reaches the percentage; what is left is what a close leaves."""
+    """The activity needed is the least whole number that reaches the percentage. The eligibility left is that after a close of a copy."""
     rows = found.tables[NOW]
     for row, now, after in zip(rows, told.whos, told.after, strict=True):
         eligibility, activity, needed = int(now[3]), int(now[5]), read(row[NEEDED])

@@ -30,7 +30,7 @@ Driver = Any
 SECONDS = 60
 MOVING = {"clock", "said", "picture-image"}
 SIZES = [(1400, 1180, "light"), (1400, 1180, "dark"), (400, 1900, "light"), (400, 1900, "dark")]
-# What a screen reader is told: a head, and a row for each node with its name and four values.
+# The roles for a screen reader: a head, and a row for each node with its name and four values.
 TABLE = {"table": 1, "row": 1 + len(NODES), "columnheader": 5, "rowheader": len(NODES), "cell": 4 * len(NODES)}
 STEPS = [FIRST_ROUND[:4], FIRST_ROUND[4:], ["BID w 2 c 250"], ["CLOSE 2"], ["BID y 2 b 180"]]
 
@@ -103,7 +103,7 @@ def look_at_script(browser: Driver, site: Site) -> None:
 
 
 def look_at_sizes(browser: Driver) -> None:
-    """Nothing is wider than the window, and a screen reader is told of a table."""
+    """Nothing is wider than the window, and a screen reader finds a table."""
     for width, height, scheme in SIZES:
         size = {"width": width, "height": height, "deviceScaleFactor": 1, "mobile": False}
         browser.execute_cdp_cmd("Emulation.setDeviceMetricsOverride", size)

@@ -50,7 +50,7 @@ def sites(front: Front) -> dict[str, Site]:
 
 
 def accept(front: Front, *lines: str) -> None:
-    """Each is sent by who may, and has to be accepted."""
+    """Each name sends its own lines. All have to be accepted."""
     answers = [front.ask(SENDERS.get(line.split(" ")[1], "desk"), line) for line in lines]
     assert [answer for answer in answers if not answer.startswith("OK ")] == []
 
@@ -89,7 +89,7 @@ def test_each_name_sees_its_own_bidders(over_tls: Front) -> None:
 
 
 def look_alone(name: str, site: Site, viewer: Viewer) -> None:
-    """What is sent to a name has its own bidders alone."""
+    """The page of a name, and its events, have its own bidders alone."""
     shown = {element.split("-")[1] for element in [*viewer.texts, *site.page().texts()] if element.startswith("bidder-")}
     assert shown == set(SEEN[name])
     told = [line for text in [*viewer.told, *viewer.said] for line in text.split(". ")]
@@ -97,7 +97,7 @@ def look_alone(name: str, site: Site, viewer: Viewer) -> None:
 
 
 def test_strangers_see_nothing(over_tls: Front) -> None:
-    """Nor who says no name and token that go together."""
+    """A name and a token that don't go together are a stranger's, too."""
     front = over_tls.start()
     port, context, token = front.board_port, front.context, token_of("ann")
     pairs = [(None, ""), ("bob", token), ("", token), ("eve", token), ("ann", token[:-1]), ("ann", "")]

@@ -1,4 +1,4 @@
-"""The page of `tools/board` and its files: what they may bring, what is asked for and by whom, and definitions that are refused."""
+"""The page of `tools/board` and its files: their policies, requests that are refused, and definitions that are refused."""
 
 from __future__ import annotations
 
@@ -117,7 +117,7 @@ def test_text_that_came_past_all_checks_stands_as_text() -> None:
     assert json.loads(event.split("data: ", 1)[1])["texts"]["contact"] == evil
 
 
-# What is asked for, by the words of a request, and the status.
+# Requests by their words, and the status of each answer.
 REQUESTS: dict[str, tuple[dict[str, str], int]] = {
     "another path": ({"path": "/../board"}, 404),
     "a file of the folder": ({"path": "/board.py"}, 404),

@@ -48,7 +48,7 @@ def test_the_definition_of_a_head_of_the_first_format(program: Program, memory: 
     assert definition_line(read_head(bytes(image)).definition).encode() == definition()
 
 
-# What is no definition.
+# Texts that are no definitions.
 
 
 def is_refused(text: str) -> bool:

@@ -1,4 +1,4 @@
-"""A configuration or a file of tokens that is wrong is refused before anything is started, and the front says where."""
+"""The front refuses a wrong configuration or file of tokens before it starts anything, and names the field."""
 
 from __future__ import annotations
 
@@ -16,7 +16,7 @@ OTHERS_READ = "others may read it"
 
 
 def refused(front: Front) -> str:
-    """What is said of a configuration that is wrong; no record is begun."""
+    """The words about a wrong configuration. No record is begun."""
     ran = front.run()
     assert (ran.output, ran.status, (front.folder / "R").exists()) == ("", 2, False)
     assert not any(token_of(name) in ran.errors for name in NAMES)
@@ -74,7 +74,7 @@ def test_tokens_of_each_length_are_made_and_taken(front: Front) -> None:
     assert [token for token in made.values() if token in ran.output + ran.errors + front.record.read_text()] == []
 
 
-# One change of a front that would be right, by the attributes of `Front`, and a word of what is said of it.
+# One change of a front that would be right, by the attributes of `Front`, and a word of the refusal.
 WRONG: dict[str, tuple[dict[str, Any], str]] = {
     "a field that there isn't": ({"fields": {"colour": "red"}}, "colour: there is no such field"),
     "a limit that there isn't": ({"limits": {"speed": 5}}, "limits.speed"),

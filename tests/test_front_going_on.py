@@ -27,7 +27,7 @@ PAUSE, SECONDS = 0.3, 60
 
 
 def test_a_front_that_is_told_to_stop_and_goes_on(front: Front) -> None:
-    """It says where its record ends, and finds there what it accepted."""
+    """It says how its record ends. After a restart it knows the commands that it accepted."""
     front.start()
     client = front.client("ann")
     assert client.ask("BID x 1 a 100") == "OK 1"
@@ -42,7 +42,7 @@ def test_a_front_that_is_told_to_stop_and_goes_on(front: Front) -> None:
 
 
 def test_the_end_of_an_auction_ends_its_front(front: Front) -> None:
-    """Questions are answered for a while. What is told at each close has the hash of the close's entry."""
+    """Questions are answered for a while. The line of each close has the hash of that close's entry."""
     front.configure({"after_end_seconds": 1}).start()
     assert front.ask("ann", "BID x 1 a 100") == "OK 1"
     desk = Caller(front, "desk")
@@ -240,7 +240,7 @@ def test_nobody_is_answered_by_95(front: Front, answers: Answers) -> None:
 
 
 def told(front: Front) -> list[str]:
-    """The lines that a server was told, each behind whether it stood beside the record by then."""
+    """The lines that reached the server, each behind whether it stood beside the record by then."""
     path = front.folder / "told"
     return sorted(path.read_text().splitlines()) if path.exists() else []
 
@@ -258,8 +258,8 @@ def has_nothing(client: Client) -> bool:
 
 
 def test_answers_leave_in_the_order_of_their_numbers(front: Front, answers: Answers) -> None:
-    """No command is told before it stands beside the record. If numbers are missing their answers wait for all who may have them; the
-    rest is foreign. Places beside the record are used again."""
+    """No command reaches the server before it stands beside the record. While numbers are missing, later answers wait for all lines that
+    may have them; a number that none has is foreign. Places beside the record are used again."""
     front.configure(shared_network=True).start()
     ann, bob, carl = (front.client(name) for name in ("ann", "bob", "carl"))
     ann.send(b"BID x 1 a 100\n")
@@ -288,7 +288,7 @@ def test_answers_leave_in_the_order_of_their_numbers(front: Front, answers: Answ
 
 # Clocks and streams.
 
-# What is read before a program of Python: clocks that jump by a day, back and forth, each time they are looked at.
+# Python reads this before a program: clocks that jump by a day, back and forth, each time that they are read.
 JUMPING = """
 import itertools, time
 days, then = itertools.cycle([0, -86_400, 0, 86_400]), time.time_ns

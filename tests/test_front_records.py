@@ -145,7 +145,7 @@ def test_what_is_no_file_is_no_record(front: Front, make: Callable[[Path], None]
 
 
 def test_a_record_of_the_form_before_is_gone_on_with(front: Front) -> None:
-    """In a segment behind it; what was asked at its end is found in the file."""
+    """In a segment behind it. The command that was open at its end is found in the file."""
     front.record.write_bytes(FORM_BEFORE.read_bytes())
     known = front.accepted()
     assert [answer for _, answer in known] == [f"OK {number}" for number in range(1, 7)]
@@ -233,7 +233,7 @@ def test_questions_and_refusals_are_not_in_the_record(told: Front) -> None:
 
 
 def test_what_the_record_has_no_room_for_is_answered_to_nobody(told: Front) -> None:
-    """It was told to the server, and is found by the next front."""
+    """The server has the command, and the next front finds it."""
     told.start()
     for name, line, number in [("bob", "BID y 1 b 150", 3), ("carl", "BID w 1 c 100", 4), ("carl", "BID w 2 d 100", 5)]:
         # So the record is longer than what stands beside it.
@@ -265,8 +265,8 @@ def test_what_has_no_room_beside_the_record_is_not_told_to_the_server(told: Fron
 def test_nothing_goes_on_before_a_write_is_on_the_disk(
     front: Front, program: Program, room: Path, library: Callable[[Path], Path], behind: int, count: int, cleanup: ExitStack
 ) -> None:
-    """No command is told to the server before what stands beside the record is synced, nor answered before the record is. By hand: with
-    the first of these two syncs that hangs the file keeps nothing, with the second the command; it is answered by neither."""
+    """No command reaches the server before the file beside the record is synced, and none is answered before the record is. By hand: if
+    the first of these two syncs hangs, the file keeps nothing; if the second does, it keeps the command. Neither way it is answered."""
     faults = Faults.built(library, room)
     (room / "counted").mkdir()
     counted = Front(program, room / "counted")

@@ -1,4 +1,4 @@
-"""Who may send what to a front: names by their table, strangers nothing; and what docs/FRONT.md says of limits and refusals."""
+"""Rights at a front: names have those of the table, strangers none. The limits and refusals of docs/FRONT.md are the front's."""
 
 from __future__ import annotations
 
@@ -15,7 +15,7 @@ from hpb.front import rights
 
 TEXT = (Path(__file__).resolve().parents[1] / "docs" / "FRONT.md").read_text()
 EMPTY = "ROUND 1 STAGE 1 OPEN REVENUE 0 COUNT 0"
-# Who may send what, by the table of docs/FRONT.md.
+# Names, lines and answers, by the table of docs/FRONT.md.
 RIGHTS = """
     ann   BID x 1 a 100          OK 1
     ann   BID x 1 a 100          OK 1
@@ -67,7 +67,7 @@ def rows() -> list[tuple[str, str, str]]:
 
 
 def test_each_name_sends_what_it_may(front: Front) -> None:
-    """What is accepted is in the record, and all else in the log, refused or not; no token is in either."""
+    """Accepted lines are in the record, and all others in the log. No token is in either."""
     front.start()
     wanted, clients = rows(), {}
     assert len(wanted) == len(RIGHTS.strip().splitlines())

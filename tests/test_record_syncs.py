@@ -68,7 +68,7 @@ def test_an_entry_that_cannot_be_synced_is_not_written(tmp_path: Path, monkeypat
 
 
 def test_names_are_synced_with_their_folder(tmp_path: Path, calls: Calls) -> None:
-    """When a record is made; and what is set aside, with its name, before the record is cut."""
+    """The name of a new record, and the torn bytes with their new name before the record is cut."""
     noted = calls("fsync", "ftruncate")
     record = RecordFile(str(tmp_path / "R"))
     assert names_of(noted) == ["fsync"]

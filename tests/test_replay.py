@@ -63,7 +63,7 @@ def write(path: Path, entries: Entries) -> Path:
 
 
 def name_for(line: str, bidders: Sequence[str]) -> str:
-    """Who may send a line, if each bidder has a name of its own."""
+    """The name that may send a line, if each bidder has one of its own."""
     words = line.split(" ")
     return f"n{bidders.index(words[1])}" if words[0] in ("BID", "WAIVE", "WHO") and words[1] in bidders else "desk"
 
@@ -126,9 +126,9 @@ FIRST: list[Line] = [
 ]
 OLDER = [line for _, line, answer in FIRST[:7] if answer.startswith("OK")]
 LATER = "BID w 2 c 250\nSTAGE 2\nCLOSE 3\n"
-# By hand, from the first example of docs/RULES.md and the one on ties. At the first close each has bid on as much as 80 percent want:
-# x and y on their 10 units, z on its 40, w on 20 of its 25. At the second one 95 percent are wanted: x and y have bid on nothing and
-# won nothing, and fall to 0; z won its 40 at the first close; w has bid on 20, and 20 * 100 / 95 is 21.
+# By hand, from the first example of docs/RULES.md and the one on ties. The first close wants 80 percent, and each has bid on as much:
+# x and y on their 10 units, z on its 40, w on 20 of its 25. The second one wants 95 percent. Bidders x and y have neither bid nor won,
+# and fall to 0. Bidder z won its 40 at the first close. Bidder w has bid on 20, and 20 * 100 / 95 is 21.
 TABLE = """
 round  number  name  bidder  node  amount
     1       1  ann   x       a        100
@@ -149,7 +149,7 @@ SERIES = {
 
 @pytest.fixture
 def told(front: Front, replay: Replays) -> Front:
-    """A front that was told the first auction, and has stopped. While it ran its file was in use."""
+    """A front that took the first auction, and has stopped. While it ran its file was in use."""
     front.start()
     assert [(name, line, Caller(front, name).ask(line)) for name, line, _ in FIRST] == FIRST
     ran = replay(front.record, "--file", front.file)
@@ -328,7 +328,7 @@ def test_the_truth_is_found_right(kept: Path, replay: Replays, room: Path) -> No
 
 @pytest.mark.parametrize(("change", "word"), LIES.values(), ids=LIES)
 def test_a_lie_with_hashes_that_are_right_is_found(kept: Path, replay: Replays, room: Path, change: Lie, word: str) -> None:
-    """By the commands, the file or the rights, which don't fit. No terminal obeys what is said."""
+    """By the commands, the file or the rights, which don't fit. No word about it moves a terminal."""
     entries = entries_of(definition(), FIRST)
     change(entries)
     ran = replay(write(room / "R", entries), "--file", kept)

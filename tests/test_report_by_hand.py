@@ -1,4 +1,4 @@
-"""Pages of `tools/report` against docs/RULES.md and what is worked out by hand; programs that lie; and what the tool leaves alone."""
+"""Pages of `tools/report` against docs/RULES.md and numbers by hand; programs that lie; files that stay as they are."""
 
 from __future__ import annotations
 

@@ -182,6 +182,6 @@ EAST_WINS = {(ALL, HIGH): 300, (EAST, HIGH): 200, (EAST, BIDDER): "z", (EAST, WI
     ],
 )
 def test_what_is_wrong_is_named(room: Path, changed: Words, said: str) -> None:
-    """Each fault where nothing else is wrong."""
+    """Each fault is the only one."""
     answers = text_of(with_words(FIRST, changed)).decode()
     assert verified(room, definition().decode(), answers) == (said, 1 if changed else 0)

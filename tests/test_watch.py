@@ -59,7 +59,7 @@ def test_no_server(tools: Tools) -> None:
 
 
 class Terminal:
-    """A terminal of so many rows and columns, and what is written to it."""
+    """A terminal of so many rows and columns, and the bytes that are written to it."""
 
     def __init__(self, rows: int, columns: int) -> None:
         self.main, self.other = pty.openpty()

@@ -64,7 +64,7 @@ def let_in_until_cut(front: Front, setting: Setting, dice: random.Random, bidder
 
 
 def agree(front: Front, bidders: list[Bidder]) -> None:
-    """A front with power lets each go on, stops when it is told to, and leaves a record that agrees with the file."""
+    """With power, the front lets each bidder go on, stops when asked to, and leaves a record that agrees with the file."""
     with front.start():
         for bidder in bidders:
             with front.client(name_of(bidder)) as client:

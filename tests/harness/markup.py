@@ -1,4 +1,4 @@
-"""Pages that a tool made, as trees of elements, and what is wrong with their markup."""
+"""Pages that a tool made, as trees of elements, and the faults of their markup."""
 
 from __future__ import annotations
 
