@@ -129,7 +129,7 @@ def test_each_row_of_the_table_is_tried_by_its_ends_and_by_its_refusals() -> Non
 
 
 @sentences(
-    """A node with `units` .. A node with neither .. A node with only .. Several faults give .. 60, the bytes aren't .. 61, anywhere in .. 62,
+    """A node with `units` .. A node with neither .. A node with only .. If there are several .. 60, the bytes aren't .. 61, anywhere in .. 62,
     anywhere in .. 62, the step, the .. the smallest of .."""
 )
 @pytest.mark.parametrize("number", FAULTS)
@@ -145,7 +145,7 @@ def test_a_number_that_is_not_whole_comes_before_one_out_of_range(program: Progr
 
 @sentences(
     """Spaces, tabs and .. A byte order mark .. A definition without .. Then no line follows .. One JSON object .. If it is accepted .. If it is
-    refused .. It doesn't answer .. Standard error gives .."""
+    refused .. Then no later line .. Standard error gives .."""
 )
 def test_the_text_of_a_definition(hpb: Hpb) -> None:
     definition = PAGE.definition[:-1]
@@ -218,7 +218,7 @@ def test_the_longest_line_and_the_longest_answer(asks: Asks) -> None:
     assert (len(line), len(answer)) == (69, 104)
 
 
-@sentences("At 1,000,000 accepted .. Bids since the last .. `COUNT` shows how .. 26 comes after 1,000,000 ..")
+@sentences("At 1,000,000 accepted .. Then bids since .. 26 comes after 1,000,000 ..")
 @pytest.mark.timeout(300)
 def test_a_million_commands(program: Program) -> None:
     names, left, rounds, least, lines = [f"b{place}" for place in range(64)], 1_000_000, 0, 1, []

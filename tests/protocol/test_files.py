@@ -27,7 +27,7 @@ NODE d HIGH 0 - PRICE 0 MIN 100 WIN no
 """
 
 
-@sentences("`hpb format --file .. `--layout L` chooses .. Each frame takes .. Without the option .. 1 | a page of 4,096 .. 2 | three cells ..")
+@sentences("`hpb format --file .. `--layout L` (default 1) .. 1 | a page of 4,096 .. 2 | three cells ..")
 def test_files_are_made_of_their_layout(hpb: Hpb) -> None:
     made = {"F": ("0004", 17), "G": ("4 --layout 1", 17), "H": ("1024 --layout 1", 1037), "I": ("16 --layout 2", 19), "J": ("1024 --layout 2", 397)}
     for name, (journal, pages) in made.items():
@@ -59,7 +59,7 @@ WRONG = {
     """A number has digits .. Zeros may stand .. Numbers are decimal ..""": """
         run --file F --every=-0; serve --file F --port +5000 --sessions 2; run --file F --batch 0x10
         run --file F --batch 1.0; run --file F --every ten""",
-    """2 | `hpb` doesn't know the words, or .. The path F has at .. Any other number ..""": """
+    """2 | `hpb` doesn't know the words, or .. The path F has at .. Any other L ..""": """
         script; format; check --file F again; check --file ''; format --file F --journal 16 --layout 0
         format --file F --journal 16 --layout 3""",
     """2 | `hpb` doesn't know the words, a .. `--batch N` | 1 .. `--every K` | 0 ..""": """
@@ -73,7 +73,7 @@ WRONG = {
 }
 
 
-@sentences("One out of its range .. Wrong words are .. A word that isn't .. `--file F` | a path | | has .. `--file F` | a path | a ..")
+@sentences("A number out of its .. Wrong words are .. A word that isn't .. `--file F` | a path | | has .. `--file F` | a path | a ..")
 @pytest.mark.parametrize("fronts", WRONG, ids=[fronts[:30] for fronts in WRONG])
 def test_wrong_words_end_with_2_before_a_file_is_opened(hpb: Hpb, fronts: str) -> None:
     hpb.misreads(*re.split(r"; |\n +", WRONG[fronts].strip()))
@@ -87,8 +87,8 @@ def test_wrong_words_end_with_2_before_a_file_is_opened(hpb: Hpb, fronts: str) -
 
 
 @sentences(
-    """Each command may .. The table of refusals .. `hpb` looks for .. the words .. whether a standard .. the definition; .. the number of frames ..
-    the file itself .. whether there may .. the contents of .. the port .. If the file is refused, that .. If the port can't .."""
+    """Each subcommand may .. The table of refusals .. `hpb` looks for .. the words .. whether a standard .. the definition; .. the number of
+    frames .. the file itself .. whether the process .. the contents of .. the port .. If the file is refused, it .. If it can't have .."""
 )
 def test_faults_are_looked_for_in_their_order(hpb: Hpb) -> None:
     (hpb.folder / "zeros").write_bytes(ZEROS)
@@ -172,7 +172,7 @@ def test_streams_that_fail(hpb: Hpb) -> None:
         assert (ran.output, ran.errors[: len(said)], ran.status) == (written, said, 1)
 
 
-@sentences("If nobody reads standard output any .. Commands that were accepted ..")
+@sentences("If the reader of .. Commands that were accepted ..")
 @pytest.mark.parametrize("conditions", [NORMAL, WITHOUT_SIGNAL], ids=["SIGPIPE as it comes", "SIGPIPE is ignored"])
 def test_an_output_that_nobody_reads(hpb: Hpb, conditions: Conditions) -> None:
     hpb.formats()
@@ -225,7 +225,7 @@ def test_a_disk_that_is_full_keeps_what_was_answered_ok(hpb: Hpb, layout: Layout
     hpb.runs(f"SHOW = {SHOWN.format(1)}{repeat} = OK 1; {low} = 21; {new} = OK 2; {later} = OK 3", "--batch", "3")
 
 
-@sentences("An `OK` leaves when its command is durable, .. So no command waits .. `hpb run` also makes ..")
+@sentences("An `OK` leaves when its command is durable: .. With it leave .. So no command waits .. `hpb run` also makes ..")
 def test_an_ok_leaves_when_its_command_is_durable(hpb: Hpb, layout: Layout) -> None:
     for batch in ("1", "2", "64"):
         file = hpb.formats(journal=layout.least_journal, layout=layout)

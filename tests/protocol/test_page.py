@@ -21,10 +21,11 @@ TESTS = ("tests", "examples", "bench", "python/tests", "crates/*/src")
 
 # What words mean, advice, and what can't be tried: it would take a fault of `hpb`, or memory that is refused for one line.
 WORDS_ALONE = (
-    """For anyone who writes .. RULES.md says what .. Four commands are .. If clients are to .. `ERR 95 order` says .. `hpb` checks each .. It would
-    be a fault .. The session ends .. The client connects .. The program then .. The meaning of an .. Don't write one .. Go by the `ERR` .. Standard
-    error is .. How long to wait .. No answer is promised .. So wait long, a .. Each reconnection takes .. `serve` writes the .. 94, 95 and 96 come
-    .. Lines on standard .. Their text may change .. If memory is refused .. A run at a terminal .. OPERATIONS.md has .."""
+    """For anyone who writes .. RULES.md says what .. Four subcommands are .. A batch is the .. The journal is .. A checkpoint writes .. If clients
+    are to .. `ERR 95 order` says .. `hpb` checks each .. It would be a fault .. The session ends .. The client connects .. The program then .. The
+    meaning of an .. Don't write one .. Go by the `ERR` .. Standard error is .. How long to wait .. No answer is promised .. So wait long, a .. Each
+    reconnection takes .. `serve` writes the .. 94, 95 and 96 come .. Lines on standard .. Their text may change .. If memory is refused .. A run at a
+    terminal .. OPERATIONS.md has .."""
 )
 
 # By sentences: words that stand in the tests elsewhere that show them; of words with `or` between them one stands there.
@@ -40,11 +41,11 @@ ELSEWHERE: dict[str, str] = {
     ),
     """The clients of CLIENTS ..""": "def test_no_command_is_lost_or_counted_twice_wherever_a_connection_ends(",
     """Of each session ..""": "The first that was answered by 93 may have been kept,",
-    """No answer waits .. In a session they .. Their answers leave .. A client that sends many .. One that ends its ..""": (
+    """An answer waits .. In a session these .. Their answers leave .. A client that sends many .. A client that ends ..""": (
         "def test_the_first_answers_leave_at_once(; most_in_flight"
     ),
-    """The program reads .. At the next one .. too many bytes came ..""": "reading: more than 1,000,000,000 bytes",
-    """`hpb --help` says .. `hpb format --help` .. `hpb --version` says .. All end with 0 .. 0 | the input was read to its end and .. Help and
+    """The program reads .. At the next byte .. too many bytes came ..""": "reading: more than 1,000,000,000 bytes",
+    """`hpb --help` says .. `hpb format --help` .. `hpb --version` says .. All of these end .. 0 | the input was read to its end and .. Help and
     version .. `hpb --version` writes ..""": "def test_help(; def test_help_of_a_command(; def test_the_version(",
     """If the file is refused, the .. No line of the input .. 1 | the file was .. 10 to 29 answer .. 41 and 43 are refusals .. `run`, `serve` and
     ..""": "def test_a_damaged_file(; def test_an_auction_whose_length_changed(; def test_no_file(",
@@ -53,13 +54,13 @@ ELSEWHERE: dict[str, str] = {
         'self.each("run",; self.each("format",; self.each("check",'
     ),
     """memory, or a thread ..""": "memory was refused, or a thread, which was told then: free some memory,",
-    """The usual mistakes .. Some mistakes are .. a key that stands .. a second definition .. stages that fall .. a node for which .. a bidder who
+    """The usual mistakes .. `hpb` accepts some .. a key that stands .. a second definition .. stages that fall .. a node for which .. a bidder who
     has .. a stage that asks .. `tools/explain` ..""": """
         def test_explain_warns_of_one_that_is_accepted(; the field 'percent' stands there twice
         the second line looks like a definition too; stage 2 asks for less activity than the one before it; nobody can bid on coast
         ann has 9 units and can bid on nothing""",
     """Lines and columns .. The fault stands ..""": "line 1 column 129: nested more than 127 deep; a number too large to be read",
-    """A name, a parent .. It is cut after .. So is an unknown ..""": """
+    """A name, a parent .. It is cut after .. An unknown field ..""": """
         a line feed, escaped; an unknown parent with a control character; a control character where JSON has none
         a name of 32 characters is not cut; a name of more than 32 characters is cut; an unknown field of 33 characters""",
     """A number of the .. A limit has commas ..""": "a number that is cut; more than 64 bits hold; an opening with an exponent",
@@ -68,10 +69,10 @@ ELSEWHERE: dict[str, str] = {
     """If standard error ..""": "def test_no_words_make_errors_of_the_auction(",
     """`F` stands there ..""": "(400, 100, true)",
     """If a file opens .. This line has no ..""": "def test_a_damaged_checkpoint(",
-    """Pipes and terminals .. A read that finds ..""": (
+    """Pipes and terminals .. If a read finds ..""": (
         "def test_an_input_that_never_waits_is_waited_for(; def test_an_output_that_never_waits_is_waited_for("
     ),
-    """While a file is .. Only the lines about .. If the last session .. Nobody waits until .. A line that finds .. At its end `serve` .. The line
+    """While a file is .. Only the lines about .. If the disk fails .. No session waits .. A line that finds .. At its end `serve` .. The line
     that says .. its client has ended .. the third of eight .. a fault has ended .. twelve such lines ..""": """
         def test_who_has_which_place_is_told(; def test_nobody_reads_at_all(; def test_a_server_ends_once_somebody_reads_why(
         def test_notices_that_find_no_room_are_counted_and_told(; def test_a_connection_that_breaks_is_told_with_its_fault(""",

@@ -31,7 +31,7 @@ def asks(client: Client, text: str) -> None:
 
 
 @sentences(
-    """`hpb serve --file .. All sessions share .. First session | Answer | Second session | Answer .. It writes `LISTENING .. It writes `CLOSED .. N
+    """`hpb serve --file .. All sessions share .. First session | Answer | Second session | Answer .. It writes `LISTENING .. Then `n` is .. N
     connections are .. Any further one .. 0 | all sessions .."""
 )
 def test_two_sessions_share_one_auction(serve: Serve, file: Path) -> None:
@@ -97,7 +97,7 @@ def take_interrupts() -> None:
 
 
 CLIENTS = {
-    """By hand, `nc 127.0.0.1 ..""": (PAGE.block("exec 3<>") + 'echo "$answer"\n', b""),
+    """By hand, `nc 127.0.0.1 .. Bash can be ..""": (PAGE.block("exec 3<>") + 'echo "$answer"\n', b""),
     "nc": (f"nc {ADDRESS} 5000", b"BID x 1 a 100\n"),
     """`tools/client` does ..""": (f"cd {TOP}; {PAGE.block('tools/client').replace('lines.txt', '/dev/stdin')}", b"BID x 1 a 100\n"),
 }
@@ -144,8 +144,8 @@ def test_a_client_sends_again_what_has_no_answer(serve: Serve, file: Path) -> No
 
 
 @sentences(
-    """You can skip this .. A client that sends ahead .. Up to 16 commands .. Each line is judged .. A refused command .. Behind a refused .. It
-    used none .. So each later command .. Commands of other .. Number those again .. Sent in this order | Answer .."""
+    """You can skip this .. A client that sends ahead .. Of a session, up .. Each line is judged .. A refused command .. Tickets behind .. So each
+    later command .. Commands of other .. Number those again .. Sent in this order | Answer .."""
 )
 def test_lines_that_are_sent_ahead(serve: Serve, file: Path) -> None:
     server = serve(file, sessions=2)
@@ -181,8 +181,8 @@ def test_a_line_without_an_answer_may_still_be_judged(serve: Serve, file: Path) 
 
 
 @sentences(
-    """When a call of the file's .. Commands are answered .. Each command that .. Of each session .. So a client sends that .. The program goes ..
-    Standard error has .. No session is answered .. 1 | the file or .. a call of the disk .."""
+    """When a call of the device fails, no .. Commands are answered .. Each command that .. Of each session .. So a client sends that .. The program
+    goes .. Standard error has .. No session is answered .. 1 | the file or .. a call of the disk .."""
 )
 def test_a_disk_that_fails_under_sessions(serve: Serve, file: Path) -> None:
     server = serve(file, sessions=2, conditions=Conditions(folder=file.parent, last=no_signal))

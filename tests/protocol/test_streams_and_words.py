@@ -21,7 +21,7 @@ COUNT = 10_000
 
 
 @sentences(
-    """Answers are gathered .. So a client may .. A script that is .. `hpb run` also makes .. All this holds for .. No answer waits .. In `hpb run`
+    """Answers are gathered .. So a client may .. A script that is .. `hpb run` also makes .. All this holds for .. An answer waits .. In `hpb run`
     these .. All answers that .."""
 )
 @pytest.mark.parametrize("words", ["", "run --file F"], ids=["script", "run"])
@@ -122,7 +122,7 @@ x has 4 units and can bid on nothing: the smallest node, d, has 5
 
 @sentences(
     """Here is a definition .. `examples/coast.txt` .. A path is as `jq` .. Only the first fault .. With a definition .. A script and `format` .. It
-    gives the place .. Lines count from .. Of one it doesn't .."""
+    gives the place .. Lines count from .. In a script all .. It doesn't warn of .. Such a bid gets .."""
 )
 def test_the_definition_of_coast(hpb: Hpb) -> None:
     definition = PAGE.block("{\n")
@@ -142,8 +142,8 @@ def test_the_definition_of_coast(hpb: Hpb) -> None:
 
 
 @sentences(
-    """Each mistake stands .. Mistake | Answer | On standard error .. The first mistake .. Put the definition .. `format` takes it .. The ninth: the
-    answer .. With terms it is .."""
+    """Each mistake stands .. Mistake | Answer | On standard error .. The first mistake .. Put the definition .. `format` takes it .. The ninth:
+    with these .."""
 )
 def test_ten_mistakes(program: Program, hpb: Hpb) -> None:
     rows, scripts = PAGE.table("Mistake", "Answer", "On standard error").rows, sorted((EXAMPLES / "ten-mistakes").glob("*.txt"))

@@ -84,11 +84,11 @@ EXAMPLES: dict[str, str] = {
     """A client that has lost .. The auctioneer's .. A `CLOSE` or `STAGE` ..""": """
         FIRST; WHO x = ELIGIBILITY 10 ACTIVITY 0 TICKET 1; STAGE 2 = OK 6; CLOSE 0 = 13; STAGE 0 = 13; CLOSE 1 = 13; STAGE 1 = 13; CLOSE 2 = 14
         CLOSE 4 = 15; STAGE 4 = 15; SHOW = ROUND 2 STAGE 2 OPEN REVENUE 500 COUNT 6""",
-    """A round with neither .. `SHOW` tells you .. A `STAGE` counts .. Waivers that a close ..""": """
+    """A round with neither .. `SHOW` warns you .. A `STAGE` raises .. A waiver that a close ..""": """
         waivers 1; FIRST; WAIVE x 2 = OK 6; WAIVE x 3 = 28; SHOW = ROUND 2 STAGE 1 OPEN REVENUE 500 COUNT 6; CLOSE 2 = OK 7
         SHOW = ROUND 3 STAGE 1 OPEN REVENUE 500 COUNT 7; WHO y = ELIGIBILITY 10 ACTIVITY 0 TICKET 1 WAIVERS 0; WAIVE y 2 = 28; CLOSE 3 = OK 8
         SHOW = ROUND 3 STAGE 1 CLOSED REVENUE 500 COUNT 8""",
-    """A `STAGE` counts ..""": """
+    """A `STAGE` raises ..""": """
         FIRST; SHOW = ROUND 2 STAGE 1 OPEN REVENUE 500 COUNT 5; BID x 2 a 150 = 22; BID x 1 a 100 = OK 1
         SHOW = ROUND 2 STAGE 1 OPEN REVENUE 500 COUNT 5; STAGE 2 = OK 6; SHOW = ROUND 2 STAGE 2 OPEN REVENUE 500 COUNT 6; CLOSE 3 = OK 7
         SHOW = ROUND 2 STAGE 2 CLOSED REVENUE 500 COUNT 7; BID x 2 a 160 = 20; STAGE 4 = 20; CLOSE 4 = 20""",
@@ -101,15 +101,15 @@ EXAMPLES: dict[str, str] = {
     """Don't try a ticket .. A `CLOSE` with the .. The last command ..""": """
         FIRST; BID w 2 c 250 = OK 6; CLOSE 1 = OK 5; SHOW = ROUND 2 STAGE 1 OPEN REVENUE 500 COUNT 6; CLOSE 2 = OK 7
         SHOW = ROUND 3 STAGE 1 OPEN REVENUE 500 COUNT 7""",
-    """Each line gets one answer of .. Count them ..""": (
+    """Each line gets one answer of .. Count the answers ..""": (
         f"SHOW = {EMPTY[:-1]}; {same(TEN, '', 'x' * 300)}; NODE a = HIGH 0 - PRICE 0 MIN 100 WIN no; WHO \r = 11\n"
         f"BID x 1 a 100 = OK 1; {same(TEN, 'x' * 300)}; CLOSE 1 = OK 2"
     ),
-    """A bid doesn't name .. One that comes after .. `ROUND` in a `SHOW` ..""": """
+    """A bid doesn't name .. One that comes after .. If you ask `SHOW` ..""": """
         FIRST; BID x 2 a 150 = 22; BID x 2 a 160 = OK 6; SHOW = ROUND 2 STAGE 1 OPEN REVENUE 500 COUNT 6
         NODE a = HIGH 100 x PRICE 138 MIN 160 WIN no; CLOSE 2 = OK 7; NODE a = HIGH 160 x PRICE 183 MIN 210 WIN no""",
-    """A command that is .. So it holds up none .. Commands that weren't .. If one is refused .. A bid doesn't: the .. A 13 tells you which .. So if
-    such a loss ..""": """
+    """A command that is .. So it holds up none .. Commands that weren't .. If one is refused .. A bid doesn't: the .. A 13 says that .. So if you
+    use ..""": """
         BID z 1 a 100 = OK 1; BID z 1 b 100 = 14; BID z 2 b 90 = 22; BID z 3 c 100 = 15; BID z 2 c 100 = OK 2; BID z 1 a 100 = 13
         BID z 1 c 100 = 13; BID z 3 c 100 = 24; CLOSE 1 = OK 3; BID z 3 c 100 = 22""",
     """A waiver, a close .. So a client sends one .. It never gives a ..""": """
@@ -133,7 +133,7 @@ EXAMPLES: dict[str, str] = {
         WAIVE x 3 = 28; CLOSE 3 = OK 10; BID x 3 a 300 = OK 11; CLOSE 4 = OK 12; CLOSE 5 = OK 13; BID x 4 a 500 = 20; BID x 4 a 500 = 20
         STAGE 6 = 20; CLOSE 6 = 20""",
     # Bidder w has 25 units, and c has 20. The close leaves it 20 * 100 / 95, rounded down; 24 * 100 / 95 isn't below 25.
-    """A stage that is .. The activity that .. The percentage is .. With 25 and 80 that ..""": (
+    """A stage that is .. The activity that .. The percentage is .. With an eligibility ..""": (
         "BID w 1 c 100 = OK 1; STAGE 1 = OK 2; CLOSE 2 = OK 3; WHO w = ELIGIBILITY 21 ACTIVITY 20 TICKET 1"
     ),
 }
@@ -196,7 +196,7 @@ def test_lines_are_answered_as_by_hand(asks: Asks, case: str) -> None:
 
 
 @sentences(
-    """Under the definition .. With `"waivers":1` .. Here is one example .. There `x` has used .. `examples/each-refusal.txt` .. Line | Answer ..
+    """Under the definition .. With `"waivers":1` .. Here is one example .. The lines come in .. `examples/each-refusal.txt` .. Line | Answer ..
     Line | Answer | The fault .. Line | Answer | Why .. With a waiver | Answer .. Line, behind the first example | Answer | Usual causes .."""
 )
 @pytest.mark.parametrize("head", TABLES, ids=" ".join)
