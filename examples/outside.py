@@ -19,8 +19,10 @@ SECONDS = 20
 # Where ports that may be free begin, and those that the system gives to connections by itself.
 LEAST_PORT, LEAST_GIVEN = 10_000, 32_768
 PAGE = 4096
+NOBODY = 65534
 
 DEFINITION = HERE.joinpath("package-beats-parts.txt").read_bytes().split(b"\n")[0] + b"\n"
+EMPTY = "ROUND 1 STAGE 1 OPEN REVENUE 0 COUNT 0"
 
 faults = []
 left_out = []
