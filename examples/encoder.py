@@ -12,7 +12,7 @@ MAGIC = b"HPBAUCT1"
 # The formats of states. The first is that of files that an earlier program made, and has no waivers.
 FIRST_FORMAT, WAIVERS_FORMAT = 1, 2
 KINDS = {"BID": 1, "CLOSE": 2, "STAGE": 3, "WAIVE": 4}
-NODES_AT, BIDDERS_AT, BIDDER_SIZE = 48, 3096, 48
+NODES_AT, BIDDERS_AT = 48, 3096
 HEAD_AT, HEAD_SIZE = 16, 3 * PAGE - 16
 JOURNAL_AT, CELL = 13 * PAGE, 512
 FRAME = {PAGES: PAGE, CELLS: 3 * CELL}
@@ -83,20 +83,6 @@ def frame_at(layout, journal, index):
     return JOURNAL_AT + FRAME[layout] * (index % journal)
 
 
-def covered(image):
-    """How many batches the newer checkpoint of a file covers."""
-    return max(number_at(image, slot + PAGE + 16) for slot in SLOTS)
-
-
-def batches(image, layout, journal):
-    """How many batches a file has had, by the last one in its journal."""
-    return 1 + max(number_at(image, frame_at(layout, journal, index) + 16) for index in range(journal))
-
-
-def number_at(image, place):
-    return int.from_bytes(image[place : place + 8], "big")
-
-
 def sender_of(line):
     """The bidder of a bid or a waiver; none of what the auctioneer sends."""
     kind, first, *_ = line.split()
@@ -144,8 +130,6 @@ class Auction:
         self.eligible = {bidder["name"]: bidder["units"] for bidder in RULES["bidders"]}
         self.nodes_of = {bidder: set() for bidder in BIDDERS}
         self.waivers, self.left, self.waived = waivers, dict.fromkeys(BIDDERS, waivers), set()
-        # How many waivers closes took.
-        self.taken = 0
 
     def take(self, line):
         self.count += 1
@@ -184,7 +168,7 @@ class Auction:
         if bidder in self.waived or active * 100 >= wanted:
             return
         if self.left[bidder]:
-            self.left[bidder], self.taken = self.left[bidder] - 1, self.taken + 1
+            self.left[bidder] -= 1
         else:
             self.eligible[bidder] = active * 100 // RULES["stages"][self.stage - 1]
 
@@ -204,12 +188,6 @@ class Auction:
 
     def inside(self, node):
         return sum(max(self.high.get(child, (0,))[0], self.inside(child)) for child in children_of(node))
-
-    def who(self, bidder):
-        """What WHO is answered."""
-        ticket = int.from_bytes(self.last[bidder][:4], "big")
-        told = f" WAIVERS {self.left[bidder]}" if self.waivers else ""
-        return f"WHO {bidder} ELIGIBILITY {self.eligible[bidder]} ACTIVITY {self.active(bidder)} TICKET {ticket}{told}"
 
     def state(self, batches, form=WAIVERS_FORMAT):
         """The body of a slot that covers so many batches."""

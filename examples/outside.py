@@ -1,6 +1,4 @@
 """What the checks from outside share: how a program is run, served and compared."""
-import contextlib
-import functools
 import json
 import os
 import pathlib
@@ -12,7 +10,6 @@ import socket
 import subprocess
 import sys
 import tempfile
-import threading
 import time
 import traceback
 
@@ -26,7 +23,6 @@ NOBODY = 65534
 
 DEFINITION = HERE.joinpath("package-beats-parts.txt").read_bytes().split(b"\n")[0] + b"\n"
 EMPTY = "ROUND 1 STAGE 1 OPEN REVENUE 0 COUNT 0"
-ONE_BID = "ROUND 1 STAGE 1 OPEN REVENUE 0 COUNT 1"
 
 faults = []
 left_out = []
@@ -217,23 +213,6 @@ class Session:
         rest = self.line()
         self.socket.close()
         return rest
-
-    def tell(self, text, seconds=SECONDS):
-        """Sends all this and then no more, and reads what is answered meanwhile, up to the end. No answer takes longer than this."""
-        self.socket.settimeout(seconds)
-        sender = threading.Thread(target=self.send_last, args=(text,))
-        sender.start()
-        answers = b"".join([self.received, *iter(functools.partial(self.socket.recv, 1 << 20), b"")])
-        sender.join()
-        self.socket.close()
-        return shown(answers)
-
-    def send_last(self, text):
-        """Less of it where the server ends before."""
-        with contextlib.suppress(OSError):
-            self.send(text)
-            self.socket.shutdown(socket.SHUT_WR)
-
 
 def serve_words(file, port, sessions=1):
     return ["serve", "--file", file, "--port", port, "--sessions", sessions]

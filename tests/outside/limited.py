@@ -45,42 +45,50 @@ class Job:
         return found
 
 
-def frames(job: Job) -> str:
+Ended = tuple[bytes, int] | None
+
+
+def refused(refusal: str, holds: bool) -> Ended:
+    """The output and the status of a job that is refused, if this holds."""
+    return (f"ERR {refusal}\n".encode(), 1) if holds else None
+
+
+def frames(job: Job) -> Ended:
     """A journal has a multiple of four."""
-    return "43 length" if job.number("--journal") % 4 else ""
+    return refused("43 length", job.number("--journal") % 4 != 0)
 
 
-def nodes(job: Job) -> str:
+def nodes(job: Job) -> Ended:
     """Memory is refused beyond 64."""
-    return "90 memory" if len(job.defined("nodes")) > 64 else ""
+    return refused("90 memory", len(job.defined("nodes")) > 64)
 
 
-def bidders(job: Job) -> str:
+def bidders(job: Job) -> Ended:
     """There are 63 at most."""
-    return "56 limits" if len(job.defined("bidders")) > 63 else ""
+    return refused("56 limits", len(job.defined("bidders")) > 63)
 
 
-def names(job: Job) -> str:
+def names(job: Job) -> Ended:
     """They have 15 characters at most."""
-    return "51 name" if any(len(str(node["name"])) > 15 for node in job.defined("nodes")) else ""
+    return refused("51 name", any(len(str(node["name"])) > 15 for node in job.defined("nodes")))
 
 
-def batches(job: Job) -> str:
-    """They have 63 commands at most."""
-    return "90 memory" if job.number("--batch") > 63 else ""
+def batches(job: Job) -> Ended:
+    """They have 63 commands at most: more are wrong words."""
+    return (b"", 2) if job.number("--batch") > 63 else None
 
 
-def slots(job: Job) -> str:
+def slots(job: Job) -> Ended:
     """They cover no more than 100,000 batches."""
     if job.name not in ("check", "run", "serve"):
-        return ""
+        return None
     image = Path(job.options["--file"]).read_bytes()
-    return "44 checkpoint" if max(int.from_bytes(image[slot : slot + 8], "big") for slot in SLOTS) > 100_000 else ""
+    return refused("44 checkpoint", max(int.from_bytes(image[slot : slot + 8], "big") for slot in SLOTS) > 100_000)
 
 
-def sessions(job: Job) -> str:
+def sessions(job: Job) -> Ended:
     """There are 31 at most."""
-    return "94 place" if job.number("--sessions") > 31 else ""
+    return refused("94 place", job.number("--sessions") > 31)
 
 
 def commands(output: bytes) -> bytes:
@@ -93,7 +101,7 @@ def shown(output: bytes) -> bytes:
     return b"".join(output.splitlines(keepends=True)[:65])
 
 
-REFUSING: dict[str, Callable[[Job], str]] = {
+REFUSING: dict[str, Callable[[Job], Ended]] = {
     limit.__name__: limit for limit in (frames, nodes, bidders, names, batches, slots, sessions)
 }
 GIVING: dict[tuple[str, str], Callable[[bytes], bytes]] = {("commands", "run"): commands, ("shown", "check"): shown}
@@ -136,8 +144,8 @@ class Between:
 def outcome(limit: str, program: str, words: Sequence[str]) -> tuple[bytes, int]:
     """The output of a job under a limit, and its status."""
     job, (name, _, most) = Job(words), limit.partition(":")
-    if refusal := REFUSING.get(name, lambda _: "")(job):
-        return f"ERR {refusal}\n".encode(), 1
+    if ended := REFUSING.get(name, lambda _: None)(job):
+        return ended
     if job.name == "serve":
         if not most:
             os.execv(program, [program, *words])
